@@ -1,0 +1,16 @@
+//! RDF terms (RDF 1.1 Concepts, section 3): shared texts, terms, triples, and how a term is printed.
+//!
+//! Contracts see a [`Text`] as its bytes and a [`Listed`] as the list of its items; [`Term`] and [`Triple`] are plain
+//! data over these. `print` appends exactly the defined text of a term, and different terms have different texts.
+//! Above: reports, events and the engine speak of these types. Below: std alone.
+#![tactic(auto)]
+
+mod listed;
+mod printing;
+mod term;
+mod text;
+
+pub use listed::Listed;
+pub use printing::print;
+pub use term::{Term, Triple};
+pub use text::Text;
