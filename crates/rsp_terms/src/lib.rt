@@ -8,6 +8,8 @@
 mod listed;
 mod printing;
 mod term;
+#[cfg(test)]
+mod tests;
 mod text;
 
 pub use listed::Listed;

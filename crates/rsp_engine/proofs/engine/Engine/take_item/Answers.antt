@@ -1,0 +1,16 @@
+use Rattle.std.proofs.Common.{◌∙◌, ap}
+use Rattle.rsp_engine.specs.Stands.{State}
+use Rattle.rsp_engine.proofs.Offering.{item_leads}
+use Rattle.rsp_engine.proofs.engine.Engine.take_item.Goals as goal
+
+pub returns-in-Ok : goal.returns-in-Ok
+returns-in-Ok c =
+    let few = rw c.accepted.ensures at c.if-accepted-ge-MOST_ITEMS.false in
+    let late = rw c.first_incomplete-next.ensures at c.if-time-next.false in
+    record {
+      was_ready = c.requires.ready;
+      ready = c.pass_to.ensures.broken ∙ (ap (λ (s : State). s.broken) c.in-Ok.ensures.ok ∙ c.requires.ready);
+      stands =
+          λ world stands.
+          item_leads _ _ _ _ _ _ world c.requires.ready few late c.in-Ok.ensures.ok c.pass_to.ensures stands;
+    }

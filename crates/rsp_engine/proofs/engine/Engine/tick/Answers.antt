@@ -1,0 +1,12 @@
+use Rattle.std.proofs.Common.{◌∙◌}
+use Rattle.rsp_engine.proofs.Offering.{tick_leads}
+use Rattle.rsp_engine.proofs.engine.Engine.tick.Goals as goal
+
+pub returns : goal.returns
+returns c =
+    let late = rw c.first_incomplete-next.ensures at c.if-time-next.false in
+    record {
+      was_ready = c.requires.ready;
+      ready = c.pass_to.ensures.broken ∙ c.requires.ready;
+      stands = λ world stands. tick_leads _ _ _ world c.requires.ready late c.pass_to.ensures stands;
+    }

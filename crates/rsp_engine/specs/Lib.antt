@@ -1,0 +1,11 @@
+pub mod World
+pub mod Contents
+pub mod Due
+pub mod Moments
+pub mod Accept
+pub mod Reports
+pub mod Kept
+pub mod Stands
+pub mod Offers
+pub mod Inside
+pub mod Passing

@@ -1,0 +1,87 @@
+-- What the engine's calls do, for every world and moments that the engine stands for.
+use Rattle.std.specs.Prelude.{◌≡◌, ◌<◌, true, false, Option, None, Some, Result, Ok, Err, IsOk, MatchResult, List, [], ◌∷◌, ⊤}
+use Rattle.rsp_events.specs.declared.event.Event.{Event}
+use Rattle.rsp_events.specs.declared.event.Event.TheVariants.{Register, Item, Tick}
+use Rattle.rsp_engine.specs.declared.refused.Refused.{Refused}
+use Rattle.rsp_engine.specs.declared.refused.Refused.TheVariants.{Broken, OutOfMemory, Late, Unbuilt}
+use Rattle.rsp_engine.specs.declared.refused.EngineFault.{EngineFault}
+use Rattle.rsp_engine.specs.declared.refused.EngineFault.TheVariants as fault
+use Rattle.rsp_engine.specs.declared.report.Report.{Report}
+use Rattle.rsp_engine.specs.World.{World}
+use Rattle.rsp_engine.specs.Accept.{accept}
+use Rattle.rsp_engine.specs.Moments.{Moment, moments}
+use Rattle.rsp_engine.specs.Reports.{reports}
+use Rattle.rsp_engine.specs.Stands.{State, Stands, is_idle, instants_left}
+
+-- a tick takes no memory
+abbrev pub TakesMemory : Event → Type 0
+TakesMemory (Register name stream shape) = ⊤
+TakesMemory (Item stream time graph) = ⊤
+TakesMemory (Tick time) = ⊥
+
+-- the event was accepted: the engine stands for the world that the event makes, and for the event's moments
+pub record Accepts (old : State) (event : Event) (new : State) : Type 0 where
+  pub was_ready : old.broken ≡ false
+  pub ready : new.broken ≡ false
+  pub stands : (world : World) → Stands old world [] → (after : World) × (accept world event ≡ Ok after) × Stands new after (moments world event after)
+
+-- the event was refused as the definition refuses it, and nothing has changed
+pub record RefusesAs (old : State) (event : Event) (why : Refused) (new : State) : Type 0 where
+  pub was_ready : old.broken ≡ false
+  pub unchanged : new ≡ old
+  pub refused : (world : World) → Stands old world [] → accept world event ≡ Err why
+
+-- the engine was broken, and nothing has changed
+pub record WasBroken (old new : State) : Type 0 where
+  pub was_broken : old.broken ≡ true
+  pub unchanged : new ≡ old
+
+-- memory was refused, in an event that is no tick and that would have been accepted; the engine is broken
+pub record Breaks (old : State) (event : Event) (new : State) : Type 0 where
+  pub was_ready : old.broken ≡ false
+  pub broken : new.broken ≡ true
+  pub memory : TakesMemory event
+  pub accepted : (world : World) → Stands old world [] → IsOk (accept world event)
+
+abbrev pub Refuses : State → Event → Refused → State → Type 0
+Refuses old event Broken new = WasBroken old new
+Refuses old event OutOfMemory new = Breaks old event new
+Refuses old event (Late time next) new = RefusesAs old event (Late time next) new
+Refuses old event Unbuilt new = RefusesAs old event Unbuilt new
+
+-- what offering an event does
+abbrev pub Offers : State → Event → Result (Unit {0}) Refused → State → Type 0
+Offers old event result new = MatchResult result (λ _. Accepts old event new) (λ why. Refuses old event why new)
+
+-- no report is left, and nothing has changed
+pub record HasNone (old new : State) : Type 0 where
+  pub was_ready : old.broken ≡ false
+  pub idle : is_idle old ≡ true
+  pub unchanged : new ≡ old
+  pub none : (world : World) (left : List Moment) → Stands old world left → left ≡ []
+
+-- the report is the first of those that are left, and the engine stands for the moments behind it
+pub record GivesFirst (old : State) (report : Report) (new : State) : Type 0 where
+  pub was_ready : old.broken ≡ false
+  pub ready : new.broken ≡ false
+  pub was_busy : is_idle old ≡ false
+  pub nearer : instants_left new < instants_left old
+  pub stands : (world : World) (left : List Moment) → Stands old world left → (rest : List Moment) × (reports world left ≡ report ∷ reports world rest) × Stands new world rest
+
+abbrev pub Gives : State → Option Report → State → Type 0
+Gives old None new = HasNone old new
+Gives old (Some report) new = GivesFirst old report new
+
+-- memory was refused, where a report was left; the engine is broken
+pub record BreaksReport (old new : State) : Type 0 where
+  pub was_ready : old.broken ≡ false
+  pub broken : new.broken ≡ true
+  pub was_busy : is_idle old ≡ false
+
+abbrev pub Fails : State → EngineFault → State → Type 0
+Fails old fault.OutOfMemory new = BreaksReport old new
+Fails old fault.Broken new = WasBroken old new
+
+-- what asking for the next report does
+abbrev pub NextReport : State → Result (Option Report) EngineFault → State → Type 0
+NextReport old result new = MatchResult result (λ report. Gives old report new) (λ why. Fails old why new)

@@ -1,0 +1,40 @@
+-- The world: what every event that was accepted has made, kept for ever. All times are in milliseconds since 1970.
+use Rattle.std.specs.Prelude.{ℕ, Bool, Option, None, List, []}
+use Rattle.rsp_spec.specs.Windows.{Shape}
+use Rattle.rsp_engine.specs.declared.item.Item.{Item}
+
+-- when a query reports (SECRET, report): a window closes, a content has changed, a content isn't empty, a period divides
+-- the instant
+pub data Strategy : Type 0 where
+  close : Strategy
+  change : Strategy
+  nonempty : Strategy
+  every : ℕ → Strategy
+
+-- all strategies have to hold (SECRET, tick): at each complete instant, or on each accepted item
+pub record Policy : Type 0 where
+  pub strategies : List Strategy
+  pub on_items : Bool
+
+-- a window over a stream
+pub record StreamWindow : Type 0 where
+  pub stream : List ℕ
+  pub shape : Shape
+
+-- a live query: it sees the items from number `first` on, and shows these variables
+pub record Query : Type 0 where
+  pub name : List ℕ
+  pub policy : Policy
+  pub windows : List StreamWindow
+  pub variables : List (List ℕ)
+  pub first : ℕ
+
+-- the first instant that isn't complete, where one is set; all accepted items, in order, numbered from 0; the live
+-- queries in order of registration
+pub record World : Type 0 where
+  pub next : Option ℕ
+  pub items : List Item
+  pub queries : List Query
+
+abbrev pub empty_world : World
+empty_world = record { next = None; items = []; queries = [] }

@@ -1,0 +1,304 @@
+// The engine's calls.
+use crate::reporting::report;
+use crate::walking::first_moment;
+use crate::{EngineFault, Item, LiveQuery, Refused, Report};
+use rsp_events::Event;
+use rsp_steps::Steps;
+use rsp_terms::Text;
+use rsp_windows::Window;
+use std::alloc::{AllocError, Global};
+use std::marker::Model;
+use std::sync::ledger::Ledger;
+
+// The most items that are accepted by now.
+const MOST_ITEMS: usize = 1000;
+
+/// Takes events, one at a time, and gives the reports of each.
+#[derive(Drop)]
+pub struct Engine {
+    alloc: Global,
+    next: Option<u64>,
+    query: Option<LiveQuery>,
+    items: Vec<Item>,
+    // the triples of the items, as listed
+    held: u64,
+    // the first instant that isn't worked off: one at which the query reports, or `next`
+    at: u64,
+    broken: bool,
+}
+
+impl Model for Engine {
+    ghost use Rattle.rsp_engine.specs.Stands.{State};
+
+    ghost Value = { State };
+
+    ghost use Rattle.rsp_engine.specs.Inside.{state_of, IsEngine};
+
+    ghost view = { state_of };
+
+    ghost invariant = { IsEngine };
+}
+
+impl Engine {
+    ghost use Rattle.std.specs.Prelude.{◌≡◌, ◌↔◌, ◌==◌, ◌≤◌, ◌+◌, ◌++◌, ◌∷◌, ℕ, List, [], true, false, IsTrue, OnOk, OnErr, Some, is_some, length, IfOk, IfSome, IsSomeAnd, unwrap_or};
+    ghost use Rattle.rsp_spec.specs.Windows.{last_instant};
+    ghost use Rattle.rsp_engine.specs.Passing.{Passes, WorksOff, IsDue};
+    ghost use Rattle.rsp_engine.specs.Reports.{report_of};
+    ghost use Rattle.std.specs.Option.{option_map_or};
+    ghost use Rattle.rsp_engine.specs.World.{World, empty_world};
+    ghost use Rattle.rsp_engine.specs.Moments.{Moment};
+    ghost use Rattle.rsp_engine.specs.Kept.{triples_of};
+    ghost use Rattle.rsp_engine.specs.Stands.{Stands, is_idle, query_of};
+    ghost use Rattle.rsp_engine.specs.Offers.{Offers, NextReport};
+    ghost use Rattle.rsp_events.specs.Instants.{IsInstant};
+
+    /// An engine that has taken no event. Takes no memory.
+    pub fn new(alloc: Global) -> Engine
+        ensures { Stands result empty_world [] }
+    {
+        Engine {
+            alloc,
+            next: None,
+            query: None,
+            items: Vec::new(alloc),
+            held: 0,
+            at: 0,
+            broken: false,
+        }
+    }
+
+    /// Whether no report is left of the last event, or memory was refused.
+    pub fn is_idle(&self) -> bool
+        ensures value { result ≡ is_idle self.now }
+        ensures left { (world : World) (left : List Moment) → Stands self.now world left → IsTrue result ↔ (left ≡ []) }
+    {
+        self.broken || self.is_worked_off()
+    }
+
+    fn is_worked_off(&self) -> bool
+        ensures { result ≡ option_map_or (λ next. self.now.at == next) self.now.next true }
+    {
+        match self.next {
+            None => true,
+            Some(next) => self.at == next,
+        }
+    }
+
+    /// The first instant that isn't complete, in ms since 1970. None until an item or a tick was accepted.
+    pub fn next(&self) -> Option<u64>
+        ensures { result ≡ self.now.next }
+    {
+        self.next
+    }
+
+    /// The number of triples of the items that are kept, as listed. By now every accepted item is kept.
+    pub fn held(&self) -> u64
+        ensures { result ≡ triples_of self.now.items }
+    {
+        self.held
+    }
+
+    /// Whether memory was refused to some call.
+    pub fn broken(&self) -> bool
+        ensures { result ≡ self.now.broken }
+    {
+        self.broken
+    }
+
+    /// Takes an event.
+    ///
+    /// Refused as `Broken` exactly where memory was refused before; as `Unbuilt` or `Late` exactly where the definition
+    /// refuses the event so, which then changes nothing; as `OutOfMemory` where memory is refused, which breaks the
+    /// engine: never for a tick, and never for an event that the definition refuses.
+    pub fn offer(&mut self, event: Event) -> Result<(), Refused>
+        requires idle { IsTrue (is_idle self.old) }
+        requires instant { IsInstant event }
+        ensures { Offers self.old event result self.new }
+    {
+        if self.broken {
+            return Err(Refused::Broken);
+        }
+        match event {
+            Event::Register {
+                name,
+                stream,
+                window,
+            } => self.register(name, stream, window),
+            Event::Item {
+                stream,
+                time,
+                graph,
+            } => self.take_item(Item {
+                stream,
+                time,
+                graph,
+            }),
+            Event::Tick { time } => self.tick(time),
+        }
+    }
+
+    fn register(&mut self, name: Text, stream: Text, window: Window) -> Result<(), Refused>
+        requires idle { IsTrue (is_idle self.old) }
+        requires ready { self.old.broken ≡ false }
+        ensures { Offers self.old (Event.Register name stream window) result self.new }
+    {
+        if self.has_query() {
+            return Err(Refused::Unbuilt);
+        }
+        let first = self.accepted();
+        self.go_live(LiveQuery {
+            name,
+            stream,
+            window,
+            first,
+        });
+        Ok(())
+    }
+
+    fn take_item(&mut self, item: Item) -> Result<(), Refused>
+        requires idle { IsTrue (is_idle self.old) }
+        requires ready { self.old.broken ≡ false }
+        requires instant { item.time ≤ last_instant }
+        ensures { Offers self.old (Event.Item item.stream item.time item.graph) result self.new }
+    {
+        if self.accepted() >= MOST_ITEMS {
+            return Err(Refused::Unbuilt);
+        }
+        let time = item.time;
+        let next = self.first_incomplete();
+        if time < next {
+            return Err(Refused::Late { time, next });
+        }
+        match self.store(item) {
+            Ok(()) => {
+                self.pass_to(time);
+                Ok(())
+            }
+            Err(AllocError) => {
+                self.broken = true;
+                Err(Refused::OutOfMemory)
+            }
+        }
+    }
+
+    fn tick(&mut self, time: u64) -> Result<(), Refused>
+        requires idle { IsTrue (is_idle self.old) }
+        requires ready { self.old.broken ≡ false }
+        requires instant { time ≤ last_instant }
+        ensures { Offers self.old (Event.Tick time) result self.new }
+    {
+        let next = self.first_incomplete();
+        if time + 1 < next {
+            return Err(Refused::Late { time, next });
+        }
+        self.pass_to(time + 1);
+        Ok(())
+    }
+
+    fn has_query(&self) -> bool
+        ensures { result ≡ is_some self.now.query }
+    {
+        self.query.is_some()
+    }
+
+    // how many items were accepted
+    fn accepted(&self) -> usize
+        ensures { result ≡ length self.now.items }
+    {
+        self.items.len()
+    }
+
+    // the first instant that isn't complete, or 0
+    fn first_incomplete(&self) -> u64
+        ensures { result ≡ unwrap_or self.now.next 0 }
+    {
+        self.next.unwrap_or(0)
+    }
+
+    // Nothing is left of the last event, so no moment is added by a query that goes live.
+    fn go_live(&mut self, query: LiveQuery)
+        requires idle { IsTrue (is_idle self.old) }
+        requires ready { self.old.broken ≡ false }
+        requires first { query.first ≤ length self.old.items }
+        ensures { self.new ≡ record self.old { query = Some query } }
+    {
+        self.query = Some(query);
+    }
+
+    // Keeps an item. Where memory is refused, the engine is as it was.
+    fn store(&mut self, item: Item) -> Result<(), AllocError>
+        ensures ok { OnOk result (self.new ≡ record self.old { items = self.old.items ++ item ∷ [] }) }
+        ensures err { OnErr result (self.new ≡ self.old) }
+    {
+        let triples = item.graph.as_slice().len() as u64;
+        let held = self.held.checked_add(triples).ok_or(AllocError)?;
+        self.items.push(item)?;
+        self.held = held;
+        Ok(())
+    }
+
+    // Every instant before `to` becomes complete.
+    fn pass_to(&mut self, to: u64)
+        requires idle { IsTrue (is_idle self.old) }
+        requires ready { self.old.broken ≡ false }
+        requires later { unwrap_or self.old.next 0 ≤ to }
+        requires instant { to ≤ last_instant + 1 }
+        ensures { Passes self.old to self.new }
+    {
+        self.at = first_moment(self.next, &self.query, to);
+        self.next = Some(to);
+    }
+
+    /// The next report of the last event, in order; None exactly where none is left. Counts no step.
+    ///
+    /// Fails as `Broken` exactly where memory was refused before, and as `OutOfMemory` where memory is refused, which
+    /// breaks the engine. Takes no memory where no report is left.
+    pub fn next_report<L: Ledger>(
+        &mut self,
+        steps: &mut Steps<L>,
+    ) -> Result<Option<Report>, EngineFault>
+        ensures report { NextReport self.old result self.new }
+        ensures steps { steps.new ≡ steps.old }
+    {
+        let _ = steps;
+        if self.broken {
+            return Err(EngineFault::Broken);
+        }
+        if self.is_idle() {
+            return Ok(None);
+        }
+        match self.first_report() {
+            Ok(report) => {
+                self.work_off();
+                Ok(Some(report))
+            }
+            Err(AllocError) => {
+                self.broken = true;
+                Err(EngineFault::OutOfMemory)
+            }
+        }
+    }
+
+    // The report at the first instant left.
+    fn first_report(&self) -> Result<Report, AllocError>
+        requires { is_idle self.now ≡ false }
+        ensures due { IsSomeAnd self.now.query (λ live. IsDue self.now live) }
+        ensures report { IfOk result (λ report. IfSome self.now.query (λ live. (world : World)
+            → world.items ≡ self.now.items → report ≡ report_of world (query_of live) self.now.at)) }
+    {
+        match &self.query {
+            Some(live) => report(self.alloc, live, self.items.as_slice(), self.at),
+            None => unreachable!(),
+        }
+    }
+
+    // Goes on to the next moment.
+    fn work_off(&mut self)
+        requires { is_idle self.old ≡ false }
+        ensures { WorksOff self.old self.new }
+    {
+        if let Some(next) = self.next {
+            self.at = first_moment(Some(self.at + 1), &self.query, next);
+        }
+    }
+}

@@ -1,0 +1,24 @@
+//! The engine: events in, reports out.
+//!
+//! An [`Engine`] *stands for* a world, in which every accepted event is kept, and for the moments of the last event that
+//! aren't worked off. `offer` accepts an event exactly where the definition accepts it, and refuses it by name else;
+//! `next_report` gives exactly the reports of the moments, one at a time. By now one query can be live, and the engine
+//! walks over the instants one by one.
+//! Above: the program. Below: events, windows, terms and the order of rows.
+#![tactic(auto)]
+
+mod engine;
+mod item;
+mod live_query;
+mod refused;
+mod report;
+mod reporting;
+#[cfg(test)]
+mod tests;
+mod walking;
+
+pub use engine::Engine;
+pub use item::Item;
+pub use live_query::LiveQuery;
+pub use refused::{EngineFault, Refused};
+pub use report::{Outcome, Report};

@@ -1,0 +1,24 @@
+// Why an event is refused, and why no report can be given.
+
+/// Why an event was refused. A refused event changes nothing, but for want of memory, which breaks the engine.
+#[derive(Clone, Copy, PartialEq, Eq, Debug)]
+pub enum Refused {
+    /// Memory was refused to the engine before.
+    Broken,
+    /// Memory is refused to the engine in this call.
+    OutOfMemory,
+    /// The event's time lies in what is complete: an item's time is less than `next`, or a tick's time + 1 is.
+    /// Both in ms since 1970.
+    Late { time: u64, next: u64 },
+    /// The event is of a kind that isn't built yet: a second live query, or an item after a thousand.
+    Unbuilt,
+}
+
+/// Why no report was given.
+#[derive(Clone, Copy, PartialEq, Eq, Debug)]
+pub enum EngineFault {
+    /// Memory is refused to the engine in this call.
+    OutOfMemory,
+    /// Memory was refused to the engine before.
+    Broken,
+}

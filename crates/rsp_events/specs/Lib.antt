@@ -1,0 +1,5 @@
+pub mod Lines
+pub mod Forms
+pub mod Blocks
+pub mod Steps
+pub mod Instants

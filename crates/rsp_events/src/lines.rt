@@ -1,0 +1,83 @@
+// Lines: which are passed over, which have a body, which end one.
+ghost use Rattle.std.specs.Prelude.{◌≡◌, ◌≤◌, length};
+ghost use Rattle.std.specs.List.{list_all, position_or_len};
+ghost use Rattle.rsp_events.specs.Lines as text;
+
+/// Whether these are the same bytes.
+pub fn same(left: &[u8], right: &[u8]) -> bool
+    ensures { result ≡ text.same left.now right.now }
+{
+    left == right
+}
+
+// a space or a tab
+fn is_blank(c: u8) -> bool
+    ensures { result ≡ text.is_blank c }
+{
+    c == b' ' || c == b'\t'
+}
+
+fn all_blank(line: &[u8]) -> bool
+    ensures { result ≡ list_all text.is_blank line.now }
+{
+    line.iter().all(|c| is_blank(*c))
+}
+
+/// Whether a line is passed over between blocks.
+#[tactic(auto, unfolding(crate::specs::Lines::is_passed))]
+pub fn is_passed(line: &[u8]) -> bool
+    ensures { result ≡ text.is_passed line.now }
+{
+    let Some((first, _)) = line.split_first() else {
+        return true;
+    };
+    if *first == b'#' {
+        return true;
+    }
+    all_blank(line)
+}
+
+/// Whether a line is a directive that has a body.
+#[tactic(auto, unfolding(crate::specs::Lines::has_body))]
+pub fn has_body(line: &[u8]) -> bool
+    ensures { result ≡ text.has_body line.now }
+{
+    let directive = first_field(line);
+    if same(b"@register", directive) {
+        return true;
+    }
+    if same(b"@item", directive) {
+        return true;
+    }
+    if same(b"@insert", directive) {
+        return true;
+    }
+    same(b"@delete", directive)
+}
+
+// what stands before the first blank
+fn first_field(line: &[u8]) -> &[u8]
+    ensures { result.now ≡ text.first_field line.now }
+{
+    let end = first_blank(line);
+    &line[..end]
+}
+
+// where the first blank stands, or the line's length
+fn first_blank(line: &[u8]) -> usize
+    ensures place { result ≡ position_or_len text.is_blank line.now }
+    ensures bound { result ≤ length line.now }
+{
+    line.iter().take_while(|c| !is_blank(**c)).count()
+}
+
+/// Whether a line ends a body.
+#[tactic(auto, unfolding(crate::specs::Lines::is_end))]
+pub fn is_end(line: &[u8]) -> bool
+    ensures { result ≡ text.is_end line.now }
+{
+    if !line.starts_with(b"@end") {
+        return false;
+    }
+    all_blank(&line[4..])
+}

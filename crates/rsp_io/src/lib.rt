@@ -1,0 +1,40 @@
+//! Where bytes come from and go to: `Source`, `Sink` and `Shelf`, and objects of each.
+//!
+//! A call answers Failed only where the object's count of faults rose in it. Such a read took nothing, such a write
+//! appended nothing, such a pick left the bytes as they were. Objects in memory tell their bytes, so whoever drives
+//! them can say what was written of what was read; steady ones never fail by themselves. The two over the runtime
+//! are the trusted edge: they tell only their counts.
+//!
+//! Below stand the words on counts of `rsp_spec`; above stands the top call.
+#![tactic(auto)]
+
+mod calls;
+mod failed;
+mod files;
+mod memory_shelf;
+mod memory_sink;
+mod memory_source;
+mod portion;
+mod remainder;
+mod reserve;
+mod shelf;
+mod sink;
+mod source;
+mod standard;
+mod steady_shelf;
+mod steady_sink;
+mod steady_source;
+#[cfg(test)]
+mod tests;
+
+pub use failed::Failed;
+pub use memory_shelf::MemoryShelf;
+pub use memory_sink::MemorySink;
+pub use memory_source::MemorySource;
+pub use shelf::Shelf;
+pub use sink::Sink;
+pub use source::Source;
+pub use standard::{StdSink, StdSource};
+pub use steady_shelf::SteadyShelf;
+pub use steady_sink::SteadySink;
+pub use steady_source::SteadySource;

@@ -1,0 +1,71 @@
+//! The program `rsp`: a continuous query engine over a log of events.
+//!
+//! The call `rsp` does all that the program does, over a source, a shelf and a sink that are handed in. Its contract is
+//! the headline: what it writes for a log is exactly the defined output of the log's bytes, and every other answer has
+//! its cause. `main` makes the real objects and calls it. Below stand the engine, the event log, reports and io.
+#![tactic(auto)]
+
+ghost use Rattle.std.specs.Prelude.{◌≡◌, ◌<◌};
+
+mod session;
+mod status;
+mod stop;
+mod telling;
+#[cfg(test)]
+mod tests;
+mod top;
+mod words;
+mod writing;
+
+use rsp_io::{StdSink, StdSource, SteadyShelf};
+use rsp_steps::Steps;
+use rsp_terms::Text;
+use status::Status;
+use std::alloc::{AllocError, Global};
+use std::marker::Brand;
+use std::process::ExitCode;
+use std::rt::Env;
+use std::sync::ledger::{Blank, Ledger};
+use std::{env, io};
+use top::rsp;
+
+fn main(rt: HostRuntime) -> ExitCode {
+    ExitCode::from(run::<HostRuntime, Brand>(&rt, Blank::new(1)) as u8)
+}
+
+// Makes the words and the objects over the runtime, and works.
+fn run<R: Input + Print + Env + AllocGlobal, L: Ledger>(rt: &R, blank: Blank) -> Status
+    requires name { blank.name ≡ L.name }
+    requires parts { blank.parts ≡ L.parts }
+    requires some { 0 < blank.parts }
+{
+    let mut steps: Steps<L> = Steps::new(blank);
+    let Ok(words) = given_words(rt) else {
+        return Status::OutOfMemory;
+    };
+    let mut input = StdSource::new(rt);
+    let mut shelf = SteadyShelf::new(Vec::new(rt.alloc()), 1);
+    let mut out = StdSink::new(rt);
+    rsp(
+        rt.alloc(),
+        words.as_slice(),
+        &mut input,
+        &mut shelf,
+        &mut out,
+        &mut steps,
+    )
+}
+
+// The command line's words without the program's name. Words that can't be read, as where one isn't text, are none.
+fn given_words<R: Env + AllocGlobal>(rt: &R) -> Result<Vec<Text>, AllocError> {
+    let mut words = Vec::new(rt.alloc());
+    let given = match env::args(rt) {
+        Ok(given) => given,
+        Err(error) if error.kind() == io::ErrorKind::OutOfMemory => return Err(AllocError),
+        Err(_) => return Ok(words),
+    };
+    for word in given.skip(1) {
+        words.push(Text::new(rt.alloc(), word.as_str())?)?;
+    }
+    Ok(words)
+}

@@ -1,0 +1,9 @@
+pub mod Comparing
+pub mod Cutting
+pub mod Flooring
+pub mod Laws
+pub mod Powers
+pub mod Shortest
+pub mod Summing
+pub mod Tallying
+pub mod Writing

@@ -1,0 +1,91 @@
+-- The written forms of integers and decimals, as bytes, and what they read as.
+use Rattle.std.specs.Prelude.{ℕ, ◌+◌, ◌-◌, ◌*◌, Bool, true, false, cond, not, ◌&&◌, ◌||◌, nat_le, ◌==◌, ℤ, unsigned_abs, List, [], ◌∷◌, ◌++◌, length, Option, Some, None, ◌≡◌}
+use Rattle.rsp_number.specs.Decimals.{largest, most_digits, Scaled, IsDecimal, HasValue, held, signed, shortest}
+use Rattle.rsp_number.specs.declared.reading.Reading.{Reading}
+use Rattle.rsp_number.specs.declared.reading.Reading.TheVariants.{Value, Beyond, NotForm}
+
+-- '+' or '-'
+abbrev pub is_sign : ℕ → Bool
+is_sign byte = (byte == 43) || (byte == 45)
+
+-- '0' to '9'
+abbrev pub is_digit : ℕ → Bool
+is_digit byte = nat_le 48 byte && nat_le byte 57
+
+-- the text begins with '-'
+abbrev pub is_negative : List ℕ → Bool
+is_negative [] = false
+is_negative (byte ∷ rest) = byte == 45
+
+-- the text behind its sign, if it has one
+abbrev pub unsigned : List ℕ → List ℕ
+unsigned [] = []
+unsigned (byte ∷ rest) = cond (is_sign byte) rest (byte ∷ rest)
+
+abbrev pub are_digits : List ℕ → Bool
+are_digits [] = true
+are_digits (byte ∷ rest) = is_digit byte && are_digits rest
+
+-- what stands before the first '.', or all
+abbrev pub before_point : List ℕ → List ℕ
+before_point [] = []
+before_point (byte ∷ rest) = cond (byte == 46) [] (byte ∷ before_point rest)
+
+-- what stands behind the first '.', or nothing
+abbrev pub behind_point : List ℕ → List ℕ
+behind_point [] = []
+behind_point (byte ∷ rest) = cond (byte == 46) rest (behind_point rest)
+
+-- the number that digits write when they follow those of n
+abbrev pub number_after : ℕ → List ℕ → ℕ
+number_after n [] = n
+number_after n (digit ∷ rest) = number_after (n * 10 + (digit - 48)) rest
+
+-- an optional sign and digits, at least one
+abbrev pub has_integer_form : List ℕ → Bool
+has_integer_form text = are_digits (unsigned text) && not (length (unsigned text) == 0)
+
+-- an optional sign, and digits with at most one '.' before, among or behind them, at least one digit
+abbrev pub has_decimal_form : List ℕ → Bool
+has_decimal_form text =
+    are_digits (before_point (unsigned text))
+    && (are_digits (behind_point (unsigned text))
+    && not (length (before_point (unsigned text)) + length (behind_point (unsigned text)) == 0))
+
+-- the decimal that is exactly size / 10 ^ scale, under a sign, where one is: its shortest form is within the ranges
+abbrev pub exactly : Bool → ℕ → ℕ → Option Scaled
+exactly negative size scale =
+    let number = shortest negative size scale in
+    cond (nat_le number.scale most_digits && nat_le (unsigned_abs number.coefficient) largest) (Some number) None
+
+-- a number of the form is Beyond where there is none
+abbrev pub value_or_beyond : {T : Type 0} → Option T → Reading T
+value_or_beyond None = Beyond
+value_or_beyond (Some value) = Value value
+
+abbrev pub read_integer : List ℕ → Reading ℤ
+read_integer text =
+    cond (has_integer_form text) (value_or_beyond (held (signed (is_negative text) (number_after 0 (unsigned text))))) NotForm
+
+-- the digits of both sides of the point write the coefficient, and those behind it are counted by the scale
+abbrev pub read_decimal : List ℕ → Reading Scaled
+read_decimal text =
+    cond (has_decimal_form text)
+    (value_or_beyond
+    (exactly (is_negative text) (number_after 0 (before_point (unsigned text) ++ behind_point (unsigned text)))
+    (length (behind_point (unsigned text)))))
+    NotForm
+
+-- ---- what a text reads as, in terms of values
+
+-- the number is what the text writes
+abbrev pub IsWritten : List ℕ → Scaled → Type 0
+IsWritten text number =
+    HasValue number (is_negative text) (number_after 0 (before_point (unsigned text) ++ behind_point (unsigned text)))
+    (length (behind_point (unsigned text)))
+
+-- A decimal that the text writes, or Beyond where it writes none that there is.
+abbrev pub IsReadExactly : List ℕ → Reading Scaled → Type 0
+IsReadExactly text (Value number) = IsDecimal number × IsWritten text number
+IsReadExactly text Beyond = (other : Scaled) → IsDecimal other → ¬ IsWritten text other
+IsReadExactly text NotForm = has_decimal_form text ≡ false

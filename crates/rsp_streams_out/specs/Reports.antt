@@ -1,0 +1,24 @@
+-- The text of a report: its head, the names of its variables, and its rows (SPARQL 1.1 Query Results TSV Format).
+use Rattle.std.specs.Prelude.{ℕ, List, [], ◌∷◌, ◌++◌, length, map, codes}
+use Rattle.std.specs.List.{join_with_byte}
+use Rattle.std.specs.Fmt.{decimal}
+use Rattle.rsp_terms.specs.declared.term.Term.{Term}
+use Rattle.rsp_streams_out.specs.Rows.{row_text}
+
+-- `# report NAME TIME ROWS`
+abbrev pub report_head : List ℕ → ℕ → ℕ → List ℕ
+report_head name at rows =
+    codes "# report " ++ (name ++ (codes " " ++ (decimal at ++ (codes " " ++ (decimal rows ++ (10 ∷ []))))))
+
+-- each variable as `?name`, with tabs between
+abbrev pub variables_line : List (List ℕ) → List ℕ
+variables_line variables = join_with_byte 9 (map (λ name. 63 ∷ name) variables) ++ (10 ∷ [])
+
+-- a line for each row
+abbrev pub rows_text : List (List Term) → List ℕ
+rows_text [] = []
+rows_text (row ∷ rows) = row_text row ++ (10 ∷ rows_text rows)
+
+abbrev pub report_text : List ℕ → ℕ → List (List ℕ) → List (List Term) → List ℕ
+report_text name at variables rows =
+    report_head name at (length rows) ++ (variables_line variables ++ rows_text rows)

@@ -1,0 +1,105 @@
+//! One query's windows, by their width, their distance and their first opening.
+
+ghost use Rattle.std.specs.Prelude.{◌≡◌, ℕ, ◌+◌, ◌*◌, ◌^◌, ◌<◌, ◌≤◌, ◌↔◌, IfSome, IsSome};
+ghost use Rattle.rsp_spec.specs.Windows.{IsActive, IsShape, Shape, active, closes_at, closing, opening};
+
+use std::marker::Model;
+
+// 9999-12-31T23:59:59.999Z, in milliseconds since 1970
+const LAST_INSTANT: u64 = 253_402_300_799_999;
+
+/// Windows of one width that open at equal distances, numbered from 0. Window k is open after its opening,
+/// `origin + k * slide`, up to and with its closing, `width` later. All times are milliseconds.
+#[derive(Clone, Copy, PartialEq, Eq)]
+pub struct Window {
+    width: u64,
+    slide: u64,
+    origin: u64,
+}
+
+impl Model for Window {
+    ghost use Rattle.rsp_spec.specs.Windows.{IsShape, Shape};
+
+    ghost Value = { Shape };
+
+    ghost view = { λ w. record { width = w.width; slide = w.slide; origin = w.origin } };
+
+    ghost invariant = { λ w. IsShape (record { width = w.width; slide = w.slide; origin = w.origin }) };
+
+    ghost inverse = { λ s. record { width = s.width; slide = s.slide; origin = s.origin } };
+}
+
+impl Window {
+    /// Windows that are open for `width` ms, one opening `slide` ms after another and the first at `origin`.
+    /// None where `width` or `slide` is 0, or one of the three is past the end of the year 9999.
+    pub fn new(width: u64, slide: u64, origin: u64) -> Option<Window>
+        ensures shape { IfSome result (λ w. w ≡ record { width = width; slide = slide; origin = origin }) }
+        ensures some { IsSome result ↔ IsShape (record { width = width; slide = slide; origin = origin }) }
+    {
+        if width == 0 || slide == 0 {
+            return None;
+        }
+        if width > LAST_INSTANT || slide > LAST_INSTANT || origin > LAST_INSTANT {
+            return None;
+        }
+        Some(Window {
+            width,
+            slide,
+            origin,
+        })
+    }
+
+    /// The number of the window that is reported at `t` ms: of those that contain it the one that opened first. None
+    /// where none does. `t` is at most 2^48. What `active` gives can be handed to `opening` and `closing`.
+    pub fn active(&self, t: u64) -> Option<u64>
+        requires { t ≤ 2 ^ 48 }
+        ensures value { result ≡ active self.now t }
+        ensures least { IsActive self.now t result }
+        ensures within { IfSome result (λ k. k * self.now.slide ≤ t) }
+        ensures shape { IsShape self.now }
+    {
+        let k = self.first_to_reach(t);
+        if self.opening(k) < t { Some(k) } else { None }
+    }
+
+    /// When window `k` opens, in ms. This instant is not in it. `k * slide` is at most 2^62.
+    pub fn opening(&self, k: u64) -> u64
+        requires { k * self.now.slide ≤ 2 ^ 62 }
+        ensures { result ≡ opening self.now k }
+    {
+        self.origin + k * self.slide
+    }
+
+    /// When window `k` closes, in ms. This instant is its last. `k * slide` is at most 2^62.
+    pub fn closing(&self, k: u64) -> u64
+        requires { k * self.now.slide ≤ 2 ^ 62 }
+        ensures { result ≡ closing self.now k }
+    {
+        self.opening(k) + self.width
+    }
+
+    /// Whether some window closes at `t` ms, which is at most 2^48.
+    pub fn closes_at(&self, t: u64) -> bool
+        requires { t ≤ 2 ^ 48 }
+        ensures value { result ≡ closes_at self.now t }
+        ensures shape { IsShape self.now }
+    {
+        let first_closing = self.origin + self.width;
+        if t < first_closing {
+            return false;
+        }
+        (t - first_closing) % self.slide == 0
+    }
+
+    // the first window that closes at t or later
+    fn first_to_reach(&self, t: u64) -> u64
+        requires { t ≤ 2 ^ 48 }
+        ensures reaches { t ≤ closing self.now result }
+        ensures first { (k : ℕ) → k < result → closing self.now k < t }
+        ensures within { result * self.now.slide ≤ t + self.now.slide }
+        ensures shape { IsShape self.now }
+    {
+        t.saturating_sub(self.origin + self.width)
+            .div_ceil(self.slide)
+    }
+}
