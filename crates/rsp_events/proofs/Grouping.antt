@@ -4,21 +4,21 @@ use Rattle.std.proofs.Common.{◌≡◌, ℕ, zero, suc, ◌≤◌, Bool, true, 
 use Rattle.std.specs.Prelude.{filter, not, ◌||◌}
 use Rattle.std.specs.List.{list_any, flat_map}
 use Rattle.std.proofs.lemmas.List.Elements.{filter-append}
-use Rattle.rsp_events.specs.declared.blocks.Place.TheVariants.{Passed, Within, Last}
-use Rattle.rsp_events.specs.Lines.{is_passed, has_body, is_end}
+use Rattle.rsp_events.specs.declared.blocks.Place.TheVariants.{Passed, Inside, Last}
+use Rattle.rsp_events.specs.Lines.{Line, passes, begins_body, ends_body}
 use Rattle.rsp_events.specs.Blocks.{body_of, behind_body, groups_within, groups, is_whole, whole_groups, begun_group}
 use Rattle.rsp_events.specs.Steps.{place_of, begun_at, closed_at, begun_groups}
 
-abbrev pub closed_from : List (List ℕ) → List (List ℕ) → List (List (List ℕ))
+abbrev pub closed_from : List Line → List Line → List (List Line)
 closed_from group [] = []
 closed_from group (line ∷ lines) =
     closed_at (place_of group line) group line ++ closed_from (begun_at (place_of group line) group line) lines
 
-abbrev pub left_from : List (List ℕ) → List (List ℕ) → List (List ℕ)
+abbrev pub left_from : List Line → List Line → List Line
 left_from group [] = group
 left_from group (line ∷ lines) = left_from (begun_at (place_of group line) group line) lines
 
-pub closed_from-append : (group xs ys : List (List ℕ))
+pub closed_from-append : (group xs ys : List Line)
     → closed_from group (xs ++ ys) ≡ closed_from group xs ++ closed_from (left_from group xs) ys
 closed_from-append group [] ys = refl
 closed_from-append group (x ∷ xs) ys =
@@ -27,24 +27,24 @@ closed_from-append group (x ∷ xs) ys =
     ap (λ more. closed ++ more) (closed_from-append begun xs ys)
     ∙ sym (append_assoc closed (closed_from begun xs) (closed_from (left_from begun xs) ys))
 
-pub left_from-append : (group xs ys : List (List ℕ))
+pub left_from-append : (group xs ys : List Line)
     → left_from group (xs ++ ys) ≡ left_from (left_from group xs) ys
 left_from-append group [] ys = refl
 left_from-append group (x ∷ xs) ys = left_from-append (begun_at (place_of group x) group x) xs ys
 
 -- ---- all groups
 
-abbrev all_from : List (List ℕ) → List (List ℕ) → List (List (List ℕ))
+abbrev all_from : List Line → List Line → List (List Line)
 all_from group lines = closed_from group lines ++ begun_groups (left_from group lines)
 
-through_body : (head : List ℕ) (body lines : List (List ℕ))
+through_body : (head : Line) (body lines : List Line)
     → all_from (head ∷ body) lines ≡ ((head ∷ body) ++ body_of lines) ∷ all_from [] (behind_body lines)
 through_body head body [] = ap (λ lines. (head ∷ lines) ∷ []) (sym (append-nil body))
 through_body head body (line ∷ lines) =
-    elim (is_end line) as (λ v.
-    (closed_at (cond v Last Within) (head ∷ body) line
-    ++ closed_from (begun_at (cond v Last Within) (head ∷ body) line) lines)
-    ++ begun_groups (left_from (begun_at (cond v Last Within) (head ∷ body) line) lines)
+    elim (ends_body line) as (λ v.
+    (closed_at (cond v Last Inside) (head ∷ body) line
+    ++ closed_from (begun_at (cond v Last Inside) (head ∷ body) line) lines)
+    ++ begun_groups (left_from (begun_at (cond v Last Inside) (head ∷ body) line) lines)
     ≡ ((head ∷ body) ++ cond v (line ∷ []) (line ∷ body_of lines)) ∷ all_from [] (cond v lines (behind_body lines))) [
       | true ↦ refl
       | false ↦ through_body head (body ++ (line ∷ [])) lines
@@ -53,30 +53,30 @@ through_body head body (line ∷ lines) =
           (append_assoc body (line ∷ []) (body_of lines))
     ]
 
-behind_shorter : (lines : List (List ℕ)) → length (behind_body lines) ≤ length lines
+behind_shorter : (lines : List Line) → length (behind_body lines) ≤ length lines
 behind_shorter [] = omega arith
 behind_shorter (line ∷ lines) =
-    elim (is_end line) as (λ v. length (cond v lines (behind_body lines)) ≤ suc (length lines)) [
+    elim (ends_body line) as (λ v. length (cond v lines (behind_body lines)) ≤ suc (length lines)) [
       | true ↦ omega arith
       | false ↦ let shorter = behind_shorter lines in omega arith
     ]
 
-groups_are : (n : ℕ) (lines : List (List ℕ)) → length lines ≤ n → groups_within n lines ≡ all_from [] lines
+groups_are : (n : ℕ) (lines : List Line) → length lines ≤ n → groups_within n lines ≡ all_from [] lines
 groups_are zero [] h = refl
 groups_are zero (line ∷ lines) h = absurd (omega arith)
 groups_are (suc n) [] h = refl
 groups_are (suc n) (line ∷ lines) h =
-    elim (is_passed line) as (λ p.
+    elim (passes line) as (λ p.
     cond p (groups_within n lines)
-    (cond (has_body line) ((line ∷ body_of lines) ∷ groups_within n (behind_body lines)) ((line ∷ []) ∷ groups_within n lines))
-    ≡ (closed_at (cond p Passed (cond (has_body line) Within Last)) [] line
-    ++ closed_from (begun_at (cond p Passed (cond (has_body line) Within Last)) [] line) lines)
-    ++ begun_groups (left_from (begun_at (cond p Passed (cond (has_body line) Within Last)) [] line) lines)) [
+    (cond (begins_body line) ((line ∷ body_of lines) ∷ groups_within n (behind_body lines)) ((line ∷ []) ∷ groups_within n lines))
+    ≡ (closed_at (cond p Passed (cond (begins_body line) Inside Last)) [] line
+    ++ closed_from (begun_at (cond p Passed (cond (begins_body line) Inside Last)) [] line) lines)
+    ++ begun_groups (left_from (begun_at (cond p Passed (cond (begins_body line) Inside Last)) [] line) lines)) [
       | true ↦ groups_are n lines (omega arith)
-      | false ↦ elim (has_body line) as (λ b.
+      | false ↦ elim (begins_body line) as (λ b.
           cond b ((line ∷ body_of lines) ∷ groups_within n (behind_body lines)) ((line ∷ []) ∷ groups_within n lines)
-          ≡ (closed_at (cond b Within Last) [] line ++ closed_from (begun_at (cond b Within Last) [] line) lines)
-          ++ begun_groups (left_from (begun_at (cond b Within Last) [] line) lines)) [
+          ≡ (closed_at (cond b Inside Last) [] line ++ closed_from (begun_at (cond b Inside Last) [] line) lines)
+          ++ begun_groups (left_from (begun_at (cond b Inside Last) [] line) lines)) [
             | true ↦ let shorter = behind_shorter lines in
                 ap (λ more. (line ∷ body_of lines) ∷ more) (groups_are n (behind_body lines) (omega arith))
                 ∙ sym (through_body line [] lines)
@@ -85,32 +85,32 @@ groups_are (suc n) (line ∷ lines) h =
     ]
 
 -- every group of lines is closed, but for the one that is left
-pub groups_from_front : (lines : List (List ℕ))
+pub groups_from_front : (lines : List Line)
     → groups lines ≡ closed_from [] lines ++ begun_groups (left_from [] lines)
 groups_from_front lines = groups_are (length lines) lines (omega arith)
 
 -- ---- which groups are whole
 
-AllWhole : List (List (List ℕ)) → Type 0
+AllWhole : List (List Line) → Type 0
 AllWhole [] = Unit {0}
 AllWhole (group ∷ groups) = (is_whole group ≡ true) × AllWhole groups
 
-IsBegun : List (List ℕ) → Type 0
+IsBegun : List Line → Type 0
 IsBegun [] = Unit {0}
 IsBegun (head ∷ body) = is_whole (head ∷ body) ≡ false
 
-any_behind : (body : List (List ℕ)) (line : List ℕ) (v : Bool) → is_end line ≡ v
-    → list_any is_end (body ++ (line ∷ [])) ≡ (list_any is_end body || v)
-any_behind [] line v is = elim v as (λ w. is_end line ≡ w → (is_end line || false) ≡ (false || w)) [ true ↦ λ e. rw e refl | false ↦ λ e. rw e refl ] is
+any_behind : (body : List Line) (line : Line) (v : Bool) → ends_body line ≡ v
+    → list_any ends_body (body ++ (line ∷ [])) ≡ (list_any ends_body body || v)
+any_behind [] line v is = elim v as (λ w. ends_body line ≡ w → (ends_body line || false) ≡ (false || w)) [ true ↦ λ e. rw e refl | false ↦ λ e. rw e refl ] is
 any_behind (x ∷ xs) line v is =
-    elim (is_end x) as (λ w. (w || list_any is_end (xs ++ (line ∷ []))) ≡ ((w || list_any is_end xs) || v)) [
+    elim (ends_body x) as (λ w. (w || list_any ends_body (xs ++ (line ∷ []))) ≡ ((w || list_any ends_body xs) || v)) [
       | true ↦ refl
       | false ↦ any_behind xs line v is
     ]
 
-between_ok : (p b : Bool) (line : List ℕ) → has_body line ≡ b
-    → AllWhole (closed_at (cond p Passed (cond b Within Last)) [] line)
-    × IsBegun (begun_at (cond p Passed (cond b Within Last)) [] line)
+between_ok : (p b : Bool) (line : Line) → begins_body line ≡ b
+    → AllWhole (closed_at (cond p Passed (cond b Inside Last)) [] line)
+    × IsBegun (begun_at (cond p Passed (cond b Inside Last)) [] line)
 unfolding AllWhole IsBegun
 between_ok true b line is = (tt, tt)
 between_ok false true line is = (tt, rw is refl)
@@ -126,28 +126,28 @@ or_none true b h = h
 or_none false true h = h
 or_none false false h = h
 
-within_ok : (v : Bool) (head : List ℕ) (body : List (List ℕ)) (line : List ℕ) → is_end line ≡ v
+within_ok : (v : Bool) (head : Line) (body : List Line) (line : Line) → ends_body line ≡ v
     → is_whole (head ∷ body) ≡ false
-    → AllWhole (closed_at (cond v Last Within) (head ∷ body) line)
-    × IsBegun (begun_at (cond v Last Within) (head ∷ body) line)
+    → AllWhole (closed_at (cond v Last Inside) (head ∷ body) line)
+    × IsBegun (begun_at (cond v Last Inside) (head ∷ body) line)
 unfolding AllWhole IsBegun
 within_ok true head body line is begun =
-    ((rw (any_behind body line true is) (or_last (not (has_body head)) (list_any is_end body)), tt), tt)
+    ((rw (any_behind body line true is) (or_last (not (begins_body head)) (list_any ends_body body)), tt), tt)
 within_ok false head body line is begun =
-    (tt, rw (any_behind body line false is) (or_none (not (has_body head)) (list_any is_end body) begun))
+    (tt, rw (any_behind body line false is) (or_none (not (begins_body head)) (list_any ends_body body) begun))
 
-step_ok : (group : List (List ℕ)) (line : List ℕ) → IsBegun group
+step_ok : (group : List Line) (line : Line) → IsBegun group
     → AllWhole (closed_at (place_of group line) group line) × IsBegun (begun_at (place_of group line) group line)
 unfolding IsBegun
-step_ok [] line begun = between_ok (is_passed line) (has_body line) line refl
-step_ok (head ∷ body) line begun = within_ok (is_end line) head body line refl begun
+step_ok [] line begun = between_ok (passes line) (begins_body line) line refl
+step_ok (head ∷ body) line begun = within_ok (ends_body line) head body line refl begun
 
-AllWhole-append : (xs ys : List (List (List ℕ))) → AllWhole xs → AllWhole ys → AllWhole (xs ++ ys)
+AllWhole-append : (xs ys : List (List Line)) → AllWhole xs → AllWhole ys → AllWhole (xs ++ ys)
 unfolding AllWhole
 AllWhole-append [] ys hs ks = ks
 AllWhole-append (x ∷ xs) ys (h, hs) ks = (h, AllWhole-append xs ys hs ks)
 
-all_ok : (group lines : List (List ℕ)) → IsBegun group
+all_ok : (group lines : List Line) → IsBegun group
     → AllWhole (closed_from group lines) × IsBegun (left_from group lines)
 unfolding AllWhole
 all_ok group [] begun = (tt, begun)
@@ -156,29 +156,29 @@ all_ok group (line ∷ lines) begun =
     let more = all_ok (begun_at (place_of group line) group line) lines (step.1) in
     (AllWhole-append _ _ (step.0) (more.0), more.1)
 
-whole_kept : (groups : List (List (List ℕ))) → AllWhole groups → filter is_whole groups ≡ groups
+whole_kept : (groups : List (List Line)) → AllWhole groups → filter is_whole groups ≡ groups
 unfolding AllWhole
 whole_kept [] hs = refl
 whole_kept (group ∷ groups) (h, hs) =
     rw h (ap (λ more. group ∷ more) (whole_kept groups hs))
 
-whole_dropped : (groups : List (List (List ℕ))) → AllWhole groups → filter (λ group. not (is_whole group)) groups ≡ []
+whole_dropped : (groups : List (List Line)) → AllWhole groups → filter (λ group. not (is_whole group)) groups ≡ []
 unfolding AllWhole
 whole_dropped [] hs = refl
 whole_dropped (group ∷ groups) (h, hs) = rw h (whole_dropped groups hs)
 
-begun_dropped : (group : List (List ℕ)) → IsBegun group → filter is_whole (begun_groups group) ≡ []
+begun_dropped : (group : List Line) → IsBegun group → filter is_whole (begun_groups group) ≡ []
 unfolding IsBegun
 begun_dropped [] h = refl
 begun_dropped (head ∷ body) h = rw h refl
 
-begun_kept : (group : List (List ℕ)) → IsBegun group
+begun_kept : (group : List Line) → IsBegun group
     → flat_map (λ g. g) (filter (λ g. not (is_whole g)) (begun_groups group)) ≡ group
 unfolding IsBegun
 begun_kept [] h = refl
 begun_kept (head ∷ body) h = rw h (append-nil (head ∷ body))
 
-pub whole_groups_are : (lines : List (List ℕ)) → whole_groups lines ≡ closed_from [] lines
+pub whole_groups_are : (lines : List Line) → whole_groups lines ≡ closed_from [] lines
 unfolding IsBegun
 whole_groups_are lines =
     let ok = all_ok [] lines tt in
@@ -190,7 +190,7 @@ whole_groups_are lines =
     )
     (append-nil (closed_from [] lines))
 
-pub begun_group_is : (lines : List (List ℕ)) → begun_group lines ≡ left_from [] lines
+pub begun_group_is : (lines : List Line) → begun_group lines ≡ left_from [] lines
 unfolding IsBegun
 begun_group_is lines =
     let ok = all_ok [] lines tt in

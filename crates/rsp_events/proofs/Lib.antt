@@ -1,7 +1,6 @@
+pub mod Endings
 pub mod Cutting
 pub mod Grouping
-pub mod Reading
-pub mod Characters
-pub mod Bodies
 pub mod Times
-mod BlockRows
+pub mod Reading
+pub mod Taking

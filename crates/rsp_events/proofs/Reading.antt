@@ -1,173 +1,222 @@
 -- A reader that takes bytes front to back has read them and given their whole blocks.
-use Rattle.std.proofs.Common.{◌≡◌, ℕ, suc, ◌+◌, false, List, [], ◌∷◌, ◌++◌, length, refl, ap, sym, ◌∙◌, append_assoc, append-nil, length-append, arith}
-use Rattle.std.specs.Prelude.{◌==◌, ◌≢◌, Option, Result, IfOk, option_to_list}
+use Rattle.std.proofs.Common.{◌≡◌, ℕ, suc, ◌+◌, false, List, [], ◌∷◌, ◌++◌, length, take, drop, refl, ap, sym, subst, true, ◌∙◌, append_assoc, append-nil, length-append, arith}
+use Rattle.std.specs.Prelude.{◌==◌, ◌≢◌, nat_lt, cond, not, Option, Result, IfOk, option_to_list}
+use Rattle.std.specs.List.{position_or_len}
+use Rattle.std.proofs.lemmas.List.{take-append-drop}
 use Rattle.std.proofs.lemmas.Result.{IfOk-weaker}
 use Rattle.std.proofs.lemmas.Bool.Decides.{nat_tests}
-use Rattle.std.specs.Str.Lines.{lines, strip_carriage_return}
 use Rattle.rsp_events.specs.declared.event.Block.{Block}
+use Rattle.rsp_events.specs.declared.begun.BegunLine.{BegunLine}
+use Rattle.rsp_events.specs.declared.begun.BegunLine.TheVariants as kept
+use Rattle.rsp_events.specs.declared.begun.HeldLine.{HeldLine}
 use Rattle.rsp_events.specs.declared.blocks.Place.{Place}
-use Rattle.rsp_events.specs.declared.blocks.Place.TheVariants.{Passed, Within, Last}
+use Rattle.rsp_events.specs.declared.blocks.Place.TheVariants.{Passed, Inside, Last}
+use Rattle.rsp_events.specs.Lines.{IsInLine, Line, log_lines, most_bytes}
+use Rattle.rsp_events.specs.Begun.{ending_of, begun_block_of, begun_line_of, held_line_of}
 use Rattle.rsp_events.specs.Blocks.{Reader, HasRead, begun_group, begun_line, blocks, content_of, ended_lines, groups, numbered_from, whole, whole_groups}
+use Rattle.rsp_events.specs.Instants.{AllTimed}
 use Rattle.rsp_events.specs.Steps.{Reads, TakesLine, begun_at, begun_groups, closed_at, place_of}
 use Rattle.rsp_events.proofs.Cutting.{begun_from, begun_from-append, begun_line_is, ended_from, ended_from-append, ended_lines_are, lines_are, unless_empty}
-use Rattle.rsp_events.proofs.Times.{AllTimed-append, all_timed}
+use Rattle.rsp_events.proofs.Times.{AllTimed-append}
 use Rattle.rsp_events.proofs.Grouping.{begun_group_is, closed_from, closed_from-append, groups_from_front, left_from, left_from-append, whole_groups_are}
 
 -- ---- numbers
 
-numbered-append : (n : ℕ) (xs ys : List (List (List ℕ)))
-    → numbered_from n (xs ++ ys) ≡ numbered_from n xs ++ numbered_from (length (numbered_from n xs) + n) ys
-numbered-append n [] ys = ap (λ k. numbered_from k ys) (omega arith)
-numbered-append n (x ∷ xs) ys =
-    let more = numbered-append (n + 1) xs ys in
-    let same : length (numbered_from (n + 1) xs) + (n + 1) ≡ suc (length (numbered_from (n + 1) xs)) + n = omega arith in
-    rw (← same) (ap (λ bs. record { number = n; content = content_of x } ∷ bs) more)
+numbered-append : (d n : ℕ) (xs ys : List (List Line))
+    → numbered_from d n (xs ++ ys) ≡ numbered_from d n xs ++ numbered_from d (length (numbered_from d n xs) + n) ys
+numbered-append d n [] ys = ap (λ k. numbered_from d k ys) (omega arith)
+numbered-append d n (x ∷ xs) ys =
+    let more = numbered-append d (n + 1) xs ys in
+    let same : length (numbered_from d (n + 1) xs) + (n + 1) ≡ suc (length (numbered_from d (n + 1) xs)) + n = omega arith in
+    rw (← same) (ap (λ bs. record { number = n; content = content_of d x } ∷ bs) more)
 
 -- ---- the blocks of bytes, by those before
 
+-- the line and the lines of the block that bytes have begun, and how many lines they have ended
+abbrev line_at : List ℕ → List ℕ
+line_at before = begun_from [] before
+
+abbrev group_at : List ℕ → List Line
+group_at before = left_from [] (ended_from 1 [] before)
+
+abbrev count_at : List ℕ → ℕ
+count_at before = length (ended_from 1 [] before)
+
 -- what is known where the bytes before were read
 record Stands (old : Reader) (before : List ℕ) : Type 0 where
-  pub line : begun_from [] before ≡ old.line
-  pub group : left_from [] (ended_from [] before) ≡ old.group
-  pub blocks : whole before ≡ numbered_from 1 (closed_from [] (ended_from [] before))
-  pub number : length (numbered_from 1 (closed_from [] (ended_from [] before))) + 1 ≡ old.number
+  pub line : old.line ≡ begun_line_of (line_at before)
+  pub block : old.block ≡ begun_block_of (group_at before)
+  pub lines : old.lines ≡ count_at before
+  pub blocks : whole old.document before ≡ numbered_from old.document 1 (closed_from [] (ended_from 1 [] before))
+  pub number : length (numbered_from old.document 1 (closed_from [] (ended_from 1 [] before))) + 1 ≡ old.number
 
-whole_is : (bytes : List ℕ) → whole bytes ≡ numbered_from 1 (closed_from [] (ended_from [] bytes))
-whole_is bytes =
-    ap (λ gs. numbered_from 1 gs) (whole_groups_are (ended_lines bytes))
-    ∙ ap (λ ls. numbered_from 1 (closed_from [] ls)) (ended_lines_are bytes)
+whole_is : (d : ℕ) (bytes : List ℕ) → whole d bytes ≡ numbered_from d 1 (closed_from [] (ended_from 1 [] bytes))
+whole_is d bytes =
+    ap (λ gs. numbered_from d 1 gs) (whole_groups_are (ended_lines bytes))
+    ∙ ap (λ ls. numbered_from d 1 (closed_from [] ls)) (ended_lines_are bytes)
 
-begun_is : (bytes : List ℕ) → begun_group (ended_lines bytes) ≡ left_from [] (ended_from [] bytes)
+begun_is : (bytes : List ℕ) → begun_group (ended_lines bytes) ≡ group_at bytes
 begun_is bytes = begun_group_is (ended_lines bytes) ∙ ap (λ ls. left_from [] ls) (ended_lines_are bytes)
 
 stands : (old : Reader) (before : List ℕ) → HasRead old before → Stands old before
 stands old before read = record {
-  line = sym (begun_line_is before) ∙ sym (read.line);
-  group = sym (begun_is before) ∙ sym (read.group);
-  blocks = whole_is before;
-  number = ap (λ bs. length bs + 1) (sym (whole_is before)) ∙ sym (read.number);
+  line = read.line ∙ ap begun_line_of (begun_line_is before);
+  block = read.block ∙ ap begun_block_of (begun_is before);
+  lines = read.lines ∙ ap length (ended_lines_are before);
+  blocks = whole_is old.document before;
+  number = ap (λ bs. length bs + 1) (sym (whole_is old.document before)) ∙ sym (read.number);
 }
 
-ended_more : (old : Reader) (before piece : List ℕ) → Stands old before
-    → ended_from [] (before ++ piece) ≡ ended_from [] before ++ ended_from (old.line) piece
-ended_more old before piece at = rw (← at.line) (ended_from-append [] before piece)
+ended_more : (before piece : List ℕ)
+    → ended_from 1 [] (before ++ piece) ≡ ended_from 1 [] before ++ ended_from (1 + count_at before) (line_at before) piece
+ended_more before piece = ended_from-append 1 [] before piece
 
 whole_more : (old : Reader) (before piece : List ℕ) → Stands old before
-    → whole (before ++ piece) ≡ whole before ++ numbered_from (old.number) (closed_from (old.group) (ended_from (old.line) piece))
+    → whole old.document (before ++ piece) ≡ whole old.document before ++ numbered_from old.document old.number (closed_from (group_at before) (ended_from (1 + count_at before) (line_at before) piece))
 whole_more old before piece at =
-    whole_is (before ++ piece)
-    ∙ ap (λ ls. numbered_from 1 (closed_from [] ls)) (ended_more old before piece at)
-    ∙ ap (λ gs. numbered_from 1 gs) (closed_from-append [] (ended_from [] before) (ended_from (old.line) piece))
-    ∙ numbered-append 1 (closed_from [] (ended_from [] before)) (closed_from (left_from [] (ended_from [] before)) (ended_from (old.line) piece))
-    ∙ rw (at.number, at.group, at.blocks) refl
+    whole_is old.document (before ++ piece)
+    ∙ ap (λ ls. numbered_from old.document 1 (closed_from [] ls)) (ended_more before piece)
+    ∙ ap (λ gs. numbered_from old.document 1 gs) (closed_from-append [] (ended_from 1 [] before) (ended_from (1 + count_at before) (line_at before) piece))
+    ∙ numbered-append old.document 1 (closed_from [] (ended_from 1 [] before)) (closed_from (group_at before) (ended_from (1 + count_at before) (line_at before) piece))
+    ∙ rw (at.number, at.blocks) refl
 
-group_more : (old : Reader) (before piece : List ℕ) → Stands old before
-    → begun_group (ended_lines (before ++ piece)) ≡ left_from (old.group) (ended_from (old.line) piece)
-group_more old before piece at =
+group_more : (before piece : List ℕ)
+    → begun_group (ended_lines (before ++ piece)) ≡ left_from (group_at before) (ended_from (1 + count_at before) (line_at before) piece)
+group_more before piece =
     begun_is (before ++ piece)
-    ∙ ap (λ ls. left_from [] ls) (ended_more old before piece at)
-    ∙ left_from-append [] (ended_from [] before) (ended_from (old.line) piece)
-    ∙ rw (at.group) refl
+    ∙ ap (λ ls. left_from [] ls) (ended_more before piece)
+    ∙ left_from-append [] (ended_from 1 [] before) (ended_from (1 + count_at before) (line_at before) piece)
 
-line_more : (old : Reader) (before piece : List ℕ) → Stands old before
-    → begun_line (before ++ piece) ≡ begun_from (old.line) piece
-line_more old before piece at =
-    begun_line_is (before ++ piece) ∙ begun_from-append [] before piece ∙ ap (λ l. begun_from l piece) (at.line)
+line_more : (before piece : List ℕ) → begun_line (before ++ piece) ≡ begun_from (line_at before) piece
+line_more before piece = begun_line_is (before ++ piece) ∙ begun_from-append [] before piece
+
+count_more : (before piece : List ℕ)
+    → length (ended_lines (before ++ piece)) ≡ count_at before + length (ended_from (1 + count_at before) (line_at before) piece)
+count_more before piece =
+    ap length (ended_lines_are (before ++ piece) ∙ ended_more before piece)
+    ∙ length-append (ended_from 1 [] before) (ended_from (1 + count_at before) (line_at before) piece)
 
 -- ---- what was read
 
-length-numbered : (n : ℕ) (gs : List (List (List ℕ))) → length (numbered_from n gs) ≡ length gs
-length-numbered n [] = refl
-length-numbered n (g ∷ gs) = ap suc (length-numbered (n + 1) gs)
+-- a reader's fields behind a piece, where it stands for the bytes before
+record Takes (old : Reader) (before piece : List ℕ) (new : Reader) (given : List Block) : Type 0 where
+  pub line : new.line ≡ begun_line_of (begun_from (line_at before) piece)
+  pub block : new.block ≡ begun_block_of (left_from (group_at before) (ended_from (1 + count_at before) (line_at before) piece))
+  pub lines : new.lines ≡ old.lines + length (ended_from (1 + count_at before) (line_at before) piece)
+  pub blocks : given ≡ numbered_from old.document old.number (closed_from (group_at before) (ended_from (1 + count_at before) (line_at before) piece))
 
--- a reader's fields behind a piece, by those before
-pub record Takes (old : Reader) (piece : List ℕ) (new : Reader) (given : List Block) : Type 0 where
-  pub line : new.line ≡ begun_from (old.line) piece
-  pub group : new.group ≡ left_from (old.group) (ended_from (old.line) piece)
-  pub blocks : given ≡ numbered_from (old.number) (closed_from (old.group) (ended_from (old.line) piece))
-  pub number : new.number ≡ old.number + length given
-  pub ready : new.spent ≡ old.spent
-
-pub reads : (old : Reader) (piece : List ℕ) (new : Reader) (given : List Block) → Takes old piece new given
+reads : (old : Reader) (piece : List ℕ) (new : Reader) (given : List Block) → new.document ≡ old.document
+    → new.spent ≡ old.spent → new.number ≡ old.number + length given → AllTimed given
+    → ((before : List ℕ) → Stands old before → Takes old before piece new given)
     → Reads old piece new given
-reads old piece new given takes = record {
+reads old piece new given document ready number timed takes = record {
+  document = document;
   read = λ before read.
       let at = stands old before read in
+      let take = takes before at in
       let more = whole_more old before piece at in
-      let count : length (whole (before ++ piece)) ≡ length (whole before) + length given
-      = ap length (more ∙ ap (λ bs. whole before ++ bs) (sym (takes.blocks))) ∙ length-append (whole before) given in
+      let count : length (whole old.document (before ++ piece)) ≡ length (whole old.document before) + length given
+      = ap length (more ∙ ap (λ bs. whole old.document before ++ bs) (sym (take.blocks))) ∙ length-append (whole old.document before) given in
       record {
-        line = takes.line ∙ sym (line_more old before piece at);
-        group = takes.group ∙ sym (group_more old before piece at);
-        number = takes.number ∙ ap (λ n. n + length given) (read.number) ∙ omega (arith, count);
-        ready = takes.ready ∙ read.ready;
+        line = take.line ∙ ap begun_line_of (sym (line_more before piece));
+        block = take.block ∙ ap begun_block_of (sym (group_more before piece));
+        lines = take.lines ∙ ap (λ n. n + length (ended_from (1 + count_at before) (line_at before) piece)) at.lines ∙ sym (count_more before piece);
+        number = rw document (number ∙ ap (λ n. n + length given) (read.number) ∙ omega (arith, count));
+        ready = ready ∙ read.ready;
       };
   blocks = λ before read.
-      whole_more old before piece (stands old before read) ∙ ap (λ bs. whole before ++ bs) (sym (takes.blocks));
-  timed = rw takes.blocks (all_timed _ _);
+      let at = stands old before read in
+      whole_more old before piece at ∙ ap (λ bs. whole old.document before ++ bs) (sym ((takes before at).blocks));
+  timed = timed;
+}
+
+-- nothing was read
+pub reads_nothing : (old : Reader) → Reads old [] old []
+reads_nothing old = record {
+  document = refl;
+  read = λ before read. rw (append-nil before) read;
+  blocks = λ before read. rw (append-nil before, append-nil (whole old.document before)) refl;
+  timed = tt;
 }
 
 -- one piece behind another
 pub reads_then : (a b c : Reader) (p q : List ℕ) (xs ys : List Block) → Reads a p b xs → Reads b q c ys
     → Reads a (p ++ q) c (xs ++ ys)
 reads_then a b c p q xs ys first second = record {
+  document = second.document ∙ first.document;
   read = λ before read. rw (← append_assoc before p q) (second.read (before ++ p) (first.read before read));
   blocks = λ before read.
       rw
       (← append_assoc before p q)
-      (second.blocks (before ++ p) (first.read before read)
-      ∙ (ap (λ bs. bs ++ ys) (first.blocks before read) ∙ append_assoc (whole before) xs ys));
+      (subst (λ d. whole d ((before ++ p) ++ q) ≡ whole d (before ++ p) ++ ys) first.document (second.blocks (before ++ p) (first.read before read))
+      ∙ (ap (λ bs. bs ++ ys) (first.blocks before read) ∙ append_assoc (whole a.document before) xs ys));
   timed = AllTimed-append xs ys first.timed second.timed;
 }
 
--- a byte of a line
-pub reads_byte : (old : Reader) (byte : ℕ) (new : Reader) → byte ≢ 10 → new.line ≡ old.line ++ (byte ∷ [])
-    → new.group ≡ old.group → new.number ≡ old.number → new.spent ≡ old.spent → Reads old (byte ∷ []) new []
-reads_byte old byte new other line group number ready =
-    let test : (byte == 10) ≡ false = grind arith in
-    reads old (byte ∷ []) new []
+-- bytes of a line
+no_feed : (b : ℕ) → b ≢ 10 → (b == 10) ≡ false
+no_feed b other = grind (arith, nat_tests)
+
+run_begins : (line run : List ℕ) → IsInLine run → begun_from line run ≡ line ++ run
+run_begins line [] within = sym (append-nil line)
+run_begins line (b ∷ bs) within =
+    let test : (b == 10) ≡ false = no_feed b within.0 in
+    rw test (run_begins (line ++ (b ∷ [])) bs within.1 ∙ append_assoc line (b ∷ []) bs)
+
+run_ends : (n : ℕ) (line run : List ℕ) → IsInLine run → ended_from n line run ≡ []
+run_ends n line [] within = refl
+run_ends n line (b ∷ bs) within =
+    let test : (b == 10) ≡ false = no_feed b within.0 in rw test (run_ends n (line ++ (b ∷ [])) bs within.1)
+
+pub reads_run : (old new : Reader) (run : List ℕ) → IsInLine run
+    → ((bytes : List ℕ) → begun_line_of bytes ≡ old.line → new.line ≡ begun_line_of (bytes ++ run))
+    → new.document ≡ old.document → new.block ≡ old.block → new.lines ≡ old.lines → new.number ≡ old.number
+    → new.spent ≡ old.spent → Reads old run new []
+reads_run old new run within longer document block lines number ready =
+    reads old run new [] document ready (omega (arith, number)) tt
+    (λ before at.
+    let none = run_ends (1 + count_at before) (line_at before) run within in
     record {
-      line = rw test line;
-      group = rw test group;
-      blocks = rw test refl;
-      number = omega (arith, number);
-      ready = ready;
-    }
+      line = rw (run_begins (line_at before) run within) (longer (line_at before) (sym at.line));
+      block = rw none (block ∙ at.block);
+      lines = rw none (omega (arith, lines));
+      blocks = rw none refl;
+    })
 
 -- the end of a line
-reads_line_at : (old new : Reader) (given : List Block)
-    → TakesLine (record old { line = [] }) (strip_carriage_return (old.line)) new given
-    → Reads old (10 ∷ []) new given
-reads_line_at old new given takes =
-    let line = strip_carriage_return (old.line) in
-    let closed = closed_at (place_of (old.group) line) (old.group) line in
-    let count : length given ≡ length closed = ap length (takes.blocks) ∙ length-numbered (old.number) closed in
-    reads old (10 ∷ []) new given
+pub reads_line : (old mid new : Reader) (held : HeldLine) (given : List Block)
+    → mid ≡ record old { line = kept.Kept [] }
+    → ((l : Line) → begun_line_of l.bytes ≡ old.line → l.ended ≡ true → held ≡ held_line_of l)
+    → TakesLine mid held new given → Reads old (10 ∷ []) new given
+reads_line old mid new held given is holds taken =
+    let takes : TakesLine (record old { line = kept.Kept [] }) held new given = rw (← is) taken in
+    reads old (10 ∷ []) new given takes.document takes.ready takes.number takes.timed
+    (λ before at.
+    let l : Line = record { number = 1 + count_at before; bytes = line_at before; ended = true } in
+    let group = group_at before in
+    let is_held = sym (holds l (sym at.line) refl) in
+    let number : 1 + count_at before ≡ old.lines + 1 = omega (arith, at.lines) in
+    let closed = closed_at (place_of group l) group l in
     record {
-      line = takes.same_line;
-      group = takes.group;
-      blocks = takes.blocks ∙ ap (λ gs. numbered_from (old.number) gs) (sym (append-nil closed));
-      number = takes.number ∙ ap (λ n. old.number + n) (sym count);
-      ready = takes.ready;
-    }
-
-pub reads_line : (old mid new : Reader) (line : List ℕ) (given : List Block) → mid ≡ record old { line = [] }
-    → line ≡ strip_carriage_return (old.line) → TakesLine mid line new given → Reads old (10 ∷ []) new given
-reads_line old mid new line given is stripped takes =
-    reads_line_at old new given (rw (← is, ← stripped) takes)
+      line = takes.line;
+      block = takes.block group l (sym at.block) is_held number;
+      lines = takes.lines;
+      blocks = takes.blocks group l (sym at.block) is_held number
+          ∙ ap (λ gs. numbered_from (old.document) (old.number) gs) (sym (append-nil closed));
+    })
 
 -- ---- the end
 
 -- the groups that the end of a text ends
-abbrev end_groups : List (List ℕ) → List ℕ → List (List (List ℕ))
-end_groups group line =
-    closed_from group (unless_empty line) ++ begun_groups (left_from group (unless_empty line))
+abbrev end_groups : ℕ → List Line → List ℕ → List (List Line)
+end_groups n group line =
+    closed_from group (unless_empty n line) ++ begun_groups (left_from group (unless_empty n line))
 
 groups_of_text : (bytes : List ℕ)
-    → groups (lines bytes) ≡ whole_groups (ended_lines bytes) ++ end_groups (begun_group (ended_lines bytes)) (begun_line bytes)
+    → groups (log_lines bytes) ≡ whole_groups (ended_lines bytes) ++ end_groups (1 + length (ended_lines bytes)) (begun_group (ended_lines bytes)) (begun_line bytes)
 groups_of_text bytes =
     let ended = ended_lines bytes in
-    let last = unless_empty (begun_line bytes) in
+    let last = unless_empty (1 + length (ended_lines bytes)) (begun_line bytes) in
     ap groups (lines_are bytes)
     ∙ groups_from_front (ended ++ last)
     ∙ rw (closed_from-append [] ended last, left_from-append [] ended last, ← whole_groups_are ended, ← begun_group_is ended)
@@ -176,101 +225,199 @@ groups_of_text bytes =
     (closed_from (begun_group ended) last)
     (begun_groups (left_from (begun_group ended) last)))
 
-blocks_are : (bytes : List ℕ)
-    → blocks bytes
-    ≡ whole bytes ++ numbered_from (length (whole bytes) + 1) (end_groups (begun_group (ended_lines bytes)) (begun_line bytes))
-blocks_are bytes =
-    ap (λ gs. numbered_from 1 gs) (groups_of_text bytes)
-    ∙ numbered-append 1 (whole_groups (ended_lines bytes)) (end_groups (begun_group (ended_lines bytes)) (begun_line bytes))
+blocks_are : (d : ℕ) (bytes : List ℕ)
+    → blocks d bytes
+    ≡ whole d bytes ++ numbered_from d (length (whole d bytes) + 1) (end_groups (1 + length (ended_lines bytes)) (begun_group (ended_lines bytes)) (begun_line bytes))
+blocks_are d bytes =
+    ap (λ gs. numbered_from d 1 gs) (groups_of_text bytes)
+    ∙ numbered-append d 1 (whole_groups (ended_lines bytes)) (end_groups (1 + length (ended_lines bytes)) (begun_group (ended_lines bytes)) (begun_line bytes))
 
-ends : (old : Reader) (before : List ℕ) → HasRead old before
-    → blocks before ≡ whole before ++ numbered_from (old.number) (end_groups (old.group) (old.line))
-ends old before read = rw (read.line, read.group, read.number) (blocks_are before)
+-- what a call gives that ends the text
+abbrev pub Ends : Reader → List Block → Type 0
+Ends old last = (before : List ℕ) → HasRead old before → blocks old.document before ≡ whole old.document before ++ last
+
+abbrev pub Closes : Reader → List Block → Type 0
+Closes old last = (group : List Line) → begun_block_of group ≡ old.block
+    → last ≡ numbered_from old.document old.number (begun_groups group)
+
+ends : (old : Reader) (last : List Block)
+    → ((line : List ℕ) (group : List Line) → begun_line_of line ≡ old.line → begun_block_of group ≡ old.block
+    → last ≡ numbered_from old.document old.number (end_groups (old.lines + 1) group line))
+    → Ends old last
+ends old last each before read =
+    let count : 1 + length (ended_lines before) ≡ old.lines + 1 = omega (arith, read.lines) in
+    blocks_are old.document before
+    ∙ ap (λ bs. whole old.document before ++ bs)
+    (rw (← read.number, count) (sym (each (begun_line before) (begun_group (ended_lines before)) (sym read.line) (sym read.block))))
+
+-- no line has begun
+pub none_begun : (line : List ℕ) → begun_line_of line ≡ kept.Kept [] → line ≡ []
+none_begun [] is = refl
+none_begun (b ∷ bs) is =
+    elim (nat_lt most_bytes (length (b ∷ bs))) as (λ v.
+    cond v (kept.Long (ending_of (b ∷ bs))) (kept.Kept (b ∷ bs)) ≡ kept.Kept [] → b ∷ bs ≡ []) [
+      | true ↦ λ h. cc
+      | false ↦ λ h. cc
+    ] is
 
 -- the text ends between lines
-ends_between : (old : Reader) (last : List Block) (before : List ℕ) → length (old.line) ≡ 0
-    → last ≡ numbered_from (old.number) (begun_groups (old.group)) → HasRead old before
-    → blocks before ≡ whole before ++ last
-ends_between old last before none is read =
-    ends old before read ∙ ap (λ bs. whole before ++ bs) (rw none (sym is))
+pub ends_between : (old : Reader) (last : List Block) → old.line ≡ kept.Kept [] → Closes old last → Ends old last
+ends_between old last none closes =
+    ends old last
+    (λ line group kept_line kept_block.
+    rw (none_begun line (kept_line ∙ none)) (closes group kept_block))
 
 -- the text ends in a line
-none_empty : (line : List ℕ) → length line ≢ 0 → unless_empty line ≡ line ∷ []
-none_empty line some = let test : (length line == 0) ≡ false = grind (arith, nat_tests) in rw test refl
+some_begun : (old : Reader) (line : List ℕ) → old.line ≢ kept.Kept [] → begun_line_of line ≡ old.line
+    → (length line == 0) ≡ false
+some_begun old [] some is = absurd (some (sym is))
+some_begun old (b ∷ bs) some is = let more : suc (length bs) ≢ 0 = omega arith in grind (arith, nat_tests)
 
-closing : (p : Place) (n : ℕ) (group : List (List ℕ)) (line : List ℕ) (block : Block)
-    → block ∷ [] ≡ numbered_from n (closed_at p group line)
-    → numbered_from n ((closed_at p group line ++ []) ++ begun_groups (begun_at p group line)) ≡ block ∷ []
-closing Passed n group line block is = cc
-closing Within n group line block is = cc
-closing Last n group line block is = sym is
+closing : (p : Place) (d n : ℕ) (group : List Line) (line : Line) (block : Block)
+    → block ∷ [] ≡ numbered_from d n (closed_at p group line)
+    → block ∷ [] ≡ numbered_from d n ((closed_at p group line ++ []) ++ begun_groups (begun_at p group line))
+closing Passed d n group line block is = cc
+closing Inside d n group line block is = cc
+closing Last d n group line block is = is
 
-leaving : (p : Place) (n m : ℕ) (group : List (List ℕ)) (line : List ℕ)
-    → [] ≡ numbered_from n (closed_at p group line) → m ≡ n + length (closed_at p group line)
-    → numbered_from n ((closed_at p group line ++ []) ++ begun_groups (begun_at p group line))
-    ≡ numbered_from m (begun_groups (begun_at p group line))
-leaving Passed n m group line is after =
-    let same : n ≡ m = omega arith in ap (λ k. numbered_from k (begun_groups group)) same
-leaving Within n m group line is after =
-    let same : n ≡ m = omega arith in ap (λ k. numbered_from k (begun_groups (group ++ (line ∷ [])))) same
-leaving Last n m group line is after = cc
+leaving : (p : Place) (d n : ℕ) (group : List Line) (line : Line) (last : List Block)
+    → [] ≡ numbered_from d n (closed_at p group line)
+    → last ≡ numbered_from d n (begun_groups (begun_at p group line))
+    → last ≡ numbered_from d n ((closed_at p group line ++ []) ++ begun_groups (begun_at p group line))
+leaving Passed d n group line last none is = is
+leaving Inside d n group line last none is = is
+leaving Last d n group line last none is = cc
 
-pub ends_closed : (old mid new : Reader) (line : List ℕ) (block : Block) (before : List ℕ) → length (old.line) ≢ 0
-    → mid ≡ record old { line = [] } → line ≡ old.line → TakesLine mid line new (block ∷ []) → HasRead old before
-    → blocks before ≡ whole before ++ (block ∷ [])
-ends_closed old mid new line block before some is whole_line takes read =
-    let at : TakesLine (record old { line = [] }) (old.line) new (block ∷ []) = rw (← is, ← whole_line) takes in
-    let rest = closing (place_of (old.group) (old.line)) (old.number) (old.group) (old.line) block (at.blocks) in
-    ends old before read ∙ ap (λ bs. whole before ++ bs) (rw (none_empty (old.line) some) rest)
+pub ends_closed : (old mid new : Reader) (held : HeldLine) (block : Block) → old.line ≢ kept.Kept []
+    → mid ≡ record old { line = kept.Kept [] }
+    → ((l : Line) → begun_line_of l.bytes ≡ old.line → l.ended ≡ false → held ≡ held_line_of l)
+    → TakesLine mid held new (block ∷ []) → Ends old (block ∷ [])
+ends_closed old mid new held block some is holds taken =
+    let takes : TakesLine (record old { line = kept.Kept [] }) held new (block ∷ []) = rw (← is) taken in
+    ends old (block ∷ [])
+    (λ line group kept_line kept_block.
+    let l : Line = record { number = old.lines + 1; bytes = line; ended = false } in
+    let blocks = takes.blocks group l kept_block (sym (holds l kept_line refl)) refl in
+    rw (some_begun old line some kept_line)
+    (closing (place_of group l) (old.document) (old.number) group l block blocks))
 
-ends_left : (old mid new : Reader) (line : List ℕ) (last : List Block) (before : List ℕ) → length (old.line) ≢ 0
-    → mid ≡ record old { line = [] } → line ≡ old.line → TakesLine mid line new []
-    → last ≡ numbered_from (new.number) (begun_groups (new.group)) → HasRead old before
-    → blocks before ≡ whole before ++ last
-ends_left old mid new line last before some is whole_line takes left read =
-    let at : TakesLine (record old { line = [] }) (old.line) new [] = rw (← is, ← whole_line) takes in
-    let rest = leaving (place_of (old.group) (old.line)) (old.number) (new.number) (old.group) (old.line) (at.blocks) (at.number) in
-    let same : last ≡ numbered_from (new.number) (begun_groups (begun_at (place_of (old.group) (old.line)) (old.group) (old.line)))
-    = left ∙ ap (λ g. numbered_from (new.number) (begun_groups g)) (at.group) in
-    ends old before read ∙ ap (λ bs. whole before ++ bs) (rw (none_empty (old.line) some) (rest ∙ sym same))
+pub ends_left : (old mid new : Reader) (held : HeldLine) (last : List Block) → old.line ≢ kept.Kept []
+    → mid ≡ record old { line = kept.Kept [] }
+    → ((l : Line) → begun_line_of l.bytes ≡ old.line → l.ended ≡ false → held ≡ held_line_of l)
+    → TakesLine mid held new [] → Closes new last → Ends old last
+ends_left old mid new held last some is holds taken closes =
+    let takes : TakesLine (record old { line = kept.Kept [] }) held new [] = rw (← is) taken in
+    ends old last
+    (λ line group kept_line kept_block.
+    let l : Line = record { number = old.lines + 1; bytes = line; ended = false } in
+    let is_held = sym (holds l kept_line refl) in
+    let place = place_of group l in
+    let blocks = takes.blocks group l kept_block is_held refl in
+    let closed = closes (begun_at place group l) (sym (takes.block group l kept_block is_held refl)) in
+    let same : new.number ≡ old.number = takes.number ∙ omega arith in
+    let at_old : last ≡ numbered_from (old.document) (old.number) (begun_groups (begun_at place group l))
+    = closed ∙ rw (takes.document, same) refl in
+    rw (some_begun old line some kept_line)
+    (leaving place (old.document) (old.number) group l last blocks at_old))
 
 -- the same of a call that closes the block that has begun
-abbrev Ends : Reader → Option Block → Type 0
-Ends old last = (before : List ℕ) → HasRead old before → blocks before ≡ whole before ++ option_to_list last
-
-abbrev Closes : Reader → Option Block → Type 0
-Closes old last = option_to_list last ≡ numbered_from (old.number) (begun_groups (old.group))
-
-pub ends_between_if : {E : Type 0} (old : Reader) (result : Result (Option Block) E) → length (old.line) ≡ 0
-    → IfOk result (Closes old) → IfOk result (Ends old)
+pub ends_between_if : {E : Type 0} (old : Reader) (result : Result (Option Block) E) → old.line ≡ kept.Kept []
+    → IfOk result (λ last. Closes old (option_to_list last)) → IfOk result (λ last. Ends old (option_to_list last))
 ends_between_if old result none =
-    IfOk-weaker result (Closes old) (Ends old) (λ last is before read. ends_between old (option_to_list last) before none is read)
+    IfOk-weaker result (λ last. Closes old (option_to_list last)) (λ last. Ends old (option_to_list last))
+    (λ last. ends_between old (option_to_list last) none)
 
-pub ends_left_if : {E : Type 0} (old mid new : Reader) (line : List ℕ) (result : Result (Option Block) E)
-    → length (old.line) ≢ 0 → mid ≡ record old { line = [] } → line ≡ old.line → TakesLine mid line new []
-    → IfOk result (Closes new) → IfOk result (Ends old)
-ends_left_if old mid new line result some is whole_line takes =
-    IfOk-weaker result (Closes new) (Ends old)
-    (λ last left before read.
-    ends_left old mid new line (option_to_list last) before some is whole_line takes left read)
+pub ends_left_if : {E : Type 0} (old mid new : Reader) (held : HeldLine) (result : Result (Option Block) E)
+    → old.line ≢ kept.Kept [] → mid ≡ record old { line = kept.Kept [] }
+    → ((l : Line) → begun_line_of l.bytes ≡ old.line → l.ended ≡ false → held ≡ held_line_of l)
+    → TakesLine mid held new []
+    → IfOk result (λ last. Closes new (option_to_list last)) → IfOk result (λ last. Ends old (option_to_list last))
+ends_left_if old mid new held result some is holds taken =
+    IfOk-weaker result (λ last. Closes new (option_to_list last)) (λ last. Ends old (option_to_list last))
+    (λ last. ends_left old mid new held (option_to_list last) some is holds taken)
 
 -- the blocks of a text begin with the whole ones of a beginning of it
-abbrev reader_at : List ℕ → Reader
-reader_at bytes =
+abbrev reader_at : ℕ → List ℕ → Reader
+reader_at d bytes =
     record {
-      line = begun_line bytes;
-      group = begun_group (ended_lines bytes);
-      number = length (whole bytes) + 1;
+      document = d;
+      line = begun_line_of (begun_line bytes);
+      block = begun_block_of (begun_group (ended_lines bytes));
+      lines = length (ended_lines bytes);
+      number = length (whole d bytes) + 1;
       spent = false;
     }
 
-pub beginning : (before more : List ℕ) → (rest : List Block) × (blocks (before ++ more) ≡ whole before ++ rest)
-beginning before more =
-    let read : HasRead (reader_at before) before = record { line = refl; group = refl; number = refl; ready = refl } in
-    let some = numbered_from (length (whole before) + 1) (closed_from (begun_group (ended_lines before)) (ended_from (begun_line before) more)) in
-    let end = numbered_from (length (whole (before ++ more)) + 1) (end_groups (begun_group (ended_lines (before ++ more))) (begun_line (before ++ more))) in (
+pub beginning : (d : ℕ) (before more : List ℕ) → (rest : List Block) × (blocks d (before ++ more) ≡ whole d before ++ rest)
+beginning d before more =
+    let read : HasRead (reader_at d before) before = record { line = refl; block = refl; lines = refl; number = refl; ready = refl } in
+    let some = numbered_from d (length (whole d before) + 1) (closed_from (group_at before) (ended_from (1 + count_at before) (line_at before) more)) in
+    let all = before ++ more in
+    let end = numbered_from d (length (whole d all) + 1) (end_groups (1 + length (ended_lines all)) (begun_group (ended_lines all)) (begun_line all)) in (
       some ++ end,
-      blocks_are (before ++ more)
-          ∙ ap (λ bs. bs ++ end) (whole_more (reader_at before) before more (stands (reader_at before) before read))
-          ∙ append_assoc (whole before) some end,
+      blocks_are d (before ++ more)
+          ∙ ap (λ bs. bs ++ end) (whole_more (reader_at d before) before more (stands (reader_at d before) before read))
+          ∙ append_assoc (whole d before) some end,
     )
+
+-- ---- where a line ends
+
+abbrev feed_at : List ℕ → ℕ
+feed_at = position_or_len (λ b. b == 10)
+
+pub in_front : (bytes : List ℕ) → IsInLine (take (feed_at bytes) bytes)
+in_front [] = tt
+in_front (b ∷ bs) =
+    let next : 1 + feed_at bs ≡ suc (feed_at bs) = omega arith in
+    elim (b == 10) as (λ v. (b == 10) ≡ v → IsInLine (take (cond (not v) (1 + feed_at bs) 0) (b ∷ bs))) [
+      | true ↦ λ is. tt
+      | false ↦ λ is. rw next (grind (arith, nat_tests), in_front bs)
+    ] refl
+
+pub feed_first : (bytes next : List ℕ) (x : ℕ) → drop (feed_at bytes) bytes ≡ x ∷ next → x ≡ 10
+feed_first [] next x is = cc
+feed_first (b ∷ bs) next x is =
+    let more : 1 + feed_at bs ≡ suc (feed_at bs) = omega arith in
+    elim (b == 10) as (λ v. (b == 10) ≡ v → drop (cond (not v) (1 + feed_at bs) 0) (b ∷ bs) ≡ x ∷ next → x ≡ 10) [
+      | true ↦ λ test h. let same : b ≡ x = cc in sym same ∙ grind (arith, nat_tests)
+      | false ↦ λ test h. feed_first bs next x (rw more at h)
+    ] refl is
+
+-- ---- a piece, line by line
+
+-- what reads the rest of a piece reads the whole piece
+abbrev pub ReadsRest : Reader → List ℕ → Reader → List ℕ → List Block → Type 0
+ReadsRest first piece now rest given =
+    (new : Reader) (more : List Block) → Reads now rest new more → Reads first piece new (given ++ more)
+
+pub rest_at_first : (first : Reader) (piece : List ℕ) → ReadsRest first piece first piece []
+rest_at_first first piece new more reads = reads
+
+pub reads_last : (first now new : Reader) (piece rest run : List ℕ) (given : List Block)
+    → ReadsRest first piece now rest given → rest ≡ run → Reads now run new [] → Reads first piece new given
+reads_last first now new piece rest run given before is run_read =
+    subst (λ gs. Reads first piece new gs) (append-nil given) (before new [] (rw is run_read))
+
+pub reads_next : (first now mid new : Reader) (piece rest run next : List ℕ) (given more : List Block)
+    → ReadsRest first piece now rest given → rest ≡ run ++ (10 ∷ next) → Reads now run mid []
+    → Reads mid (10 ∷ []) new more → ReadsRest first piece new next (given ++ more)
+reads_next first now mid new piece rest run next given more before is run_read line_read last others reads =
+    let line = reads_then mid new last (10 ∷ []) next more others line_read reads in
+    let all = reads_then now mid last run (10 ∷ next) [] (more ++ others) run_read line in
+    subst (λ gs. Reads first piece last gs) (sym (append_assoc given more others)) (before last (more ++ others) (rw is all))
+
+empty : {X : Type 0} (xs : List X) → length xs ≡ 0 → xs ≡ []
+empty [] none = refl
+empty (x ∷ xs) none = absurd (omega (arith, none))
+
+pub all_in_front : (rest front back : List ℕ) (at : ℕ) → front ≡ take at rest → back ≡ drop at rest → length back ≡ 0
+    → rest ≡ front
+all_in_front rest front back at is_front is_back none =
+    sym (take-append-drop at rest)
+    ∙ rw (← is_front, ← is_back) (ap (λ b. front ++ b) (empty back none) ∙ append-nil front)
+
+pub feed_behind : (rest back next : List ℕ) (x at : ℕ) → at ≡ position_or_len (λ b. b == 10) rest → back ≡ drop at rest
+    → back ≡ x ∷ next → back ≡ 10 ∷ next
+feed_behind rest back next x at is_at is_back parts =
+    let first : drop (feed_at rest) rest ≡ x ∷ next = ap (λ n. drop n rest) (sym is_at) ∙ sym is_back ∙ parts in
+    parts ∙ ap (λ b. b ∷ next) (feed_first rest next x first)

@@ -2,16 +2,19 @@
 use Rattle.std.specs.Prelude.{ℕ, ◌≤◌, List, [], ◌∷◌, ⊤, Option}
 use Rattle.rsp_spec.specs.Windows.{last_instant}
 use Rattle.rsp_events.specs.declared.event.Event.{Event}
-use Rattle.rsp_events.specs.declared.event.Event.TheVariants.{Register, Item, Tick}
+use Rattle.rsp_events.specs.declared.event.Event.TheVariants.{Register, Cancel, Item, Tick, Insert, Delete}
 use Rattle.rsp_events.specs.declared.event.Content.{Content}
 use Rattle.rsp_events.specs.declared.event.Content.TheVariants as content
 use Rattle.rsp_events.specs.declared.event.Block.{Block}
 
 -- the event's time, where it has one, is an instant
 abbrev pub IsInstant : Event → Type 0
-IsInstant (Register name stream shape) = ⊤
+IsInstant (Register name text) = ⊤
+IsInstant (Cancel name) = ⊤
 IsInstant (Item stream time graph) = time ≤ last_instant
 IsInstant (Tick time) = time ≤ last_instant
+IsInstant (Insert quads) = ⊤
+IsInstant (Delete quads) = ⊤
 
 abbrev pub IsTimed : Content → Type 0
 IsTimed (content.Event event) = IsInstant event

@@ -1,5 +1,6 @@
 pub mod Lines
-pub mod Forms
+pub mod Contents
+pub mod Begun
 pub mod Blocks
 pub mod Steps
 pub mod Instants

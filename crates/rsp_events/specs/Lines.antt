@@ -1,8 +1,54 @@
--- The lines of the event log, and which of them begin and end a block. A line is what std's `lines` gives: the bytes
--- before a line feed without one carriage return directly before it, or a last part that isn't empty.
-use Rattle.std.specs.Prelude.{ℕ, Bool, true, ◌&&◌, ◌||◌, ◌==◌, List, [], ◌∷◌, drop, codes, nat_eq}
-use Rattle.std.specs.List.{list_any, list_all, starts_with, before_first}
+-- The lines of the event log, and which of them begin and end a block.
+use Rattle.std.specs.Prelude.{ℕ, ◌≢◌, ◌+◌, Bool, true, false, ◌&&◌, ◌||◌, not, ◌==◌, nat_lt, if◌then◌else◌, List, [], ◌∷◌, drop, length, codes, nat_eq, sum_by}
+use Rattle.std.specs.List.{AllByRecursion, list_any, list_all, slice_split, starts_with, before_first}
+use Rattle.std.specs.Str.Lines.{strip_carriage_return}
 use Rattle.std.specs.Cmp.Lexicographic.{pointwise}
+
+-- a line: its number in the text, from 1, its bytes before the line feed, and whether a line feed ends it, which only
+-- the last line may lack
+pub record Line : Type 0 where
+  pub number : ℕ
+  pub bytes : List ℕ
+  pub ended : Bool
+
+-- what stands between line feeds; the last part stands behind the last line feed
+abbrev pub parts : List ℕ → List (List ℕ)
+parts bytes = slice_split (λ b. b == 10) bytes
+
+-- no line feed among the bytes
+abbrev pub IsInLine : List ℕ → Type 0
+IsInLine bytes = AllByRecursion (λ b. b ≢ 10) bytes
+
+-- the parts as lines, numbered in order; the last part is a line where it isn't empty
+abbrev pub lines_of_parts : ℕ → List (List ℕ) → List Line
+lines_of_parts n [] = []
+lines_of_parts n (x ∷ []) =
+    if length x == 0 then [] else record { number = n; bytes = x; ended = false } ∷ []
+lines_of_parts n (x ∷ y ∷ more) = record { number = n; bytes = x; ended = true } ∷ lines_of_parts (n + 1) (y ∷ more)
+
+-- the lines of a text
+abbrev pub log_lines : List ℕ → List Line
+log_lines bytes = lines_of_parts 1 (parts bytes)
+
+-- what a line says: one carriage return directly before the line feed is dropped
+abbrev pub text_of : Line → List ℕ
+text_of line = if line.ended then strip_carriage_return line.bytes else line.bytes
+
+-- the bytes of a line, its line feed among them
+abbrev pub size_of : Line → ℕ
+size_of line = length line.bytes + (if line.ended then 1 else 0)
+
+-- the most bytes of a block
+abbrev pub most_bytes : ℕ
+most_bytes = 16777216
+
+-- the bytes of some lines
+abbrev pub sizes_of : List Line → ℕ
+sizes_of lines = sum_by size_of lines
+
+-- a line that has more bytes than a block may have, its line feed apart
+abbrev pub is_long : Line → Bool
+is_long line = nat_lt most_bytes (length line.bytes)
 
 -- the same bytes
 abbrev pub same : List ℕ → List ℕ → Bool
@@ -30,3 +76,17 @@ has_body line =
 -- `@end`, and nothing but blanks behind it
 unfoldable pub is_end : List ℕ → Bool
 is_end line = starts_with nat_eq line (codes "@end") && list_all is_blank (drop 4 line)
+
+-- ---- lines between blocks
+
+-- a line that is passed over
+abbrev pub passes : Line → Bool
+passes line = not (is_long line) && is_passed (text_of line)
+
+-- a directive that has a body
+abbrev pub begins_body : Line → Bool
+begins_body line = not (is_long line) && has_body (text_of line)
+
+-- a line that ends a body
+abbrev pub ends_body : Line → Bool
+ends_body line = is_end (text_of line)

@@ -1,12 +1,18 @@
 // The reader of a log's blocks.
-ghost use Rattle.std.specs.Prelude.{◌≡◌, ◌+◌, ◌++◌, ◌∷◌, [], ℕ, List, Bool, true, IfOk, OnOk, OnErr, IsErr, option_to_list};
-ghost use Rattle.std.specs.Str.Lines.{strip_carriage_return};
+ghost use Rattle.std.specs.Prelude.{◌≡◌, ◌+◌, ◌++◌, ◌∷◌, ◌↔◌, ◌≤◌, ◌==◌, [], ℕ, List, Bool, true, if◌then◌else◌, length, IfOk, OnOk, OnErr, IsErr, option_to_list};
 ghost use Rattle.rsp_events.specs.declared.event.Block.{Block};
+ghost use Rattle.rsp_events.specs.declared.begun.BegunLine.TheVariants as line;
+ghost use Rattle.rsp_events.specs.declared.begun.BegunBlock.TheVariants as begun;
+ghost use Rattle.rsp_events.specs.declared.blocks.Place.TheVariants as place;
+ghost use Rattle.std.specs.List.{position_or_len};
+ghost use Rattle.rsp_events.specs.Lines.{IsInLine, Line, ends_body, has_body, is_passed};
+ghost use Rattle.rsp_events.specs.Begun.{begun_block_of, held_line_of};
 ghost use Rattle.rsp_events.specs.Blocks.{HasRead, blocks, content_of, numbered_from, whole};
-ghost use Rattle.rsp_events.specs.Instants.{AllTimed};
+ghost use Rattle.rsp_events.specs.Instants.{AllTimed, IsTimed};
 ghost use Rattle.rsp_events.specs.Steps.{Reads, TakesLine, begun_groups, place_of};
 
-use crate::forms::event_of;
+use crate::begun::{BegunBlock, BegunLine, HeldLine, grown, held, lengthened};
+use crate::contents::content_of_texts;
 use crate::lines::{has_body, is_end, is_passed};
 use crate::{Block, BlockFault, Content};
 use rsp_terms::Listed;
@@ -15,11 +21,14 @@ use std::marker::Model;
 use std::mem;
 
 /// Reads the blocks of a log that comes in pieces: a block is given as soon as its last line has ended.
-/// Contracts see the line and the block that have begun, the number of the next block, and whether memory was refused.
+/// Contracts see what is kept of the line and the block that have begun, how many lines have ended, the number of the
+/// next block, and whether memory was refused.
 #[derive(Drop)]
 pub struct Blocks {
-    line: Listed<u8>,
-    group: Listed<Listed<u8>>,
+    document: u32,
+    line: BegunLine,
+    block: BegunBlock,
+    lines: u64,
     number: u64,
     spent: bool,
     alloc: Global,
@@ -30,7 +39,7 @@ impl Model for Blocks {
 
     ghost Value = { Reader };
 
-    ghost view = { λ b. record { line = b.line; group = b.group; number = b.number; spent = b.spent } };
+    ghost view = { λ b. record { document = b.document; line = b.line; block = b.block; lines = b.lines; number = b.number; spent = b.spent } };
 }
 
 // Where a line stands that comes next.
@@ -39,34 +48,40 @@ enum Place {
     // between blocks, and passed over
     Passed,
     // in a block that goes on
-    Within,
+    Inside,
     // the last of a block
     Last,
 }
 
 impl Blocks {
-    /// A reader that has read nothing. Takes no memory.
-    pub fn new(alloc: Global) -> Blocks
+    /// A reader of a document that has read nothing. Blank nodes of its statements belong to the document. Takes no
+    /// memory.
+    pub fn new(alloc: Global, document: u32) -> Blocks
         ensures read { HasRead result [] }
-        ensures prefix { (before more : List ℕ) → (rest : List Block) × (blocks (before ++ more) ≡ whole before ++ rest) }
+        ensures document { result.document ≡ document }
+        ensures prefix { (before more : List ℕ) → (rest : List Block) × (blocks document (before ++ more) ≡ whole document before ++ rest) }
     {
         Blocks {
-            line: Listed::new(alloc),
-            group: Listed::new(alloc),
+            document,
+            line: BegunLine::Kept(Listed::new(alloc)),
+            block: BegunBlock::Between,
+            lines: 0,
             number: 1,
             spent: false,
             alloc,
         }
     }
 
-    /// The blocks whose last line ends in this piece. Fails only where memory is refused, or the 64-bit number of a
-    /// block would pass its last value; then, and after `finish`, each later call fails too.
+    /// The blocks whose last line ends in this piece. Fails only where memory is refused, or the 64-bit number of a line
+    /// or block would pass its last value; then, and after `finish`, each later call fails too.
     pub fn feed(&mut self, piece: &[u8]) -> Result<Listed<Block>, AllocError>
+        ensures document { self.new.document ≡ self.old.document }
         ensures read { OnOk result ((before : List ℕ) → HasRead self.old before → HasRead self.new (before ++ piece.now)) }
-        ensures given { IfOk result (λ given.
-            (before : List ℕ) → HasRead self.old before → whole (before ++ piece.now) ≡ whole before ++ given) }
+        ensures given { IfOk result (λ given. (before : List ℕ) → HasRead self.old before
+            → whole self.old.document (before ++ piece.now) ≡ whole self.old.document before ++ given) }
         ensures timed { IfOk result AllTimed }
-        ensures prefix { (before more : List ℕ) → (rest : List Block) × (blocks (before ++ more) ≡ whole before ++ rest) }
+        ensures prefix { (before more : List ℕ) → (rest : List Block)
+            × (blocks self.old.document (before ++ more) ≡ whole self.old.document before ++ rest) }
         ensures spent { OnErr result (self.new.spent ≡ true) }
         ensures dead { self.old.spent ≡ true → IsErr result }
     {
@@ -84,10 +99,12 @@ impl Blocks {
     /// The block that the end of the text ends, where there is one: its `@end` is missing, or the line feed behind it.
     /// Fails as `feed` does. Each later call fails.
     pub fn finish(&mut self) -> Result<Option<Block>, AllocError>
-        ensures given { IfOk result (λ last.
-            (before : List ℕ) → HasRead self.old before → blocks before ≡ whole before ++ option_to_list last) }
+        ensures document { self.new.document ≡ self.old.document }
+        ensures given { IfOk result (λ last. (before : List ℕ) → HasRead self.old before
+            → blocks self.old.document before ≡ whole self.old.document before ++ option_to_list last) }
         ensures timed { IfOk result (λ last. AllTimed (option_to_list last)) }
-        ensures prefix { (before more : List ℕ) → (rest : List Block) × (blocks (before ++ more) ≡ whole before ++ rest) }
+        ensures prefix { (before more : List ℕ) → (rest : List Block)
+            × (blocks self.old.document (before ++ more) ≡ whole self.old.document before ++ rest) }
         ensures spent { self.new.spent ≡ true }
         ensures dead { self.old.spent ≡ true → IsErr result }
     {
@@ -100,59 +117,105 @@ impl Blocks {
     }
 
     fn last_block(&mut self) -> Result<Option<Block>, AllocError>
-        ensures ends { IfOk result (λ last.
-            (before : List ℕ) → HasRead self.old before → blocks before ≡ whole before ++ option_to_list last) }
+        ensures document { self.new.document ≡ self.old.document }
+        ensures ends { IfOk result (λ last. (before : List ℕ) → HasRead self.old before
+            → blocks self.old.document before ≡ whole self.old.document before ++ option_to_list last) }
         ensures timed { IfOk result (λ last. AllTimed (option_to_list last)) }
     {
-        if self.line.as_slice().is_empty() {
+        if self.is_between_lines() {
             return self.close_begun();
         }
-        let line = mem::replace(&mut self.line, Listed::new(self.alloc));
+        let line = held(self.take_begun_line(), false);
         match self.take_line(line)? {
             Some(block) => Ok(Some(block)),
             None => self.close_begun(),
         }
     }
 
-    fn take_byte(&mut self, byte: u8) -> Result<Option<Block>, AllocError>
-        ensures { IfOk result (λ given. Reads self.old (byte ∷ []) self.new (option_to_list given)) }
+    // whether no byte stands behind the last line feed
+    fn is_between_lines(&self) -> bool
+        ensures { result ≡ true ↔ (self.now.line ≡ line.Kept []) }
     {
-        if byte == b'\n' {
-            return self.end_line();
+        match &self.line {
+            BegunLine::Kept(bytes) => bytes.as_slice().is_empty(),
+            BegunLine::Long(_) => false,
         }
-        self.line.push(byte)?;
-        Ok(None)
+    }
+
+    fn take_begun_line(&mut self) -> BegunLine
+        ensures line { result ≡ self.old.line }
+        ensures after { self.new ≡ record self.old { line = line.Kept [] } }
+    {
+        mem::replace(&mut self.line, BegunLine::Kept(Listed::new(self.alloc)))
+    }
+
+    // bytes of a line
+    fn take_run(&mut self, run: &[u8]) -> Result<(), AllocError>
+        requires { IsInLine run.now }
+        ensures document { self.new.document ≡ self.old.document }
+        ensures reads { OnOk result (Reads self.old run.now self.new []) }
+    {
+        let line = self.take_begun_line();
+        let line = lengthened(line, run)?;
+        self.keep_line(line);
+        Ok(())
+    }
+
+    fn keep_line(&mut self, line: BegunLine)
+        ensures { self.new ≡ record self.old { line = line } }
+    {
+        self.line = line;
     }
 
     // the line that has begun ends
     fn end_line(&mut self) -> Result<Option<Block>, AllocError>
-        ensures { IfOk result (λ given. Reads self.old (10 ∷ []) self.new (option_to_list given)) }
+        ensures document { self.new.document ≡ self.old.document }
+        ensures reads { IfOk result (λ given. Reads self.old (10 ∷ []) self.new (option_to_list given)) }
     {
-        let line = mem::replace(&mut self.line, Listed::new(self.alloc));
-        self.take_line(without_carriage_return(line))
+        let line = held(self.take_begun_line(), true);
+        self.take_line(line)
     }
 
-    fn take_line(&mut self, line: Listed<u8>) -> Result<Option<Block>, AllocError>
-        ensures { IfOk result (λ given. TakesLine self.old line self.new (option_to_list given)) }
+    fn take_line(&mut self, line: HeldLine) -> Result<Option<Block>, AllocError>
+        ensures document { self.new.document ≡ self.old.document }
+        ensures takes { IfOk result (λ given. TakesLine self.old line self.new (option_to_list given)) }
     {
-        match place_of(self.group.as_slice(), line.as_slice()) {
+        let Some(number) = self.lines.checked_add(1) else {
+            return Err(AllocError);
+        };
+        let place = place_of(&self.block, &line);
+        self.lines = number;
+        match place {
             Place::Passed => Ok(None),
-            Place::Within => {
-                self.group.push(line)?;
+            Place::Inside => {
+                self.grow(line, number)?;
                 Ok(None)
             }
             Place::Last => {
-                self.group.push(line)?;
+                self.grow(line, number)?;
                 Ok(Some(self.close()?))
             }
         }
     }
 
+    fn grow(&mut self, line: HeldLine, number: u64) -> Result<(), AllocError>
+        ensures rest { self.new ≡ record self.old { block = self.new.block } }
+        ensures block { OnOk result ((group : List Line) (l : Line) → begun_block_of group ≡ self.old.block
+            → held_line_of l ≡ line → l.number ≡ number → self.new.block ≡ begun_block_of (group ++ (l ∷ []))) }
+    {
+        let block = mem::replace(&mut self.block, BegunBlock::Between);
+        self.block = grown(self.alloc, block, line, number)?;
+        Ok(())
+    }
+
     // the block that has begun, if one has
     fn close_begun(&mut self) -> Result<Option<Block>, AllocError>
-        ensures { IfOk result (λ last. option_to_list last ≡ numbered_from self.old.number (begun_groups self.old.group)) }
+        ensures document { self.new.document ≡ self.old.document }
+        ensures timed { IfOk result (λ last. AllTimed (option_to_list last)) }
+        ensures ends { IfOk result (λ last. (group : List Line) → begun_block_of group ≡ self.old.block
+            → option_to_list last ≡ numbered_from self.old.document self.old.number (begun_groups group)) }
     {
-        if self.group.as_slice().is_empty() {
+        if let BegunBlock::Between = &self.block {
             return Ok(None);
         }
         Ok(Some(self.close()?))
@@ -160,28 +223,49 @@ impl Blocks {
 
     // the block of the lines so far
     fn close(&mut self) -> Result<Block, AllocError>
-        ensures block { IfOk result (λ block. block ≡ record { number = self.old.number; content = content_of self.old.group }) }
-        ensures after { OnOk result (self.new ≡ record self.old { group = []; number = self.old.number + 1 }) }
+        ensures block { IfOk result (λ block. (group : List Line) → begun_block_of group ≡ self.old.block
+            → block ≡ record { number = self.old.number; content = content_of self.old.document group }) }
+        ensures after { OnOk result (self.new ≡ record self.old { block = begun.Between; number = self.old.number + 1 }) }
+        ensures document { self.new.document ≡ self.old.document }
+        ensures timed { IfOk result (λ block. IsTimed block.content) }
     {
         let Some(next) = self.number.checked_add(1) else {
             return Err(AllocError);
         };
         let number = mem::replace(&mut self.number, next);
-        let group = mem::replace(&mut self.group, Listed::new(self.alloc));
-        let content = content_of(self.alloc, group.as_slice())?;
+        let block = mem::replace(&mut self.block, BegunBlock::Between);
+        let content = content_of(self.alloc, self.document, block)?;
         Ok(Block { number, content })
     }
 }
 
 fn read_piece(alloc: Global, blocks: &mut Blocks, piece: &[u8]) -> Result<Listed<Block>, AllocError>
-    ensures { IfOk result (λ given. Reads blocks.old piece.now blocks.new given) }
+    ensures document { blocks.new.document ≡ blocks.old.document }
+    ensures reads { IfOk result (λ given. Reads blocks.old piece.now blocks.new given) }
 {
     let mut given = Listed::new(alloc);
-    for byte in piece {
-        let block = blocks.take_byte(*byte)?;
-        push_some(&mut given, block)?;
+    let mut rest = piece;
+    'lines: loop {
+        let end = line_end(rest);
+        let (run, behind) = rest.split_at(end);
+        blocks.take_run(run)?;
+        match behind.split_first() {
+            None => return Ok(given),
+            Some((_, next)) => {
+                let block = blocks.end_line()?;
+                push_some(&mut given, block)?;
+                rest = next;
+            }
+        }
     }
-    Ok(given)
+}
+
+// where the first line feed stands, or the number of bytes
+fn line_end(bytes: &[u8]) -> usize
+    ensures place { result ≡ position_or_len (λ b. b == 10) bytes.now }
+    ensures bound { result ≤ length bytes.now }
+{
+    bytes.iter().take_while(|b| **b != b'\n').count()
 }
 
 fn push_some(given: &mut Listed<Block>, block: Option<Block>) -> Result<(), AllocError>
@@ -193,49 +277,65 @@ fn push_some(given: &mut Listed<Block>, block: Option<Block>) -> Result<(), Allo
     }
 }
 
-fn place_of(group: &[Listed<u8>], line: &[u8]) -> Place
-    ensures { result ≡ place_of group.now line.now }
+fn place_of(block: &BegunBlock, line: &HeldLine) -> Place
+    ensures { (group : List Line) (l : Line) → begun_block_of group ≡ block.now → held_line_of l ≡ line.now
+        → result ≡ place_of group l }
 {
-    if group.is_empty() {
-        return place_between(line);
-    }
-    if is_end(line) {
-        Place::Last
-    } else {
-        Place::Within
+    match block {
+        BegunBlock::Between => place_between(line),
+        _ => place_inside(line),
     }
 }
 
-fn place_between(line: &[u8]) -> Place
-    ensures { result ≡ place_of [] line.now }
+fn place_between(line: &HeldLine) -> Place
+    ensures { (l : Line) → held_line_of l ≡ line.now → result ≡ place_of [] l }
 {
-    if is_passed(line) {
+    match line {
+        HeldLine::Long(_) => Place::Last,
+        HeldLine::Kept(text, _) => place_of_text(text.as_slice()),
+    }
+}
+
+fn place_of_text(text: &[u8]) -> Place
+    ensures { result ≡ (if is_passed text.now then place.Passed else (if has_body text.now then place.Inside else place.Last)) }
+{
+    if is_passed(text) {
         return Place::Passed;
     }
-    if has_body(line) {
-        Place::Within
+    if has_body(text) {
+        Place::Inside
     } else {
         Place::Last
     }
 }
 
-// the line without the one carriage return at its end
-fn without_carriage_return(line: Listed<u8>) -> Listed<u8>
-    ensures { result ≡ strip_carriage_return line }
+fn place_inside(line: &HeldLine) -> Place
+    ensures { (l : Line) → held_line_of l ≡ line.now → result ≡ (if ends_body l then place.Last else place.Inside) }
 {
-    let mut bytes = line.into_vec();
-    if bytes.last() == Some(&b'\r') {
-        bytes.pop();
+    if ends_body(line) {
+        Place::Last
+    } else {
+        Place::Inside
     }
-    Listed::from_vec(bytes)
 }
 
-#[tactic(auto, unfolding(crate::specs::Blocks::content_of))]
-fn content_of(alloc: Global, lines: &[Listed<u8>]) -> Result<Content, AllocError>
-    ensures { IfOk result (λ content. content ≡ content_of lines.now) }
+fn ends_body(line: &HeldLine) -> bool
+    ensures { (l : Line) → held_line_of l ≡ line.now → result ≡ ends_body l }
 {
-    match event_of(alloc, lines)? {
-        Some(event) => Ok(Content::Event(event)),
-        None => Ok(Content::Fault(BlockFault::Unbuilt)),
+    match line {
+        HeldLine::Long(ends) => *ends,
+        HeldLine::Kept(text, _) => is_end(text.as_slice()),
+    }
+}
+
+fn content_of(alloc: Global, document: u32, block: BegunBlock) -> Result<Content, AllocError>
+    ensures timed { IfOk result IsTimed }
+    ensures value { IfOk result (λ content. (group : List Line) → begun_block_of group ≡ block → content ≡ content_of document group) }
+{
+    match block {
+        BegunBlock::Within(first, texts, _) => {
+            content_of_texts(alloc, document, first, texts.as_slice())
+        }
+        _ => Ok(Content::Fault(BlockFault::BlockTooLarge)),
     }
 }

@@ -1,15 +1,17 @@
 // Events and blocks.
-use rsp_terms::{Listed, Text, Triple};
-use rsp_windows::Window;
+use rsp_terms::{Listed, Quad, Text, Triple};
 
 /// What the engine works off, one at a time.
 #[derive(Drop)]
 pub enum Event {
-    /// A query becomes live: the pattern `?s ?p ?o` over one window on a stream, reported at each closing.
+    /// A query becomes live under a name, by its text.
     Register {
         name: Text,
-        stream: Text,
-        window: Window,
+        text: Text,
+    },
+    /// A query is no longer live.
+    Cancel {
+        name: Text,
     },
     /// A graph arrives on a stream at a time, in ms since 1970.
     Item {
@@ -21,13 +23,26 @@ pub enum Event {
     Tick {
         time: u64,
     },
+    /// The quads become stored that aren't.
+    Insert {
+        quads: Listed<Quad>,
+    },
+    /// The quads are no longer stored that are.
+    Delete {
+        quads: Listed<Quad>,
+    },
 }
 
-/// Why a block is no event.
+/// Why a block is no event. They are tested in this order.
 #[derive(Clone, Copy, PartialEq, Eq, Debug)]
 pub enum BlockFault {
-    /// The block is of a form that isn't built yet.
-    Unbuilt,
+    /// The block has more than 16,777,216 bytes.
+    BlockTooLarge,
+    /// The first line is no directive.
+    BadDirective,
+    /// A line of the body is refused, or its `@end` is missing; `line` is the number of the first such line in the text,
+    /// from 1.
+    BadBody { line: u64 },
 }
 
 /// What a block holds.

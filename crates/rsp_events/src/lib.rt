@@ -6,16 +6,11 @@
 //! Above: the engine takes the events, the program the blocks. Below: terms and windows.
 #![tactic(auto)]
 
+mod begun;
 mod blocks;
+mod contents;
 mod event;
-mod fields;
-mod forms;
-mod graph;
 mod lines;
-mod query;
 
 pub use blocks::Blocks;
 pub use event::{Block, BlockFault, Content, Event};
-
-#[cfg(test)]
-mod tests;

@@ -10,8 +10,8 @@ pub fn same(left: &[u8], right: &[u8]) -> bool
     left == right
 }
 
-// a space or a tab
-fn is_blank(c: u8) -> bool
+/// Whether a character is a space or a tab.
+pub fn is_blank(c: u8) -> bool
     ensures { result ≡ text.is_blank c }
 {
     c == b' ' || c == b'\t'

@@ -1,0 +1,32 @@
+-- What a reader keeps of a line and of a block that have begun: their bytes, as long as they are no more than a block may
+-- have.
+use Rattle.std.specs.Prelude.{ℕ, Bool, ◌||◌, ◌&&◌, nat_lt, if◌then◌else◌, List, [], ◌∷◌, map, length}
+use Rattle.std.specs.Str.Lines.{strip_carriage_return}
+use Rattle.rsp_events.specs.declared.begun.Ending.{Ending}
+use Rattle.rsp_events.specs.declared.begun.BegunLine.{BegunLine}
+use Rattle.rsp_events.specs.declared.begun.BegunLine.TheVariants as line
+use Rattle.rsp_events.specs.declared.begun.BegunBlock.{BegunBlock}
+use Rattle.rsp_events.specs.declared.begun.BegunBlock.TheVariants as block
+use Rattle.rsp_events.specs.declared.begun.HeldLine.{HeldLine}
+use Rattle.rsp_events.specs.declared.begun.HeldLine.TheVariants as held
+use Rattle.rsp_events.specs.Lines.{Line, is_end, is_long, most_bytes, size_of, sizes_of, text_of}
+
+-- whether bytes are an `@end`, as the last line of a text and as a line that a line feed ends
+abbrev pub ending_of : List ℕ → Ending
+ending_of bytes = record { last = is_end bytes; fed = is_end (strip_carriage_return bytes) }
+
+-- of a line with more bytes than a block may have it is kept only how it may end a body
+abbrev pub begun_line_of : List ℕ → BegunLine
+begun_line_of bytes = if nat_lt most_bytes (length bytes) then line.Long (ending_of bytes) else line.Kept bytes
+
+-- the same of a line that has come to its end
+abbrev pub held_line_of : Line → HeldLine
+held_line_of l = if is_long l then held.Long (is_end (text_of l)) else held.Kept (text_of l) (size_of l)
+
+-- of a block with more bytes than it may have nothing is kept
+abbrev pub begun_block_of : List Line → BegunBlock
+begun_block_of [] = block.Between
+begun_block_of (head ∷ body) =
+    if nat_lt most_bytes (sizes_of (head ∷ body))
+    then block.TooLarge
+    else block.Within head.number (map text_of (head ∷ body)) (sizes_of (head ∷ body))

@@ -1,0 +1,204 @@
+// What is kept of a line and of a block that have begun: their bytes, as long as they are no more than a block may have.
+ghost use Rattle.std.specs.Prelude.{◌≡◌, ◌+◌, ◌++◌, ◌∷◌, ◌≤◌, ◌<◌, ◌&&◌, [], ℕ, List, Bool, IfOk, length, if◌then◌else◌, nat_lt};
+ghost use Rattle.std.specs.Str.Lines.{strip_carriage_return};
+ghost use Rattle.rsp_events.specs.Begun.{begun_block_of, begun_line_of, ending_of, held_line_of};
+ghost use Rattle.rsp_events.specs.Lines as lines;
+ghost use Rattle.rsp_events.specs.Lines.{Line};
+ghost use Rattle.rsp_events.specs.declared.begun.HeldLine.TheVariants as held;
+ghost use Rattle.rsp_events.specs.declared.begun.BegunBlock.TheVariants as begun;
+
+use crate::lines::{is_blank, is_end};
+use rsp_terms::Listed;
+use std::alloc::{AllocError, Global};
+
+// The most bytes of a block.
+const MOST_BYTES: usize = 16_777_216;
+
+/// Whether bytes are an `@end`: as the last line of a text, and as a line that a line feed ends, which drops a carriage
+/// return before it.
+#[derive(Clone, Copy)]
+pub struct Ending {
+    pub last: bool,
+    pub fed: bool,
+}
+
+/// The line that has begun: its bytes, or how it may end a body where they are more than a block may have.
+#[derive(Drop)]
+pub enum BegunLine {
+    Kept(Listed<u8>),
+    Long(Ending),
+}
+
+/// A line that has come to its end: what it says and its bytes with the line feed, or whether it ends a body where it has
+/// more than a block may have.
+#[derive(Drop)]
+pub enum HeldLine {
+    Kept(Listed<u8>, usize),
+    Long(bool),
+}
+
+/// The block that has begun: none, or its lines with the number of the first and the bytes of all, or one that has more
+/// than a block may have.
+#[derive(Drop)]
+pub enum BegunBlock {
+    Between,
+    Within(u64, Listed<Listed<u8>>, usize),
+    TooLarge,
+}
+
+// ---- a line
+
+/// The line with these bytes behind it, of which none is a line feed. Fails only where memory is refused.
+pub fn lengthened(line: BegunLine, run: &[u8]) -> Result<BegunLine, AllocError>
+    ensures { IfOk result (λ new. (bytes : List ℕ) → begun_line_of bytes ≡ line → new ≡ begun_line_of (bytes ++ run.now)) }
+{
+    match line {
+        BegunLine::Kept(bytes) => lengthened_bytes(bytes, run),
+        BegunLine::Long(ending) => Ok(BegunLine::Long(ending_behind(ending, run))),
+    }
+}
+
+fn lengthened_bytes(bytes: Listed<u8>, run: &[u8]) -> Result<BegunLine, AllocError>
+    ensures { IfOk result (λ new. length bytes ≤ lines.most_bytes → new ≡ begun_line_of (bytes ++ run.now)) }
+{
+    let room = MOST_BYTES.saturating_sub(bytes.as_slice().len());
+    if run.len() <= room {
+        return Ok(BegunLine::Kept(joined(bytes, run)?));
+    }
+    let (front, rest) = run.split_at(room);
+    let full = joined(bytes, front)?;
+    Ok(BegunLine::Long(ending_behind(ending_of(full.as_slice()), rest)))
+}
+
+fn joined(bytes: Listed<u8>, run: &[u8]) -> Result<Listed<u8>, AllocError>
+    ensures { IfOk result (λ joined. joined ≡ bytes ++ run.now) }
+{
+    let mut bytes = bytes.into_vec();
+    bytes.extend_from_slice(run)?;
+    Ok(Listed::from_vec(bytes))
+}
+
+fn ending_of(bytes: &[u8]) -> Ending
+    ensures { result ≡ ending_of bytes.now }
+{
+    let last = is_end(bytes);
+    let fed = is_end(without_return(bytes));
+    Ending { last, fed }
+}
+
+// the bytes without the one carriage return at their end
+fn without_return(bytes: &[u8]) -> &[u8]
+    ensures { result.now ≡ strip_carriage_return bytes.now }
+{
+    match bytes.split_last() {
+        Some((13, front)) => front,
+        _ => bytes,
+    }
+}
+
+// how bytes stand to `@end` with these behind them, where there are enough of them for an `@end`
+fn ending_behind(ending: Ending, run: &[u8]) -> Ending
+    ensures { (bytes : List ℕ) → 4 ≤ length bytes → ending_of bytes ≡ ending → result ≡ ending_of (bytes ++ run.now) }
+{
+    let mut ending = ending;
+    for byte in run {
+        ending = next_ending(ending, *byte);
+    }
+    ending
+}
+
+fn next_ending(ending: Ending, byte: u8) -> Ending
+    ensures { (bytes : List ℕ) → 4 ≤ length bytes → ending_of bytes ≡ ending → result ≡ ending_of (bytes ++ (byte ∷ [])) }
+{
+    let last = both(ending.last, is_blank(byte));
+    let fed = if byte == b'\r' { ending.last } else { last };
+    Ending { last, fed }
+}
+
+fn both(first: bool, second: bool) -> bool
+    ensures { result ≡ (first && second) }
+{
+    first && second
+}
+
+/// The line at its end, with a line feed behind it or none.
+pub fn held(line: BegunLine, ended: bool) -> HeldLine
+    ensures { (l : Line) → begun_line_of l.bytes ≡ line → l.ended ≡ ended → result ≡ held_line_of l }
+{
+    match line {
+        BegunLine::Kept(bytes) => held_bytes(bytes, ended),
+        BegunLine::Long(ending) => HeldLine::Long(ends(ending, ended)),
+    }
+}
+
+fn held_bytes(bytes: Listed<u8>, ended: bool) -> HeldLine
+    ensures { (l : Line) → l.bytes ≡ bytes → l.ended ≡ ended → result ≡ held.Kept (lines.text_of l) (lines.size_of l) }
+{
+    let size = bytes.as_slice().len();
+    if ended {
+        HeldLine::Kept(stripped(bytes), size + 1)
+    } else {
+        HeldLine::Kept(bytes, size)
+    }
+}
+
+// the line without the one carriage return at its end
+fn stripped(line: Listed<u8>) -> Listed<u8>
+    ensures { result ≡ strip_carriage_return line }
+{
+    let mut bytes = line.into_vec();
+    if bytes.last() == Some(&b'\r') {
+        bytes.pop();
+    }
+    Listed::from_vec(bytes)
+}
+
+// whether a line ends a body that stands so to `@end`
+fn ends(ending: Ending, ended: bool) -> bool
+    ensures { (l : Line) → ending_of l.bytes ≡ ending → l.ended ≡ ended → result ≡ lines.is_end (lines.text_of l) }
+{
+    if ended { ending.fed } else { ending.last }
+}
+
+// ---- a block
+
+/// The block with this line behind it, whose number is `number`. Fails only where memory is refused.
+pub fn grown(
+    alloc: Global,
+    block: BegunBlock,
+    line: HeldLine,
+    number: u64,
+) -> Result<BegunBlock, AllocError>
+    ensures { IfOk result (λ new. (group : List Line) (l : Line) → begun_block_of group ≡ block → held_line_of l ≡ line
+        → l.number ≡ number → new ≡ begun_block_of (group ++ (l ∷ []))) }
+{
+    let HeldLine::Kept(text, size) = line else {
+        return Ok(BegunBlock::TooLarge);
+    };
+    match block {
+        BegunBlock::Between => Ok(within(number, Listed::new(alloc), 0, text, size)?),
+        BegunBlock::Within(first, texts, before) => Ok(within(first, texts, before, text, size)?),
+        BegunBlock::TooLarge => Ok(BegunBlock::TooLarge),
+    }
+}
+
+fn within(
+    first: u64,
+    texts: Listed<Listed<u8>>,
+    before: usize,
+    text: Listed<u8>,
+    size: usize,
+) -> Result<BegunBlock, AllocError>
+    ensures { IfOk result (λ new. new ≡ (if nat_lt lines.most_bytes (before + size)
+        then begun.TooLarge else begun.Within first (texts ++ (text ∷ [])) (before + size))) }
+{
+    let Some(all) = before.checked_add(size) else {
+        return Ok(BegunBlock::TooLarge);
+    };
+    if MOST_BYTES < all {
+        return Ok(BegunBlock::TooLarge);
+    }
+    let mut texts = texts;
+    texts.push(text)?;
+    Ok(BegunBlock::Within(first, texts, all))
+}
