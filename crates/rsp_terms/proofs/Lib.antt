@@ -1,1 +1,2 @@
+mod Injective
 mod TermRows

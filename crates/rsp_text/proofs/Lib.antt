@@ -1,0 +1,3 @@
+pub mod DigitLaws
+pub mod InstantLaws
+pub mod TextRows
