@@ -5,6 +5,7 @@
 //! Above: reports, events and the engine speak of these types. Below: std alone.
 #![tactic(auto)]
 
+mod cells;
 pub mod characters;
 mod listed;
 mod printing;
