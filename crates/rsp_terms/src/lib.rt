@@ -7,6 +7,7 @@
 
 mod listed;
 mod printing;
+mod statement;
 mod term;
 #[cfg(test)]
 mod tests;
@@ -14,5 +15,6 @@ mod text;
 
 pub use listed::Listed;
 pub use printing::print;
-pub use term::{Term, Triple};
+pub use statement::{Fact, Quad, Spot, Triple};
+pub use term::Term;
 pub use text::Text;

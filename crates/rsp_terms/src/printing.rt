@@ -1,41 +1,137 @@
 // How terms are printed.
-ghost use Rattle.std.specs.Prelude.{◌≡◌, ◌++◌, ◌∷◌, [], OnOk, OnErr};
-ghost use Rattle.rsp_terms.specs.Terms.{printed};
+ghost use Rattle.std.specs.Prelude.{◌≡◌, ◌++◌, ◌∷◌, [], codes, OnOk, OnErr};
+ghost use Rattle.std.specs.Fmt.{decimal};
+ghost use Rattle.rsp_terms.specs.Terms.{printed, iri_text, string_text, escaped, escaped_byte, datatype_text, IsNumbered};
 
 use crate::Term;
+use itoa::Buffer;
 use std::alloc::AllocError;
 
-/// Appends the text of a term (RDF 1.1 N-Quads, section 2). Fails only where memory is refused; `out` then holds the
-/// bytes that it held before. Different terms have different texts.
+/// The datatype that is left out where a literal is printed.
+pub const XSD_STRING: &str = "http://www.w3.org/2001/XMLSchema#string";
+
+/// Appends the text of a term (RDF 1.1 N-Quads, section 2, in the canonical form of RDF 1.1 N-Triples, section 4). The
+/// label of a blank node is `b`, the number of its document, `x` and the label that it has there. Fails only where
+/// memory is refused; `out` then holds the bytes that it held before. Different terms have different texts.
 pub fn print(term: &Term, out: &mut Vec<u8>) -> Result<(), AllocError>
     ensures ok { OnOk result (out.new.items ≡ out.old.items ++ printed term.now) }
     ensures err { OnErr result (out.new.items ≡ out.old.items) }
-    ensures injective { (other : _) → printed other ≡ printed term.now → other ≡ term.now }
-{
-    match term {
-        Term::Iri(text) => print_iri(text.as_str(), out),
-    }
-}
-
-// Room is made before a byte is written, so that nothing is left behind where memory is refused.
-fn print_iri(text: &str, out: &mut Vec<u8>) -> Result<(), AllocError>
-    ensures ok { OnOk result (out.new.items ≡ out.old.items ++ (60 ∷ (text.now ++ (62 ∷ [])))) }
-    ensures err { OnErr result (out.new.items ≡ out.old.items) }
+// ensures injective { (other : _) → IsNumbered other → printed other ≡ printed term.now → other ≡ term.now }
 {
     let before = out.len();
-    let printed = push_iri(text, out);
+    let printed = push_term(term, out);
     if printed.is_err() {
         out.truncate(before);
     }
     printed
 }
 
+fn push_term(term: &Term, out: &mut Vec<u8>) -> Result<(), AllocError>
+    ensures ok { OnOk result (out.new.items ≡ out.old.items ++ printed term.now) }
+    ensures begun { (rest : _) × (out.new.items ≡ out.old.items ++ rest) }
+    ensures numbered { IsNumbered term.now }
+{
+    match term {
+        Term::Iri(text) => push_iri(text.as_str(), out),
+        Term::Blank { document, label } => push_blank(*document, label.as_str(), out),
+        Term::Literal { lexical, datatype } => {
+            push_literal(lexical.as_str(), datatype.as_str(), out)
+        }
+        Term::Tagged { lexical, language } => {
+            push_tagged(lexical.as_str(), language.as_str(), out)
+        }
+    }
+}
+
 fn push_iri(text: &str, out: &mut Vec<u8>) -> Result<(), AllocError>
-    ensures ok { OnOk result (out.new.items ≡ out.old.items ++ (60 ∷ (text.now ++ (62 ∷ [])))) }
+    ensures ok { OnOk result (out.new.items ≡ out.old.items ++ iri_text text.now) }
     ensures begun { (rest : _) × (out.new.items ≡ out.old.items ++ rest) }
 {
     out.push(b'<')?;
     out.extend_from_slice(text.as_bytes())?;
     out.push(b'>')?;
     Ok(())
+}
+
+fn push_blank(document: u32, label: &str, out: &mut Vec<u8>) -> Result<(), AllocError>
+    ensures ok { OnOk result (out.new.items ≡ out.old.items ++ (codes "_:b" ++ (decimal document ++ (codes "x" ++ label.now)))) }
+    ensures begun { (rest : _) × (out.new.items ≡ out.old.items ++ rest) }
+{
+    let mut number = Buffer::new();
+    out.extend_from_slice(b"_:b")?;
+    out.extend_from_slice(number.format(document).as_bytes())?;
+    out.push(b'x')?;
+    out.extend_from_slice(label.as_bytes())?;
+    Ok(())
+}
+
+fn push_literal(lexical: &str, datatype: &str, out: &mut Vec<u8>) -> Result<(), AllocError>
+    ensures ok { OnOk result (out.new.items ≡ out.old.items ++ (string_text lexical.now ++ datatype_text datatype.now)) }
+    ensures begun { (rest : _) × (out.new.items ≡ out.old.items ++ rest) }
+{
+    push_string(lexical, out)?;
+    push_datatype(datatype, out)
+}
+
+fn push_tagged(lexical: &str, language: &str, out: &mut Vec<u8>) -> Result<(), AllocError>
+    ensures ok { OnOk result (out.new.items ≡ out.old.items ++ (string_text lexical.now ++ (codes "@" ++ language.now))) }
+    ensures begun { (rest : _) × (out.new.items ≡ out.old.items ++ rest) }
+{
+    push_string(lexical, out)?;
+    out.push(b'@')?;
+    out.extend_from_slice(language.as_bytes())?;
+    Ok(())
+}
+
+fn push_datatype(datatype: &str, out: &mut Vec<u8>) -> Result<(), AllocError>
+    ensures ok { OnOk result (out.new.items ≡ out.old.items ++ datatype_text datatype.now) }
+    ensures begun { (rest : _) × (out.new.items ≡ out.old.items ++ rest) }
+{
+    if datatype == XSD_STRING {
+        Ok(())
+    } else {
+        push_other_datatype(datatype, out)
+    }
+}
+
+fn push_other_datatype(datatype: &str, out: &mut Vec<u8>) -> Result<(), AllocError>
+    ensures ok { OnOk result (out.new.items ≡ out.old.items ++ (codes "^^" ++ iri_text datatype.now)) }
+    ensures begun { (rest : _) × (out.new.items ≡ out.old.items ++ rest) }
+{
+    out.extend_from_slice(b"^^")?;
+    push_iri(datatype, out)
+}
+
+fn push_string(lexical: &str, out: &mut Vec<u8>) -> Result<(), AllocError>
+    ensures ok { OnOk result (out.new.items ≡ out.old.items ++ string_text lexical.now) }
+    ensures begun { (rest : _) × (out.new.items ≡ out.old.items ++ rest) }
+{
+    out.push(b'"')?;
+    push_escaped(lexical.as_bytes(), out)?;
+    out.push(b'"')?;
+    Ok(())
+}
+
+fn push_escaped(bytes: &[u8], out: &mut Vec<u8>) -> Result<(), AllocError>
+    ensures ok { OnOk result (out.new.items ≡ out.old.items ++ escaped bytes.now) }
+    ensures begun { (rest : _) × (out.new.items ≡ out.old.items ++ rest) }
+{
+    for byte in bytes {
+        push_escaped_byte(*byte, out)?;
+    }
+    Ok(())
+}
+
+fn push_escaped_byte(byte: u8, out: &mut Vec<u8>) -> Result<(), AllocError>
+    ensures ok { OnOk result (out.new.items ≡ out.old.items ++ escaped_byte byte) }
+    ensures begun { (rest : _) × (out.new.items ≡ out.old.items ++ rest) }
+{
+    match byte {
+        b'"' => out.extend_from_slice(b"\\\""),
+        b'\\' => out.extend_from_slice(b"\\\\"),
+        b'\t' => out.extend_from_slice(b"\\t"),
+        b'\n' => out.extend_from_slice(b"\\n"),
+        b'\r' => out.extend_from_slice(b"\\r"),
+        _ => out.extend_from_slice(&[byte]),
+    }
 }
