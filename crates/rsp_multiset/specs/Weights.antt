@@ -1,6 +1,6 @@
 -- Multisets (SPARQL 1.1 Query, section 18.3) by how often they hold each value. A list without counts is a multiset
 -- as it stands. A change is a list of entries with signs: how often each value comes in, or, below 0, goes out.
-use Rattle.std.specs.Prelude.{◌≡◌, ◌≢◌, Bool, cond, List, [], ◌∷◌, ℤ, pos, ◌+ℤ◌, ◌*ℤ◌, All}
+use Rattle.std.specs.Prelude.{◌≡◌, ◌≢◌, Bool, cond, List, [], ◌∷◌, ℤ, pos, ◌+ℤ◌, ◌*ℤ◌, neg_ℤ, ◌<ℤ◌, negsuc, map, All}
 use Rattle.std.specs.List.{IsDistinct}
 use Rattle.std.specs.Map.{keys_of}
 
@@ -33,3 +33,21 @@ IsChanged {E} eq before entries after = (q : E) → times eq after q ≡ times e
 pub record AreChanges {E : Type 0} (eq : E → E → Bool) (entries : List (E × ℤ)) : Type 0 where
   pub distinct : IsDistinct eq (keys_of entries)
   pub counted : All (λ (e : E × ℤ). e.1 ≢ pos 0) entries
+
+-- the change that takes the entries' change back
+abbrev pub negated : {E : Type 0} → List (E × ℤ) → List (E × ℤ)
+negated {E} entries = map {B = E × ℤ} (λ e. (e.0, neg_ℤ e.1)) entries
+
+-- n where it is above 0, else 0
+abbrev pub above : ℤ → ℤ
+above (pos n) = pos n
+above (negsuc n) = pos 0
+
+-- the entries are distinct, and each is there at least once
+pub record AreCounts {E : Type 0} (eq : E → E → Bool) (entries : List (E × ℤ)) : Type 0 where
+  pub distinct : IsDistinct eq (keys_of entries)
+  pub counted : All (λ (e : E × ℤ). pos 0 <ℤ e.1) entries
+
+-- how many values the entries stand for, each as often as its count says
+abbrev pub size : {E : Type 0} → List (E × ℤ) → ℤ
+size entries = sum_z (λ e. e.1) entries

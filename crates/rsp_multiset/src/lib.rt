@@ -6,7 +6,11 @@
 #![tactic(auto)]
 
 mod cell;
+mod changes;
+mod count;
 mod row;
 
 pub use cell::Cell;
+pub use changes::Changes;
+pub use count::Count;
 pub use row::Row;
