@@ -1,0 +1,2 @@
+mod SolutionRows
+mod WorkRows

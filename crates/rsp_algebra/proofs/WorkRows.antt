@@ -1,0 +1,59 @@
+-- Worked rows: the work of small changes.
+use Rattle.std.specs.Prelude.{◌≡◌, refl, Some, [], ◌∷◌, codes}
+use Rattle.rsp_terms.specs.declared.term.Term.{Term}
+use Rattle.rsp_terms.specs.declared.term.Term.TheVariants.{Iri}
+use Rattle.rsp_terms.specs.declared.statement.Fact.{Fact}
+use Rattle.rsp_terms.specs.declared.statement.Spot.TheVariants as spot
+use Rattle.rsp_algebra.specs.declared.tree.Slot.TheVariants.{Variable, Constant}
+use Rattle.rsp_algebra.specs.declared.tree.Place.TheVariants as place
+use Rattle.rsp_algebra.specs.declared.tree.TriplePattern.{TriplePattern}
+use Rattle.rsp_algebra.specs.Nodes.{Node, pattern, project, left_deep}
+use Rattle.rsp_algebra.specs.Work.{certain, key, join_work, work}
+
+abbrev a : Term
+a = Iri (codes "a:1")
+
+abbrev b : Term
+b = Iri (codes "a:2")
+
+abbrev p : Term
+p = Iri (codes "p:v")
+
+abbrev fact : Term → Term → Fact
+fact subject object =
+    record {
+      spot = spot.Window 0;
+      triple = record { subject = subject; predicate = p; object = object };
+    }
+
+-- the objects of ?0, and the subjects that have the object a:2
+abbrev outgoing : TriplePattern
+outgoing = record { subject = Variable 0; predicate = Constant p; object = Variable 1 }
+
+abbrev incoming : TriplePattern
+incoming = record { subject = Variable 0; predicate = Constant p; object = Constant b }
+
+abbrev both : Node
+both = left_deep (place.Window 0) (outgoing ∷ incoming ∷ [])
+
+pub projection_forgets : certain (project both (1 ∷ 2 ∷ [])) ≡ 1 ∷ []
+projection_forgets = refl
+
+pub rows_are_matched_by_shared_variables : key (pattern (place.Window 0) outgoing) (pattern (place.Window 0) incoming) ≡ 0 ∷ []
+rows_are_matched_by_shared_variables = refl
+
+pub join_without_change_takes_four : work 2 (project both (0 ∷ [])) (fact a a ∷ []) (fact a a ∷ []) ≡ 4
+join_without_change_takes_four = refl
+
+-- a row of each side comes: (a, b) on the left meets the new (a) on the right; (a) on the right meets the old (a, a) and
+-- the new (a, b) on the left
+pub each_side_counts_its_pairs : work 2 both (fact a a ∷ []) (fact a a ∷ fact a b ∷ []) ≡ 24
+each_side_counts_its_pairs = refl
+
+-- the rows of another subject change and meet nothing
+pub pairs_agree_on_the_key : work 2 both (fact a b ∷ []) (fact a b ∷ fact b a ∷ []) ≡ 8
+pairs_agree_on_the_key = refl
+
+-- a count that changes is a change, and equal rows are one row
+pub equal_rows_are_one : join_work (0 ∷ []) ((Some a ∷ []) ∷ []) ((Some a ∷ []) ∷ (Some a ∷ []) ∷ []) ((Some a ∷ []) ∷ (Some a ∷ []) ∷ []) ((Some a ∷ []) ∷ (Some a ∷ []) ∷ []) ≡ 12
+equal_rows_are_one = refl

@@ -1,0 +1,6 @@
+//! Evaluation of algebra trees.
+#![tactic(auto)]
+
+mod limit;
+mod patterns;
+mod projecting;
