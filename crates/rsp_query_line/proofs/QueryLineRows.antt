@@ -1,0 +1,14 @@
+-- Worked lines, by the definitions alone.
+use Rattle.std.proofs.Common.{◌≡◌, [], ◌∷◌, refl}
+use Rattle.std.specs.Prelude.{Some, None, codes}
+use Rattle.rsp_query_line.specs.declared.written.Part.TheVariants.{Variable, Constant}
+use Rattle.rsp_query_line.specs.QueryLine.{query_line, line_of, line_of_fields, name_of, iri_of, part_of, pattern_of, patterns_within, span_of, shape_of, before_variables, before_window, before_patterns}
+
+pub one_pattern : query_line (codes "REGISTER RSTREAM <q:o> REPORT CLOSE TICK TIME AS SELECT ?s FROM NAMED WINDOW <w:1> ON <s:a> [RANGE PT10S STEP PT5S] WHERE { WINDOW <w:1> { ?s <p:v> ?o } }")
+    ≡ Some (record {
+      shape = record { width = 10000; slide = 5000; origin = 0 };
+      shown = codes "s" ∷ [];
+      patterns = record { subject = Variable (codes "s"); predicate = Constant (codes "p:v"); object = Variable (codes "o") } ∷ [];
+    })
+unfolding line_of line_of_fields name_of iri_of part_of pattern_of patterns_within span_of shape_of before_variables before_window before_patterns
+one_pattern = refl

@@ -1,0 +1,2 @@
+pub mod QueryLine
+pub mod Meaning
