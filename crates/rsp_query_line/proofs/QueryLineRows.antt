@@ -1,8 +1,10 @@
 -- Worked lines, by the definitions alone.
 use Rattle.std.proofs.Common.{◌≡◌, [], ◌∷◌, refl}
 use Rattle.std.specs.Prelude.{Some, None, codes}
+use Rattle.std.specs.Str.{chars}
+use Rattle.rsp_text.specs.Digits.{read_u64}
 use Rattle.rsp_query_line.specs.declared.written.Part.TheVariants.{Variable, Constant}
-use Rattle.rsp_query_line.specs.QueryLine.{query_line, line_of, line_of_fields, name_of, iri_of, part_of, pattern_of, patterns_within, span_of, shape_of, before_variables, before_window, before_patterns}
+use Rattle.rsp_query_line.specs.QueryLine.{query_line, line_of, line_of_fields, line_behind_names, line_behind_window, name_of, iri_of, part_of, pattern_of, patterns_within, span_of, shape_of, before_variables, before_window, before_patterns}
 
 pub one_pattern : query_line (codes "REGISTER RSTREAM <q:o> REPORT CLOSE TICK TIME AS SELECT ?s FROM NAMED WINDOW <w:1> ON <s:a> [RANGE PT10S STEP PT5S] WHERE { WINDOW <w:1> { ?s <p:v> ?o } }")
     ≡ Some (record {
@@ -10,5 +12,5 @@ pub one_pattern : query_line (codes "REGISTER RSTREAM <q:o> REPORT CLOSE TICK TI
       shown = codes "s" ∷ [];
       patterns = record { subject = Variable (codes "s"); predicate = Constant (codes "p:v"); object = Variable (codes "o") } ∷ [];
     })
-unfolding line_of line_of_fields name_of iri_of part_of pattern_of patterns_within span_of shape_of before_variables before_window before_patterns
+unfolding read_u64 chars line_of line_of_fields line_behind_names line_behind_window name_of iri_of part_of pattern_of patterns_within span_of shape_of before_variables before_window before_patterns
 one_pattern = refl

@@ -10,7 +10,8 @@ use Rattle.rsp_algebra.specs.Nodes.{Node, project, left_deep}
 use Rattle.rsp_query_line.specs.declared.written.Part.{Part}
 use Rattle.rsp_query_line.specs.declared.written.Part.TheVariants.{Variable, Constant}
 use Rattle.rsp_query_line.specs.declared.written.Written.{Written}
-use Rattle.rsp_query_line.specs.QueryLine.{Line, same, variables_of}
+use Rattle.rsp_query_line.specs.declared.line.Line.{Line}
+use Rattle.rsp_query_line.specs.QueryLine.{same, variables_of}
 
 -- a variable's number is its place among the variables
 abbrev pub place_of : List (List ℕ) → List ℕ → ℕ

@@ -4,7 +4,7 @@ use Rattle.std.specs.Prelude.{ℕ, zero, suc, ◌+◌, ◌-◌, ◌*◌, Bool, t
 use Rattle.std.specs.Char.{is_ascii_alphanumeric, is_ascii_digit}
 use Rattle.std.specs.Cmp.Lexicographic.{pointwise}
 use Rattle.std.specs.List.{list_any, list_all, slice_split, flat_map, take_while}
-use Rattle.std.specs.Option.{option_map, option_and_then}
+use Rattle.std.specs.Option.{option_map, option_map_or, option_and_then}
 use Rattle.std.specs.Str.{chars}
 use Rattle.rsp_spec.specs.Windows.{Shape}
 use Rattle.rsp_text.specs.Digits.{read_u64}
@@ -12,6 +12,7 @@ use Rattle.rsp_terms.specs.Characters.{is_iri_text}
 use Rattle.rsp_query_line.specs.declared.written.Part.{Part}
 use Rattle.rsp_query_line.specs.declared.written.Part.TheVariants.{Variable, Constant}
 use Rattle.rsp_query_line.specs.declared.written.Written.{Written}
+use Rattle.rsp_query_line.specs.declared.line.Line.{Line}
 
 -- the same bytes
 abbrev pub same : List ℕ → List ℕ → Bool
@@ -28,8 +29,8 @@ unfoldable pub line_of : List ℕ → List ℕ
 line_of text =
     if nat_lt 0 (length text) && (slice_index text (length text - 1) == 10) then take (length text - 1) text else text
 
-abbrev pub fields : List ℕ → List (List ℕ)
-fields line = slice_split (λ c. c == 32) line
+abbrev pub fields_of : List ℕ → List (List ℕ)
+fields_of line = slice_split (λ c. c == 32) line
 
 -- what stands behind these fields, where the fields begin with them
 abbrev pub behind : List (List ℕ) → List (List ℕ) → Option (List (List ℕ))
@@ -83,12 +84,12 @@ patterns_within zero fields = None
 patterns_within (suc n) fields =
     option_and_then
     (λ (first : Written).
-    if same_fields (drop 3 fields) (codes "}" ∷ codes "}" ∷ [])
+    if same_fields (drop 3 fields) (fields_of (codes "} }"))
     then Some (first ∷ [])
     else
     option_and_then
     (λ others. option_map (λ more. first ∷ more) (patterns_within n others))
-    (behind (codes "." ∷ []) (drop 3 fields)))
+    (behind (fields_of (codes ".")) (drop 3 fields)))
     (pattern_of (take 3 fields))
 
 -- ---- spans
@@ -116,23 +117,18 @@ shape_of _ = None
 
 -- the fields before the variables, between them and the window, and between the window and the patterns
 unfoldable pub before_variables : List (List ℕ)
-before_variables = fields (codes "REGISTER RSTREAM <q:o> REPORT CLOSE TICK TIME AS SELECT")
+before_variables = fields_of (codes "REGISTER RSTREAM <q:o> REPORT CLOSE TICK TIME AS SELECT")
 
 unfoldable pub before_window : List (List ℕ)
-before_window = fields (codes "FROM NAMED WINDOW <w:1> ON <s:a> [RANGE")
+before_window = fields_of (codes "FROM NAMED WINDOW <w:1> ON <s:a> [RANGE")
 
 unfoldable pub before_patterns : List (List ℕ)
-before_patterns = fields (codes "WHERE { WINDOW <w:1> {")
+before_patterns = fields_of (codes "WHERE { WINDOW <w:1> {")
 
 -- the names that the first fields are, up to one that isn't a variable
 abbrev pub names_of : List (List ℕ) → List (List ℕ)
-names_of fields = map (drop 1) (take_while (λ field. is_some (name_of field)) fields)
-
--- what a query line says
-pub record Line : Type 0 where
-  pub shape : Shape
-  pub shown : List (List ℕ)
-  pub patterns : List Written
+names_of [] = []
+names_of (field ∷ fields) = option_map_or (λ name. name ∷ names_of fields) (name_of field) []
 
 -- the names of the variables of a part, of a pattern, and of patterns, each at its first place
 abbrev pub part_names : Part → List (List ℕ)
@@ -154,15 +150,8 @@ are_shown names patterns =
     (nat_le 1 (length names) && nat_le (length names) 8)
     && (list_all (is_among (variables_of patterns)) names && (length (fold add_once [] names) == length names))
 
-unfoldable pub line_of_fields : List (List ℕ) → Option Line
-line_of_fields all =
-    option_and_then
-    (λ head.
-    let shown = names_of head in
-    option_and_then
-    (λ window.
-    option_and_then
-    (λ shape.
+unfoldable pub line_behind_window : List (List ℕ) → Shape → List (List ℕ) → Option Line
+line_behind_window shown shape fields =
     option_and_then
     (λ tail.
     option_and_then
@@ -171,11 +160,21 @@ line_of_fields all =
     then Some (record { shape = shape; shown = shown; patterns = patterns })
     else None)
     (patterns_within 8 tail))
-    (behind before_patterns (drop 3 window)))
-    (shape_of (take 3 window)))
-    (behind before_window (drop (length shown) head)))
-    (behind before_variables all)
+    (behind before_patterns fields)
+
+unfoldable pub line_behind_names : List (List ℕ) → List (List ℕ) → Option Line
+line_behind_names shown fields =
+    option_and_then
+    (λ window.
+    option_and_then (λ shape. line_behind_window shown shape (drop 3 window)) (shape_of (take 3 window)))
+    (behind before_window fields)
+
+unfoldable pub line_of_fields : List (List ℕ) → Option Line
+line_of_fields fields =
+    option_and_then
+    (λ head. line_behind_names (names_of head) (drop (length (names_of head)) head))
+    (behind before_variables fields)
 
 -- the query line that a text is
 abbrev pub query_line : List ℕ → Option Line
-query_line text = line_of_fields (fields (line_of text))
+query_line text = line_of_fields (fields_of (line_of text))

@@ -1,12 +1,12 @@
 // The fields of a line, and what they may be.
-ghost use Rattle.std.specs.Prelude.{◌≡◌, ◌∷◌, ◌++◌, ◌≤◌, ◌==◌, ◌&&◌, ◌*◌, [], nat_lt, if◌then◌else◌, Option, Some, None, IfOk, IfSome, MatchOption, length, take, drop, is_some, codes, nat_le};
+ghost use Rattle.std.specs.Prelude.{◌≡◌, ◌∷◌, ◌++◌, ◌≤◌, ◌<◌, ◌==◌, ◌&&◌, ◌*◌, [], nat_lt, if◌then◌else◌, Option, Some, None, IfOk, IfSome, MatchOption, length, take, drop, is_some, codes, nat_le};
 ghost use Rattle.std.specs.Option.{option_and_then};
 ghost use Rattle.rsp_text.specs.Digits.{read_u64};
 ghost use Rattle.std.specs.Char.{is_ascii_alphanumeric, is_ascii_digit};
-ghost use Rattle.std.specs.List.{list_all, slice_split, take_while, prefix_len};
+ghost use Rattle.std.specs.List.{list_all, position_or_len, take_while, prefix_len};
 ghost use Rattle.std.specs.Str.{IsAscii, chars};
 ghost use Rattle.rsp_terms.specs.Characters.{is_iri_text};
-ghost use Rattle.rsp_query_line.specs.QueryLine as line;
+ghost use Rattle.rsp_query_line.specs.QueryLine as form;
 
 use crate::Part;
 use rsp_terms::{Listed, Text, is_iri};
@@ -16,19 +16,55 @@ use std::str;
 
 /// The fields of a line, with single spaces between. Fails only where memory is refused.
 pub fn fields_of(alloc: Global, line: &[u8]) -> Result<Vec<Listed<u8>>, AllocError>
-    ensures { IfOk result (λ fields. fields.items ≡ line.fields line.now) }
+    ensures { IfOk result (λ fields. fields.items ≡ form.fields_of line.now) }
 {
     let mut fields = Vec::new(alloc);
-    for field in line.split(|c| *c == b' ') {
-        fields.push(Listed::from_vec(Vec::from_slice(alloc, field)?))?;
+    let mut rest = line;
+    'fields: loop {
+        match cut(rest) {
+            None => {
+                fields.push(copied(alloc, rest)?)?;
+                return Ok(fields);
+            }
+            Some((field, behind)) => {
+                fields.push(copied(alloc, field)?)?;
+                rest = behind;
+            }
+        }
     }
-    Ok(fields)
+}
+
+fn copied(alloc: Global, bytes: &[u8]) -> Result<Listed<u8>, AllocError>
+    ensures { IfOk result (λ copied. copied ≡ bytes.now) }
+{
+    Ok(Listed::from_vec(Vec::from_slice(alloc, bytes)?))
+}
+
+// what stands before the first space and behind it, where there is one
+fn cut(line: &[u8]) -> Option<(&[u8], &[u8])>
+    ensures cases { MatchOption result
+        (form.fields_of line.now ≡ line.now ∷ [])
+        (λ cut. form.fields_of line.now ≡ cut.0.now ∷ form.fields_of cut.1.now) }
+    ensures shorter { IfSome result (λ cut. length cut.1.now < length line.now) }
+{
+    let end = first_space(line);
+    if end == line.len() {
+        return None;
+    }
+    Some((&line[..end], &line[end + 1..]))
+}
+
+fn first_space(line: &[u8]) -> usize
+    ensures place { result ≡ position_or_len (λ c. c == 32) line.now }
+    ensures bound { result ≤ length line.now }
+{
+    line.iter().take_while(|c| **c != b' ').count()
 }
 
 /// The text without the line feed at its end.
 #[tactic(auto, unfolding(crate::specs::QueryLine::line_of))]
 pub fn line_of(text: &[u8]) -> &[u8]
-    ensures { result.now ≡ line.line_of text.now }
+    ensures { result.now ≡ form.line_of text.now }
 {
     if text.is_empty() {
         return text;
@@ -44,8 +80,8 @@ pub fn line_of(text: &[u8]) -> &[u8]
 /// What stands behind these fields, where the fields begin with them.
 pub fn behind<'a>(fields: &'a [Listed<u8>], front: &[Listed<u8>]) -> Option<&'a [Listed<u8>]>
     ensures { MatchOption result
-        (line.behind front.now fields.now ≡ None)
-        (λ rest. line.behind front.now fields.now ≡ Some rest.now) }
+        (form.behind front.now fields.now ≡ None)
+        (λ rest. form.behind front.now fields.now ≡ Some rest.now) }
 {
     fields.strip_prefix(front)
 }
@@ -57,8 +93,8 @@ pub fn behind_line<'a>(
     front: &[u8],
 ) -> Result<Option<&'a [Listed<u8>]>, AllocError>
     ensures { IfOk result (λ behind. MatchOption behind
-        (line.behind (line.fields front.now) fields.now ≡ None)
-        (λ rest. line.behind (line.fields front.now) fields.now ≡ Some rest.now)) }
+        (form.behind (form.fields_of front.now) fields.now ≡ None)
+        (λ rest. form.behind (form.fields_of front.now) fields.now ≡ Some rest.now)) }
 {
     let front = fields_of(alloc, front)?;
     Ok(behind(fields, front.as_slice()))
@@ -69,7 +105,7 @@ pub fn behind_line<'a>(
 /// The name of a variable: `?` and 1 to 16 letters and digits. Fails only where memory is refused.
 #[tactic(auto, unfolding(crate::specs::QueryLine::name_of))]
 pub fn name_of(alloc: Global, field: &[u8]) -> Result<Option<Text>, AllocError>
-    ensures { IfOk result (λ name. name ≡ line.name_of field.now) }
+    ensures { IfOk result (λ name. name ≡ form.name_of field.now) }
 {
     let Some((mark, name)) = field.split_first() else {
         return Ok(None);
@@ -100,7 +136,7 @@ fn ascii_text(alloc: Global, bytes: &[u8]) -> Result<Text, AllocError>
 /// An absolute IRI in brackets, of ASCII characters. Fails only where memory is refused.
 #[tactic(auto, unfolding(crate::specs::QueryLine::iri_of))]
 pub fn iri_of(alloc: Global, field: &[u8]) -> Result<Option<Text>, AllocError>
-    ensures { IfOk result (λ iri. iri ≡ line.iri_of field.now) }
+    ensures { IfOk result (λ iri. iri ≡ form.iri_of field.now) }
 {
     if !is_bracketed(field) {
         return Ok(None);
@@ -131,7 +167,7 @@ fn is_all_ascii(bytes: &[u8]) -> bool
 
 // whether a field begins with `<` and ends with another character, `>`
 fn is_bracketed(field: &[u8]) -> bool
-    ensures { result ≡ line.same field.now (60 ∷ (line.inner_of field.now ++ (62 ∷ []))) }
+    ensures { result ≡ form.same field.now (60 ∷ (form.inner_of field.now ++ (62 ∷ []))) }
 {
     if field.len() < 2 {
         return false;
@@ -144,7 +180,7 @@ fn is_bracketed(field: &[u8]) -> bool
 
 // a field without its first and its last character
 fn inner_of(field: &[u8]) -> &[u8]
-    ensures { result.now ≡ line.inner_of field.now }
+    ensures { result.now ≡ form.inner_of field.now }
 {
     if field.len() < 2 {
         return &field[..0];
@@ -155,7 +191,7 @@ fn inner_of(field: &[u8]) -> &[u8]
 /// A variable or an IRI. Fails only where memory is refused.
 #[tactic(auto, unfolding(crate::specs::QueryLine::part_of))]
 pub fn part_of(alloc: Global, field: &[u8]) -> Result<Option<Part>, AllocError>
-    ensures { IfOk result (λ part. part ≡ line.part_of field.now) }
+    ensures { IfOk result (λ part. part ≡ form.part_of field.now) }
 {
     if let Some(name) = name_of(alloc, field)? {
         return Ok(Some(Part::Variable(name)));
@@ -172,7 +208,7 @@ pub fn part_of(alloc: Global, field: &[u8]) -> Result<Option<Part>, AllocError>
 /// memory is refused.
 #[tactic(auto, unfolding(crate::specs::QueryLine::span_of))]
 pub fn span_of(alloc: Global, suffix: &[u8], field: &[u8]) -> Result<Option<u64>, AllocError>
-    ensures value { IfOk result (λ span. span ≡ line.span_of suffix.now field.now) }
+    ensures value { IfOk result (λ span. span ≡ form.span_of suffix.now field.now) }
     ensures range { IfOk result (λ span. IfSome span (λ ms. (1 ≤ ms) × (ms ≤ 86400000))) }
 {
     let digits = leading_digits(unit_behind(field));
@@ -194,7 +230,7 @@ fn milliseconds(digits: &[u8]) -> Option<u64>
 }
 
 fn is_span(alloc: Global, digits: &[u8], suffix: &[u8], field: &[u8]) -> Result<bool, AllocError>
-    ensures { IfOk result (λ is. is ≡ line.same field.now (codes "PT" ++ (digits.now ++ suffix.now))) }
+    ensures { IfOk result (λ is. is ≡ form.same field.now (codes "PT" ++ (digits.now ++ suffix.now))) }
 {
     let mut span = Vec::from_slice(alloc, b"PT")?;
     span.extend_from_slice(digits)?;

@@ -6,6 +6,10 @@
 #![tactic(auto)]
 
 mod fields;
+mod line;
+mod names;
+mod patterns;
 mod written;
 
+pub use line::{Line, query_line};
 pub use written::{Part, Written};
