@@ -1,3 +1,4 @@
 pub mod InOrder
+pub mod SameTexts
 pub mod Sorted
 pub mod Tabs

@@ -5,7 +5,9 @@
 #![tactic(auto)]
 
 mod order;
+#[cfg(test)]
+mod tests;
 mod text;
 
 pub use order::ordered;
-pub use text::{report_text, row_text};
+pub use text::{overfull_text, report_text, row_text};
