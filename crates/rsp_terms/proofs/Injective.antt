@@ -102,7 +102,7 @@ blanks document number label other fits too same =
     let small : document < 2 ^ 64 = omega (arith, fits) in
     let small_too : number < 2 ^ 64 = omega (arith, too) in
     let both = labels (decimal document) label (decimal number) other (decimal_is_IsNumeral document small).0.1
-        (decimal_is_IsNumeral number small_too).0.1 same in
+    (decimal_is_IsNumeral number small_too).0.1 same in
     (decimal_injective document number small small_too both.0, both.1)
 
 pub same_from_printed : (term other : Term) → IsNumbered term → IsNumbered other → printed term ≡ printed other → term ≡ other

@@ -1,0 +1,4 @@
+pub mod Held
+pub mod Linear
+pub mod Sums
+pub mod Whole

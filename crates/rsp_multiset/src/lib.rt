@@ -1,0 +1,16 @@
+//! Multisets of rows and their changes (SPARQL 1.1 Query, section 18.3): cells, rows, bags, and changes with signs.
+//!
+//! Contracts see a [`Row`] as the list of its cells, and a bag or a change as a list of entries with counts. What an
+//! operation does is said by weights: how often each value is held before and after. Everything is for any [`Cell`].
+//! Below: `indexmap`. Above: terms, the index, operators and the engine.
+#![tactic(auto)]
+
+mod cell;
+mod changes;
+mod count;
+mod row;
+
+pub use cell::Cell;
+pub use changes::Changes;
+pub use count::Count;
+pub use row::Row;
