@@ -1,6 +1,6 @@
 -- What a line of N-Quads says (RDF 1.1 N-Quads, section 2): nothing, a quad, or a fault with its column.
-use Rattle.std.specs.Prelude.{ℕ, ◌+◌, ◌-◌, Bool, true, false, not, ◌&&◌, ◌||◌, ◌==◌, if◌then◌else◌, Option, None, Some, List, [], ◌∷◌, length}
-use Rattle.std.specs.List.{list_any, find, cons_option}
+use Rattle.std.specs.Prelude.{ℕ, ◌+◌, ◌-◌, Bool, true, false, not, ◌&&◌, ◌==◌, if◌then◌else◌, Option, None, Some, List, [], ◌∷◌, length}
+use Rattle.std.specs.List.{find, cons_option}
 use Rattle.std.specs.Option.{option_map, option_map_or}
 use Rattle.std.specs.Str.{is_utf8}
 use Rattle.std.specs.declared.result.Result.{Result}
@@ -53,29 +53,26 @@ pub record Parts : Type 0 where
   pub graph : Option Part
 
 -- the value of a reading, told by another
-abbrev pub then : {A B : Type 0} → Result A ℕ → (A → Result B ℕ) → Result B ℕ
-then (Ok x) f = f x
-then (Err left) f = Err left
+abbrev pub onward : {A B : Type 0} → Result A ℕ → (A → Result B ℕ) → Result B ℕ
+onward (Ok x) f = f x
+onward (Err left) f = Err left
 
 -- subject, predicate, object, and a graph where one is named
 unfoldable pub parts_of : ℕ → List ℕ → Result Parts ℕ
 parts_of document line =
-    then (part_of (node document) line) (λ s.
-    then (part_of iri_term s.1) (λ p.
-    then (part_of (object document) p.1) (λ o.
+    onward (part_of (node document) line) (λ s.
+    onward (part_of iri_term s.1) (λ p.
+    onward (part_of (object document) p.1) (λ o.
     let g = optional_part (node document) o.1 in
-    then (closes g.1) (λ _.
+    onward (closes g.1) (λ _.
     Ok (record { subject = s.0; predicate = p.0; object = o.0; graph = g.0 })))))
 
--- the part holds an IRI that isn't absolute (RFC 3986, section 4.3): characters of a scheme are ASCII, so bytes tell it
-abbrev pub is_relative : Part → Bool
-is_relative part = by part.term
-    where
-      abbrev by : Term → Bool
-      by (Iri name) = not (is_absolute name)
-      by (Blank document name) = false
-      by (Literal lexical name) = not (is_absolute name)
-      by (Tagged lexical language) = false
+-- the term holds an IRI that isn't absolute (RFC 3986, section 4.3): a scheme is ASCII, so bytes tell it
+abbrev pub is_relative : Term → Bool
+is_relative (Iri name) = not (is_absolute name)
+is_relative (Blank document name) = false
+is_relative (Literal lexical name) = not (is_absolute name)
+is_relative (Tagged lexical language) = false
 
 abbrev pub quad_of : Parts → Quad
 quad_of parts = record {
@@ -92,7 +89,7 @@ abbrev pub judged : List ℕ → Parts → Answer
 judged line parts =
     option_map_or
     (λ part. relative_iri (column line part.left))
-    (find is_relative (parts.subject ∷ parts.predicate ∷ parts.object ∷ cons_option parts.graph []))
+    (find (λ part. is_relative part.term) (parts.subject ∷ parts.predicate ∷ parts.object ∷ cons_option parts.graph []))
     (statement (quad_of parts))
 
 abbrev pub answer : List ℕ → Result Parts ℕ → Answer
