@@ -1,0 +1,100 @@
+-- What a line of N-Quads says (RDF 1.1 N-Quads, section 2): nothing, a quad, or a fault with its column.
+use Rattle.std.specs.Prelude.{ℕ, ◌+◌, ◌-◌, Bool, true, false, not, ◌&&◌, ◌==◌, if◌then◌else◌, Option, None, Some, List, [], ◌∷◌, length}
+use Rattle.std.specs.List.{find, cons_option}
+use Rattle.std.specs.Option.{option_map, option_map_or}
+use Rattle.std.specs.Str.{is_utf8}
+use Rattle.std.specs.declared.result.Result.{Result}
+use Rattle.std.specs.declared.result.Result.TheVariants.{Ok, Err}
+use Rattle.rsp_terms.specs.declared.term.Term.{Term}
+use Rattle.rsp_terms.specs.declared.term.Term.TheVariants.{Iri, Blank, Literal, Tagged}
+use Rattle.rsp_terms.specs.declared.statement.Quad.{Quad}
+use Rattle.rsp_terms.specs.Characters.{is_absolute}
+use Rattle.rsp_nquads.specs.Parts.{Reader, behind_blanks, sign, iri_term, node, object}
+
+pub data Answer : Type 0 where
+  nothing : Answer
+  statement : Quad → Answer
+  bad_statement : ℕ → Answer
+  relative_iri : ℕ → Answer
+
+-- a part that was read, and how many bytes of the line are left from its first one on
+pub record Part : Type 0 where
+  pub term : Term
+  pub left : ℕ
+
+-- the wanted part behind blanks; where it doesn't stand there, how many bytes are left from there on
+abbrev pub part_of : Reader Term → List ℕ → Result (Part × List ℕ) ℕ
+part_of reader text =
+    let here = behind_blanks text in
+    option_map_or (λ x. Ok (record { term = x.0; left = length here }, x.1)) (reader here) (Err (length here))
+
+-- the same of a part that may be wanting
+abbrev pub optional_part : Reader Term → List ℕ → Option Part × List ℕ
+optional_part reader text =
+    let here = behind_blanks text in
+    option_map_or (λ x. (Some (record { term = x.0; left = length here }), x.1)) (reader here) (None, text)
+
+-- the line ends here, or a comment goes on to its end
+unfoldable pub is_end : List ℕ → Bool
+is_end [] = true
+is_end (c ∷ text) = (c == 35) && is_utf8 text
+
+-- `.`, and the end behind blanks
+abbrev pub ends : List ℕ → Result Bool ℕ
+ends text = if is_end (behind_blanks text) then Ok true else Err (length (behind_blanks text))
+
+abbrev pub closes : List ℕ → Result Bool ℕ
+closes text = option_map_or ends (sign 46 (behind_blanks text)) (Err (length (behind_blanks text)))
+
+pub record Parts : Type 0 where
+  pub subject : Part
+  pub predicate : Part
+  pub object : Part
+  pub graph : Option Part
+
+-- the value of a reading, told by another
+abbrev pub onward : {A B : Type 0} → Result A ℕ → (A → Result B ℕ) → Result B ℕ
+onward (Ok x) f = f x
+onward (Err left) f = Err left
+
+-- subject, predicate, object, and a graph where one is named
+unfoldable pub parts_of : ℕ → List ℕ → Result Parts ℕ
+parts_of document line =
+    onward (part_of (node document) line) (λ s.
+    onward (part_of iri_term s.1) (λ p.
+    onward (part_of (object document) p.1) (λ o.
+    let g = optional_part (node document) o.1 in
+    onward (closes g.1) (λ _.
+    Ok (record { subject = s.0; predicate = p.0; object = o.0; graph = g.0 })))))
+
+-- the term holds an IRI that isn't absolute (RFC 3986, section 4.3): a scheme is ASCII, so bytes tell it
+abbrev pub is_relative : Term → Bool
+is_relative (Iri name) = not (is_absolute name)
+is_relative (Blank document name) = false
+is_relative (Literal lexical name) = not (is_absolute name)
+is_relative (Tagged lexical language) = false
+
+abbrev pub quad_of : Parts → Quad
+quad_of parts = record {
+  triple = record { subject = parts.subject.term; predicate = parts.predicate.term; object = parts.object.term };
+  graph = option_map (λ part. part.term) parts.graph;
+}
+
+-- columns count from 1
+abbrev pub column : List ℕ → ℕ → ℕ
+column line left = length line - left + 1
+
+-- a statement by its grammar: the first part that holds a relative IRI is its fault
+abbrev pub judged : List ℕ → Parts → Answer
+judged line parts =
+    option_map_or
+    (λ part. relative_iri (column line part.left))
+    (find (λ part. is_relative part.term) (parts.subject ∷ parts.predicate ∷ parts.object ∷ cons_option parts.graph []))
+    (statement (quad_of parts))
+
+abbrev pub answer : List ℕ → Result Parts ℕ → Answer
+answer line (Ok parts) = judged line parts
+answer line (Err left) = bad_statement (column line left)
+
+unfoldable pub statement_of : ℕ → List ℕ → Answer
+statement_of document line = if is_end (behind_blanks line) then nothing else answer line (parts_of document line)
