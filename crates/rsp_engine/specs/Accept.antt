@@ -1,44 +1,57 @@
 -- Which events are accepted, and what an accepted event makes of the world.
-use Rattle.std.specs.Prelude.{ℕ, ◌+◌, false, nat_lt, nat_le, if◌then◌else◌, Some, Result, Ok, Err, List, [], ◌∷◌, ◌++◌, length, codes}
-use Rattle.std.specs.Option.{unwrap_or}
-use Rattle.rsp_spec.specs.Windows.{Shape}
+use Rattle.std.specs.Prelude.{ℕ, ◌+◌, false, nat_lt, nat_le, ◌||◌, if◌then◌else◌, Some, Result, Ok, Err, List, [], ◌∷◌, ◌++◌, length, codes}
+use Rattle.std.specs.Option.{unwrap_or, option_map_or}
 use Rattle.rsp_events.specs.declared.event.Event.{Event}
-use Rattle.rsp_events.specs.declared.event.Event.TheVariants.{Register, Item, Tick}
+use Rattle.rsp_events.specs.declared.event.Event.TheVariants.{Register, Cancel, Item, Tick, Insert, Delete}
 use Rattle.rsp_engine.specs.declared.refused.Refused.{Refused}
 use Rattle.rsp_engine.specs.declared.refused.Refused.TheVariants.{Late, Unbuilt}
 use Rattle.rsp_engine.specs.declared.item.Item as item
+use Rattle.rsp_query_line.specs.declared.line.Line.{Line}
+use Rattle.rsp_query_line.specs.QueryLine.{query_line}
+use Rattle.rsp_query_line.specs.Meaning.{node_of_line, width_of, shown_of}
 use Rattle.rsp_engine.specs.World.{World, Query, close}
 
 -- the first instant that isn't complete, or 0 where none is set
 abbrev pub next_of : World → ℕ
 next_of world = unwrap_or world.next 0
 
--- the most items that are accepted by now
+-- the most items that are accepted by now, and the most triples of an item
 abbrev pub most_items : ℕ
 most_items = 1000
 
--- a query of the form that is built: it reports where a window closes
-abbrev pub registered : List ℕ → List ℕ → Shape → ℕ → Query
-registered name stream shape first =
+abbrev pub most_triples : ℕ
+most_triples = 1000
+
+-- the query of a text of the form that is built: it reports where its window closes
+abbrev pub registered : List ℕ → Line → ℕ → Query
+registered name line first =
     record {
       name = name;
       policy = record { strategies = close ∷ []; on_items = false };
-      windows = record { stream = stream; shape = shape } ∷ [];
-      variables = codes "s" ∷ codes "p" ∷ codes "o" ∷ [];
+      windows = record { stream = codes "s:a"; shape = line.shape } ∷ [];
+      node = node_of_line line;
+      width = width_of line;
+      shown = shown_of line;
+      variables = line.shown;
       first = first;
+      seen = [];
     }
 
--- a query becomes live, last in order; by now one alone can be live
-abbrev pub accept_register : World → List ℕ → List ℕ → Shape → Result World Refused
-accept_register world name stream shape =
+-- a query becomes live, last in order; by now one alone can be live, and its text is a query line
+abbrev pub accept_register : World → List ℕ → List ℕ → Result World Refused
+accept_register world name text =
     if nat_lt 0 (length world.queries)
     then Err Unbuilt
-    else Ok (record world { queries = world.queries ++ registered name stream shape (length world.items) ∷ [] })
+    else
+    option_map_or
+    (λ line. Ok (record world { queries = world.queries ++ registered name line (length world.items) ∷ [] }))
+    (query_line text)
+    (Err Unbuilt)
 
 -- an item is appended, and every instant before its time is complete
 abbrev pub accept_item : World → item.Item → Result World Refused
 accept_item world item =
-    if nat_le most_items (length world.items)
+    if nat_lt most_triples (length item.graph) || nat_le most_items (length world.items)
     then Err Unbuilt
     else
     (if nat_lt item.time (next_of world)
@@ -54,6 +67,9 @@ accept_tick world time =
 
 -- the first refusal that holds, or the new world
 abbrev pub accept : World → Event → Result World Refused
-accept world (Register name stream shape) = accept_register world name stream shape
+accept world (Register name text) = accept_register world name text
+accept world (Cancel name) = Err Unbuilt
 accept world (Item stream time graph) = accept_item world (record { stream = stream; time = time; graph = graph })
 accept world (Tick time) = accept_tick world time
+accept world (Insert quads) = Err Unbuilt
+accept world (Delete quads) = Err Unbuilt

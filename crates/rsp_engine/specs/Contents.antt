@@ -1,12 +1,13 @@
 -- What a query sees of its windows at an instant (SECRET, content; RSP-QL, active window).
-use Rattle.std.specs.Prelude.{ℕ, Bool, false, ◌&&◌, nat_lt, nat_le, nat_eq, if◌then◌else◌, List, [], ◌∷◌, ◌++◌, drop, filter, fold}
+use Rattle.std.specs.Prelude.{ℕ, ◌+◌, Bool, false, ◌&&◌, nat_lt, nat_le, nat_eq, if◌then◌else◌, List, [], ◌∷◌, ◌++◌, drop, filter, fold, map}
 use Rattle.std.specs.List.{list_any, flat_map}
 use Rattle.std.specs.Option.{option_map_or}
 use Rattle.std.specs.Cmp.Lexicographic.{pointwise}
 use Rattle.rsp_spec.specs.Windows.{opening, active}
-use Rattle.rsp_terms.specs.declared.term.Term.{Term}
-use Rattle.rsp_terms.specs.declared.term.Term.TheVariants.{Iri}
-use Rattle.rsp_terms.specs.declared.term.Triple.{Triple}
+use Rattle.rsp_terms.specs.declared.statement.Triple.{Triple}
+use Rattle.rsp_terms.specs.declared.statement.Fact.{Fact}
+use Rattle.rsp_terms.specs.declared.statement.Spot.TheVariants as spot
+use Rattle.rsp_terms.specs.contracts.statement.TriplePartialEq.TheImpl.{ghosts as triple}
 use Rattle.rsp_engine.specs.declared.item.Item.{Item}
 use Rattle.rsp_engine.specs.World.{World, Query, StreamWindow}
 
@@ -30,15 +31,9 @@ visible world query = drop query.first world.items
 abbrev pub content : World → Query → StreamWindow → ℕ → List Item
 content world query w t = filter (in_content w t) (visible world query)
 
-abbrev pub same_term : Term → Term → Bool
-same_term (Iri a) (Iri b) = same a b
-
-abbrev pub same_triple : Triple → Triple → Bool
-same_triple a b = same_term a.subject b.subject && (same_term a.predicate b.predicate && same_term a.object b.object)
-
 -- a triple at the end, unless it is there
 abbrev pub add_once : List Triple → Triple → List Triple
-add_once seen triple = if list_any (same_triple triple) seen then seen else seen ++ triple ∷ []
+add_once seen added = if list_any (triple.eq added) seen then seen else seen ++ added ∷ []
 
 -- each triple once, at its first place
 abbrev pub distinct : List Triple → List Triple
@@ -47,3 +42,15 @@ distinct triples = fold add_once [] triples
 -- the window's graph: the distinct triples of its content
 abbrev pub graph : World → Query → StreamWindow → ℕ → List Triple
 graph world query w t = distinct (flat_map (λ (item : Item). item.graph) (content world query w t))
+
+-- the triples of the graph of window k as facts
+abbrev pub facts_of : ℕ → List Triple → List Fact
+facts_of k triples = map (λ t. record { spot = spot.Window k; triple = t }) triples
+
+abbrev pub facts_from : World → Query → ℕ → ℕ → List StreamWindow → List Fact
+facts_from world query t k [] = []
+facts_from world query t k (w ∷ ws) = facts_of k (graph world query w t) ++ facts_from world query t (k + 1) ws
+
+-- the facts that a query sees at t: the graphs of all its windows
+abbrev pub facts : World → Query → ℕ → List Fact
+facts world query t = facts_from world query t 0 query.windows

@@ -1,7 +1,7 @@
 -- What the engine's calls do, for every world and moments that the engine stands for.
 use Rattle.std.specs.Prelude.{◌≡◌, ◌<◌, true, false, Option, None, Some, Result, Ok, Err, IsOk, MatchResult, List, [], ◌∷◌, ⊤}
 use Rattle.rsp_events.specs.declared.event.Event.{Event}
-use Rattle.rsp_events.specs.declared.event.Event.TheVariants.{Register, Item, Tick}
+use Rattle.rsp_events.specs.declared.event.Event.TheVariants.{Register, Cancel, Item, Tick, Insert, Delete}
 use Rattle.rsp_engine.specs.declared.refused.Refused.{Refused}
 use Rattle.rsp_engine.specs.declared.refused.Refused.TheVariants.{Broken, OutOfMemory, Late, Unbuilt}
 use Rattle.rsp_engine.specs.declared.refused.EngineFault.{EngineFault}
@@ -10,14 +10,17 @@ use Rattle.rsp_engine.specs.declared.report.Report.{Report}
 use Rattle.rsp_engine.specs.World.{World}
 use Rattle.rsp_engine.specs.Accept.{accept}
 use Rattle.rsp_engine.specs.Moments.{Moment, moments}
-use Rattle.rsp_engine.specs.Reports.{reports}
+use Rattle.rsp_engine.specs.Reports.{IsReport, reports, worked_off}
 use Rattle.rsp_engine.specs.Stands.{State, Stands, is_idle, instants_left}
 
--- a tick takes no memory
+-- which events take memory at all: no tick does
 abbrev pub TakesMemory : Event → Type 0
-TakesMemory (Register name stream shape) = ⊤
+TakesMemory (Register name text) = ⊤
+TakesMemory (Cancel name) = ⊥
 TakesMemory (Item stream time graph) = ⊤
 TakesMemory (Tick time) = ⊥
+TakesMemory (Insert quads) = ⊥
+TakesMemory (Delete quads) = ⊥
 
 -- the event was accepted: the engine stands for the world that the event makes, and for the event's moments
 pub record Accepts (old : State) (event : Event) (new : State) : Type 0 where
@@ -36,12 +39,21 @@ pub record WasBroken (old new : State) : Type 0 where
   pub was_broken : old.broken ≡ true
   pub unchanged : new ≡ old
 
--- memory was refused, in an event that is no tick and that would have been accepted; the engine is broken
+-- want of memory comes for no item that is refused, and for no query where one is live
+abbrev pub MayTakeMemory : World → Event → Type 0
+MayTakeMemory world (Register name text) = world.queries ≡ []
+MayTakeMemory world (Cancel name) = ⊥
+MayTakeMemory world (Item stream time graph) = IsOk (accept world (Item stream time graph))
+MayTakeMemory world (Tick time) = ⊥
+MayTakeMemory world (Insert quads) = ⊥
+MayTakeMemory world (Delete quads) = ⊥
+
+-- memory was refused; the engine is broken
 pub record Breaks (old : State) (event : Event) (new : State) : Type 0 where
   pub was_ready : old.broken ≡ false
   pub broken : new.broken ≡ true
   pub memory : TakesMemory event
-  pub accepted : (world : World) → Stands old world [] → IsOk (accept world event)
+  pub may_take : (world : World) → Stands old world [] → MayTakeMemory world event
 
 abbrev pub Refuses : State → Event → Refused → State → Type 0
 Refuses old event Broken new = WasBroken old new
@@ -60,13 +72,22 @@ pub record HasNone (old new : State) : Type 0 where
   pub unchanged : new ≡ old
   pub none : (world : World) (left : List Moment) → Stands old world left → left ≡ []
 
--- the report is the first of those that are left, and the engine stands for the moments behind it
+-- the report is the first of those that are left; behind it the engine stands for the world that it leaves
+pub record GivesOf (world : World) (left : List Moment) (report : Report) (new : State) : Type 0 where
+  pub wanted : Report
+  pub after : World
+  pub rest : List Moment
+  pub first : reports world left ≡ wanted ∷ reports after rest
+  pub leads : worked_off world left ≡ worked_off after rest
+  pub given : IsReport report wanted
+  pub stands : Stands new after rest
+
 pub record GivesFirst (old : State) (report : Report) (new : State) : Type 0 where
   pub was_ready : old.broken ≡ false
   pub ready : new.broken ≡ false
   pub was_busy : is_idle old ≡ false
   pub nearer : instants_left new < instants_left old
-  pub stands : (world : World) (left : List Moment) → Stands old world left → (rest : List Moment) × (reports world left ≡ report ∷ reports world rest) × Stands new world rest
+  pub gives : (world : World) (left : List Moment) → Stands old world left → GivesOf world left report new
 
 abbrev pub Gives : State → Option Report → State → Type 0
 Gives old None new = HasNone old new

@@ -1,43 +1,91 @@
 -- What is reported at a moment (RSP-QL, RStream), and working off the moments of an event.
-use Rattle.std.specs.Prelude.{ℕ, Option, List, [], ◌∷◌, map}
-use Rattle.std.specs.List.{find, flat_map, filter_map}
-use Rattle.std.specs.Option.{option_map}
+use Rattle.std.specs.Prelude.{◌≡◌, ℕ, Bool, not, if◌then◌else◌, Option, None, List, [], ◌∷◌, map, filter, slice_index_or}
+use Rattle.std.specs.List.{find}
+use Rattle.std.specs.Option.{option_map_or}
 use Rattle.rsp_terms.specs.declared.term.Term.{Term}
-use Rattle.rsp_terms.specs.declared.term.Triple.{Triple}
-use Rattle.rsp_streams_out.specs.Rows.{in_order}
+use Rattle.rsp_terms.specs.Same.{term_eq}
+use Rattle.rsp_multiset.specs.Weights.{times}
+use Rattle.rsp_multiset.specs.Rows.{Cells, row_eq}
+use Rattle.rsp_algebra.specs.Solutions.{eval}
+use Rattle.rsp_algebra.specs.Overfull.{overfull}
+use Rattle.rsp_streams_out.specs.Rows.{in_order, row_text}
 use Rattle.rsp_engine.specs.declared.report.Report.{Report}
-use Rattle.rsp_engine.specs.declared.report.Outcome.TheVariants.{Rows}
+use Rattle.rsp_engine.specs.declared.report.Outcome.{Outcome}
+use Rattle.rsp_engine.specs.declared.report.Outcome.TheVariants as outcome
 use Rattle.rsp_engine.specs.World.{World, Query}
-use Rattle.rsp_engine.specs.Contents.{same, graph}
+use Rattle.rsp_engine.specs.Contents.{same, facts}
 use Rattle.rsp_engine.specs.Moments.{Moment}
 
--- the solution of `?s ?p ?o` that a triple is
-abbrev pub row_of : Triple → List Term
-row_of triple = triple.subject ∷ triple.predicate ∷ triple.object ∷ []
+-- the cells of a row at these places, in their order
+abbrev pub cut : List ℕ → Cells Term → Cells Term
+cut places row = map (λ place. slice_index_or row place None) places
 
--- the solutions of a query at t, over the graphs of its windows (SPARQL 1.1, section 18.3.1); by now a query's pattern
--- is `?s ?p ?o`
-abbrev pub solutions : World → Query → ℕ → List (List Term)
-solutions world query t = flat_map (λ w. map row_of (graph world query w t)) query.windows
+-- the solutions of a query at t, each with its shown variables alone
+abbrev pub solutions : World → Query → ℕ → List (Cells Term)
+solutions world query t = map (cut query.shown) (eval query.width query.node (facts world query t))
 
--- the query's report at t: all its solutions, in the byte order of their texts
+abbrev pub is_overfull : World → Query → ℕ → Bool
+is_overfull world query t = overfull query.width query.node (facts world query t)
+
+-- the query's report at t: that it is overfull, or all its solutions, in the byte order of their texts
 abbrev pub report_of : World → Query → ℕ → Report
 report_of world query t =
     record {
       query = query.name;
       at = t;
       variables = query.variables;
-      outcome = Rows (in_order (solutions world query t));
+      outcome =
+          if is_overfull world query t
+          then outcome.Overfull
+          else outcome.Rows (in_order (solutions world query t));
     }
+
+-- the same rows as a multiset, in an order of the same texts: rows of equal texts may stand in any order
+pub record AreRows (rows wanted : List (Cells Term)) : Type 0 where
+  pub same : (q : Cells Term) → times (row_eq term_eq) rows q ≡ times (row_eq term_eq) wanted q
+  pub texts : map row_text rows ≡ map row_text wanted
+
+abbrev pub IsOutcome : Outcome → Outcome → Type 0
+IsOutcome outcome.Overfull wanted = wanted ≡ outcome.Overfull
+IsOutcome (outcome.Rows rows) outcome.Overfull = ⊥
+IsOutcome (outcome.Rows rows) (outcome.Rows wanted) = AreRows rows wanted
+
+-- the report is this one, but for the order of rows of equal texts
+pub record IsReport (report wanted : Report) : Type 0 where
+  pub query : report.query ≡ wanted.query
+  pub at : report.at ≡ wanted.at
+  pub variables : report.variables ≡ wanted.variables
+  pub outcome : IsOutcome report.outcome wanted.outcome
 
 -- the live query of a name
 abbrev pub live : World → List ℕ → Option Query
 live world name = find (λ query. same query.name name) world.queries
 
--- the report of a moment; none where its query is no longer live
-abbrev pub report_at : World → Moment → Option Report
-report_at world moment = option_map (λ query. report_of world query moment.at) (live world moment.query)
+-- the query of this name with the facts of its report at t as those of its last report
+abbrev pub now_seen : World → ℕ → List ℕ → Query → Query
+now_seen world t name query = if same query.name name then record query { seen = facts world query t } else query
 
--- the reports of the moments that are left, in order; by now a report leaves the world as it is
+-- the world after a query's report: an overfull one ends the query
+abbrev pub after_report : World → Query → ℕ → World
+after_report world query t =
+    if is_overfull world query t
+    then record world { queries = filter (λ other. not (same other.name query.name)) world.queries }
+    else record world { queries = map (now_seen world t query.name) world.queries }
+
+-- the reports of the moments that are left, in order; a moment of a query that is no longer live has none
 abbrev pub reports : World → List Moment → List Report
-reports world left = filter_map (report_at world) left
+reports world [] = []
+reports world (moment ∷ left) =
+    option_map_or
+    (λ query. report_of world query moment.at ∷ reports (after_report world query moment.at) left)
+    (live world moment.query)
+    (reports world left)
+
+-- the world once they are worked off
+abbrev pub worked_off : World → List Moment → World
+worked_off world [] = world
+worked_off world (moment ∷ left) =
+    option_map_or
+    (λ query. worked_off (after_report world query moment.at) left)
+    (live world moment.query)
+    (worked_off world left)

@@ -1,25 +1,49 @@
 -- What an engine's state is, and which world and which moments left it stands for.
 use Rattle.std.specs.Prelude.{◌≡◌, ℕ, ◌+◌, ◌-◌, ◌<◌, ◌≤◌, Bool, true, false, ◌||◌, ◌==◌, Option, None, List, [], ◌∷◌, length, map, option_to_list}
 use Rattle.std.specs.Option.{option_map_or, ForSome}
-use Rattle.rsp_spec.specs.Windows.{closes_at, last_instant}
+use Rattle.rsp_spec.specs.Windows.{Shape, closes_at, last_instant}
 use Rattle.rsp_engine.specs.declared.item.Item.{Item}
-use Rattle.rsp_engine.specs.World.{World, Query}
-use Rattle.rsp_engine.specs.declared.live_query.LiveQuery.{LiveQuery}
-use Rattle.rsp_engine.specs.Accept.{registered, next_of}
+use Rattle.rsp_engine.specs.World.{World, Query, close}
+use Rattle.rsp_terms.specs.declared.statement.Fact.{Fact}
+use Rattle.rsp_algebra.specs.Nodes.{Node}
+use Rattle.rsp_engine.specs.Accept.{next_of}
 use Rattle.rsp_engine.specs.Moments.{Moment, moments_from}
+
+-- what an engine keeps of a live query
+pub record Live : Type 0 where
+  pub name : List ℕ
+  pub stream : List ℕ
+  pub window : Shape
+  pub node : Node
+  pub width : ℕ
+  pub shown : List ℕ
+  pub variables : List (List ℕ)
+  pub first : ℕ
+  pub seen : List Fact
 
 -- what an engine keeps: `next`, its live query, its items, the instant of the first moment left (`next` where none is
 -- left, 0 where `next` is unset), and whether memory was refused to it
 pub record State : Type 0 where
   pub next : Option ℕ
-  pub query : Option LiveQuery
+  pub query : Option Live
   pub items : List Item
   pub at : ℕ
   pub broken : Bool
 
 -- a live query of the world as the engine keeps it
-abbrev pub query_of : LiveQuery → Query
-query_of live = registered live.name live.stream live.window live.first
+abbrev pub query_of : Live → Query
+query_of live =
+    record {
+      name = live.name;
+      policy = record { strategies = close ∷ []; on_items = false };
+      windows = record { stream = live.stream; shape = live.window } ∷ [];
+      node = live.node;
+      width = live.width;
+      shown = live.shown;
+      variables = live.variables;
+      first = live.first;
+      seen = live.seen;
+    }
 
 -- the instant of the first moment left, or the first instant that isn't complete
 abbrev pub first_instant : World → List Moment → ℕ
@@ -43,9 +67,13 @@ is_idle engine = engine.broken || option_map_or (λ next. engine.at == next) eng
 abbrev pub instants_left : State → ℕ
 instants_left engine = option_map_or (λ next. next - engine.at) engine.next 0
 
+-- a window, if there is one, closes at t
+abbrev pub closes_in : Option Shape → ℕ → Bool
+closes_in window t = option_map_or (λ w. closes_at w t) window false
+
 -- a live query, if there is one, reports at t
-abbrev pub closes_for : Option LiveQuery → ℕ → Bool
-closes_for query t = option_map_or (λ (live : LiveQuery). closes_at live.window t) query false
+abbrev pub closes_for : Option Live → ℕ → Bool
+closes_for query t = option_map_or (λ (live : Live). closes_at live.window t) query false
 
 -- what holds of every engine's state
 pub record IsState (engine : State) : Type 0 where

@@ -1,6 +1,8 @@
 -- The world: what every event that was accepted has made, kept for ever. All times are in milliseconds since 1970.
 use Rattle.std.specs.Prelude.{ℕ, Bool, Option, None, List, []}
 use Rattle.rsp_spec.specs.Windows.{Shape}
+use Rattle.rsp_terms.specs.declared.statement.Fact.{Fact}
+use Rattle.rsp_algebra.specs.Nodes.{Node}
 use Rattle.rsp_engine.specs.declared.item.Item.{Item}
 
 -- when a query reports (SECRET, report): a window closes, a content has changed, a content isn't empty, a period divides
@@ -21,13 +23,18 @@ pub record StreamWindow : Type 0 where
   pub stream : List ℕ
   pub shape : Shape
 
--- a live query: it sees the items from number `first` on, and shows these variables
+-- a live query: its tree over rows of this width, the places that it shows and the names of their variables; it sees the
+-- items from number `first` on; the facts of its last report, none before the first
 pub record Query : Type 0 where
   pub name : List ℕ
   pub policy : Policy
   pub windows : List StreamWindow
+  pub node : Node
+  pub width : ℕ
+  pub shown : List ℕ
   pub variables : List (List ℕ)
   pub first : ℕ
+  pub seen : List Fact
 
 -- the first instant that isn't complete, where one is set; all accepted items, in order, numbered from 0; the live
 -- queries in order of registration

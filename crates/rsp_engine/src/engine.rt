@@ -1,10 +1,12 @@
 // The engine's calls.
-use crate::reporting::report;
+use crate::registering::registered;
+use crate::seeing::outcome_at;
 use crate::walking::first_moment;
-use crate::{EngineFault, Item, LiveQuery, Refused, Report};
+use crate::{EngineFault, Item, LiveQuery, Outcome, Refused, Report};
+use rsp_algebra::Answer;
 use rsp_events::Event;
 use rsp_steps::Steps;
-use rsp_terms::Text;
+use rsp_terms::{Listed, Text};
 use rsp_windows::Window;
 use std::alloc::{AllocError, Global};
 use std::marker::Model;
@@ -13,12 +15,15 @@ use std::sync::ledger::Ledger;
 // The most items that are accepted by now.
 const MOST_ITEMS: usize = 1000;
 
+// The most triples of an item by now.
+const MOST_TRIPLES: usize = 1000;
+
 /// Takes events, one at a time, and gives the reports of each.
 #[derive(Drop)]
-pub struct Engine {
+pub struct Engine<A> {
     alloc: Global,
     next: Option<u64>,
-    query: Option<LiveQuery>,
+    query: Option<LiveQuery<A>>,
     items: Vec<Item>,
     // the triples of the items, as listed
     held: u64,
@@ -27,19 +32,19 @@ pub struct Engine {
     broken: bool,
 }
 
-impl Model for Engine {
+impl<A: Answer> Model for Engine<A> {
     ghost use Rattle.rsp_engine.specs.Stands.{State};
 
     ghost Value = { State };
 
     ghost use Rattle.rsp_engine.specs.Inside.{state_of, IsEngine};
 
-    ghost view = { state_of };
+    ghost view = { state_of A.node A.width };
 
-    ghost invariant = { IsEngine };
+    ghost invariant = { IsEngine A.node A.width A.facts A.spent };
 }
 
-impl Engine {
+impl<A: Answer> Engine<A> {
     ghost use Rattle.std.specs.Prelude.{◌≡◌, ◌↔◌, ◌==◌, ◌≤◌, ◌+◌, ◌++◌, ◌∷◌, ℕ, List, [], true, false, IsTrue, OnOk, OnErr, Some, is_some, length, IfOk, IfSome, IsSomeAnd, unwrap_or};
     ghost use Rattle.rsp_spec.specs.Windows.{last_instant};
     ghost use Rattle.rsp_engine.specs.Passing.{Passes, WorksOff, IsDue};
@@ -53,7 +58,7 @@ impl Engine {
     ghost use Rattle.rsp_events.specs.Instants.{IsInstant};
 
     /// An engine that has taken no event. Takes no memory.
-    pub fn new(alloc: Global) -> Engine
+    pub fn new(alloc: Global) -> Engine<A>
         ensures { Stands result empty_world [] }
     {
         Engine {
@@ -119,11 +124,7 @@ impl Engine {
             return Err(Refused::Broken);
         }
         match event {
-            Event::Register {
-                name,
-                stream,
-                window,
-            } => self.register(name, stream, window),
+            Event::Register { name, text } => self.register(name, text),
             Event::Item {
                 stream,
                 time,
@@ -134,25 +135,31 @@ impl Engine {
                 graph,
             }),
             Event::Tick { time } => self.tick(time),
+            Event::Cancel { .. } | Event::Insert { .. } | Event::Delete { .. } => {
+                Err(Refused::Unbuilt)
+            }
         }
     }
 
-    fn register(&mut self, name: Text, stream: Text, window: Window) -> Result<(), Refused>
+    fn register(&mut self, name: Text, text: Text) -> Result<(), Refused>
         requires idle { IsTrue (is_idle self.old) }
         requires ready { self.old.broken ≡ false }
-        ensures { Offers self.old (Event.Register name stream window) result self.new }
+        ensures { Offers self.old (Event.Register name text) result self.new }
     {
         if self.has_query() {
             return Err(Refused::Unbuilt);
         }
-        let first = self.accepted();
-        self.go_live(LiveQuery {
-            name,
-            stream,
-            window,
-            first,
-        });
-        Ok(())
+        match registered(self.alloc, name, &text, self.accepted()) {
+            Ok(Some(query)) => {
+                self.go_live(query);
+                Ok(())
+            }
+            Ok(None) => Err(Refused::Unbuilt),
+            Err(AllocError) => {
+                self.broken = true;
+                Err(Refused::OutOfMemory)
+            }
+        }
     }
 
     fn take_item(&mut self, item: Item) -> Result<(), Refused>
@@ -161,7 +168,7 @@ impl Engine {
         requires instant { item.time ≤ last_instant }
         ensures { Offers self.old (Event.Item item.stream item.time item.graph) result self.new }
     {
-        if self.accepted() >= MOST_ITEMS {
+        if MOST_TRIPLES < item.graph.as_slice().len() || self.accepted() >= MOST_ITEMS {
             return Err(Refused::Unbuilt);
         }
         let time = item.time;
@@ -201,6 +208,16 @@ impl Engine {
         self.query.is_some()
     }
 
+    // the live query's window
+    fn window(&self) -> Option<Window>
+        ensures { result ≡ option_map (λ live. live.window) self.now.query }
+    {
+        match &self.query {
+            None => None,
+            Some(live) => Some(live.window),
+        }
+    }
+
     // how many items were accepted
     fn accepted(&self) -> usize
         ensures { result ≡ length self.now.items }
@@ -216,11 +233,12 @@ impl Engine {
     }
 
     // Nothing is left of the last event, so no moment is added by a query that goes live.
-    fn go_live(&mut self, query: LiveQuery)
+    fn go_live(&mut self, query: LiveQuery<A>)
         requires idle { IsTrue (is_idle self.old) }
         requires ready { self.old.broken ≡ false }
         requires first { query.first ≤ length self.old.items }
-        ensures { self.new ≡ record self.old { query = Some query } }
+        requires answers { Answers A.facts A.spent query }
+        ensures { self.new ≡ record self.old { query = Some (live_of A.node A.width query) } }
     {
         self.query = Some(query);
     }
@@ -245,11 +263,12 @@ impl Engine {
         requires instant { to ≤ last_instant + 1 }
         ensures { Passes self.old to self.new }
     {
-        self.at = first_moment(self.next, &self.query, to);
+        self.at = first_moment(self.next, self.window(), to);
         self.next = Some(to);
     }
 
-    /// The next report of the last event, in order; None exactly where none is left. Counts no step.
+    /// The next report of the last event, in order; None exactly where none is left. An overfull report ends its query.
+    /// Adds no more steps than the change of the query's answer may take, and none where no report is left.
     ///
     /// Fails as `Broken` exactly where memory was refused before, and as `OutOfMemory` where memory is refused, which
     /// breaks the engine. Takes no memory where no report is left.
@@ -258,20 +277,16 @@ impl Engine {
         steps: &mut Steps<L>,
     ) -> Result<Option<Report>, EngineFault>
         ensures report { NextReport self.old result self.new }
-        ensures steps { steps.new ≡ steps.old }
+        ensures steps { (world : World) (left : List Moment) → Stands self.old world left → steps.new ≤ steps.old + next_work world left }
     {
-        let _ = steps;
         if self.broken {
             return Err(EngineFault::Broken);
         }
         if self.is_idle() {
             return Ok(None);
         }
-        match self.first_report() {
-            Ok(report) => {
-                self.work_off();
-                Ok(Some(report))
-            }
+        match self.first_report(steps) {
+            Ok(report) => Ok(Some(report)),
             Err(AllocError) => {
                 self.broken = true;
                 Err(EngineFault::OutOfMemory)
@@ -279,26 +294,29 @@ impl Engine {
         }
     }
 
-    // The report at the first instant left.
-    fn first_report(&self) -> Result<Report, AllocError>
-        requires { is_idle self.now ≡ false }
-        ensures due { IsSomeAnd self.now.query (λ live. IsDue self.now live) }
-        ensures report { IfOk result (λ report. IfSome self.now.query (λ live. (world : World)
-            → world.items ≡ self.now.items → report ≡ report_of world (query_of live) self.now.at)) }
+    // The report at the first instant left, which is worked off. Where memory is refused, the query is gone.
+    fn first_report<L: Ledger>(&mut self, steps: &mut Steps<L>) -> Result<Report, AllocError>
+        requires { is_idle self.old ≡ false }
+        ensures { IfOk result (λ report. Reported self.old report self.new) }
+        ensures cost { IfSome self.old.query (λ live. steps.new ≤ steps.old + work_at live self.old.items self.old.at) }
     {
-        match &self.query {
-            Some(live) => report(self.alloc, live, self.items.as_slice(), self.at),
-            None => unreachable!(),
+        let Some(mut live) = self.query.take() else {
+            unreachable!()
+        };
+        let report = report_at(self.alloc, &mut live, self.items.as_slice(), self.at, steps)?;
+        match report.outcome {
+            Outcome::Overfull => self.work_off(None),
+            Outcome::Rows(_) => self.work_off(Some(live)),
         }
+        Ok(report)
     }
 
-    // Goes on to the next moment.
-    fn work_off(&mut self)
-        requires { is_idle self.old ≡ false }
-        ensures { WorksOff self.old self.new }
+    // Goes on to the next moment, with this query live.
+    fn work_off(&mut self, query: Option<LiveQuery<A>>)
     {
+        self.query = query;
         if let Some(next) = self.next {
-            self.at = first_moment(Some(self.at + 1), &self.query, next);
+            self.at = first_moment(Some(self.at + 1), self.window(), next);
         }
     }
 }

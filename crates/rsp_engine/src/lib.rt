@@ -2,19 +2,22 @@
 //!
 //! An [`Engine`] *stands for* a world, in which every accepted event is kept, and for the moments of the last event that
 //! aren't worked off. `offer` accepts an event exactly where the definition accepts it, and refuses it by name else;
-//! `next_report` gives exactly the reports of the moments, one at a time. By now one query can be live, and the engine
-//! walks over the instants one by one.
-//! Above: the program. Below: events, windows, terms and the order of rows.
+//! `next_report` gives exactly the reports of the moments, one at a time, for every kind of answer. By now one query can
+//! be live, and the engine walks over the instants one by one.
+//! Above: the program. Below: events, the query line, answers, windows, terms and the order of rows.
 #![tactic(auto)]
 
 mod engine;
 mod item;
 mod live_query;
 mod refused;
+mod registering;
 mod report;
-mod reporting;
+mod contents;
 #[cfg(test)]
 mod tests;
+mod rows;
+mod seeing;
 mod walking;
 
 pub use engine::Engine;

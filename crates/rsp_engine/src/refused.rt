@@ -10,7 +10,8 @@ pub enum Refused {
     /// The event's time lies in what is complete: an item's time is less than `next`, or a tick's time + 1 is.
     /// Both in ms since 1970.
     Late { time: u64, next: u64 },
-    /// The event is of a kind that isn't built yet: a second live query, or an item after a thousand.
+    /// The event is of a kind that isn't built yet: a text outside the query line, a second live query, a cancellation,
+    /// an insert, a delete, an item of more than a thousand triples, or an item after a thousand.
     Unbuilt,
 }
 

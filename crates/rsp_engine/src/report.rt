@@ -1,11 +1,14 @@
 // Reports.
+use rsp_multiset::Row;
 use rsp_terms::{Listed, Term, Text};
 
 /// What a query gave at an instant.
 #[derive(Drop)]
 pub enum Outcome {
-    /// The rows, one term for each variable, in the byte order of their texts.
-    Rows(Listed<Listed<Term>>),
+    /// The rows, one cell for each variable, in the byte order of their texts.
+    Rows(Listed<Row<Term>>),
+    /// Some subtree of the query has more than 1,000,000 rows. The query is no longer live.
+    Overfull,
 }
 
 /// A report of a query at an instant, in ms since 1970.

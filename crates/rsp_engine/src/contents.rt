@@ -1,38 +1,33 @@
-// What a query reports at an instant.
-ghost use Rattle.std.specs.Prelude.{◌≡◌, ◌≤◌, ◌&&◌, nat_lt, nat_le, IfOk, OnOk, fold, filter, map, drop, length, [], ◌∷◌, codes};
+// What a query sees of its window at an instant.
+ghost use Rattle.std.specs.Prelude.{◌≡◌, ◌≤◌, ◌&&◌, nat_lt, nat_le, IfOk, OnOk, fold, filter, map, drop, length, [], ◌∷◌};
 ghost use Rattle.std.specs.List.{flat_map};
 ghost use Rattle.rsp_spec.specs.Windows.{last_instant};
 ghost use Rattle.rsp_engine.specs.declared.item.Item as item;
-ghost use Rattle.rsp_engine.specs.World.{World};
-ghost use Rattle.rsp_engine.specs.Contents.{same, add_once, distinct, in_content};
-ghost use Rattle.rsp_engine.specs.Reports.{row_of, report_of};
-ghost use Rattle.rsp_engine.specs.Stands.{query_of};
+ghost use Rattle.rsp_engine.specs.Contents.{same, add_once, distinct, facts_of, in_content};
+ghost use Rattle.rsp_engine.specs.Passing.{window_facts};
 
-use crate::{Item, LiveQuery, Outcome, Report};
+use crate::Item;
 use indexmap::IndexSet;
-use rsp_streams_out::ordered;
-use rsp_terms::{Listed, Term, Text, Triple};
+use rsp_terms::{Fact, Listed, Spot, Text, Triple};
+use rsp_windows::Window;
 use std::alloc::{AllocError, Global};
 
-/// The report of a live query at `at`, in ms since 1970, over these items. Fails only where memory is refused.
-pub fn report(
+/// The facts of a window on a stream at `at`, in ms since 1970, of the items from number `first` on. Fails only where
+/// memory is refused.
+pub fn facts(
     alloc: Global,
-    query: &LiveQuery,
+    stream: &Text,
+    window: &Window,
+    first: usize,
     items: &[Item],
     at: u64,
-) -> Result<Report, AllocError>
+) -> Result<Listed<Fact>, AllocError>
     requires instant { at ≤ last_instant }
-    requires first { query.now.first ≤ length items.now }
-    ensures { IfOk result (λ report. (world : World) → world.items ≡ items.now → report ≡ report_of world (query_of query.now) at) }
+    requires first { first ≤ length items.now }
+    ensures { IfOk result (λ facts. facts ≡ window_facts stream.now window.now first items.now at) }
 {
-    let triples = graph(alloc, query, items_from(items, query.first), at)?;
-    let rows = ordered(alloc, rows_of(alloc, triples)?)?;
-    Ok(Report {
-        query: query.name.share()?,
-        at,
-        variables: variables(alloc)?,
-        outcome: Outcome::Rows(rows),
-    })
+    let triples = graph(alloc, stream, window, items_from(items, first), at)?;
+    facts_of(alloc, triples)
 }
 
 fn items_from(items: &[Item], first: usize) -> &[Item]
@@ -42,60 +37,35 @@ fn items_from(items: &[Item], first: usize) -> &[Item]
     items.split_at(first).1
 }
 
-// the variables of `?s ?p ?o`
-fn variables(alloc: Global) -> Result<Listed<Text>, AllocError>
-    ensures { IfOk result (λ names. names ≡ codes "s" ∷ codes "p" ∷ codes "o" ∷ []) }
+// the facts of the first window
+fn facts_of(alloc: Global, triples: IndexSet<Triple>) -> Result<Listed<Fact>, AllocError>
+    ensures { IfOk result (λ facts. facts ≡ facts_of 0 triples.keys) }
 {
-    let subject = Text::new(alloc, "s")?;
-    let predicate = Text::new(alloc, "p")?;
-    let object = Text::new(alloc, "o")?;
-    let mut names = Listed::new(alloc);
-    names.push(subject)?;
-    names.push(predicate)?;
-    names.push(object)?;
-    Ok(names)
-}
-
-// a row for each triple
-fn rows_of(alloc: Global, triples: IndexSet<Triple>) -> Result<Listed<Listed<Term>>, AllocError>
-    ensures { IfOk result (λ rows. rows ≡ map row_of triples.keys) }
-{
-    let mut rows = Listed::new(alloc);
+    let mut facts = Listed::new(alloc);
     for triple in triples {
-        rows.push(row(alloc, triple)?)?;
+        facts.push(Fact {
+            spot: Spot::Window(0),
+            triple,
+        })?;
     }
-    Ok(rows)
+    Ok(facts)
 }
 
-fn row(alloc: Global, triple: Triple) -> Result<Listed<Term>, AllocError>
-    ensures { IfOk result (λ row. row ≡ row_of triple) }
-{
-    let Triple {
-        subject,
-        predicate,
-        object,
-    } = triple;
-    let mut row = Listed::new(alloc);
-    row.push(subject)?;
-    row.push(predicate)?;
-    row.push(object)?;
-    Ok(row)
-}
-
-// the distinct triples of the query's window at `at`, of the items that the query may see
+// the distinct triples of a window on a stream at `at`, of the items that the query may see
 fn graph(
     alloc: Global,
-    query: &LiveQuery,
+    stream: &Text,
+    window: &Window,
     visible: &[Item],
     at: u64,
 ) -> Result<IndexSet<Triple>, AllocError>
     requires { at ≤ last_instant }
     ensures { IfOk result (λ set. set.keys ≡ distinct (flat_map (λ (i : item.Item). i.graph)
-        (filter (in_content (record { stream = query.now.stream; shape = query.now.window }) at) visible.now))) }
+        (filter (in_content (record { stream = stream.now; shape = window.now }) at) visible.now))) }
 {
-    match query.window.active(at) {
+    match window.active(at) {
         None => Ok(IndexSet::new(alloc)),
-        Some(k) => content_graph(alloc, &query.stream, query.window.opening(k), at, visible),
+        Some(k) => content_graph(alloc, stream, window.opening(k), at, visible),
     }
 }
 

@@ -1,0 +1,62 @@
+// Queries that become live.
+ghost use Rattle.std.specs.Prelude.{◌≡◌, ℕ, IfOk, IfSome, MatchOption, None};
+ghost use Rattle.rsp_query_line.specs.QueryLine.{query_line};
+ghost use Rattle.rsp_engine.specs.Inside.{Answers, live_of};
+ghost use Rattle.rsp_engine.specs.Passing.{IsLive, IsRegistered};
+
+use crate::LiveQuery;
+use rsp_algebra::Answer;
+use rsp_query_line::{Line, query_line, translated};
+use rsp_terms::{Listed, Text};
+use std::alloc::{AllocError, Global};
+
+/// The live query of a text, over no facts; None exactly where the text is no query line. It sees the items from number
+/// `first` on. Fails only where memory is refused.
+pub fn registered<A: Answer>(
+    alloc: Global,
+    name: Text,
+    text: &Text,
+    first: usize,
+) -> Result<Option<LiveQuery<A>>, AllocError>
+    ensures query { IfOk result (λ query. MatchOption query
+        (query_line text.now ≡ None)
+        (λ live. IsRegistered name text.now first (live_of A.node A.width live))) }
+    ensures answers { IfOk result (λ query. IfSome query (Answers A.facts A.spent)) }
+{
+    match query_line(alloc, text.as_str().as_bytes())? {
+        None => Ok(None),
+        Some(line) => Ok(Some(live_query(alloc, name, line, first)?)),
+    }
+}
+
+fn live_query<A: Answer>(
+    alloc: Global,
+    name: Text,
+    line: Line,
+    first: usize,
+) -> Result<LiveQuery<A>, AllocError>
+    ensures query { IfOk result (λ live. IsLive name line first (live_of A.node A.width live)) }
+    ensures answers { IfOk result (Answers A.facts A.spent) }
+{
+    let query = translated(alloc, &line)?;
+    let Some(answer) = A::start(alloc, &query)? else {
+        unreachable!()
+    };
+    let stream = Text::new(alloc, "s:a")?;
+    let shown = query.shown;
+    let Line {
+        shape,
+        shown: variables,
+        patterns: _,
+    } = line;
+    Ok(LiveQuery {
+        name,
+        stream,
+        window: shape,
+        shown,
+        variables,
+        first,
+        seen: Listed::new(alloc),
+        answer,
+    })
+}

@@ -1,0 +1,83 @@
+// What a live query reports at an instant.
+ghost use Rattle.std.specs.Prelude.{◌≡◌, ◌≤◌, ◌+◌, ◌+ℤ◌, ⊤, IfOk, OnOk, length};
+ghost use Rattle.rsp_spec.specs.Windows.{last_instant};
+ghost use Rattle.rsp_terms.specs.Same.{fact_eq};
+ghost use Rattle.rsp_multiset.specs.Weights.{IsChanged, times, weight};
+ghost use Rattle.rsp_algebra.specs.Work.{work};
+ghost use Rattle.rsp_engine.specs.Inside.{Answers, live_of};
+ghost use Rattle.rsp_engine.specs.Passing.{IsReported, live_facts, seeing};
+ghost use Rattle.rsp_engine.specs.Reports.{IsOutcome};
+
+use crate::contents::facts;
+use crate::rows::shown_rows;
+use crate::{Item, LiveQuery, Outcome};
+use rsp_algebra::{Answer, Turn};
+use rsp_multiset::Changes;
+use rsp_steps::Steps;
+use rsp_terms::Fact;
+use std::alloc::{AllocError, Global};
+use std::sync::ledger::Ledger;
+
+/// The outcome of a live query at `at`, in ms since 1970, over these items. Where it isn't overfull, the query has then
+/// seen the facts of that instant. Fails only where memory is refused; the query is then only to be dropped.
+pub fn outcome_at<A: Answer, L: Ledger>(
+    alloc: Global,
+    live: &mut LiveQuery<A>,
+    items: &[Item],
+    at: u64,
+    steps: &mut Steps<L>,
+) -> Result<Outcome, AllocError>
+    requires instant { at ≤ last_instant }
+    requires first { live.old.first ≤ length items.now }
+    requires answers { Answers A.facts A.spent live.old }
+    ensures seen { OnOk result (live_of A.node A.width live.new ≡ seeing (live_of A.node A.width live.old) items.now at) }
+    ensures reported { IfOk result (IsReported A.facts A.spent (live_of A.node A.width live.old) items.now at live.new) }
+    ensures cost { steps.new ≤ steps.old + work (A.width live.old.answer) (A.node live.old.answer) live.old.seen (live_facts (live_of A.node A.width live.old) items.now at) }
+{
+    let now = facts(alloc, &live.stream, &live.window, live.first, items, at)?;
+    let changes = changes(alloc, live.seen.as_slice(), now.as_slice())?;
+    let turn = live.answer.change(&changes, steps)?;
+    live.seen = now;
+    match turn {
+        Turn::Overfull => Ok(Outcome::Overfull),
+        Turn::Net(_) => rows_of(alloc, live),
+    }
+}
+
+fn rows_of<A: Answer>(alloc: Global, live: &LiveQuery<A>) -> Result<Outcome, AllocError>
+{
+    let solutions = live.answer.solutions()?;
+    Ok(Outcome::Rows(shown_rows(
+        alloc,
+        &solutions,
+        live.shown.as_slice(),
+    )?))
+}
+
+// the change from one list of facts to another
+fn changes(alloc: Global, seen: &[Fact], now: &[Fact]) -> Result<Changes<Fact>, AllocError>
+    ensures { IfOk result (λ changes. IsChanged fact_eq seen.now changes now.now) }
+{
+    let mut changes = Changes::new(alloc);
+    add_each(&mut changes, now)?;
+    take_each(&mut changes, seen)?;
+    Ok(changes)
+}
+
+fn add_each(changes: &mut Changes<Fact>, facts: &[Fact]) -> Result<(), AllocError>
+    ensures { OnOk result ((q : _) → weight fact_eq changes.new q ≡ weight fact_eq changes.old q +ℤ times fact_eq facts.now q) }
+{
+    for fact in facts {
+        changes.alter(fact.share()?, 1)?;
+    }
+    Ok(())
+}
+
+fn take_each(changes: &mut Changes<Fact>, facts: &[Fact]) -> Result<(), AllocError>
+    ensures { OnOk result ((q : _) → weight fact_eq changes.old q ≡ weight fact_eq changes.new q +ℤ times fact_eq facts.now q) }
+{
+    for fact in facts {
+        changes.alter(fact.share()?, -1)?;
+    }
+    Ok(())
+}
