@@ -1,1 +1,5 @@
 pub mod Held
+pub mod Linear
+pub mod Signs
+pub mod Sums
+pub mod Whole

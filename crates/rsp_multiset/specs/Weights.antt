@@ -43,11 +43,16 @@ abbrev pub above : ℤ → ℤ
 above (pos n) = pos n
 above (negsuc n) = pos 0
 
+-- n where it is below 0, else 0
+abbrev pub below : ℤ → ℤ
+below (pos n) = pos 0
+below (negsuc n) = negsuc n
+
 -- the entries are distinct, and each is there at least once
 pub record AreCounts {E : Type 0} (eq : E → E → Bool) (entries : List (E × ℤ)) : Type 0 where
   pub distinct : IsDistinct eq (keys_of entries)
   pub counted : All (λ (e : E × ℤ). pos 0 <ℤ e.1) entries
 
 -- how many values the entries stand for, each as often as its count says
-abbrev pub size : {E : Type 0} → List (E × ℤ) → ℤ
-size entries = sum_z (λ e. e.1) entries
+abbrev pub cardinality : {E : Type 0} → List (E × ℤ) → ℤ
+cardinality entries = sum_z (λ e. e.1) entries
