@@ -1,1 +1,4 @@
+mod CharacterRows
+mod CharacterSteps
+mod Injective
 mod TermRows

@@ -5,6 +5,8 @@
 //! Above: reports, events and the engine speak of these types. Below: std alone.
 #![tactic(auto)]
 
+mod cells;
+pub mod characters;
 mod listed;
 mod printing;
 mod statement;
@@ -13,6 +15,7 @@ mod term;
 mod tests;
 mod text;
 
+pub use characters::{is_iri, is_label, is_tag};
 pub use listed::Listed;
 pub use printing::print;
 pub use statement::{Fact, Quad, Spot, Triple};

@@ -16,7 +16,7 @@ pub const XSD_STRING: &str = "http://www.w3.org/2001/XMLSchema#string";
 pub fn print(term: &Term, out: &mut Vec<u8>) -> Result<(), AllocError>
     ensures ok { OnOk result (out.new.items ≡ out.old.items ++ printed term.now) }
     ensures err { OnErr result (out.new.items ≡ out.old.items) }
-// ensures injective { (other : _) → IsNumbered other → printed other ≡ printed term.now → other ≡ term.now }
+    ensures injective { (other : _) → IsNumbered other → printed other ≡ printed term.now → other ≡ term.now }
 {
     let before = out.len();
     let printed = push_term(term, out);
