@@ -1,2 +1,4 @@
 mod SolutionRows
 mod WorkRows
+pub mod Widths
+pub mod Subtrees
