@@ -1,7 +1,9 @@
 //! Evaluation of algebra trees.
 #![tactic(auto)]
 
+mod changing;
 mod evaluation;
+mod facts;
 mod joining;
 mod keys;
 mod limit;
