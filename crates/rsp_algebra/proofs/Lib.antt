@@ -1,2 +1,5 @@
 mod SolutionRows
 mod WorkRows
+pub mod Widths
+pub mod Sets
+pub mod Subtrees

@@ -5,21 +5,21 @@ use Rattle.rsp_multiset.specs.Weights.{weight, times}
 use Rattle.rsp_multiset.specs.Rows.{Cells}
 use Rattle.rsp_terms.specs.declared.term.Term.{Term}
 use Rattle.rsp_terms.specs.declared.statement.Fact.{Fact}
-use Rattle.rsp_terms.specs.contracts.statement.FactPartialEq.TheImpl.{ghosts as fact}
+use Rattle.rsp_terms.specs.Same.{fact_eq}
 use Rattle.rsp_algebra.specs.declared.answer.Turn.{Turn}
 use Rattle.rsp_algebra.specs.declared.answer.Turn.TheVariants.{Net, Overfull}
 
 -- each fact stands at most once
 abbrev pub IsSet : List Fact → Type 0
-IsSet facts = IsDistinct fact.eq facts
+IsSet facts = IsDistinct fact_eq facts
 
 -- each fact that comes is absent and comes once, and each that goes is there
 abbrev pub MayChange : List Fact → List (Fact × ℤ) → Type 0
 MayChange facts changes =
     (q : Fact)
-    → (weight fact.eq changes q ≡ pos 0)
-    ⊎ (((weight fact.eq changes q ≡ pos 1) × (times fact.eq facts q ≡ pos 0))
-    ⊎ ((weight fact.eq changes q ≡ negsuc 0) × (times fact.eq facts q ≡ pos 1)))
+    → (weight fact_eq changes q ≡ pos 0)
+    ⊎ (((weight fact_eq changes q ≡ pos 1) × (times fact_eq facts q ≡ pos 0))
+    ⊎ ((weight fact_eq changes q ≡ negsuc 0) × (times fact_eq facts q ≡ pos 1)))
 
 abbrev pub is_overfull : Turn → Bool
 is_overfull (Net _) = false

@@ -21,8 +21,8 @@ pub trait Answer: Sized + Drop {
     ghost use Rattle.rsp_multiset.specs.Weights.{weight, times, IsChanged};
     ghost use Rattle.rsp_multiset.specs.Rows.{row_eq};
     ghost use Rattle.rsp_terms.specs.declared.statement.Fact.{Fact};
-    ghost use Rattle.rsp_terms.specs.contracts.term.TermPartialEq.TheImpl.{ghosts as term};
-    ghost use Rattle.rsp_terms.specs.contracts.statement.FactPartialEq.TheImpl.{ghosts as fact};
+    ghost use Rattle.rsp_terms.specs.Same.{term_eq};
+    ghost use Rattle.rsp_terms.specs.Same.{fact_eq};
     ghost use Rattle.rsp_algebra.specs.Nodes.{Node, node_of, IsPlaced};
     ghost use Rattle.rsp_algebra.specs.Solutions.{eval};
     ghost use Rattle.rsp_algebra.specs.Overfull.{overfull as is_too_full};
@@ -58,17 +58,17 @@ pub trait Answer: Sized + Drop {
         requires allowed { MayChange (facts self.old) changes.now }
         ensures node { node self.new ≡ node self.old }
         ensures width { width self.new ≡ width self.old }
-        ensures facts { IfOk result (λ _. IsChanged fact.eq (facts self.old) changes.now (facts self.new)) }
+        ensures facts { IfOk result (λ _. IsChanged fact_eq (facts self.old) changes.now (facts self.new)) }
         ensures set { IfOk result (λ _. IsSet (facts self.new)) }
         ensures overfull { IfOk result (λ turn. is_overfull turn ≡ is_too_full (width self.old) (node self.old) (facts self.new)) }
         ensures net { IfOk result (λ turn. IfNet turn (λ net.
-            IsChanged (row_eq term.eq) (eval (width self.old) (node self.old) (facts self.old)) net (eval (width self.old) (node self.old) (facts self.new)))) }
+            IsChanged (row_eq term_eq) (eval (width self.old) (node self.old) (facts self.old)) net (eval (width self.old) (node self.old) (facts self.new)))) }
         ensures spent { spent self.new ≡ not (goes_on result) }
-        ensures cost { (after : List Fact) → IsSet after → IsChanged fact.eq (facts self.old) changes.now after
+        ensures cost { (after : List Fact) → IsSet after → IsChanged fact_eq (facts self.old) changes.now after
             → steps.new ≤ steps.old + work (width self.old) (node self.old) (facts self.old) after };
 
     /// The solutions.
     fn solutions(&self) -> Result<Bag<Term>, AllocError>
         requires { spent self.now ≡ false }
-        ensures { IfOk result (λ bag. (q : _) → weight (row_eq term.eq) bag q ≡ times (row_eq term.eq) (eval (width self.now) (node self.now) (facts self.now)) q) };
+        ensures { IfOk result (λ bag. (q : _) → weight (row_eq term_eq) bag q ≡ times (row_eq term_eq) (eval (width self.now) (node self.now) (facts self.now)) q) };
 }

@@ -2,8 +2,8 @@ ghost use Rattle.std.specs.Prelude.{◌≡◌, ℕ, ◌+◌, ◌≤◌, false, I
 ghost use Rattle.rsp_multiset.specs.Weights.{weight, times, IsChanged};
 ghost use Rattle.rsp_multiset.specs.Rows.{row_eq};
 ghost use Rattle.rsp_terms.specs.declared.statement.Fact.{Fact};
-ghost use Rattle.rsp_terms.specs.contracts.term.TermPartialEq.TheImpl.{ghosts as term};
-ghost use Rattle.rsp_terms.specs.contracts.statement.FactPartialEq.TheImpl.{ghosts as fact};
+ghost use Rattle.rsp_terms.specs.Same.{term_eq};
+ghost use Rattle.rsp_terms.specs.Same.{fact_eq};
 ghost use Rattle.rsp_algebra.specs.Solutions.{eval};
 ghost use Rattle.rsp_algebra.specs.Overfull.{overfull};
 ghost use Rattle.rsp_algebra.specs.Changing.{IsSet, MayChange, IfNet};
@@ -24,10 +24,10 @@ fn solutions_after<A: Answer, L: Ledger>(
 ) -> Result<Option<Bag<Term>>, AllocError>
     requires ready { A.spent answer.old ≡ false }
     requires allowed { MayChange (A.facts answer.old) changes.now }
-    ensures facts { IfOk result (λ _. IsChanged fact.eq (A.facts answer.old) changes.now (A.facts answer.new)) }
+    ensures facts { IfOk result (λ _. IsChanged fact_eq (A.facts answer.old) changes.now (A.facts answer.new)) }
     ensures set { IfOk result (λ _. IsSet (A.facts answer.new)) }
-    ensures some { IfOk result (λ solutions. IfSome solutions (λ bag. (q : _) → weight (row_eq term.eq) bag q
-        ≡ times (row_eq term.eq) (eval (A.width answer.old) (A.node answer.old) (A.facts answer.new)) q)) }
+    ensures some { IfOk result (λ solutions. IfSome solutions (λ bag. (q : _) → weight (row_eq term_eq) bag q
+        ≡ times (row_eq term_eq) (eval (A.width answer.old) (A.node answer.old) (A.facts answer.new)) q)) }
     ensures fits { IfOk result (λ solutions. IfSome solutions (λ _. overfull (A.width answer.old) (A.node answer.old) (A.facts answer.new) ≡ false)) }
 {
     match answer.change(changes, steps)? {
@@ -44,8 +44,8 @@ fn change_of<A: Answer, L: Ledger>(
 ) -> Result<Turn, AllocError>
     requires ready { A.spent answer.old ≡ false }
     requires allowed { MayChange (A.facts answer.old) changes.now }
-    ensures net { IfOk result (λ turn. IfNet turn (λ net. (q : _) → times (row_eq term.eq) (eval (A.width answer.old) (A.node answer.old) (A.facts answer.new)) q
-        ≡ times (row_eq term.eq) (eval (A.width answer.old) (A.node answer.old) (A.facts answer.old)) q +ℤ weight (row_eq term.eq) net q)) }
+    ensures net { IfOk result (λ turn. IfNet turn (λ net. (q : _) → times (row_eq term_eq) (eval (A.width answer.old) (A.node answer.old) (A.facts answer.new)) q
+        ≡ times (row_eq term_eq) (eval (A.width answer.old) (A.node answer.old) (A.facts answer.old)) q +ℤ weight (row_eq term_eq) net q)) }
 {
     answer.change(changes, steps)
 }

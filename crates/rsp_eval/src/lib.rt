@@ -1,6 +1,13 @@
 //! Evaluation of algebra trees.
 #![tactic(auto)]
 
+mod changing;
+mod evaluation;
+mod facts;
+mod joining;
+mod keys;
 mod limit;
 mod patterns;
 mod projecting;
+
+pub use evaluation::evaluate;
