@@ -1,4 +1,3 @@
 pub mod Walks
 pub mod Offering
 pub mod Graphs
-mod WorldRows

@@ -8,13 +8,12 @@ use Rattle.std.specs.Cmp.Lexicographic.{bytes_decides}
 use Rattle.rsp_events.specs.declared.event.Event.{Event}
 use Rattle.rsp_events.specs.declared.event.Event.TheVariants.{Register, Item, Tick}
 use Rattle.rsp_spec.specs.Windows.{Shape}
-use Rattle.rsp_terms.specs.declared.term.Triple.{Triple}
+use Rattle.rsp_terms.specs.declared.statement.Triple.{Triple}
 use Rattle.rsp_engine.specs.declared.item.Item as item
-use Rattle.rsp_engine.specs.declared.live_query.LiveQuery.{LiveQuery}
 use Rattle.rsp_engine.specs.World.{World}
-use Rattle.rsp_engine.specs.Accept.{accept, next_of, most_items, registered}
+use Rattle.rsp_engine.specs.Accept.{accept, next_of, most_items, most_triples, registered}
 use Rattle.rsp_engine.specs.Moments.{Moment, moments, moments_from, moments_on, due_at}
-use Rattle.rsp_engine.specs.Stands.{State, Stands, query_of}
+use Rattle.rsp_engine.specs.Stands.{State, Live, Stands, query_of}
 use Rattle.rsp_engine.specs.declared.report.Report.{Report}
 use Rattle.rsp_engine.specs.Contents.{same}
 use Rattle.rsp_engine.specs.Reports.{report_of, report_at, reports}
@@ -48,11 +47,12 @@ tick_leads old new time world ready late passes stands =
     )
 
 -- an item that was kept, and time that passed up to it
-pub item_leads : (old kept new : State) (stream : List ℕ) (time : ℕ) (graph : List Triple) (world : World) → old.broken ≡ false → length old.items < most_items → unwrap_or old.next 0 ≤ time → kept ≡ record old { items = old.items ++ record { stream = stream; time = time; graph = graph } ∷ [] } → Passes kept time new → Stands old world [] → Leads world (Item stream time graph) new
-item_leads old kept new stream time graph world ready few late is passes stands =
+pub item_leads : (old kept new : State) (stream : List ℕ) (time : ℕ) (graph : List Triple) (world : World) → old.broken ≡ false → length graph ≤ most_triples → length old.items < most_items → unwrap_or old.next 0 ≤ time → kept ≡ record old { items = old.items ++ record { stream = stream; time = time; graph = graph } ∷ [] } → Passes kept time new → Stands old world [] → Leads world (Item stream time graph) new
+item_leads old kept new stream time graph world ready small few late is passes stands =
     let arrived : item.Item = record { stream = stream; time = time; graph = graph } in
     let after : World = record world { next = Some time; items = world.items ++ arrived ∷ [] } in
     let few_items : nat_le most_items (length world.items) ≡ false = lt-leb _ _ (rw stands.items at few) in
+    let few_triples : nat_lt most_triples (length graph) ≡ false = le-ltb _ _ small in
     let in_time : nat_lt time (next_of world) ≡ false = le-ltb _ _ (rw stands.next at late) in
     let then : Passes (record old { items = old.items ++ arrived ∷ [] }) time new =
     let P : State → Type 0 = λ s. Passes s time new in subst P is passes in
@@ -60,7 +60,7 @@ item_leads old kept new stream time graph world ready few late is passes stands 
     let left : moments world (Item stream time graph) after ≡ moments_from after new.at =
     rw on_item (append-nil _ ∙ rw (← stands.next) (then.moments after stands.queries refl)) in (
       after,
-      rw (few_items, in_time) refl,
+      rw (few_triples, few_items, in_time) refl,
       record {
         ready = then.broken ∙ ready;
         next = then.next;
@@ -80,48 +80,7 @@ none_from : (world : World) (next : Option ℕ) → option_map_or (λ to. flat_m
 none_from world None = refl
 none_from world (Some next) = let none : next - next ≡ 0 = omega arith in rw none refl
 
--- a query that became live where none was
-pub register_leads : (old : State) (name stream : List ℕ) (shape : Shape) (world : World) → old.broken ≡ false → old.query ≡ None → Stands old world [] → Leads world (Register name stream shape) (record old { query = Some (record { name = name; stream = stream; window = shape; first = length old.items }) })
-register_leads old name stream shape world ready none stands =
-    let no_query : world.queries ≡ [] = rw none at stands.queries in
-    let after : World = record world { queries = world.queries ++ registered name stream shape (length world.items) ∷ [] } in
-    let left : moments world (Register name stream shape) after ≡ [] = append-nil _ ∙ none_behind after world.next in
-    let nothing : moments_from after (next_of world) ≡ [] = none_from after world.next in (
-      after,
-      rw no_query refl,
-      record {
-        ready = ready;
-        next = stands.next;
-        items = stands.items;
-        queries = rw (no_query, stands.items) refl;
-        moments = left ∙ sym (rw stands.at nothing);
-        at = rw left stands.at;
-      },
-    )
-
--- the report of the first moment left, and the moments behind it
-pub first_given : (old new : State) (live : LiveQuery) (report : Report) (world : World) (left : List Moment) → IsDue old live → WorksOff old new → ((w : World) → w.items ≡ old.items → report ≡ report_of w (query_of live) old.at) → Stands old world left → (rest : List Moment) × (reports world left ≡ report ∷ reports world rest) × Stands new world rest
-first_given old new live report world left due works given stands =
-    let queries : world.queries ≡ map query_of (live ∷ []) = rw due.query at stands.queries in
-    let next : world.next ≡ Some due.complete.0 = sym stands.next ∙ due.complete.1 in
-    let moment : Moment = record { at = old.at; query = live.name } in
-    let first : moments_from world old.at ≡ moment ∷ moments_from world (old.at + 1) = first_left world live old.at due.complete.0 queries next due.complete.2 due.closes in
-    let behind = works.moments world stands.queries (sym stands.next) in
-    let rest : left ≡ moment ∷ moments_from world new.at = stands.moments ∙ (first ∙ ap (λ ms. moment ∷ ms) behind) in
-    let named : report_at world moment ≡ Some report = rw (queries, same_bytes live.name, given world (sym stands.items)) refl in (
-      moments_from world new.at,
-      rw (rest, named) refl,
-      record {
-        ready = works.broken ∙ stands.ready;
-        next = works.next ∙ stands.next;
-        items = works.items ∙ stands.items;
-        queries = rw works.query stands.queries;
-        moments = refl;
-        at = works.at world stands.queries (sym stands.next);
-      },
-    )
-
 -- the live query that there is, and two facts of it
-pub some_due : (query : Option LiveQuery) (P Q : LiveQuery → Type 0) → IsSomeAnd query P → IfSome query Q → (live : LiveQuery) × P live × Q live
+pub some_due : (query : Option Live) (P Q : Live → Type 0) → IsSomeAnd query P → IfSome query Q → (live : Live) × P live × Q live
 some_due None P Q due given = absurd due
 some_due (Some live) P Q due given = (live, due, given)

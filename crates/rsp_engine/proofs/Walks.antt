@@ -2,20 +2,19 @@
 use Rattle.std.proofs.Common.{◌≡◌, ℕ, zero, suc, ◌+◌, ◌-◌, ◌<◌, ◌≤◌, true, false, List, [], ◌∷◌, map, Option, None, Some, option_to_list, refl, ◌∙◌, ap, arith, zero-add, add-zero}
 use Rattle.std.specs.List.{flat_map, range_with_len}
 use Rattle.rsp_spec.specs.Windows.{closes_at}
-use Rattle.rsp_engine.specs.declared.live_query.LiveQuery.{LiveQuery}
 use Rattle.rsp_engine.specs.World.{World}
 use Rattle.rsp_engine.specs.declared.item.Item.{Item}
 use Rattle.rsp_engine.specs.Due.{due_on}
 use Rattle.rsp_engine.specs.Moments.{due_at, moments_at, moments_from}
-use Rattle.rsp_engine.specs.Stands.{query_of, closes_for}
+use Rattle.rsp_engine.specs.Stands.{Live, query_of, closes_for}
 
 -- where the live query's window doesn't close, nothing is due
-pub quiet : (world : World) (query : Option LiveQuery) → world.queries ≡ map query_of (option_to_list query) → (t : ℕ) → closes_for query t ≡ false → due_at world t ≡ []
+pub quiet : (world : World) (query : Option Live) → world.queries ≡ map query_of (option_to_list query) → (t : ℕ) → closes_for query t ≡ false → due_at world t ≡ []
 quiet world None is t closed = rw is refl
 quiet world (Some live) is t closed = rw (is, closed) refl
 
 -- where it closes, its query is
-pub busy : (world : World) (live : LiveQuery) → world.queries ≡ map query_of (live ∷ []) → (t : ℕ) → closes_at live.window t ≡ true → due_at world t ≡ record { at = t; query = live.name } ∷ []
+pub busy : (world : World) (live : Live) → world.queries ≡ map query_of (live ∷ []) → (t : ℕ) → closes_at live.window t ≡ true → due_at world t ≡ record { at = t; query = live.name } ∷ []
 busy world live is t closed = rw (is, closed) refl
 
 -- instants at which f gives nothing can be passed over
@@ -29,7 +28,7 @@ passed_over f (suc gap) from n none =
     rw (more, here, ← next) later
 
 -- the moments from `from` on are those from `at` on, where nothing is due between
-pub moved : (world : World) (query : Option LiveQuery) (from at to : ℕ) → world.queries ≡ map query_of (option_to_list query) → world.next ≡ Some to → from ≤ at → at ≤ to → ((t : ℕ) → from ≤ t → t < at → closes_for query t ≡ false) → moments_from world from ≡ moments_from world at
+pub moved : (world : World) (query : Option Live) (from at to : ℕ) → world.queries ≡ map query_of (option_to_list query) → world.next ≡ Some to → from ≤ at → at ≤ to → ((t : ℕ) → from ≤ t → t < at → closes_for query t ≡ false) → moments_from world from ≡ moments_from world at
 moved world query from at to is next low high none =
     let gap : to - from ≡ (at - from) + (to - at) = omega arith in
     let there : from + (at - from) ≡ at = omega arith in
@@ -37,12 +36,12 @@ moved world query from at to is next low high none =
     rw (next, gap) (over ∙ ap (λ k. flat_map (due_at world) (range_with_len k (to - at))) there)
 
 -- a query that looks at instants has no moments on items
-pub none_on_items : (world : World) (query : Option LiveQuery) → world.queries ≡ map query_of (option_to_list query) → (t : ℕ) (item : Item) → moments_at world t (λ q. due_on world q item) ≡ []
+pub none_on_items : (world : World) (query : Option Live) → world.queries ≡ map query_of (option_to_list query) → (t : ℕ) (item : Item) → moments_at world t (λ q. due_on world q item) ≡ []
 none_on_items world None is t item = rw is refl
 none_on_items world (Some live) is t item = rw is refl
 
 -- where the query's window closes at a complete instant, its moment there is the first
-pub first_left : (world : World) (live : LiveQuery) (at to : ℕ) → world.queries ≡ map query_of (live ∷ []) → world.next ≡ Some to → at < to → closes_at live.window at ≡ true → moments_from world at ≡ record { at = at; query = live.name } ∷ moments_from world (at + 1)
+pub first_left : (world : World) (live : Live) (at to : ℕ) → world.queries ≡ map query_of (live ∷ []) → world.next ≡ Some to → at < to → closes_at live.window at ≡ true → moments_from world at ≡ record { at = at; query = live.name } ∷ moments_from world (at + 1)
 first_left world live at to is next low closes =
     let more : to - at ≡ suc (to - (at + 1)) = omega arith in
     rw (next, more, busy world live is at closes) refl

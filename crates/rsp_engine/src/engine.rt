@@ -20,7 +20,7 @@ const MOST_TRIPLES: usize = 1000;
 
 /// Takes events, one at a time, and gives the reports of each.
 #[derive(Drop)]
-pub struct Engine<A> {
+pub struct Engine<A: Answer> {
     alloc: Global,
     next: Option<u64>,
     query: Option<LiveQuery<A>>,
@@ -294,29 +294,52 @@ impl<A: Answer> Engine<A> {
         }
     }
 
-    // The report at the first instant left, which is worked off. Where memory is refused, the query is gone.
+    // The report at the first instant left, which is worked off. Where memory is refused, no query is live.
     fn first_report<L: Ledger>(&mut self, steps: &mut Steps<L>) -> Result<Report, AllocError>
         requires { is_idle self.old ≡ false }
-        ensures { IfOk result (λ report. Reported self.old report self.new) }
+        ensures report { IfOk result (λ report. ReportsFirst self.old report self.new) }
         ensures cost { IfSome self.old.query (λ live. steps.new ≤ steps.old + work_at live self.old.items self.old.at) }
     {
         let Some(mut live) = self.query.take() else {
             unreachable!()
         };
-        let report = report_at(self.alloc, &mut live, self.items.as_slice(), self.at, steps)?;
-        match report.outcome {
-            Outcome::Overfull => self.work_off(None),
-            Outcome::Rows(_) => self.work_off(Some(live)),
-        }
-        Ok(report)
+        let name = live.name.share()?;
+        let variables = shared(self.alloc, live.variables.as_slice())?;
+        let at = self.at;
+        let outcome = outcome_at(self.alloc, &mut live, self.items.as_slice(), at, steps)?;
+        self.work_off(match outcome {
+            Outcome::Overfull => None,
+            Outcome::Rows(_) => Some(live),
+        });
+        Ok(Report {
+            query: name,
+            at,
+            variables,
+            outcome,
+        })
     }
 
     // Goes on to the next moment, with this query live.
     fn work_off(&mut self, query: Option<LiveQuery<A>>)
+        requires none { self.old.query ≡ None }
+        requires busy { IsSomeAnd self.old.next (λ next. self.old.at < next) }
+        requires first { IfSome query (λ live. live.first ≤ length self.old.items) }
+        requires answers { IfSome query (Answers A.facts A.spent) }
+        ensures { WorksOff self.old (option_map (live_of A.node A.width) query) self.new }
     {
         self.query = query;
         if let Some(next) = self.next {
             self.at = first_moment(Some(self.at + 1), self.window(), next);
         }
     }
+}
+
+fn shared(alloc: Global, texts: &[Text]) -> Result<Listed<Text>, AllocError>
+    ensures { IfOk result (λ shared. shared ≡ texts.now) }
+{
+    let mut shared = Listed::new(alloc);
+    for text in texts {
+        shared.push(text.share()?)?;
+    }
+    Ok(shared)
 }

@@ -14,8 +14,6 @@ mod refused;
 mod registering;
 mod report;
 mod contents;
-#[cfg(test)]
-mod tests;
 mod rows;
 mod seeing;
 mod walking;

@@ -9,7 +9,9 @@ mod fields;
 mod line;
 mod names;
 mod patterns;
+mod translation;
 mod written;
 
 pub use line::{Line, query_line};
+pub use translation::translated;
 pub use written::{Part, Written};

@@ -1,11 +1,10 @@
 // The algebra tree of a query line.
-ghost use Rattle.std.specs.Prelude.{◌≡◌, ◌∷◌, ◌++◌, ◌≤◌, ◌<◌, [], IfOk, length, map, fold, false};
+ghost use Rattle.std.specs.Prelude.{◌≡◌, ◌∷◌, ◌++◌, ◌≤◌, ◌<◌, [], IfOk, length, map, fold, None};
 ghost use Rattle.std.specs.List.{position_or_len};
-ghost use Rattle.rsp_algebra.specs.declared.tree.Place.TheVariants.{Window};
-ghost use Rattle.rsp_algebra.specs.Nodes.{IsPlaced, node_of, left_deep, join, pattern};
-ghost use Rattle.rsp_algebra.specs.Overfull.{overfull};
+ghost use Rattle.rsp_algebra.specs.Nodes.{node_of, left_deep, join, pattern, project};
+ghost use Rattle.std.specs.Option.{option_map, option_map_or};
 ghost use Rattle.rsp_query_line.specs.QueryLine as form;
-ghost use Rattle.rsp_query_line.specs.Meaning.{node_of_line, place_of, shown_of, slot_of, triple_pattern_of, width_of};
+ghost use Rattle.rsp_query_line.specs.Meaning.{grown, node_of_line, place_of, shown_of, slot_of, triple_pattern_of, width_of};
 
 use crate::names::variables_of;
 use crate::{Line, Part, Written};
@@ -87,12 +86,48 @@ fn places_of(alloc: Global, names: &[Text], shown: &[Text]) -> Result<Vec<usize>
 fn left_deep(alloc: Global, place: Place, patterns: Vec<TriplePattern>) -> Result<Tree, AllocError>
     ensures { IfOk result (λ tree. node_of tree ≡ left_deep place patterns.items) }
 {
+    match grown(alloc, place, patterns)? {
+        None => Ok(Tree::Unit),
+        Some(tree) => Ok(tree),
+    }
+}
+
+fn grown(alloc: Global, place: Place, patterns: Vec<TriplePattern>) -> Result<Option<Tree>, AllocError>
+    ensures { IfOk result (λ tree. option_map node_of tree ≡ fold (grown place) None patterns.items) }
+{
     let mut tree = None;
     for pattern in patterns {
         tree = Some(joined(alloc, tree, place, pattern)?);
     }
+    Ok(tree)
+}
+
+fn joined(alloc: Global, tree: Option<Tree>, place: Place, triple: TriplePattern) -> Result<Tree, AllocError>
+    ensures { IfOk result (λ joined. node_of joined ≡ option_map_or (λ t. join (node_of t) (pattern place triple)) tree (pattern place triple)) }
+{
+    let pattern = pattern_of(place, triple);
     match tree {
-        None => Ok(Tree::Unit),
-        Some(tree) => Ok(tree),
+        None => Ok(pattern),
+        Some(tree) => {
+            let left = Box::new(alloc, tree)?;
+            let right = Box::new(alloc, pattern)?;
+            Ok(Tree::Join { left, right })
+        }
+    }
+}
+
+fn pattern_of(place: Place, triple: TriplePattern) -> Tree
+    ensures { node_of result ≡ pattern place triple }
+{
+    let TriplePattern {
+        subject,
+        predicate,
+        object,
+    } = triple;
+    Tree::Pattern {
+        place,
+        subject,
+        predicate,
+        object,
     }
 }

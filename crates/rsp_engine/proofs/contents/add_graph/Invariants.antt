@@ -1,6 +1,6 @@
 use Rattle.std.proofs.Common.{◌≡◌, fold, drop}
 use Rattle.rsp_engine.specs.Contents.{add_once}
-use Rattle.rsp_engine.proofs.reporting.add_graph.Given as goal
+use Rattle.rsp_engine.proofs.contents.add_graph.Given as goal
 
 abbrev pub invariant-loop-triple : goal.invariant-loop-triple
 invariant-loop-triple l =

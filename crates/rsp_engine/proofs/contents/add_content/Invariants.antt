@@ -2,7 +2,7 @@ use Rattle.std.proofs.Common.{◌≡◌, ◌&&◌, nat_lt, nat_le, fold, drop, f
 use Rattle.std.specs.List.{flat_map}
 use Rattle.rsp_engine.specs.declared.item.Item.{Item}
 use Rattle.rsp_engine.specs.Contents.{add_once, same}
-use Rattle.rsp_engine.proofs.reporting.add_content.Given as goal
+use Rattle.rsp_engine.proofs.contents.add_content.Given as goal
 
 abbrev pub invariant-loop-item : goal.invariant-loop-item
 invariant-loop-item l =

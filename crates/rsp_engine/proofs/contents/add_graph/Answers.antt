@@ -1,6 +1,6 @@
 use Rattle.std.proofs.Common.{◌∙◌}
 use Rattle.rsp_engine.proofs.Graphs.{add_more}
-use Rattle.rsp_engine.proofs.reporting.add_graph.Goals as goal
+use Rattle.rsp_engine.proofs.contents.add_graph.Goals as goal
 
 pub loop-triple-preserved : goal.loop-triple-preserved
 loop-triple-preserved c =
