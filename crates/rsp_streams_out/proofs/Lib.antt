@@ -1,3 +1,4 @@
+pub mod Copies
 pub mod InOrder
 pub mod SameTexts
 pub mod Sorted

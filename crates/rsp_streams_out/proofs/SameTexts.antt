@@ -81,8 +81,8 @@ module _ (rows other : List (Cells Term)) (alike : (q : Cells Term) → times (r
   same_ties : (text : List ℕ) → filter (ties less text) (map row_text other) ≡ filter (ties less text) (map row_text rows)
   same_ties text =
       let counts = count_of text other
-          ∙ sum-same (row_decides term_same) (λ row. only (ties less text (row_text row)) (pos 1)) other rows alike
-          ∙ sym (count_of text rows) in
+      ∙ sum-same (row_decides term_same) (λ row. only (ties less text (row_text row)) (pos 1)) other rows alike
+      ∙ sym (count_of text rows) in
       ties_are_copies text (map row_text other) ∙ ap (copies text) (omega (arith, ints, counts)) ∙ sym (ties_are_copies text (map row_text rows))
 
   -- the texts depend on the rows as a multiset alone
@@ -90,6 +90,6 @@ module _ (rows other : List (Cells Term)) (alike : (q : Cells Term) → times (r
   same_texts =
       texts_in_order other
       ∙ same_from_ties less texts_rank (put_all less texts_rank (map row_text other)) (put_all less texts_rank (map row_text rows))
-          (Rises-put_all less texts_rank (map row_text other)) (Rises-put_all less texts_rank (map row_text rows))
-          (λ text. put_all-ties less texts_rank (map row_text other) text ∙ same_ties text ∙ sym (put_all-ties less texts_rank (map row_text rows) text))
+      (Rises-put_all less texts_rank (map row_text other)) (Rises-put_all less texts_rank (map row_text rows))
+      (λ text. put_all-ties less texts_rank (map row_text other) text ∙ same_ties text ∙ sym (put_all-ties less texts_rank (map row_text rows) text))
       ∙ sym (texts_in_order rows)

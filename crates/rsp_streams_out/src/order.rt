@@ -17,10 +17,7 @@ use std::marker::Model;
 
 /// The rows in the byte order of their texts; rows of one text keep their order, so that the texts depend on the rows as
 /// a multiset alone. Prints each row once, and compares about n log n times. Fails only where memory is refused.
-pub fn ordered(
-    alloc: Global,
-    rows: Listed<Row<Term>>,
-) -> Result<Listed<Row<Term>>, AllocError>
+pub fn ordered(alloc: Global, rows: Listed<Row<Term>>) -> Result<Listed<Row<Term>>, AllocError>
     ensures value { IfOk result (λ out. out ≡ in_order rows) }
     ensures sorted { IfOk result (λ out. IsSortedByKey row_text (slice_cmp nat_cmp) out) }
     ensures permutation { IfOk result (λ out. IsPermutation rows out) }

@@ -1,5 +1,5 @@
 use super::*;
-use rsp_multiset::Row;
+use rsp_multiset::{Bag, Row};
 use rsp_terms::{Listed, Term, Text};
 use std::alloc::{AllocError, Global};
 use std::test::Fail;
@@ -44,5 +44,19 @@ fn rows_of_one_text_stand_together(rt: HostRuntime) -> Result<(), Fail> {
         wanted.push(row(alloc, &[first, "z:1"])?)?;
     }
     assert!(rt; ordered(alloc, rows)? == wanted);
+    Ok(())
+}
+
+#[test]
+fn a_row_is_listed_as_often_as_it_is_there(rt: HostRuntime) -> Result<(), Fail> {
+    let alloc = rt.alloc();
+    let mut bag = Bag::new(alloc);
+    bag.add(row(alloc, &["b:1"])?, 2)?;
+    bag.add(row(alloc, &["a:1"])?, 1)?;
+    let mut wanted = Listed::new(alloc);
+    for first in ["a:1", "b:1", "b:1"] {
+        wanted.push(row(alloc, &[first])?)?;
+    }
+    assert!(rt; ordered(alloc, rows_of(alloc, &bag)?)? == wanted);
     Ok(())
 }

@@ -15,4 +15,4 @@ returns-clause-texts c =
     let sorted = in_order-from_sort _ _ c.in_ok-sort.ensures.sorted c.in_ok-sort.ensures.stable in
     IfOk-weaker c.without_texts.result _ _
     (λ out is other alike.
-      same_texts c.args.rows other alike ∙ ap (map row_text) (sym (is ∙ sorted ∙ ap in_order c.in_ok-keyed.ensures))) c.without_texts.ensures
+    same_texts c.args.rows other alike ∙ ap (map row_text) (sym (is ∙ sorted ∙ ap in_order c.in_ok-keyed.ensures))) c.without_texts.ensures
