@@ -1,11 +1,27 @@
 // Algebra trees.
+ghost use Rattle.std.specs.Prelude.{◌≡◌, IfOk};
+ghost use Rattle.rsp_algebra.specs.Nodes.{node_of};
+
 use rsp_terms::{Listed, Term};
+use std::alloc::{AllocError, Global};
 
 /// A part of a triple pattern: a variable by its number, or a term.
 #[derive(Drop)]
 pub enum Slot {
     Variable(usize),
     Constant(Term),
+}
+
+impl Slot {
+    /// An equal slot. Fails only where memory is refused.
+    pub fn share(&self) -> Result<Slot, AllocError>
+        ensures { IfOk result (λ other. other ≡ self.now) }
+    {
+        match self {
+            Slot::Variable(variable) => Ok(Slot::Variable(*variable)),
+            Slot::Constant(term) => Ok(Slot::Constant(term.share()?)),
+        }
+    }
 }
 
 /// The graph in which a pattern is matched: that of one of the query's windows, by its index.
@@ -42,6 +58,43 @@ pub enum Tree {
         child: Box<Tree>,
         variables: Vec<usize>,
     },
+}
+
+impl Tree {
+    /// A tree of the same node. Fails only where memory is refused.
+    pub fn share(&self, alloc: Global) -> Result<Tree, AllocError>
+        ensures { IfOk result (λ other. node_of other ≡ node_of self.now) }
+    {
+        match self {
+            Tree::Unit => Ok(Tree::Unit),
+            Tree::Pattern {
+                place,
+                subject,
+                predicate,
+                object,
+            } => Ok(Tree::Pattern {
+                place: *place,
+                subject: subject.share()?,
+                predicate: predicate.share()?,
+                object: object.share()?,
+            }),
+            Tree::Join { left, right } => {
+                let left = left.share(alloc)?;
+                let right = right.share(alloc)?;
+                Ok(Tree::Join {
+                    left: Box::new(alloc, left)?,
+                    right: Box::new(alloc, right)?,
+                })
+            }
+            Tree::Project { child, variables } => {
+                let child = child.share(alloc)?;
+                Ok(Tree::Project {
+                    child: Box::new(alloc, child)?,
+                    variables: Vec::from_slice(alloc, variables)?,
+                })
+            }
+        }
+    }
 }
 
 /// A query's tree, the number of its variables, and the numbers of those that it shows, in order.

@@ -11,8 +11,8 @@ use Rattle.rsp_eval.specs.Keys.{same_row}
 pub one_row_more : (rows : List (Cells Term)) (i : ℕ) (row shared : Cells Term) (before after whole : ℤ) (q : Cells Term) → i < length rows → row ≡ get_or rows i row → shared ≡ row → after ≡ before +ℤ only (same_row q shared) (pos 1) → before +ℤ times same_row (drop i rows) q ≡ whole → after +ℤ times same_row (drop (i + 1) rows) q ≡ whole
 one_row_more rows i row shared before after whole q below is same made so_far =
     let step : times same_row (drop i rows) q ≡ only (same_row q row) (pos 1) +ℤ times same_row (drop (i + 1) rows) q =
-        at_drop_more (λ rows. times same_row rows q) rows i row below
-        ∙ ap (λ y. only (same_row q y) (pos 1) +ℤ times same_row (drop (i + 1) rows) q) (sym is)
+    at_drop_more (λ rows. times same_row rows q) rows i row below
+    ∙ ap (λ y. only (same_row q y) (pos 1) +ℤ times same_row (drop (i + 1) rows) q) (sym is)
     in
     let added : after ≡ before +ℤ only (same_row q row) (pos 1) = made ∙ ap (λ y. before +ℤ only (same_row q y) (pos 1)) same in
     omega (arith, ints, step, added, so_far)

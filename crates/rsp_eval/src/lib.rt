@@ -8,6 +8,8 @@ mod joining;
 mod keys;
 mod limit;
 mod patterns;
+mod plain;
 mod projecting;
 
 pub use evaluation::evaluate;
+pub use plain::Plain;

@@ -1,4 +1,4 @@
-use Rattle.std.proofs.Common.{◌≡◌, map}
+use Rattle.std.proofs.Common.{◌≡◌}
 use Rattle.rsp_algebra.specs.Solutions.{projected}
 use Rattle.rsp_eval.proofs.projecting.project_row.Given as goal
 

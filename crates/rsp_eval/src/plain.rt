@@ -1,0 +1,119 @@
+// An answer that is evaluated anew.
+ghost use Rattle.std.specs.Prelude.{◌≡◌, is_none, IfOk, IfSome, OnOk};
+ghost use Rattle.std.specs.Option.{ForSome};
+ghost use Rattle.rsp_multiset.specs.Weights.{IsChanged};
+ghost use Rattle.rsp_terms.specs.Same.{fact_eq};
+ghost use Rattle.rsp_algebra.specs.Nodes.{node_of};
+ghost use Rattle.rsp_algebra.specs.Solutions.{eval};
+ghost use Rattle.rsp_algebra.specs.Overfull.{overfull};
+ghost use Rattle.rsp_algebra.specs.Changing.{IsSet, MayChange};
+ghost use Rattle.rsp_eval.specs.Keys.{same_row};
+
+use crate::changing::{bag_of, difference};
+use crate::evaluation::evaluate;
+use crate::facts::change_facts;
+use indexmap::IndexSet;
+use rsp_algebra::{Answer, Translated, Tree, Turn};
+use rsp_multiset::{Bag, Changes, Row};
+use rsp_steps::Steps;
+use rsp_terms::{Fact, Term};
+use std::alloc::{AllocError, Global};
+use std::sync::ledger::Ledger;
+
+/// An answer that keeps its facts and evaluates its tree anew at each change. It takes no step.
+#[derive(Drop)]
+pub struct Plain {
+    alloc: Global,
+    tree: Tree,
+    width: usize,
+    facts: IndexSet<Fact>,
+    /// The rows over the facts; None once the answer is spent.
+    rows: Option<Vec<Row<Term>>>,
+    ghost kept: { ForSome rows (λ kept. kept.items ≡ eval width (node_of tree) facts.keys) },
+}
+
+// the rows after the changes and how they differ from those before; None exactly where the tree is overfull
+fn evaluate_anew(
+    alloc: Global,
+    tree: &Tree,
+    width: usize,
+    facts: &mut IndexSet<Fact>,
+    before: Vec<Row<Term>>,
+    changes: &Changes<Fact>,
+) -> Result<Option<(Vec<Row<Term>>, Changes<Row<Term>>)>, AllocError>
+    requires { MayChange facts.old.keys changes.now }
+    ensures facts { OnOk result (IsChanged fact_eq facts.old.keys changes.now facts.new.keys) }
+    ensures set { OnOk result (IsSet facts.new.keys) }
+    ensures none { IfOk result (λ turn. is_none turn ≡ overfull width (node_of tree.now) facts.new.keys) }
+    ensures rows { IfOk result (λ turn. IfSome turn (λ turn. turn.0.items ≡ eval width (node_of tree.now) facts.new.keys)) }
+    ensures net { IfOk result (λ turn. IfSome turn (λ turn. IsChanged same_row before.items turn.1 turn.0.items)) }
+{
+    change_facts(facts, changes)?;
+    match evaluate(alloc, tree, width, facts.as_slice())? {
+        None => Ok(None),
+        Some(after) => {
+            let net = difference(alloc, after.as_slice(), before)?;
+            Ok(Some((after, net)))
+        }
+    }
+}
+
+impl Answer for Plain {
+    ghost use Rattle.std.specs.Prelude.{is_none};
+    ghost use Rattle.rsp_algebra.specs.Nodes.{node_of};
+
+    ghost node = { λ p. node_of p.tree };
+
+    ghost width = { λ p. p.width };
+
+    ghost facts = { λ p. p.facts.keys };
+
+    ghost spent = { λ p. is_none p.rows };
+
+    fn start(alloc: Global, translated: &Translated) -> Result<Option<Plain>, AllocError> {
+        let facts = IndexSet::new(alloc);
+        let tree = translated.tree.share(alloc)?;
+        match evaluate(alloc, &translated.tree, translated.width, &[])? {
+            None => Ok(None),
+            Some(rows) => Ok(Some(Plain {
+                alloc,
+                tree,
+                width: translated.width,
+                facts,
+                rows: Some(rows),
+            })),
+        }
+    }
+
+    fn change<L: Ledger>(
+        &mut self,
+        changes: &Changes<Fact>,
+        _steps: &mut Steps<L>,
+    ) -> Result<Turn, AllocError> {
+        let Some(before) = self.rows.take() else {
+            unreachable!();
+        };
+        let turn = evaluate_anew(
+            self.alloc,
+            &self.tree,
+            self.width,
+            &mut self.facts,
+            before,
+            changes,
+        )?;
+        match turn {
+            None => Ok(Turn::Overfull),
+            Some((after, net)) => {
+                self.rows = Some(after);
+                Ok(Turn::Net(net))
+            }
+        }
+    }
+
+    fn solutions(&self) -> Result<Bag<Term>, AllocError> {
+        match &self.rows {
+            Some(rows) => bag_of(self.alloc, rows.as_slice()),
+            None => unreachable!(),
+        }
+    }
+}
