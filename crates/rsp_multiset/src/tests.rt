@@ -32,19 +32,24 @@ fn an_entry_of_count_0_vanishes(rt: HostRuntime) -> Result<(), Fail> {
     Ok(())
 }
 
-#[test]
-fn changes_are_added_and_taken_back(rt: HostRuntime) -> Result<(), Fail> {
-    let mut changes = Changes::new(rt.alloc());
+// 2 of one value and, joined to them, 3 more of it and 4 of another, all taken back
+fn taken_back(alloc: Global) -> Result<Changes<u64>, AllocError> {
+    let mut changes = Changes::new(alloc);
     changes.alter(5, 2)?;
-    let mut other = Changes::new(rt.alloc());
+    let mut other = Changes::new(alloc);
     other.alter(5, 3)?;
     other.add(6, Count::of_many(4)?)?;
     changes.join_changes(other)?;
     changes.negate();
+    Ok(changes)
+}
+
+#[test]
+fn changes_are_added_and_taken_back(rt: HostRuntime) -> Result<(), Fail> {
+    let mut changes = taken_back(rt.alloc())?;
     assert_eq!(rt; changes.count(&5).value(), -5);
     assert_eq!(rt; changes.count(&6).value(), -4);
-    assert_eq!(rt; changes.pop().is_some(), true);
-    assert_eq!(rt; changes.distinct(), 1);
+    assert!(rt; changes.pop().is_some());
     Ok(())
 }
 
@@ -55,8 +60,20 @@ fn a_sum_out_of_range_changes_nothing(rt: HostRuntime) -> Result<(), Fail> {
     assert!(rt; changes.alter(5, 1).is_err());
     assert!(rt; changes.alter(5, i64::MIN).is_err());
     assert_eq!(rt; entry(&changes, 0), Some((5, i64::MAX)));
-    assert!(rt; Count::new(3)?.checked_mul(Count::new(i64::MAX)?).is_err());
-    assert_eq!(rt; Count::new(-3)?.checked_mul(Count::new(2)?)?.value(), -6);
+    Ok(())
+}
+
+// -6, if 3 * i64::MAX is refused
+fn product() -> Result<i64, AllocError> {
+    if Count::new(3)?.checked_mul(Count::new(i64::MAX)?).is_ok() {
+        return Ok(0);
+    }
+    Ok(Count::new(-3)?.checked_mul(Count::new(2)?)?.value())
+}
+
+#[test]
+fn counts_are_multiplied(rt: HostRuntime) -> Result<(), Fail> {
+    assert_eq!(rt; product()?, -6);
     Ok(())
 }
 

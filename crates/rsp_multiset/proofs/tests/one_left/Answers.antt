@@ -1,4 +1,4 @@
-use Rattle.std.proofs.Common.{◌≡◌, ◌+ℤ◌, ◌≤ℤ◌, ℤ, pos, negsuc, Bool, true, false, List, [], ◌∷◌, Option, Some, None, sym, ap, ◌∙◌, arith, ℕ, nat_eq}
+use Rattle.std.proofs.Common.{◌+ℤ◌, ◌≤ℤ◌, pos, negsuc, Bool, true, false, [], ◌∷◌, Some, None, ◌∙◌, arith, nat_eq}
 use Rattle.std.proofs.lemmas.Int.{ints}
 use Rattle.rsp_multiset.specs.Rows.{row_eq}
 use Rattle.rsp_multiset.specs.Weights.{weight, only}
