@@ -1,3 +1,4 @@
 pub mod Walks
 pub mod Offering
 pub mod Graphs
+mod SameFacts

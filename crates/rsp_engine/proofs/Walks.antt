@@ -14,7 +14,7 @@ quiet world None is t closed = rw is refl
 quiet world (Some live) is t closed = rw (is, closed) refl
 
 -- where it closes, its query is
-pub busy : (world : World) (live : Live) → world.queries ≡ map query_of (live ∷ []) → (t : ℕ) → closes_at live.window t ≡ true → due_at world t ≡ record { at = t; query = live.name } ∷ []
+pub busy : (world : World) (live : Live) → world.queries ≡ map query_of (live ∷ []) → (t : ℕ) → closes_at live.line.shape t ≡ true → due_at world t ≡ record { at = t; query = live.name } ∷ []
 busy world live is t closed = rw (is, closed) refl
 
 -- instants at which f gives nothing can be passed over
@@ -41,7 +41,7 @@ none_on_items world None is t item = rw is refl
 none_on_items world (Some live) is t item = rw is refl
 
 -- where the query's window closes at a complete instant, its moment there is the first
-pub first_left : (world : World) (live : Live) (at to : ℕ) → world.queries ≡ map query_of (live ∷ []) → world.next ≡ Some to → at < to → closes_at live.window at ≡ true → moments_from world at ≡ record { at = at; query = live.name } ∷ moments_from world (at + 1)
+pub first_left : (world : World) (live : Live) (at to : ℕ) → world.queries ≡ map query_of (live ∷ []) → world.next ≡ Some to → at < to → closes_at live.line.shape at ≡ true → moments_from world at ≡ record { at = at; query = live.name } ∷ moments_from world (at + 1)
 first_left world live at to is next low closes =
     let more : to - at ≡ suc (to - (at + 1)) = omega arith in
     rw (next, more, busy world live is at closes) refl

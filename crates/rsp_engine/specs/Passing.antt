@@ -1,5 +1,5 @@
 -- What passing time does to an idle engine's state.
-use Rattle.std.specs.Prelude.{◌≡◌, ◌⊎◌, ℕ, Bool, if◌then◌else◌, ◌+◌, ◌<◌, true, Some, List, [], map, filter, drop, option_to_list}
+use Rattle.std.specs.Prelude.{◌≡◌, ◌⊎◌, ℕ, Bool, if◌then◌else◌, ◌+◌, ◌<◌, true, false, None, Some, codes, List, [], map, filter, drop, option_to_list}
 use Rattle.std.specs.Option.{option_map_or}
 use Rattle.rsp_engine.specs.World.{World}
 use Rattle.rsp_engine.specs.Moments.{moments_from}
@@ -10,13 +10,16 @@ use Rattle.rsp_engine.specs.declared.item.Item.{Item}
 use Rattle.rsp_engine.specs.Contents.{distinct, facts_of, in_content}
 use Rattle.rsp_engine.specs.declared.live_query.LiveQuery.{LiveQuery}
 use Rattle.rsp_engine.specs.declared.report.Outcome.{Outcome}
-use Rattle.rsp_engine.specs.declared.report.Outcome.TheVariants as outcome
+use Rattle.rsp_engine.specs.declared.report.Outcome.TheVariants as outcomes
+use Rattle.rsp_engine.specs.declared.report.Report.{Report}
+use Rattle.rsp_algebra.specs.Nodes.{Node}
+use Rattle.rsp_algebra.specs.Work.{work}
+use Rattle.rsp_query_line.specs.Meaning.{node_of_line, shown_of, width_of}
 use Rattle.rsp_algebra.specs.Solutions.{eval}
 use Rattle.rsp_algebra.specs.Overfull.{overfull}
 use Rattle.rsp_streams_out.specs.Rows.{in_order}
 use Rattle.rsp_query_line.specs.declared.line.Line.{Line}
 use Rattle.rsp_query_line.specs.QueryLine.{query_line}
-use Rattle.rsp_engine.specs.Accept.{registered}
 use Rattle.rsp_engine.specs.Reports.{IsOutcome, cut}
 use Rattle.rsp_engine.specs.Inside.{Answers}
 use Rattle.rsp_engine.specs.Stands.{State, Live, query_of, first_instant, instants_left}
@@ -33,19 +36,19 @@ pub record Passes (old : State) (to : ℕ) (new : State) : Type 0 where
 
 -- the moment at the first instant left is worked off, by a report that leaves this query live, if one; those behind it
 -- are left, and nothing else has changed
-pub record WorksOff (old : State) (query : Option Live) (new : State) : Type 0 where
+pub record WorksOff (old : State) (kept : Option Live) (new : State) : Type 0 where
   pub next : new.next ≡ old.next
-  pub query : new.query ≡ query
+  pub query : new.query ≡ kept
   pub items : new.items ≡ old.items
   pub broken : new.broken ≡ old.broken
   pub nearer : instants_left new < instants_left old
-  pub moments : (world : World) → world.queries ≡ map query_of (option_to_list query) → world.next ≡ old.next → moments_from world (old.at + 1) ≡ moments_from world new.at
-  pub at : (world : World) → world.queries ≡ map query_of (option_to_list query) → world.next ≡ old.next → new.at ≡ first_instant world (moments_from world new.at)
+  pub moments : (world : World) → world.queries ≡ map query_of (option_to_list kept) → world.next ≡ old.next → moments_from world (old.at + 1) ≡ moments_from world new.at
+  pub at : (world : World) → world.queries ≡ map query_of (option_to_list kept) → world.next ≡ old.next → new.at ≡ first_instant world (moments_from world new.at)
 
 -- a live query reports at the first instant left, which is complete
 pub record IsDue (engine : State) (live : Live) : Type 0 where
   pub query : engine.query ≡ Some live
-  pub closes : closes_at live.window engine.at ≡ true
+  pub closes : closes_at live.line.shape engine.at ≡ true
   pub complete : (next : ℕ) × (engine.next ≡ Some next) × (engine.at < next)
 
 -- the facts of a window on a stream at t, of the items from a number on
@@ -60,29 +63,44 @@ window_facts stream shape first items t =
 
 -- the facts that a live query sees at t
 abbrev pub live_facts : Live → List Item → ℕ → List Fact
-live_facts live items t = window_facts live.stream live.window live.first items t
+live_facts live items t = window_facts (codes "s:a") live.line.shape live.first items t
 
 -- the live query once it has seen them
 abbrev pub seeing : Live → List Item → ℕ → Live
 seeing live items t = record live { seen = live_facts live items t }
 
+-- that a report is overfull
+abbrev pub is_overfull_outcome : Outcome → Bool
+is_overfull_outcome outcomes.Overfull = true
+is_overfull_outcome (outcomes.Rows rows) = false
+
 -- what it reports over some facts
 abbrev pub outcome_over : Live → List Fact → Outcome
 outcome_over live facts =
-    if overfull live.width live.node facts
-    then outcome.Overfull
-    else outcome.Rows (in_order (map (cut live.shown) (eval live.width live.node facts)))
+    if overfull (width_of live.line) (node_of_line live.line) facts
+    then outcomes.Overfull
+    else outcomes.Rows (in_order (map (cut (shown_of live.line)) (eval (width_of live.line) (node_of_line live.line) facts)))
 
 -- a live query reported at t, and stands for the facts of t where it is still live
-pub record IsReported {A : Type 0} (facts : A → List Fact) (spent : A → Bool) (live : Live) (items : List Item) (t : ℕ) (new : LiveQuery A) (given : Outcome) : Type 0 where
+pub record IsReported {A : Type 0} (node : A → Node) (width : A → ℕ) (facts : A → List Fact) (spent : A → Bool) (live : Live) (items : List Item) (t : ℕ) (new : LiveQuery A) (given : Outcome) : Type 0 where
   pub outcome : IsOutcome given (outcome_over live (live_facts live items t))
-  pub answers : given ≡ outcome.Overfull ⊎ Answers facts spent new
+  pub answers : (given ≡ outcomes.Overfull) ⊎ Answers node width facts spent new
 
--- what an engine keeps of the query of a line, as it becomes live
-abbrev pub IsLive : List ℕ → Line → ℕ → Live → Type 0
-IsLive name line first live = query_of live ≡ registered name line first
+-- the work of a live query's change at t
+abbrev pub work_at : Live → List Item → ℕ → ℕ
+work_at live items t = work (width_of live.line) (node_of_line live.line) live.seen (live_facts live items t)
 
-pub record IsRegistered (name text : List ℕ) (first : ℕ) (live : Live) : Type 0 where
+-- the report at the first instant left was given; the query is live where it isn't overfull, and those behind are left
+pub record ReportsFirst (old : State) (report : Report) (new : State) : Type 0 where
+  pub live : Live
+  pub due : IsDue old live
+  pub query : report.query ≡ live.name
+  pub at : report.at ≡ old.at
+  pub variables : report.variables ≡ live.line.shown
+  pub outcome : IsOutcome report.outcome (outcome_over live (live_facts live old.items old.at))
+  pub works : WorksOff old (if is_overfull_outcome report.outcome then None else Some (seeing live old.items old.at)) new
+
+pub record IsRegistered (name text : List ℕ) (first : ℕ) (kept : Live) : Type 0 where
   pub line : Line
   pub is : query_line text ≡ Some line
-  pub live : IsLive name line first live
+  pub live : kept ≡ record { name = name; line = line; first = first; seen = [] }

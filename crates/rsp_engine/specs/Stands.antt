@@ -3,21 +3,16 @@ use Rattle.std.specs.Prelude.{◌≡◌, ℕ, ◌+◌, ◌-◌, ◌<◌, ◌≤�
 use Rattle.std.specs.Option.{option_map_or, ForSome}
 use Rattle.rsp_spec.specs.Windows.{Shape, closes_at, last_instant}
 use Rattle.rsp_engine.specs.declared.item.Item.{Item}
-use Rattle.rsp_engine.specs.World.{World, Query, close}
+use Rattle.rsp_engine.specs.World.{World, Query}
 use Rattle.rsp_terms.specs.declared.statement.Fact.{Fact}
-use Rattle.rsp_algebra.specs.Nodes.{Node}
-use Rattle.rsp_engine.specs.Accept.{next_of}
+use Rattle.rsp_query_line.specs.declared.line.Line.{Line}
+use Rattle.rsp_engine.specs.Accept.{next_of, registered}
 use Rattle.rsp_engine.specs.Moments.{Moment, moments_from}
 
 -- what an engine keeps of a live query
 pub record Live : Type 0 where
   pub name : List ℕ
-  pub stream : List ℕ
-  pub window : Shape
-  pub node : Node
-  pub width : ℕ
-  pub shown : List ℕ
-  pub variables : List (List ℕ)
+  pub line : Line
   pub first : ℕ
   pub seen : List Fact
 
@@ -32,18 +27,7 @@ pub record State : Type 0 where
 
 -- a live query of the world as the engine keeps it
 abbrev pub query_of : Live → Query
-query_of live =
-    record {
-      name = live.name;
-      policy = record { strategies = close ∷ []; on_items = false };
-      windows = record { stream = live.stream; shape = live.window } ∷ [];
-      node = live.node;
-      width = live.width;
-      shown = live.shown;
-      variables = live.variables;
-      first = live.first;
-      seen = live.seen;
-    }
+query_of live = record (registered live.name live.line live.first) { seen = live.seen }
 
 -- the instant of the first moment left, or the first instant that isn't complete
 abbrev pub first_instant : World → List Moment → ℕ
@@ -73,7 +57,7 @@ closes_in window t = option_map_or (λ w. closes_at w t) window false
 
 -- a live query, if there is one, reports at t
 abbrev pub closes_for : Option Live → ℕ → Bool
-closes_for query t = option_map_or (λ (live : Live). closes_at live.window t) query false
+closes_for query t = option_map_or (λ (live : Live). closes_at live.line.shape t) query false
 
 -- what holds of every engine's state
 pub record IsState (engine : State) : Type 0 where

@@ -1,4 +1,6 @@
 // The engine's calls.
+ghost use Rattle.std.specs.Prelude.{◌≡◌, IfOk};
+
 use crate::registering::registered;
 use crate::seeing::outcome_at;
 use crate::walking::first_moment;
@@ -39,17 +41,18 @@ impl<A: Answer> Model for Engine<A> {
 
     ghost use Rattle.rsp_engine.specs.Inside.{state_of, IsEngine};
 
-    ghost view = { state_of A.node A.width };
+    ghost view = { state_of };
 
     ghost invariant = { IsEngine A.node A.width A.facts A.spent };
 }
 
 impl<A: Answer> Engine<A> {
-    ghost use Rattle.std.specs.Prelude.{◌≡◌, ◌↔◌, ◌==◌, ◌≤◌, ◌+◌, ◌++◌, ◌∷◌, ℕ, List, [], true, false, IsTrue, OnOk, OnErr, Some, is_some, length, IfOk, IfSome, IsSomeAnd, unwrap_or};
+    ghost use Rattle.std.specs.Prelude.{◌≡◌, ◌<◌, None, ◌↔◌, ◌==◌, ◌≤◌, ◌+◌, ◌++◌, ◌∷◌, ℕ, List, [], true, false, IsTrue, OnOk, OnErr, Some, is_some, length, IfOk, IfSome, IsSomeAnd, unwrap_or};
     ghost use Rattle.rsp_spec.specs.Windows.{last_instant};
-    ghost use Rattle.rsp_engine.specs.Passing.{Passes, WorksOff, IsDue};
-    ghost use Rattle.rsp_engine.specs.Reports.{report_of};
-    ghost use Rattle.std.specs.Option.{option_map_or};
+    ghost use Rattle.rsp_engine.specs.Passing.{Passes, WorksOff, ReportsFirst, work_at};
+    ghost use Rattle.rsp_engine.specs.Inside.{Answers, live_of};
+    ghost use Rattle.rsp_engine.specs.Reports.{next_work};
+    ghost use Rattle.std.specs.Option.{option_map, option_map_or};
     ghost use Rattle.rsp_engine.specs.World.{World, empty_world};
     ghost use Rattle.rsp_engine.specs.Moments.{Moment};
     ghost use Rattle.rsp_engine.specs.Kept.{triples_of};
@@ -210,11 +213,11 @@ impl<A: Answer> Engine<A> {
 
     // the live query's window
     fn window(&self) -> Option<Window>
-        ensures { result ≡ option_map (λ live. live.window) self.now.query }
+        ensures { result ≡ option_map (λ live. live.line.shape) self.now.query }
     {
         match &self.query {
             None => None,
-            Some(live) => Some(live.window),
+            Some(live) => Some(live.line.shape),
         }
     }
 
@@ -237,8 +240,8 @@ impl<A: Answer> Engine<A> {
         requires idle { IsTrue (is_idle self.old) }
         requires ready { self.old.broken ≡ false }
         requires first { query.first ≤ length self.old.items }
-        requires answers { Answers A.facts A.spent query }
-        ensures { self.new ≡ record self.old { query = Some (live_of A.node A.width query) } }
+        requires answers { Answers A.node A.width A.facts A.spent query }
+        ensures { self.new ≡ record self.old { query = Some (live_of query) } }
     {
         self.query = Some(query);
     }
@@ -304,7 +307,7 @@ impl<A: Answer> Engine<A> {
             unreachable!()
         };
         let name = live.name.share()?;
-        let variables = shared(self.alloc, live.variables.as_slice())?;
+        let variables = shared(self.alloc, live.line.shown.as_slice())?;
         let at = self.at;
         let outcome = outcome_at(self.alloc, &mut live, self.items.as_slice(), at, steps)?;
         self.work_off(match outcome {
@@ -324,8 +327,8 @@ impl<A: Answer> Engine<A> {
         requires none { self.old.query ≡ None }
         requires busy { IsSomeAnd self.old.next (λ next. self.old.at < next) }
         requires first { IfSome query (λ live. live.first ≤ length self.old.items) }
-        requires answers { IfSome query (Answers A.facts A.spent) }
-        ensures { WorksOff self.old (option_map (live_of A.node A.width) query) self.new }
+        requires answers { IfSome query (Answers A.node A.width A.facts A.spent) }
+        ensures { WorksOff self.old (option_map live_of query) self.new }
     {
         self.query = query;
         if let Some(next) = self.next {

@@ -1,8 +1,8 @@
 // Queries that become live.
-ghost use Rattle.std.specs.Prelude.{◌≡◌, ℕ, IfOk, IfSome, MatchOption, None};
+ghost use Rattle.std.specs.Prelude.{◌≡◌, [], IfOk, IfSome, MatchOption, None};
 ghost use Rattle.rsp_query_line.specs.QueryLine.{query_line};
 ghost use Rattle.rsp_engine.specs.Inside.{Answers, live_of};
-ghost use Rattle.rsp_engine.specs.Passing.{IsLive, IsRegistered};
+ghost use Rattle.rsp_engine.specs.Passing.{IsRegistered};
 
 use crate::LiveQuery;
 use rsp_algebra::Answer;
@@ -20,8 +20,8 @@ pub fn registered<A: Answer>(
 ) -> Result<Option<LiveQuery<A>>, AllocError>
     ensures query { IfOk result (λ query. MatchOption query
         (query_line text.now ≡ None)
-        (λ live. IsRegistered name text.now first (live_of A.node A.width live))) }
-    ensures answers { IfOk result (λ query. IfSome query (Answers A.facts A.spent)) }
+        (λ live. IsRegistered name text.now first (live_of live))) }
+    ensures answers { IfOk result (λ query. IfSome query (Answers A.node A.width A.facts A.spent)) }
 {
     match query_line(alloc, text.as_str().as_bytes())? {
         None => Ok(None),
@@ -35,26 +35,18 @@ fn live_query<A: Answer>(
     line: Line,
     first: usize,
 ) -> Result<LiveQuery<A>, AllocError>
-    ensures query { IfOk result (λ live. IsLive name line first (live_of A.node A.width live)) }
-    ensures answers { IfOk result (Answers A.facts A.spent) }
+    ensures query { IfOk result (λ live. live_of live ≡ record { name = name; line = line; first = first; seen = [] }) }
+    ensures answers { IfOk result (Answers A.node A.width A.facts A.spent) }
 {
     let query = translated(alloc, &line)?;
     let Some(answer) = A::start(alloc, &query)? else {
         unreachable!()
     };
-    let stream = Text::new(alloc, "s:a")?;
-    let shown = query.shown;
-    let Line {
-        shape,
-        shown: variables,
-        patterns: _,
-    } = line;
     Ok(LiveQuery {
         name,
-        stream,
-        window: shape,
-        shown,
-        variables,
+        line,
+        stream: Text::new(alloc, "s:a")?,
+        shown: query.shown,
         first,
         seen: Listed::new(alloc),
         answer,

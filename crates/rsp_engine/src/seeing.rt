@@ -1,12 +1,15 @@
 // What a live query reports at an instant.
-ghost use Rattle.std.specs.Prelude.{◌≡◌, ◌≤◌, ◌+◌, ◌+ℤ◌, ⊤, IfOk, OnOk, length};
+ghost use Rattle.std.specs.Prelude.{◌≡◌, ◌≤◌, ◌+◌, ◌+ℤ◌, false, List, map, IfOk, OnOk, length};
 ghost use Rattle.rsp_spec.specs.Windows.{last_instant};
 ghost use Rattle.rsp_terms.specs.Same.{fact_eq};
 ghost use Rattle.rsp_multiset.specs.Weights.{IsChanged, times, weight};
-ghost use Rattle.rsp_algebra.specs.Work.{work};
+ghost use Rattle.rsp_algebra.specs.Solutions.{eval};
+ghost use Rattle.rsp_terms.specs.declared.statement.Fact.{Fact};
+ghost use Rattle.rsp_streams_out.specs.Rows.{in_order};
+ghost use Rattle.rsp_engine.specs.declared.report.Outcome.TheVariants as outcomes;
 ghost use Rattle.rsp_engine.specs.Inside.{Answers, live_of};
-ghost use Rattle.rsp_engine.specs.Passing.{IsReported, live_facts, seeing};
-ghost use Rattle.rsp_engine.specs.Reports.{IsOutcome};
+ghost use Rattle.rsp_engine.specs.Passing.{IsReported, seeing, work_at};
+ghost use Rattle.rsp_engine.specs.Reports.{IsOutcome, cut};
 
 use crate::contents::facts;
 use crate::rows::shown_rows;
@@ -29,12 +32,12 @@ pub fn outcome_at<A: Answer, L: Ledger>(
 ) -> Result<Outcome, AllocError>
     requires instant { at ≤ last_instant }
     requires first { live.old.first ≤ length items.now }
-    requires answers { Answers A.facts A.spent live.old }
-    ensures seen { OnOk result (live_of A.node A.width live.new ≡ seeing (live_of A.node A.width live.old) items.now at) }
-    ensures reported { IfOk result (IsReported A.facts A.spent (live_of A.node A.width live.old) items.now at live.new) }
-    ensures cost { steps.new ≤ steps.old + work (A.width live.old.answer) (A.node live.old.answer) live.old.seen (live_facts (live_of A.node A.width live.old) items.now at) }
+    requires answers { Answers A.node A.width A.facts A.spent live.old }
+    ensures seen { OnOk result (live_of live.new ≡ seeing (live_of live.old) items.now at) }
+    ensures reported { IfOk result (IsReported A.node A.width A.facts A.spent (live_of live.old) items.now at live.new) }
+    ensures cost { steps.new ≤ steps.old + work_at (live_of live.old) items.now at }
 {
-    let now = facts(alloc, &live.stream, &live.window, live.first, items, at)?;
+    let now = facts(alloc, &live.stream, &live.line.shape, live.first, items, at)?;
     let changes = changes(alloc, live.seen.as_slice(), now.as_slice())?;
     let turn = live.answer.change(&changes, steps)?;
     live.seen = now;
@@ -45,6 +48,10 @@ pub fn outcome_at<A: Answer, L: Ledger>(
 }
 
 fn rows_of<A: Answer>(alloc: Global, live: &LiveQuery<A>) -> Result<Outcome, AllocError>
+    requires { A.spent live.now.answer ≡ false }
+    ensures { IfOk result (λ outcome. (facts : List Fact)
+        → ((q : _) → times fact_eq (A.facts live.now.answer) q ≡ times fact_eq facts q)
+        → IsOutcome outcome (outcomes.Rows (in_order (map (cut live.now.shown) (eval (A.width live.now.answer) (A.node live.now.answer) facts))))) }
 {
     let solutions = live.answer.solutions()?;
     Ok(Outcome::Rows(shown_rows(

@@ -49,10 +49,10 @@ pub fn first_moment(next: Option<u64>, window: Option<Window>, to: u64) -> u64
     ensures low { unwrap_or next 0 ≤ result }
     ensures high { result ≤ to }
     ensures waits { result < to → closes_in window result ≡ true }
-    ensures moments { (world : World) (query : Option Live) → option_map (λ live. live.window) query ≡ window
+    ensures moments { (world : World) (query : Option Live) → option_map (λ live. live.line.shape) query ≡ window
         → world.queries ≡ map query_of (option_to_list query) → world.next ≡ Some to
         → option_map_or (λ from. moments_from world from) next [] ≡ moments_from world result }
-    ensures at { (world : World) (query : Option Live) → option_map (λ live. live.window) query ≡ window
+    ensures at { (world : World) (query : Option Live) → option_map (λ live. live.line.shape) query ≡ window
         → world.queries ≡ map query_of (option_to_list query) → world.next ≡ Some to
         → result ≡ first_instant world (moments_from world result) }
 {
