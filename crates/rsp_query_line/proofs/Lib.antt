@@ -1,3 +1,4 @@
 mod Characters
 mod Trees
+mod Placed
 mod QueryLineRows

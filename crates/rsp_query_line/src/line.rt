@@ -1,5 +1,5 @@
 // The query line, and what it says.
-ghost use Rattle.std.specs.Prelude.{◌≡◌, ◌∷◌, ◌++◌, ◌≤◌, ◌&&◌, [], ℕ, List, Bool, None, Some, IfOk, OnOk, MatchOption, length, map, take, drop, fold, nat_le, codes};
+ghost use Rattle.std.specs.Prelude.{◌≡◌, ◌∷◌, ◌++◌, ◌≤◌, ◌&&◌, [], ℕ, List, Bool, None, Some, IfOk, IfSome, OnOk, MatchOption, true, length, map, take, drop, fold, nat_le, codes};
 ghost use Rattle.std.specs.List.{flat_map, take_while, list_all};
 ghost use Rattle.std.specs.Option.{option_map, is_some};
 ghost use Rattle.rsp_query_line.specs.QueryLine as form;
@@ -22,7 +22,8 @@ pub struct Line {
 
 /// The query line that a text is. Fails only where memory is refused.
 pub fn query_line(alloc: Global, text: &[u8]) -> Result<Option<Line>, AllocError>
-    ensures { IfOk result (λ line. line ≡ form.query_line text.now) }
+    ensures value { IfOk result (λ line. line ≡ form.query_line text.now) }
+    ensures shown { IfOk result (λ line. IfSome line (λ l. form.are_shown l.shown l.patterns ≡ true)) }
 {
     let fields = fields_of(alloc, line_of(text))?;
     line_of_fields(alloc, &fields)
@@ -30,7 +31,8 @@ pub fn query_line(alloc: Global, text: &[u8]) -> Result<Option<Line>, AllocError
 
 #[tactic(auto, unfolding(crate::specs::QueryLine::line_of_fields, crate::specs::QueryLine::before_variables))]
 fn line_of_fields(alloc: Global, fields: &[Listed<u8>]) -> Result<Option<Line>, AllocError>
-    ensures { IfOk result (λ line. line ≡ form.line_of_fields fields.now) }
+    ensures shown { IfOk result (λ line. IfSome line (λ l. form.are_shown l.shown l.patterns ≡ true)) }
+    ensures value { IfOk result (λ line. line ≡ form.line_of_fields fields.now) }
 {
     let words = b"REGISTER RSTREAM <q:o> REPORT CLOSE TICK TIME AS SELECT";
     let Some(head) = behind_line(alloc, fields, words)? else {
@@ -47,7 +49,8 @@ fn line_behind_names(
     shown: Listed<Text>,
     fields: &[Listed<u8>],
 ) -> Result<Option<Line>, AllocError>
-    ensures { IfOk result (λ line. line ≡ form.line_behind_names shown fields.now) }
+    ensures shown { IfOk result (λ line. IfSome line (λ l. form.are_shown l.shown l.patterns ≡ true)) }
+    ensures value { IfOk result (λ line. line ≡ form.line_behind_names shown fields.now) }
 {
     let Some(window) = behind_line(alloc, fields, b"FROM NAMED WINDOW <w:1> ON <s:a> [RANGE")? else {
         return Ok(None);
@@ -66,7 +69,8 @@ fn line_behind_window(
     shape: Window,
     fields: &[Listed<u8>],
 ) -> Result<Option<Line>, AllocError>
-    ensures { IfOk result (λ line. line ≡ form.line_behind_window shown shape fields.now) }
+    ensures shown { IfOk result (λ line. IfSome line (λ l. form.are_shown l.shown l.patterns ≡ true)) }
+    ensures value { IfOk result (λ line. line ≡ form.line_behind_window shown shape fields.now) }
 {
     let Some(tail) = behind_line(alloc, fields, b"WHERE { WINDOW <w:1> {")? else {
         return Ok(None);

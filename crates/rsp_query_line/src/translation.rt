@@ -1,7 +1,8 @@
 // The algebra tree of a query line.
-ghost use Rattle.std.specs.Prelude.{◌≡◌, ◌∷◌, ◌++◌, ◌≤◌, ◌<◌, [], IfOk, length, map, fold, None};
+ghost use Rattle.std.specs.Prelude.{◌≡◌, ◌∷◌, ◌++◌, ◌≤◌, ◌<◌, [], IfOk, length, map, fold, None, true, false};
+ghost use Rattle.rsp_algebra.specs.Overfull.{overfull};
 ghost use Rattle.std.specs.List.{position_or_len};
-ghost use Rattle.rsp_algebra.specs.Nodes.{node_of, left_deep, join, pattern, project};
+ghost use Rattle.rsp_algebra.specs.Nodes.{IsPlaced, node_of, left_deep, join, pattern, project};
 ghost use Rattle.std.specs.Option.{option_map, option_map_or};
 ghost use Rattle.rsp_query_line.specs.QueryLine as form;
 ghost use Rattle.rsp_query_line.specs.Meaning.{grown, node_of_line, place_of, shown_of, slot_of, triple_pattern_of, width_of};
@@ -15,6 +16,9 @@ use std::alloc::{AllocError, Global};
 /// The tree of a query line, and the numbers of the variables that it shows. Over no facts it has no rows. Fails only
 /// where memory is refused.
 pub fn translated(alloc: Global, line: &Line) -> Result<Translated, AllocError>
+    requires { form.are_shown line.now.shown line.now.patterns ≡ true }
+    ensures placed { IfOk result IsPlaced }
+    ensures small { IfOk result (λ query. overfull query.width (node_of query.tree) [] ≡ false) }
     ensures tree { IfOk result (λ query. node_of query.tree ≡ node_of_line line.now) }
     ensures width { IfOk result (λ query. query.width ≡ width_of line.now) }
     ensures shown { IfOk result (λ query. query.shown ≡ shown_of line.now) }
