@@ -25,6 +25,14 @@ total f entries = sum_z (λ e. e.1 *ℤ f e.0) entries
 abbrev pub times : {E : Type 0} → (E → E → Bool) → List E → E → ℤ
 times eq xs q = sum_z (λ x. only (eq q x) (pos 1)) xs
 
+-- the lists hold each value equally often: they are one multiset
+abbrev pub IsSameMultiset : {E : Type 0} → (E → E → Bool) → List E → List E → Type 0
+IsSameMultiset {E} eq xs ys = (q : E) → times eq xs q ≡ times eq ys q
+
+-- the entries hold each value as often as the list
+abbrev pub Holds : {E : Type 0} → (E → E → Bool) → List (E × ℤ) → List E → Type 0
+Holds {E} eq entries xs = (q : E) → weight eq entries q ≡ times eq xs q
+
 -- the second list holds each value as often as the first with the change
 abbrev pub IsChanged : {E : Type 0} → (E → E → Bool) → List E → List (E × ℤ) → List E → Type 0
 IsChanged {E} eq before entries after = (q : E) → times eq after q ≡ times eq before q +ℤ weight eq entries q

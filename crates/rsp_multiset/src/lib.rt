@@ -11,6 +11,8 @@ mod changes;
 mod count;
 mod parts;
 mod row;
+#[cfg(test)]
+mod tests;
 
 pub use bag::Bag;
 pub use cell::Cell;
