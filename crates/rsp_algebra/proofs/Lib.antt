@@ -3,3 +3,5 @@ mod WorkRows
 pub mod Widths
 pub mod Sets
 pub mod Subtrees
+pub mod SameFacts
+pub mod NoFacts

@@ -8,9 +8,11 @@
 #![tactic(auto)]
 
 mod answer;
+mod building;
 #[cfg(test)]
 mod tests;
 mod tree;
 
 pub use answer::{Answer, Turn};
+pub use building::basic_pattern;
 pub use tree::{Place, Slot, Translated, Tree, TriplePattern};

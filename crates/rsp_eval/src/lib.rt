@@ -10,6 +10,8 @@ mod limit;
 mod patterns;
 mod plain;
 mod projecting;
+#[cfg(test)]
+mod tests;
 
 pub use evaluation::evaluate;
 pub use plain::Plain;
