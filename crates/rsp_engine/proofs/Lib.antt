@@ -1,4 +1,5 @@
 pub mod Walks
 pub mod Offering
 pub mod Graphs
-mod SameFacts
+pub mod FactSets
+pub mod OrderedRows

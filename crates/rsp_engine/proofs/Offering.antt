@@ -7,7 +7,9 @@ use Rattle.std.specs.Option.{option_map_or}
 use Rattle.std.specs.Cmp.Lexicographic.{bytes_decides}
 use Rattle.rsp_events.specs.declared.event.Event.{Event}
 use Rattle.rsp_events.specs.declared.event.Event.TheVariants.{Register, Item, Tick}
-use Rattle.rsp_spec.specs.Windows.{Shape}
+use Rattle.rsp_terms.specs.declared.statement.Fact.{Fact}
+use Rattle.rsp_query_line.specs.declared.line.Line.{Line}
+use Rattle.rsp_query_line.specs.QueryLine.{query_line}
 use Rattle.rsp_terms.specs.declared.statement.Triple.{Triple}
 use Rattle.rsp_engine.specs.declared.item.Item as item
 use Rattle.rsp_engine.specs.World.{World}
@@ -16,8 +18,8 @@ use Rattle.rsp_engine.specs.Moments.{Moment, moments, moments_from, moments_on, 
 use Rattle.rsp_engine.specs.Stands.{State, Live, Stands, query_of}
 use Rattle.rsp_engine.specs.declared.report.Report.{Report}
 use Rattle.rsp_engine.specs.Contents.{same}
-use Rattle.rsp_engine.specs.Reports.{report_of, report_at, reports}
-use Rattle.rsp_engine.specs.Passing.{Passes, WorksOff, IsDue}
+use Rattle.rsp_engine.specs.Reports.{IsOutcome, IsReport, after_report, live, now_seen, report_of, reports, is_overfull, worked_off}
+use Rattle.rsp_engine.specs.Passing.{Passes, ReportsFirst, WorksOff, IsDue}
 use Rattle.rsp_engine.proofs.Walks.{none_on_items, first_left}
 
 same_bytes : (name : List ℕ) → same name name ≡ true
@@ -80,7 +82,38 @@ none_from : (world : World) (next : Option ℕ) → option_map_or (λ to. flat_m
 none_from world None = refl
 none_from world (Some next) = let none : next - next ≡ 0 = omega arith in rw none refl
 
--- the live query that there is, and two facts of it
-pub some_due : (query : Option Live) (P Q : Live → Type 0) → IsSomeAnd query P → IfSome query Q → (live : Live) × P live × Q live
-some_due None P Q due given = absurd due
-some_due (Some live) P Q due given = (live, due, given)
+-- a query that became live where none was
+pub register_leads : (old : State) (name text : List ℕ) (line : Line) (world : World) → old.broken ≡ false → old.query ≡ None → query_line text ≡ Some line → Stands old world []
+    → Leads world (Register name text) (record old { query = Some (record { name = name; line = line; first = length old.items; seen = [] }) })
+register_leads old name text line world ready none is stands =
+    let no_query : world.queries ≡ [] = rw none at stands.queries in
+    let after : World = record world { queries = world.queries ++ registered name line (length world.items) ∷ [] } in
+    let left : moments world (Register name text) after ≡ [] = append-nil _ ∙ none_behind after world.next in
+    let nothing : moments_from after (next_of world) ≡ [] = none_from after world.next in (
+      after,
+      rw (no_query, is) refl,
+      record {
+        ready = ready;
+        next = stands.next;
+        items = stands.items;
+        queries = rw (no_query, stands.items) refl;
+        moments = left ∙ sym (rw stands.at nothing);
+        at = rw left stands.at;
+      },
+    )
+
+-- ---- the first report
+
+-- a query that has seen other facts has the same moments
+same_moments : (world : World) (old_query : Live) (facts : List Fact) (t : ℕ) → world.queries ≡ query_of old_query ∷ []
+    → moments_from (record world { queries = record (query_of old_query) { seen = facts } ∷ [] }) t ≡ moments_from world t
+same_moments world old_query facts t is = rw is refl
+
+-- where no query is live, no moment is
+no_moments : (world : World) (t : ℕ) → world.queries ≡ [] → moments_from world t ≡ []
+no_moments world t is = ?
+
+-- moments of a query that is no longer live have no reports, and leave the world
+all_struck : (world : World) (left : List Moment) → world.queries ≡ [] → (reports world left ≡ []) × (worked_off world left ≡ world)
+all_struck world [] is = (refl, refl)
+all_struck world (moment ∷ left) is = rw is (all_struck world left is)

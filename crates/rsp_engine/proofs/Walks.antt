@@ -1,12 +1,14 @@
 -- Which instants have moments, and that those without any can be passed over.
 use Rattle.std.proofs.Common.{◌≡◌, ℕ, zero, suc, ◌+◌, ◌-◌, ◌<◌, ◌≤◌, true, false, List, [], ◌∷◌, map, Option, None, Some, option_to_list, refl, ◌∙◌, ap, arith, zero-add, add-zero}
+use Rattle.std.specs.Option.{option_map}
+use Rattle.rsp_spec.specs.Windows.{Shape}
 use Rattle.std.specs.List.{flat_map, range_with_len}
 use Rattle.rsp_spec.specs.Windows.{closes_at}
 use Rattle.rsp_engine.specs.World.{World}
 use Rattle.rsp_engine.specs.declared.item.Item.{Item}
 use Rattle.rsp_engine.specs.Due.{due_on}
 use Rattle.rsp_engine.specs.Moments.{due_at, moments_at, moments_from}
-use Rattle.rsp_engine.specs.Stands.{Live, query_of, closes_for}
+use Rattle.rsp_engine.specs.Stands.{Live, query_of, closes_for, closes_in}
 
 -- where the live query's window doesn't close, nothing is due
 pub quiet : (world : World) (query : Option Live) → world.queries ≡ map query_of (option_to_list query) → (t : ℕ) → closes_for query t ≡ false → due_at world t ≡ []
@@ -45,3 +47,9 @@ pub first_left : (world : World) (live : Live) (at to : ℕ) → world.queries �
 first_left world live at to is next low closes =
     let more : to - at ≡ suc (to - (at + 1)) = omega arith in
     rw (next, more, busy world live is at closes) refl
+
+-- a live query reports where its window closes
+pub closed_for : (query : Option Live) (window : Option Shape) → option_map (λ (live : Live). live.line.shape) query ≡ window
+    → (t : ℕ) → closes_in window t ≡ false → closes_for query t ≡ false
+closed_for None window is t closed = refl
+closed_for (Some live) window is t closed = rw (← is) at closed

@@ -1,5 +1,5 @@
 -- What passing time does to an idle engine's state.
-use Rattle.std.specs.Prelude.{◌≡◌, ◌⊎◌, ℕ, Bool, if◌then◌else◌, ◌+◌, ◌<◌, true, false, None, Some, codes, List, [], map, filter, drop, option_to_list}
+use Rattle.std.specs.Prelude.{◌≡◌, ◌⊎◌, ℕ, Option, Bool, if◌then◌else◌, ◌+◌, ◌<◌, true, false, None, Some, codes, List, [], map, filter, drop, option_to_list}
 use Rattle.std.specs.Option.{option_map_or}
 use Rattle.rsp_engine.specs.World.{World}
 use Rattle.rsp_engine.specs.Moments.{moments_from}

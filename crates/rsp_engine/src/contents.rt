@@ -2,6 +2,7 @@
 ghost use Rattle.std.specs.Prelude.{◌≡◌, ◌≤◌, ◌&&◌, nat_lt, nat_le, IfOk, OnOk, fold, filter, map, drop, length, [], ◌∷◌};
 ghost use Rattle.std.specs.List.{flat_map};
 ghost use Rattle.rsp_spec.specs.Windows.{last_instant};
+ghost use Rattle.rsp_terms.specs.declared.statement.Spot.TheVariants as spot;
 ghost use Rattle.rsp_engine.specs.declared.item.Item as item;
 ghost use Rattle.rsp_engine.specs.Contents.{same, add_once, distinct, facts_of, in_content};
 ghost use Rattle.rsp_engine.specs.Passing.{window_facts};
@@ -27,7 +28,7 @@ pub fn facts(
     ensures { IfOk result (λ facts. facts ≡ window_facts stream.now window.now first items.now at) }
 {
     let triples = graph(alloc, stream, window, items_from(items, first), at)?;
-    facts_of(alloc, triples)
+    facts_of(alloc, &triples)
 }
 
 fn items_from(items: &[Item], first: usize) -> &[Item]
@@ -38,17 +39,25 @@ fn items_from(items: &[Item], first: usize) -> &[Item]
 }
 
 // the facts of the first window
-fn facts_of(alloc: Global, triples: IndexSet<Triple>) -> Result<Listed<Fact>, AllocError>
-    ensures { IfOk result (λ facts. facts ≡ facts_of 0 triples.keys) }
+fn facts_of(alloc: Global, triples: &IndexSet<Triple>) -> Result<Listed<Fact>, AllocError>
+    ensures { IfOk result (λ facts. facts ≡ facts_of 0 triples.now.keys) }
 {
     let mut facts = Listed::new(alloc);
-    for triple in triples {
-        facts.push(Fact {
-            spot: Spot::Window(0),
-            triple,
-        })?;
+    for index in 0..triples.len() {
+        if let Some(triple) = triples.get_index(index) {
+            facts.push(fact_of(triple)?)?;
+        }
     }
     Ok(facts)
+}
+
+fn fact_of(triple: &Triple) -> Result<Fact, AllocError>
+    ensures { IfOk result (λ fact. fact ≡ record { spot = spot.Window 0; triple = triple.now }) }
+{
+    Ok(Fact {
+        spot: Spot::Window(0),
+        triple: triple.share()?,
+    })
 }
 
 // the distinct triples of a window on a stream at `at`, of the items that the query may see

@@ -1,6 +1,6 @@
 // Queries that become live.
-ghost use Rattle.std.specs.Prelude.{◌≡◌, [], IfOk, IfSome, MatchOption, None};
-ghost use Rattle.rsp_query_line.specs.QueryLine.{query_line};
+ghost use Rattle.std.specs.Prelude.{◌≡◌, [], IfOk, IfSome, MatchOption, None, true};
+ghost use Rattle.rsp_query_line.specs.QueryLine.{are_shown, query_line};
 ghost use Rattle.rsp_engine.specs.Inside.{Answers, live_of};
 ghost use Rattle.rsp_engine.specs.Passing.{IsRegistered};
 
@@ -35,6 +35,7 @@ fn live_query<A: Answer>(
     line: Line,
     first: usize,
 ) -> Result<LiveQuery<A>, AllocError>
+    requires { are_shown line.shown line.patterns ≡ true }
     ensures query { IfOk result (λ live. live_of live ≡ record { name = name; line = line; first = first; seen = [] }) }
     ensures answers { IfOk result (Answers A.node A.width A.facts A.spent) }
 {

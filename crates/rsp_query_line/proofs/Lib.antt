@@ -1,4 +1,3 @@
 mod Characters
-mod Trees
 mod Placed
 mod QueryLineRows

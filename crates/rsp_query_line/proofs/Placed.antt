@@ -10,9 +10,8 @@ use Rattle.rsp_algebra.specs.declared.tree.Place.TheVariants.{Window}
 use Rattle.rsp_algebra.specs.declared.tree.Translated.{Translated}
 use Rattle.rsp_algebra.specs.declared.tree.TriplePattern.{TriplePattern}
 use Rattle.rsp_algebra.specs.Nodes.{IsPlaced, node_of, AreBelow, Fits, Node, join, pattern, unit, project, left_deep, pattern_variables, slot_variables}
-use Rattle.rsp_algebra.specs.Solutions.{eval}
-use Rattle.rsp_algebra.specs.Overfull.{overfull, subtrees, too_many}
-use Rattle.rsp_algebra.proofs.Subtrees.{overfull-project, any-append}
+use Rattle.rsp_algebra.specs.Overfull.{overfull}
+use Rattle.rsp_algebra.proofs.NoFacts.{no_facts-project}
 use Rattle.rsp_query_line.specs.declared.line.Line.{Line}
 use Rattle.rsp_query_line.specs.declared.written.Part.{Part}
 use Rattle.rsp_query_line.specs.declared.written.Part.TheVariants.{Variable, Constant}
@@ -157,34 +156,18 @@ shown_fit names patterns h =
     (from_all (variables_of patterns) names
     (and_left (list_all (is_among (variables_of patterns)) names) _ (and_right _ _ h)))
 
--- ---- over no facts
-
-no_rows : (width : ℕ) (place : Place) (node : Node) (others : List TriplePattern) → eval width node [] ≡ [] → overfull width node [] ≡ false
-    → overfull width (fold (λ n triple. join n (pattern place triple)) node others) [] ≡ false
-no_rows width place node [] none few = few
-no_rows width place node (t ∷ ts) none few =
-    no_rows width place (join node (pattern place t)) ts (rw none refl)
-    (rw (none, any-append (λ (subtree : Node). too_many (eval width subtree [])) (subtrees node) (subtrees (pattern place t)), few) refl)
-
-few_joined : (width : ℕ) (place : Place) (triples : List TriplePattern) → overfull width (left_deep place triples) [] ≡ false
-few_joined width place [] = refl
-few_joined width place (t ∷ ts) = no_rows width place (pattern place t) ts refl refl
-
-pub few_over_none : (width : ℕ) (place : Place) (triples : List TriplePattern) (variables : List ℕ)
-    → overfull width (project (left_deep place triples) variables) [] ≡ false
-few_over_none width place triples variables =
-    overfull-project width (left_deep place triples) variables [] ∙ few_joined width place triples
-
 -- ---- the translated query
 
 pub placed_query : (line : Line) (query : Translated) → are_shown line.shown line.patterns ≡ true
     → node_of query.tree ≡ node_of_line line → query.width ≡ width_of line → query.shown ≡ shown_of line → IsPlaced query
 placed_query line query shown tree width places =
     let below = shown_fit line.shown line.patterns shown in
+    let fits : Fits (width_of line) (node_of_line line) = (below, patterns_fit (Window 0) line.patterns) in
     record {
-      tree = rw (tree, width) (below, patterns_fit (Window 0) line.patterns);
-      shown = rw (width, places) below;
+      tree = subst (λ n. Fits n (node_of query.tree)) (sym width) (subst (λ node. Fits (width_of line) node) (sym tree) fits);
+      shown = subst (λ n. AreBelow n query.shown) (sym width) (subst (λ vs. AreBelow (width_of line) vs) (sym places) below);
     }
 
-pub small_query : (line : Line) (query : Translated) → node_of query.tree ≡ node_of_line line → overfull query.width (node_of query.tree) [] ≡ false
-small_query line query tree = rw tree (few_over_none query.width (Window 0) _ (shown_of line))
+pub small_query : (line : Line) (width : ℕ) (node : Node) → node ≡ node_of_line line → overfull width node [] ≡ false
+small_query line width node is =
+    rw is (no_facts-project width (Window 0) (map (triple_pattern_of (variables_of line.patterns)) line.patterns) (shown_of line))

@@ -1,13 +1,12 @@
 -- The algebra tree of a query line (SPARQL 1.1 Query, section 18.2): the projection of the join of its patterns.
-use Rattle.std.specs.Prelude.{ℕ, Option, None, Some, List, length, map}
+use Rattle.std.specs.Prelude.{ℕ, List, length, map}
 use Rattle.std.specs.List.{position_or_len}
 use Rattle.rsp_terms.specs.declared.term.Term.TheVariants.{Iri}
 use Rattle.rsp_algebra.specs.declared.tree.TriplePattern.{TriplePattern}
 use Rattle.rsp_algebra.specs.declared.tree.Slot.{Slot}
 use Rattle.rsp_algebra.specs.declared.tree.Slot.TheVariants as slot
-use Rattle.rsp_algebra.specs.declared.tree.Place.{Place}
 use Rattle.rsp_algebra.specs.declared.tree.Place.TheVariants.{Window}
-use Rattle.rsp_algebra.specs.Nodes.{Node, join, pattern, project, left_deep}
+use Rattle.rsp_algebra.specs.Nodes.{Node, project, left_deep}
 use Rattle.rsp_query_line.specs.declared.written.Part.{Part}
 use Rattle.rsp_query_line.specs.declared.written.Part.TheVariants.{Variable, Constant}
 use Rattle.rsp_query_line.specs.declared.written.Written.{Written}
@@ -41,8 +40,3 @@ node_of_line line =
     project
     (left_deep (Window 0) (map (triple_pattern_of (variables_of line.patterns)) line.patterns))
     (shown_of line)
-
--- a tree with one more pattern, if there is one
-abbrev pub grown : Place → Option Node → TriplePattern → Option Node
-grown place None triple = Some (pattern place triple)
-grown place (Some node) triple = Some (join node (pattern place triple))

@@ -1,15 +1,14 @@
 // The algebra tree of a query line.
-ghost use Rattle.std.specs.Prelude.{◌≡◌, ◌∷◌, ◌++◌, ◌≤◌, ◌<◌, [], IfOk, length, map, fold, None, true, false};
+ghost use Rattle.std.specs.Prelude.{◌≡◌, ◌∷◌, ◌++◌, ◌≤◌, ◌<◌, [], IfOk, length, map, None, true, false};
 ghost use Rattle.rsp_algebra.specs.Overfull.{overfull};
 ghost use Rattle.std.specs.List.{position_or_len};
-ghost use Rattle.rsp_algebra.specs.Nodes.{IsPlaced, node_of, left_deep, join, pattern, project};
-ghost use Rattle.std.specs.Option.{option_map, option_map_or};
+ghost use Rattle.rsp_algebra.specs.Nodes.{IsPlaced, node_of, project};
 ghost use Rattle.rsp_query_line.specs.QueryLine as form;
-ghost use Rattle.rsp_query_line.specs.Meaning.{grown, node_of_line, place_of, shown_of, slot_of, triple_pattern_of, width_of};
+ghost use Rattle.rsp_query_line.specs.Meaning.{node_of_line, place_of, shown_of, slot_of, triple_pattern_of, width_of};
 
 use crate::names::variables_of;
 use crate::{Line, Part, Written};
-use rsp_algebra::{Place, Slot, Translated, Tree, TriplePattern};
+use rsp_algebra::{Place, Slot, Translated, Tree, TriplePattern, basic_pattern};
 use rsp_terms::{Listed, Term, Text};
 use std::alloc::{AllocError, Global};
 
@@ -27,7 +26,11 @@ pub fn translated(alloc: Global, line: &Line) -> Result<Translated, AllocError>
     let patterns = patterns_of(alloc, variables.as_slice(), line.patterns.as_slice())?;
     let shown = places_of(alloc, variables.as_slice(), line.shown.as_slice())?;
     let width = variables.as_slice().len();
-    let tree = projected(alloc, left_deep(alloc, Place::Window(0), patterns)?, shown.as_slice())?;
+    let tree = projected(
+        alloc,
+        basic_pattern(alloc, Place::Window(0), patterns)?,
+        shown.as_slice(),
+    )?;
     Ok(Translated {
         tree,
         width,
@@ -84,54 +87,4 @@ fn places_of(alloc: Global, names: &[Text], shown: &[Text]) -> Result<Vec<usize>
         places.push(place_of(names, name))?;
     }
     Ok(places)
-}
-
-// the left-deep join of the patterns
-fn left_deep(alloc: Global, place: Place, patterns: Vec<TriplePattern>) -> Result<Tree, AllocError>
-    ensures { IfOk result (λ tree. node_of tree ≡ left_deep place patterns.items) }
-{
-    match grown(alloc, place, patterns)? {
-        None => Ok(Tree::Unit),
-        Some(tree) => Ok(tree),
-    }
-}
-
-fn grown(alloc: Global, place: Place, patterns: Vec<TriplePattern>) -> Result<Option<Tree>, AllocError>
-    ensures { IfOk result (λ tree. option_map node_of tree ≡ fold (grown place) None patterns.items) }
-{
-    let mut tree = None;
-    for pattern in patterns {
-        tree = Some(joined(alloc, tree, place, pattern)?);
-    }
-    Ok(tree)
-}
-
-fn joined(alloc: Global, tree: Option<Tree>, place: Place, triple: TriplePattern) -> Result<Tree, AllocError>
-    ensures { IfOk result (λ joined. node_of joined ≡ option_map_or (λ t. join (node_of t) (pattern place triple)) tree (pattern place triple)) }
-{
-    let pattern = pattern_of(place, triple);
-    match tree {
-        None => Ok(pattern),
-        Some(tree) => {
-            let left = Box::new(alloc, tree)?;
-            let right = Box::new(alloc, pattern)?;
-            Ok(Tree::Join { left, right })
-        }
-    }
-}
-
-fn pattern_of(place: Place, triple: TriplePattern) -> Tree
-    ensures { node_of result ≡ pattern place triple }
-{
-    let TriplePattern {
-        subject,
-        predicate,
-        object,
-    } = triple;
-    Tree::Pattern {
-        place,
-        subject,
-        predicate,
-        object,
-    }
 }

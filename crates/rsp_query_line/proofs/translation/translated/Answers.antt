@@ -1,4 +1,4 @@
-use Rattle.std.proofs.Common.{rules, ◌≡◌}
+use Rattle.std.proofs.Common.{rules, ◌≡◌, length}
 use Rattle.rsp_algebra.specs.Nodes.{node_of}
 use Rattle.rsp_query_line.specs.Meaning.{node_of_line, shown_of, width_of}
 use Rattle.rsp_query_line.proofs.Placed.{placed_query, small_query}
@@ -8,6 +8,4 @@ pub returns-clause-placed : goal.returns-clause-placed
 returns-clause-placed c = placed_query c.args.line.now _ c.requires (search rules) (search rules) (search rules)
 
 pub returns-clause-small : goal.returns-clause-small
-returns-clause-small c =
-    let tree : node_of c.in_ok-tree.tree ≡ node_of_line c.args.line.now = search rules in
-    small_query c.args.line.now (record { tree = c.in_ok-tree.tree; width = _; shown = c.from_vec.result }) tree
+returns-clause-small c = small_query c.args.line.now (length c.as_slice-width.result.now) (node_of c.in_ok-tree.tree) (search rules)

@@ -4,7 +4,7 @@ use Rattle.rsp_engine.proofs.Offering.{item_leads}
 use Rattle.rsp_engine.proofs.engine.Engine.take_item.Goals as goal
 
 pub returns-in-Ok : goal.returns-in-Ok
-returns-in-Ok c =
+returns-in-Ok g c =
     let few = rw c.accepted.ensures at c.if-accepted-ge-MOST_ITEMS.false in
     let late = rw c.first_incomplete-next.ensures at c.if-time-next.false in
     record {

@@ -3,7 +3,7 @@ use Rattle.rsp_engine.proofs.Offering.{tick_leads}
 use Rattle.rsp_engine.proofs.engine.Engine.tick.Goals as goal
 
 pub returns : goal.returns
-returns c =
+returns g c =
     let late = rw c.first_incomplete-next.ensures at c.if-time-next.false in
     record {
       was_ready = c.requires.ready;

@@ -2,7 +2,7 @@ use Rattle.std.proofs.Common.{◌∙◌, ◌≤◌, ◌+◌, refl, arith}
 use Rattle.rsp_engine.proofs.engine.Engine.work_off.Goals as goal
 
 pub returns-in-Some : goal.returns-in-Some
-returns-in-Some c =
+returns-in-Some g c =
     let moved = c.first_moment-self-inside.ensures in
     let low : c.self.inside.at + 1 ≤ c.first_moment-self-inside.result = moved.low in
     rw

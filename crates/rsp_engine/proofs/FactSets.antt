@@ -1,0 +1,112 @@
+-- How a live query comes to stand for the facts of an instant.
+use Rattle.std.proofs.Common.{◌≡◌, ◌⊎◌, inl, inr, ℕ, ◌+◌, ◌<◌, Bool, true, false, true≢false, ◌&&◌, ◌||◌, cond, not, List, [], ◌∷◌, ◌++◌, ℤ, pos, negsuc, ◌+ℤ◌, drop, fold, length, get_or, map, refl, sym, ap, subst, ◌∙◌, arith}
+use Rattle.std.specs.List.{AllByRecursion, IsDistinct, list_any}
+use Rattle.std.specs.Prelude.{nat_eq}
+use Rattle.std.proofs.lemmas.Int.{ints}
+use Rattle.std.proofs.lemmas.List.{at_drop_more}
+use Rattle.rsp_multiset.specs.Weights.{IsChanged, only, times, weight}
+use Rattle.rsp_multiset.proofs.Linear.{itself, turned}
+use Rattle.rsp_terms.specs.declared.statement.Fact.{Fact}
+use Rattle.rsp_terms.specs.declared.statement.Triple.{Triple}
+use Rattle.rsp_terms.specs.declared.statement.Spot.TheVariants as spot
+use Rattle.rsp_terms.specs.Same.{fact_eq, fact_same, triple_eq, triple_same}
+use Rattle.rsp_algebra.specs.Changing.{IsSet, MayChange}
+use Rattle.rsp_algebra.proofs.Sets.{times-set}
+use Rattle.rsp_engine.specs.Contents.{add_once, distinct, facts_of}
+
+-- ---- counting
+
+-- the next of the facts comes in
+pub one_more : (facts : List Fact) (i : ℕ) (fact shared : Fact) (before after whole : ℤ) (q : Fact) → i < length facts → fact ≡ get_or facts i fact → shared ≡ fact → after ≡ before +ℤ only (fact_eq q shared) (pos 1) → before +ℤ times fact_eq (drop i facts) q ≡ whole → after +ℤ times fact_eq (drop (i + 1) facts) q ≡ whole
+one_more facts i fact shared before after whole q below is same made so_far =
+    let step : times fact_eq (drop i facts) q ≡ only (fact_eq q fact) (pos 1) +ℤ times fact_eq (drop (i + 1) facts) q =
+    at_drop_more (λ fs. times fact_eq fs q) facts i fact below
+    ∙ ap (λ y. only (fact_eq q y) (pos 1) +ℤ times fact_eq (drop (i + 1) facts) q) (sym is)
+    in
+    let added : after ≡ before +ℤ only (fact_eq q fact) (pos 1) = made ∙ ap (λ y. before +ℤ only (fact_eq q y) (pos 1)) same in
+    omega (arith, ints, step, added, so_far)
+
+taken : (b : Bool) → only b (negsuc 0) +ℤ only b (pos 1) ≡ pos 0
+taken true = refl
+taken false = refl
+
+-- the next of the facts goes out
+pub one_less : (facts : List Fact) (i : ℕ) (fact shared : Fact) (before after whole : ℤ) (q : Fact) → i < length facts → fact ≡ get_or facts i fact → shared ≡ fact → after ≡ before +ℤ only (fact_eq q shared) (negsuc 0) → whole +ℤ times fact_eq (drop i facts) q ≡ before +ℤ times fact_eq facts q → whole +ℤ times fact_eq (drop (i + 1) facts) q ≡ after +ℤ times fact_eq facts q
+one_less facts i fact shared before after whole q below is same made so_far =
+    let step : times fact_eq (drop i facts) q ≡ only (fact_eq q fact) (pos 1) +ℤ times fact_eq (drop (i + 1) facts) q =
+    at_drop_more (λ fs. times fact_eq fs q) facts i fact below
+    ∙ ap (λ y. only (fact_eq q y) (pos 1) +ℤ times fact_eq (drop (i + 1) facts) q) (sym is)
+    in
+    let gone : after ≡ before +ℤ only (fact_eq q fact) (negsuc 0) = made ∙ ap (λ y. before +ℤ only (fact_eq q y) (negsuc 0)) same in
+    let pair = taken (fact_eq q fact) in
+    omega (arith, ints, step, gone, pair, so_far)
+
+-- ---- a window's graph is a set
+
+apart_last : (xs : List Triple) (t : Triple) (x : Triple) → AllByRecursion (λ y. triple_eq x y ≡ false) xs → triple_eq x t ≡ false → AllByRecursion (λ y. triple_eq x y ≡ false) (xs ++ (t ∷ []))
+apart_last [] t x apart last = (last, tt)
+apart_last (y ∷ ys) t x apart last = (apart.0, apart_last ys t x apart.1 last)
+
+or_none : (a b : Bool) → (a || b) ≡ false → (a ≡ false) × (b ≡ false)
+or_none true b h = absurd (true≢false h)
+or_none false b h = (refl, h)
+
+distinct_last : (xs : List Triple) (t : Triple) → IsDistinct triple_eq xs → list_any (triple_eq t) xs ≡ false → IsDistinct triple_eq (xs ++ (t ∷ []))
+unfolding IsDistinct
+distinct_last [] t distinct none = (tt, tt)
+distinct_last (x ∷ xs) t distinct none =
+    let parts = or_none (triple_eq t x) (list_any (triple_eq t) xs) none in (
+      apart_last xs t x distinct.0 (turned triple_same x t ∙ parts.0),
+      distinct_last xs t distinct.1 parts.1,
+    )
+
+once_distinct : (seen : List Triple) (t : Triple) → IsDistinct triple_eq seen → IsDistinct triple_eq (add_once seen t)
+once_distinct seen t distinct =
+    elim (list_any (triple_eq t) seen) as (λ v. list_any (triple_eq t) seen ≡ v → IsDistinct triple_eq (cond v seen (seen ++ (t ∷ [])))) [
+      | true ↦ λ is. distinct
+      | false ↦ λ is. distinct_last seen t distinct is
+    ] refl
+
+folded_distinct : (seen more : List Triple) → IsDistinct triple_eq seen → IsDistinct triple_eq (fold add_once seen more)
+folded_distinct seen [] distinct = distinct
+folded_distinct seen (t ∷ ts) distinct = folded_distinct (add_once seen t) ts (once_distinct seen t distinct)
+
+facts_apart : (k : ℕ) (t : Triple) (ts : List Triple) → AllByRecursion (λ y. triple_eq t y ≡ false) ts → AllByRecursion (λ (f : Fact). fact_eq (record { spot = spot.Window k; triple = t }) f ≡ false) (facts_of k ts)
+facts_apart k t [] apart = tt
+facts_apart k t (y ∷ ys) apart = (and_false (nat_eq k k) (triple_eq t y) apart.0, facts_apart k t ys apart.1)
+  where
+    and_false : (a b : Bool) → b ≡ false → (a && b) ≡ false
+    and_false true b h = h
+    and_false false b h = refl
+
+facts_distinct : (k : ℕ) (ts : List Triple) → IsDistinct triple_eq ts → IsSet (facts_of k ts)
+unfolding IsDistinct
+facts_distinct k [] distinct = tt
+facts_distinct k (t ∷ ts) distinct = (facts_apart k t ts distinct.0, facts_distinct k ts distinct.1)
+
+pub graph_is_set : (k : ℕ) (triples : List Triple) → IsSet (facts_of k (distinct triples))
+unfolding IsDistinct
+graph_is_set k triples = facts_distinct k (distinct triples) (folded_distinct [] triples tt)
+
+-- ---- the change from one set of facts to another
+
+turn : (seen now : Bool) (held weight : ℤ) → held ≡ only seen (pos 1) → only now (pos 1) ≡ only seen (pos 1) +ℤ weight
+    → (weight ≡ pos 0) ⊎ (((weight ≡ pos 1) × (held ≡ pos 0)) ⊎ ((weight ≡ negsuc 0) × (held ≡ pos 1)))
+turn true true held weight is change = inl (omega (arith, ints, change))
+turn true false held weight is change = inr (inr (omega (arith, ints, change), is))
+turn false true held weight is change = inr (inl (omega (arith, ints, change), is))
+turn false false held weight is change = inl (omega (arith, ints, change))
+
+pub may_change : (held seen now : List Fact) (changes : List (Fact × ℤ)) → ((q : Fact) → times fact_eq held q ≡ times fact_eq seen q)
+    → IsSet seen → IsSet now → IsChanged fact_eq seen changes now → MayChange held changes
+may_change held seen now changes same set set_now changed q =
+    let before = times-set fact_same seen set q in
+    let after = times-set fact_same now set_now q in
+    turn (list_any (fact_eq q) seen) (list_any (fact_eq q) now) (times fact_eq held q) (weight fact_eq changes q)
+    (same q ∙ before)
+    (sym after ∙ (changed q ∙ ap (λ n. n +ℤ weight fact_eq changes q) before))
+
+pub now_same : (held seen now held_now : List Fact) (changes : List (Fact × ℤ)) → ((q : Fact) → times fact_eq held q ≡ times fact_eq seen q)
+    → IsChanged fact_eq seen changes now → IsChanged fact_eq held changes held_now → (q : Fact) → times fact_eq held_now q ≡ times fact_eq now q
+now_same held seen now held_now changes same changed held_changed q =
+    held_changed q ∙ (ap (λ n. n +ℤ weight fact_eq changes q) (same q) ∙ sym (changed q))
