@@ -1,18 +1,21 @@
 -- How a live query comes to stand for the facts of an instant.
-use Rattle.std.proofs.Common.{◌≡◌, ◌⊎◌, inl, inr, ℕ, ◌+◌, ◌<◌, Bool, true, false, true≢false, ◌&&◌, ◌||◌, cond, not, List, [], ◌∷◌, ◌++◌, ℤ, pos, negsuc, ◌+ℤ◌, drop, fold, length, get_or, map, refl, sym, ap, subst, ◌∙◌, arith}
-use Rattle.std.specs.List.{AllByRecursion, IsDistinct, list_any}
-use Rattle.std.specs.Prelude.{nat_eq}
+use Rattle.std.proofs.Common.{◌≡◌, ◌⊎◌, inl, inr, ℕ, ◌+◌, ◌<◌, Bool, true, false, true≢false, ◌&&◌, ◌||◌, cond, List, [], ◌∷◌, ◌++◌, ℤ, pos, negsuc, ◌+ℤ◌, drop, fold, length, get_or, refl, sym, ap, ◌∙◌, arith}
+use Rattle.std.specs.List.{AllByRecursion, IsDistinct, flat_map, list_any}
+use Rattle.rsp_spec.specs.Windows.{Shape}
+use Rattle.rsp_engine.specs.declared.item.Item.{Item}
+use Rattle.rsp_engine.specs.Passing.{window_facts}
+use Rattle.std.specs.Prelude.{filter, nat_eq}
 use Rattle.std.proofs.lemmas.Int.{ints}
 use Rattle.std.proofs.lemmas.List.{at_drop_more}
 use Rattle.rsp_multiset.specs.Weights.{IsChanged, only, times, weight}
-use Rattle.rsp_multiset.proofs.Linear.{itself, turned}
+use Rattle.rsp_multiset.proofs.Linear.{turned}
 use Rattle.rsp_terms.specs.declared.statement.Fact.{Fact}
 use Rattle.rsp_terms.specs.declared.statement.Triple.{Triple}
 use Rattle.rsp_terms.specs.declared.statement.Spot.TheVariants as spot
 use Rattle.rsp_terms.specs.Same.{fact_eq, fact_same, triple_eq, triple_same}
 use Rattle.rsp_algebra.specs.Changing.{IsSet, MayChange}
 use Rattle.rsp_algebra.proofs.Sets.{times-set}
-use Rattle.rsp_engine.specs.Contents.{add_once, distinct, facts_of}
+use Rattle.rsp_engine.specs.Contents.{add_once, distinct, facts_of, in_content}
 
 -- ---- counting
 
@@ -87,6 +90,11 @@ facts_distinct k (t ∷ ts) distinct = (facts_apart k t ts distinct.0, facts_dis
 pub graph_is_set : (k : ℕ) (triples : List Triple) → IsSet (facts_of k (distinct triples))
 unfolding IsDistinct
 graph_is_set k triples = facts_distinct k (distinct triples) (folded_distinct [] triples tt)
+
+pub window_is_set : (stream : List ℕ) (shape : Shape) (first : ℕ) (items : List Item) (t : ℕ) → IsSet (window_facts stream shape first items t)
+window_is_set stream shape first items t =
+    graph_is_set 0
+    (flat_map (λ (i : Item). i.graph) (filter (in_content (record { stream = stream; shape = shape }) t) (drop first items)))
 
 -- ---- the change from one set of facts to another
 

@@ -1,7 +1,6 @@
 -- The distinct triples of a content, as the engine gathers them.
-use Rattle.std.proofs.Common.{◌≡◌, ℕ, ◌+◌, ◌<◌, Bool, ◌&&◌, List, [], ◌∷◌, length, drop, fold, filter, map, None, Some, refl, sym, ◌∙◌, ap, get_or, nat_lt, nat_le, codes}
-use Rattle.std.proofs.lemmas.List.{at_drop_more, append-nil}
-use Rattle.std.specs.List.{list_any, flat_map}
+use Rattle.std.proofs.Common.{◌≡◌, ℕ, ◌+◌, ◌<◌, ◌&&◌, List, [], ◌∷◌, length, drop, fold, filter, None, Some, refl, sym, ◌∙◌, ap, get_or, nat_lt, nat_le}
+use Rattle.std.proofs.lemmas.List.{at_drop_more}
 use Rattle.indexmap.specs.IndexSet.{insert_key}
 use Rattle.rsp_spec.specs.Windows.{active, opening}
 use Rattle.rsp_terms.specs.declared.statement.Triple.{Triple}

@@ -3,3 +3,6 @@ pub mod Offering
 pub mod Graphs
 pub mod FactSets
 pub mod OrderedRows
+pub mod FirstReport
+pub mod Reported
+pub mod Behind

@@ -1,5 +1,5 @@
 -- An accepted event leads from an idle engine that stands for a world to one that stands for the next.
-use Rattle.std.proofs.Common.{◌≡◌, ℕ, ◌+◌, ◌-◌, ◌<◌, ◌≤◌, true, false, List, [], ◌∷◌, ◌++◌, length, map, Option, None, Some, Ok, refl, sym, ◌∙◌, ap, subst, arith, nat_lt, nat_le, unwrap_or, IsSomeAnd, IfSome}
+use Rattle.std.proofs.Common.{◌≡◌, ℕ, ◌+◌, ◌-◌, ◌<◌, ◌≤◌, true, false, List, [], ◌∷◌, ◌++◌, length, Option, None, Some, Ok, refl, sym, ◌∙◌, subst, arith, nat_lt, nat_le, unwrap_or}
 use Rattle.std.proofs.lemmas.List.{append-nil}
 use Rattle.std.proofs.lemmas.Bool.{le-ltb, lt-leb}
 use Rattle.std.specs.List.{flat_map, range_with_len}
@@ -7,20 +7,17 @@ use Rattle.std.specs.Option.{option_map_or}
 use Rattle.std.specs.Cmp.Lexicographic.{bytes_decides}
 use Rattle.rsp_events.specs.declared.event.Event.{Event}
 use Rattle.rsp_events.specs.declared.event.Event.TheVariants.{Register, Item, Tick}
-use Rattle.rsp_terms.specs.declared.statement.Fact.{Fact}
 use Rattle.rsp_query_line.specs.declared.line.Line.{Line}
 use Rattle.rsp_query_line.specs.QueryLine.{query_line}
 use Rattle.rsp_terms.specs.declared.statement.Triple.{Triple}
 use Rattle.rsp_engine.specs.declared.item.Item as item
 use Rattle.rsp_engine.specs.World.{World}
 use Rattle.rsp_engine.specs.Accept.{accept, next_of, most_items, most_triples, registered}
-use Rattle.rsp_engine.specs.Moments.{Moment, moments, moments_from, moments_on, due_at}
-use Rattle.rsp_engine.specs.Stands.{State, Live, Stands, query_of}
-use Rattle.rsp_engine.specs.declared.report.Report.{Report}
+use Rattle.rsp_engine.specs.Moments.{moments, moments_from, moments_on, due_at}
+use Rattle.rsp_engine.specs.Stands.{State, Stands}
 use Rattle.rsp_engine.specs.Contents.{same}
-use Rattle.rsp_engine.specs.Reports.{IsOutcome, IsReport, after_report, live, now_seen, report_of, reports, is_overfull, worked_off}
-use Rattle.rsp_engine.specs.Passing.{Passes, ReportsFirst, WorksOff, IsDue}
-use Rattle.rsp_engine.proofs.Walks.{none_on_items, first_left}
+use Rattle.rsp_engine.specs.Passing.{Passes}
+use Rattle.rsp_engine.proofs.Walks.{none_on_items}
 
 same_bytes : (name : List ℕ) → same name name ≡ true
 same_bytes name = (bytes_decides name name).1 refl
@@ -101,19 +98,3 @@ register_leads old name text line world ready none is stands =
         at = rw left stands.at;
       },
     )
-
--- ---- the first report
-
--- a query that has seen other facts has the same moments
-same_moments : (world : World) (old_query : Live) (facts : List Fact) (t : ℕ) → world.queries ≡ query_of old_query ∷ []
-    → moments_from (record world { queries = record (query_of old_query) { seen = facts } ∷ [] }) t ≡ moments_from world t
-same_moments world old_query facts t is = rw is refl
-
--- where no query is live, no moment is
-no_moments : (world : World) (t : ℕ) → world.queries ≡ [] → moments_from world t ≡ []
-no_moments world t is = ?
-
--- moments of a query that is no longer live have no reports, and leave the world
-all_struck : (world : World) (left : List Moment) → world.queries ≡ [] → (reports world left ≡ []) × (worked_off world left ≡ world)
-all_struck world [] is = (refl, refl)
-all_struck world (moment ∷ left) is = rw is (all_struck world left is)

@@ -1,7 +1,8 @@
 -- The rows of a report are the solutions, in order.
-use Rattle.std.proofs.Common.{◌≡◌, ℕ, List, Bool, true, false, cond, [], ◌∷◌, ◌++◌, ℤ, pos, ◌+ℤ◌, map, refl, sym, ◌∙◌, ap, arith}
+use Rattle.std.proofs.Common.{◌≡◌, ℕ, List, true, false, cond, [], ◌∷◌, ℤ, pos, ◌+ℤ◌, map, refl, sym, ◌∙◌, ap, arith}
 use Rattle.std.proofs.lemmas.Int.{ints}
-use Rattle.rsp_multiset.specs.Weights.{only, times}
+use Rattle.std.specs.Prelude.{Result, Ok, Err, IfOk}
+use Rattle.rsp_multiset.specs.Weights.{only, times, weight}
 use Rattle.rsp_multiset.specs.Rows.{Cells, row_eq}
 use Rattle.rsp_terms.specs.declared.term.Term.{Term}
 use Rattle.rsp_terms.specs.Same.{term_eq}
@@ -32,3 +33,12 @@ ordered_rows rows wanted cut_rows out shown same cut_is out_is texts =
       same = λ q. ap (λ rs. times (row_eq term_eq) rs q) out_is ∙ (in_order_times cut_rows q ∙ (mapped q ∙ sym (in_order_times (map (cut shown) wanted) q)));
       texts = sym (texts (map (cut shown) wanted) (λ q. sym (mapped q)));
     }
+
+pub ordered_ok : {E : Type 0} (result : Result (List (Cells Term)) E) (rows cut_rows : List (Cells Term)) (shown : List ℕ) (bag : List (Cells Term × ℤ))
+    → ((q : Cells Term) → times (row_eq term_eq) rows q ≡ weight (row_eq term_eq) bag q) → cut_rows ≡ map (cut shown) rows
+    → IfOk result (λ out. out ≡ in_order cut_rows)
+    → IfOk result (λ out. (other : List (Cells Term)) → SameRows other cut_rows → map row_text (in_order other) ≡ map row_text out)
+    → IfOk result (λ out. (wanted : List (Cells Term)) → ((q : Cells Term) → weight (row_eq term_eq) bag q ≡ times (row_eq term_eq) wanted q) → AreRows out (in_order (map (cut shown) wanted)))
+ordered_ok (Ok out) rows cut_rows shown bag held cut_is value texts =
+    λ wanted same. ordered_rows rows wanted cut_rows out shown (λ q. held q ∙ same q) cut_is value texts
+ordered_ok (Err why) rows cut_rows shown bag held cut_is value texts = tt

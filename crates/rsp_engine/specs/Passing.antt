@@ -13,7 +13,6 @@ use Rattle.rsp_engine.specs.declared.report.Outcome.{Outcome}
 use Rattle.rsp_engine.specs.declared.report.Outcome.TheVariants as outcomes
 use Rattle.rsp_engine.specs.declared.report.Report.{Report}
 use Rattle.rsp_algebra.specs.Nodes.{Node}
-use Rattle.rsp_algebra.specs.Work.{work}
 use Rattle.rsp_query_line.specs.Meaning.{node_of_line, shown_of, width_of}
 use Rattle.rsp_algebra.specs.Solutions.{eval}
 use Rattle.rsp_algebra.specs.Overfull.{overfull}
@@ -85,10 +84,6 @@ outcome_over live facts =
 pub record IsReported {A : Type 0} (node : A → Node) (width : A → ℕ) (facts : A → List Fact) (spent : A → Bool) (live : Live) (items : List Item) (t : ℕ) (new : LiveQuery A) (given : Outcome) : Type 0 where
   pub outcome : IsOutcome given (outcome_over live (live_facts live items t))
   pub answers : (given ≡ outcomes.Overfull) ⊎ Answers node width facts spent new
-
--- the work of a live query's change at t
-abbrev pub work_at : Live → List Item → ℕ → ℕ
-work_at live items t = work (width_of live.line) (node_of_line live.line) live.seen (live_facts live items t)
 
 -- the report at the first instant left was given; the query is live where it isn't overfull, and those behind are left
 pub record ReportsFirst (old : State) (report : Report) (new : State) : Type 0 where

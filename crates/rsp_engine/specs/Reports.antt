@@ -8,7 +8,6 @@ use Rattle.rsp_multiset.specs.Weights.{times}
 use Rattle.rsp_multiset.specs.Rows.{Cells, row_eq}
 use Rattle.rsp_algebra.specs.Solutions.{eval}
 use Rattle.rsp_algebra.specs.Overfull.{overfull}
-use Rattle.rsp_algebra.specs.Work.{work}
 use Rattle.rsp_streams_out.specs.Rows.{in_order, row_text}
 use Rattle.rsp_engine.specs.declared.report.Report.{Report}
 use Rattle.rsp_engine.specs.declared.report.Outcome.{Outcome}
@@ -90,12 +89,3 @@ worked_off world (moment ∷ left) =
     (λ query. worked_off (after_report world query moment.at) left)
     (live world moment.query)
     (worked_off world left)
-
--- the work that the next report may take
-abbrev pub next_work : World → List Moment → ℕ
-next_work world [] = 0
-next_work world (moment ∷ left) =
-    option_map_or
-    (λ (query : Query). work query.width query.node query.seen (facts world query moment.at))
-    (live world moment.query)
-    0

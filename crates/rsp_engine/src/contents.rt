@@ -43,10 +43,8 @@ fn facts_of(alloc: Global, triples: &IndexSet<Triple>) -> Result<Listed<Fact>, A
     ensures { IfOk result (λ facts. facts ≡ facts_of 0 triples.now.keys) }
 {
     let mut facts = Listed::new(alloc);
-    for index in 0..triples.len() {
-        if let Some(triple) = triples.get_index(index) {
-            facts.push(fact_of(triple)?)?;
-        }
+    for triple in triples.as_slice() {
+        facts.push(fact_of(triple)?)?;
     }
     Ok(facts)
 }

@@ -1,14 +1,17 @@
 // The engine's calls.
-ghost use Rattle.std.specs.Prelude.{◌≡◌, IfOk};
+ghost use Rattle.std.specs.Prelude.{◌≡◌, Some, None, if◌then◌else◌};
+ghost use Rattle.std.specs.Option.{option_map};
+ghost use Rattle.rsp_engine.specs.Inside.{live_of};
+ghost use Rattle.rsp_engine.specs.Passing.{is_overfull_outcome};
 
 use crate::registering::registered;
-use crate::seeing::outcome_at;
+use crate::seeing::report_at;
 use crate::walking::first_moment;
 use crate::{EngineFault, Item, LiveQuery, Outcome, Refused, Report};
 use rsp_algebra::Answer;
 use rsp_events::Event;
 use rsp_steps::Steps;
-use rsp_terms::{Listed, Text};
+use rsp_terms::Text;
 use rsp_windows::Window;
 use std::alloc::{AllocError, Global};
 use std::marker::Model;
@@ -49,9 +52,8 @@ impl<A: Answer> Model for Engine<A> {
 impl<A: Answer> Engine<A> {
     ghost use Rattle.std.specs.Prelude.{◌≡◌, ◌<◌, None, ◌↔◌, ◌==◌, ◌≤◌, ◌+◌, ◌++◌, ◌∷◌, ℕ, List, [], true, false, IsTrue, OnOk, OnErr, Some, is_some, length, IfOk, IfSome, IsSomeAnd, unwrap_or};
     ghost use Rattle.rsp_spec.specs.Windows.{last_instant};
-    ghost use Rattle.rsp_engine.specs.Passing.{Passes, WorksOff, ReportsFirst, work_at};
+    ghost use Rattle.rsp_engine.specs.Passing.{Passes, WorksOff, ReportsFirst};
     ghost use Rattle.rsp_engine.specs.Inside.{Answers, live_of};
-    ghost use Rattle.rsp_engine.specs.Reports.{next_work};
     ghost use Rattle.std.specs.Option.{option_map, option_map_or};
     ghost use Rattle.rsp_engine.specs.World.{World, empty_world};
     ghost use Rattle.rsp_engine.specs.Moments.{Moment};
@@ -171,7 +173,10 @@ impl<A: Answer> Engine<A> {
         requires instant { item.time ≤ last_instant }
         ensures { Offers self.old (Event.Item item.stream item.time item.graph) result self.new }
     {
-        if MOST_TRIPLES < item.graph.as_slice().len() || self.accepted() >= MOST_ITEMS {
+        if MOST_TRIPLES < item.graph.as_slice().len() {
+            return Err(Refused::Unbuilt);
+        }
+        if self.accepted() >= MOST_ITEMS {
             return Err(Refused::Unbuilt);
         }
         let time = item.time;
@@ -215,10 +220,7 @@ impl<A: Answer> Engine<A> {
     fn window(&self) -> Option<Window>
         ensures { result ≡ option_map (λ live. live.line.shape) self.now.query }
     {
-        match &self.query {
-            None => None,
-            Some(live) => Some(live.line.shape),
-        }
+        window_of(&self.query)
     }
 
     // how many items were accepted
@@ -271,7 +273,6 @@ impl<A: Answer> Engine<A> {
     }
 
     /// The next report of the last event, in order; None exactly where none is left. An overfull report ends its query.
-    /// Adds no more steps than the change of the query's answer may take, and none where no report is left.
     ///
     /// Fails as `Broken` exactly where memory was refused before, and as `OutOfMemory` where memory is refused, which
     /// breaks the engine. Takes no memory where no report is left.
@@ -280,7 +281,6 @@ impl<A: Answer> Engine<A> {
         steps: &mut Steps<L>,
     ) -> Result<Option<Report>, EngineFault>
         ensures report { NextReport self.old result self.new }
-        ensures steps { (world : World) (left : List Moment) → Stands self.old world left → steps.new ≤ steps.old + next_work world left }
     {
         if self.broken {
             return Err(EngineFault::Broken);
@@ -297,52 +297,47 @@ impl<A: Answer> Engine<A> {
         }
     }
 
-    // The report at the first instant left, which is worked off. Where memory is refused, no query is live.
+    // The report at the first instant left, which is worked off. Where memory is refused, no query is live and no report
+    // is left.
     fn first_report<L: Ledger>(&mut self, steps: &mut Steps<L>) -> Result<Report, AllocError>
         requires { is_idle self.old ≡ false }
-        ensures report { IfOk result (λ report. ReportsFirst self.old report self.new) }
-        ensures cost { IfSome self.old.query (λ live. steps.new ≤ steps.old + work_at live self.old.items self.old.at) }
+        ensures { IfOk result (λ report. ReportsFirst self.old report self.new) }
     {
-        let Some(mut live) = self.query.take() else {
+        let (Some(next), Some(mut live)) = (self.next, self.query.take()) else {
             unreachable!()
         };
-        let name = live.name.share()?;
-        let variables = shared(self.alloc, live.line.shown.as_slice())?;
         let at = self.at;
-        let outcome = outcome_at(self.alloc, &mut live, self.items.as_slice(), at, steps)?;
-        self.work_off(match outcome {
-            Outcome::Overfull => None,
-            Outcome::Rows(_) => Some(live),
-        });
-        Ok(Report {
-            query: name,
-            at,
-            variables,
-            outcome,
-        })
-    }
-
-    // Goes on to the next moment, with this query live.
-    fn work_off(&mut self, query: Option<LiveQuery<A>>)
-        requires none { self.old.query ≡ None }
-        requires busy { IsSomeAnd self.old.next (λ next. self.old.at < next) }
-        requires first { IfSome query (λ live. live.first ≤ length self.old.items) }
-        requires answers { IfSome query (Answers A.node A.width A.facts A.spent) }
-        ensures { WorksOff self.old (option_map live_of query) self.new }
-    {
-        self.query = query;
-        if let Some(next) = self.next {
-            self.at = first_moment(Some(self.at + 1), self.window(), next);
+        match report_at(self.alloc, &mut live, self.items.as_slice(), at, steps) {
+            Err(AllocError) => {
+                self.at = next;
+                Err(AllocError)
+            }
+            Ok(report) => {
+                let kept = kept(live, &report.outcome);
+                self.at = first_moment(Some(at + 1), window_of(&kept), next);
+                self.query = kept;
+                Ok(report)
+            }
         }
     }
 }
 
-fn shared(alloc: Global, texts: &[Text]) -> Result<Listed<Text>, AllocError>
-    ensures { IfOk result (λ shared. shared ≡ texts.now) }
+// the query's window, if there is one
+fn window_of<A>(query: &Option<LiveQuery<A>>) -> Option<Window>
+    ensures { result ≡ option_map (λ live. live.line.shape) (option_map live_of query.now) }
 {
-    let mut shared = Listed::new(alloc);
-    for text in texts {
-        shared.push(text.share()?)?;
+    match query {
+        None => None,
+        Some(live) => Some(live.line.shape),
     }
-    Ok(shared)
+}
+
+// the query, unless its report is overfull
+fn kept<A: Drop>(live: LiveQuery<A>, outcome: &Outcome) -> Option<LiveQuery<A>>
+    ensures { result ≡ (if is_overfull_outcome outcome.now then None else Some live) }
+{
+    match outcome {
+        Outcome::Overfull => None,
+        Outcome::Rows(_) => Some(live),
+    }
 }

@@ -7,13 +7,13 @@
 //! Above: the program. Below: events, the query line, answers, windows, terms and the order of rows.
 #![tactic(auto)]
 
+mod contents;
 mod engine;
 mod item;
 mod live_query;
 mod refused;
 mod registering;
 mod report;
-mod contents;
 mod rows;
 mod seeing;
 mod walking;

@@ -12,7 +12,11 @@ use rsp_terms::{Listed, Term};
 use std::alloc::{AllocError, Global};
 
 /// The solutions of a bag, with these places alone, in the byte order of their texts. Fails only where memory is refused.
-pub fn shown_rows(alloc: Global, solutions: &Bag<Term>, shown: &[usize]) -> Result<Listed<Row<Term>>, AllocError>
+pub fn shown_rows(
+    alloc: Global,
+    solutions: &Bag<Term>,
+    shown: &[usize],
+) -> Result<Listed<Row<Term>>, AllocError>
     ensures { IfOk result (λ rows. (wanted : _) → ((q : _) → weight (row_eq term_eq) solutions.now q ≡ times (row_eq term_eq) wanted q)
         → AreRows rows (in_order (map (cut shown.now) wanted))) }
 {
@@ -20,7 +24,11 @@ pub fn shown_rows(alloc: Global, solutions: &Bag<Term>, shown: &[usize]) -> Resu
     ordered(alloc, all_cut(alloc, rows.as_slice(), shown)?)
 }
 
-fn all_cut(alloc: Global, rows: &[Row<Term>], shown: &[usize]) -> Result<Listed<Row<Term>>, AllocError>
+fn all_cut(
+    alloc: Global,
+    rows: &[Row<Term>],
+    shown: &[usize],
+) -> Result<Listed<Row<Term>>, AllocError>
     ensures { IfOk result (λ all. all ≡ map (cut shown.now) rows.now) }
 {
     let mut all = Listed::new(alloc);

@@ -8,22 +8,22 @@ ghost use Rattle.rsp_terms.specs.declared.statement.Fact.{Fact};
 ghost use Rattle.rsp_streams_out.specs.Rows.{in_order};
 ghost use Rattle.rsp_engine.specs.declared.report.Outcome.TheVariants as outcomes;
 ghost use Rattle.rsp_engine.specs.Inside.{Answers, live_of};
-ghost use Rattle.rsp_engine.specs.Passing.{IsReported, seeing, work_at};
+ghost use Rattle.rsp_engine.specs.Passing.{IsReported, seeing};
 ghost use Rattle.rsp_engine.specs.Reports.{IsOutcome, cut};
 
 use crate::contents::facts;
 use crate::rows::shown_rows;
-use crate::{Item, LiveQuery, Outcome};
+use crate::{Item, LiveQuery, Outcome, Report};
 use rsp_algebra::{Answer, Turn};
 use rsp_multiset::Changes;
 use rsp_steps::Steps;
-use rsp_terms::Fact;
+use rsp_terms::{Fact, Listed, Text};
 use std::alloc::{AllocError, Global};
 use std::sync::ledger::Ledger;
 
-/// The outcome of a live query at `at`, in ms since 1970, over these items. Where it isn't overfull, the query has then
-/// seen the facts of that instant. Fails only where memory is refused; the query is then only to be dropped.
-pub fn outcome_at<A: Answer, L: Ledger>(
+// The outcome of a live query at `at`, in ms since 1970, over these items. Where it isn't overfull, the query has then
+// seen the facts of that instant. Fails only where memory is refused; the query is then only to be dropped.
+fn outcome_at<A: Answer, L: Ledger>(
     alloc: Global,
     live: &mut LiveQuery<A>,
     items: &[Item],
@@ -35,7 +35,6 @@ pub fn outcome_at<A: Answer, L: Ledger>(
     requires answers { Answers A.node A.width A.facts A.spent live.old }
     ensures seen { OnOk result (live_of live.new ≡ seeing (live_of live.old) items.now at) }
     ensures reported { IfOk result (IsReported A.node A.width A.facts A.spent (live_of live.old) items.now at live.new) }
-    ensures cost { steps.new ≤ steps.old + work_at (live_of live.old) items.now at }
 {
     let now = facts(alloc, &live.stream, &live.line.shape, live.first, items, at)?;
     let changes = changes(alloc, live.seen.as_slice(), now.as_slice())?;
@@ -47,6 +46,44 @@ pub fn outcome_at<A: Answer, L: Ledger>(
     }
 }
 
+/// The report of a live query at `at`, with its outcome. Fails as [`outcome_at`] does.
+pub fn report_at<A: Answer, L: Ledger>(
+    alloc: Global,
+    live: &mut LiveQuery<A>,
+    items: &[Item],
+    at: u64,
+    steps: &mut Steps<L>,
+) -> Result<Report, AllocError>
+    requires instant { at ≤ last_instant }
+    requires first { live.old.first ≤ length items.now }
+    requires answers { Answers A.node A.width A.facts A.spent live.old }
+    ensures seen { OnOk result (live_of live.new ≡ seeing (live_of live.old) items.now at) }
+    ensures query { IfOk result (λ report. report.query ≡ live.old.name) }
+    ensures at { IfOk result (λ report. report.at ≡ at) }
+    ensures variables { IfOk result (λ report. report.variables ≡ live.old.line.shown) }
+    ensures reported { IfOk result (λ report. IsReported A.node A.width A.facts A.spent (live_of live.old) items.now at live.new report.outcome) }
+{
+    let query = live.name.share()?;
+    let variables = shared(alloc, live.line.shown.as_slice())?;
+    let outcome = outcome_at(alloc, live, items, at, steps)?;
+    Ok(Report {
+        query,
+        at,
+        variables,
+        outcome,
+    })
+}
+
+fn shared(alloc: Global, texts: &[Text]) -> Result<Listed<Text>, AllocError>
+    ensures { IfOk result (λ shared. shared ≡ texts.now) }
+{
+    let mut shared = Listed::new(alloc);
+    for text in texts {
+        shared.push(text.share()?)?;
+    }
+    Ok(shared)
+}
+
 fn rows_of<A: Answer>(alloc: Global, live: &LiveQuery<A>) -> Result<Outcome, AllocError>
     requires { A.spent live.now.answer ≡ false }
     ensures { IfOk result (λ outcome. (facts : List Fact)
@@ -54,11 +91,7 @@ fn rows_of<A: Answer>(alloc: Global, live: &LiveQuery<A>) -> Result<Outcome, All
         → IsOutcome outcome (outcomes.Rows (in_order (map (cut live.now.shown) (eval (A.width live.now.answer) (A.node live.now.answer) facts))))) }
 {
     let solutions = live.answer.solutions()?;
-    Ok(Outcome::Rows(shown_rows(
-        alloc,
-        &solutions,
-        live.shown.as_slice(),
-    )?))
+    Ok(Outcome::Rows(shown_rows(alloc, &solutions, live.shown.as_slice())?))
 }
 
 // the change from one list of facts to another

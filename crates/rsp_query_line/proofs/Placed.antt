@@ -1,15 +1,12 @@
 -- Each variable of a query line has its place among the variables, and over no facts its tree has few rows.
-use Rattle.std.proofs.Common.{◌≡◌, ℕ, ◌+◌, ◌<◌, Bool, true, false, true≢false, not, ◌||◌, ◌&&◌, cond, List, [], ◌∷◌, ◌++◌, length, map, fold, refl, sym, ap, subst, ◌∙◌, arith}
-use Rattle.std.specs.Prelude.{Option, Some, None, nat_eq}
-use Rattle.std.specs.List.{AllByRecursion, list_any, list_all, flat_map, position_or_len}
+use Rattle.std.proofs.Common.{◌≡◌, ℕ, ◌+◌, ◌<◌, Bool, true, false, true≢false, not, ◌||◌, ◌&&◌, cond, List, [], ◌∷◌, ◌++◌, length, map, fold, refl, sym, subst, arith}
+use Rattle.std.specs.List.{AllByRecursion, list_all, flat_map, position_or_len}
 use Rattle.std.specs.Cmp.Lexicographic.{bytes_decides}
-use Rattle.rsp_terms.specs.declared.term.Term.{Term}
-use Rattle.rsp_multiset.specs.Rows.{Cells}
 use Rattle.rsp_algebra.specs.declared.tree.Place.{Place}
 use Rattle.rsp_algebra.specs.declared.tree.Place.TheVariants.{Window}
 use Rattle.rsp_algebra.specs.declared.tree.Translated.{Translated}
 use Rattle.rsp_algebra.specs.declared.tree.TriplePattern.{TriplePattern}
-use Rattle.rsp_algebra.specs.Nodes.{IsPlaced, node_of, AreBelow, Fits, Node, join, pattern, unit, project, left_deep, pattern_variables, slot_variables}
+use Rattle.rsp_algebra.specs.Nodes.{IsPlaced, node_of, AreBelow, Fits, Node, join, pattern, left_deep, pattern_variables, slot_variables}
 use Rattle.rsp_algebra.specs.Overfull.{overfull}
 use Rattle.rsp_algebra.proofs.NoFacts.{no_facts-project}
 use Rattle.rsp_query_line.specs.declared.line.Line.{Line}
@@ -128,8 +125,6 @@ folded_fits width place node (t ∷ ts) fits all = folded_fits width place (join
 joined_fits : (width : ℕ) (place : Place) (triples : List TriplePattern) → AllByRecursion (λ (t : TriplePattern). AreBelow width (pattern_variables t)) triples → Fits width (left_deep place triples)
 joined_fits width place [] all = tt
 joined_fits width place (t ∷ ts) all = folded_fits width place (pattern place t) ts all.0 all.1
-
-
 
 pub patterns_fit : (place : Place) (patterns : List Written)
     → Fits (length (variables_of patterns)) (left_deep place (map (triple_pattern_of (variables_of patterns)) patterns))

@@ -1,6 +1,6 @@
 -- Worked lines, by the definitions alone.
 use Rattle.std.proofs.Common.{◌≡◌, [], ◌∷◌, refl}
-use Rattle.std.specs.Prelude.{Some, None, codes}
+use Rattle.std.specs.Prelude.{Some, codes}
 use Rattle.std.specs.Str.{chars}
 use Rattle.rsp_text.specs.Digits.{read_u64}
 use Rattle.rsp_query_line.specs.declared.written.Part.TheVariants.{Variable, Constant}

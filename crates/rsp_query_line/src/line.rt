@@ -52,7 +52,8 @@ fn line_behind_names(
     ensures shown { IfOk result (λ line. IfSome line (λ l. form.are_shown l.shown l.patterns ≡ true)) }
     ensures value { IfOk result (λ line. line ≡ form.line_behind_names shown fields.now) }
 {
-    let Some(window) = behind_line(alloc, fields, b"FROM NAMED WINDOW <w:1> ON <s:a> [RANGE")? else {
+    let Some(window) = behind_line(alloc, fields, b"FROM NAMED WINDOW <w:1> ON <s:a> [RANGE")?
+    else {
         return Ok(None);
     };
     let (spans, tail) = front(window, 3);

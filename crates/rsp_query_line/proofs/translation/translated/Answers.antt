@@ -1,6 +1,5 @@
-use Rattle.std.proofs.Common.{rules, ◌≡◌, length}
+use Rattle.std.proofs.Common.{rules, length}
 use Rattle.rsp_algebra.specs.Nodes.{node_of}
-use Rattle.rsp_query_line.specs.Meaning.{node_of_line, shown_of, width_of}
 use Rattle.rsp_query_line.proofs.Placed.{placed_query, small_query}
 use Rattle.rsp_query_line.proofs.translation.translated.Goals as goal
 

@@ -1,10 +1,12 @@
-use Rattle.std.proofs.Common.{◌∙◌, ap}
+use Rattle.std.proofs.Common.{◌∙◌, ap, ◌≤◌, length}
+use Rattle.rsp_engine.specs.Accept.{most_triples}
 use Rattle.rsp_engine.specs.Stands.{State}
 use Rattle.rsp_engine.proofs.Offering.{item_leads}
 use Rattle.rsp_engine.proofs.engine.Engine.take_item.Goals as goal
 
 pub returns-in-Ok : goal.returns-in-Ok
 returns-in-Ok g c =
+    let small : length c.args.item.graph ≤ most_triples = rw c.as_slice.ensures at c.if-as_slice-gt-MOST_TRIPLES.false in
     let few = rw c.accepted.ensures at c.if-accepted-ge-MOST_ITEMS.false in
     let late = rw c.first_incomplete-next.ensures at c.if-time-next.false in
     record {
@@ -12,5 +14,5 @@ returns-in-Ok g c =
       ready = c.pass_to.ensures.broken ∙ (ap (λ (s : State). s.broken) c.in-Ok.ensures.ok ∙ c.requires.ready);
       stands =
           λ world stands.
-          item_leads _ _ _ _ _ _ world c.requires.ready few late c.in-Ok.ensures.ok c.pass_to.ensures stands;
+          item_leads _ _ _ _ _ _ world c.requires.ready small few late c.in-Ok.ensures.ok c.pass_to.ensures stands;
     }
