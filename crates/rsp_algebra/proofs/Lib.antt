@@ -5,3 +5,4 @@ pub mod Sets
 pub mod Subtrees
 pub mod SameFacts
 pub mod NoFacts
+pub mod Bindings
