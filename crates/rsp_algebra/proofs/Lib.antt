@@ -6,3 +6,5 @@ pub mod Subtrees
 pub mod SameFacts
 pub mod NoFacts
 pub mod Bindings
+pub mod PatternRows
+pub mod BasicLaw
