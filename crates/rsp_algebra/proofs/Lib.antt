@@ -5,3 +5,6 @@ pub mod Sets
 pub mod Subtrees
 pub mod SameFacts
 pub mod NoFacts
+pub mod Bindings
+pub mod PatternRows
+pub mod BasicLaw
