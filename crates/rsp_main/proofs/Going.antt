@@ -6,11 +6,11 @@ use Rattle.std.specs.Io.KnownBytes.{Consumes, IsAtEnd}
 use Rattle.rsp_spec.specs.Faults.{Rose}
 use Rattle.rsp_io.specs.Reading.{given_after}
 use Rattle.rsp_events.specs.declared.event.Block.{Block}
-use Rattle.rsp_events.specs.Blocks.{Reader, blocks, whole}
+use Rattle.rsp_events.specs.Blocks.{Reader}
 use Rattle.rsp_engine.specs.Stands.{State, is_idle}
 use Rattle.rsp_main.specs.declared.stop.Stop.{Stop}
 use Rattle.rsp_main.specs.declared.stop.Stop.TheVariants.{Memory, Write}
-use Rattle.rsp_main.specs.Output.{whole_text, output, has_refusal, text_from}
+use Rattle.rsp_main.specs.Output.{log_blocks, log_whole, whole_text, output, has_refusal, text_from}
 use Rattle.rsp_main.specs.Sinks.{Seen, Wrote, WrotePart, WriteFailed, Stops, Ends}
 use Rattle.rsp_main.specs.Sessions.{IsAt, Adds, Breaks, Closes}
 use Rattle.rsp_main.specs.Answers.{SourceSeen, AnswersLog, ReadFails, PassesLimit, IsShort, status_of, most_bytes}
@@ -30,33 +30,31 @@ Goes (Some log) None before now reader engine known = ⊥
 Goes (Some log) (Some rest) before now reader engine known = Comes log rest before now reader engine known
 
 -- between two reads; `total` bytes were taken
-pub record Going (source_before : SourceSeen) (before : Seen) (faults_before steps_before : ℕ) (source : SourceSeen) (now : Seen) (faults steps : ℕ) (reader : Reader) (engine : State) (known : Bool) (total : ℕ) : Type 0 where
+pub record Going (source_before : SourceSeen) (before : Seen) (faults_before : ℕ) (source : SourceSeen) (now : Seen) (faults : ℕ) (reader : Reader) (engine : State) (known : Bool) (total : ℕ) : Type 0 where
   pub idle : IsTrue (is_idle engine)
   pub sure : source.sure ≡ source_before.sure
   pub source_risen : source_before.faults ≤ source.faults
   pub risen : faults_before ≤ faults
-  pub counted : steps ≡ steps_before
   pub short : total ≤ most_bytes
   pub given : source.given < 2 ^ 64 - 1 → source.given ≡ source_before.given + total
   pub goes : Goes source_before.left source.left before now reader engine known
 
 -- what the prefix law of blocks says
 abbrev pub Begins : Type 0
-Begins = (bytes more : List ℕ) → (rest : List Block) × (blocks (bytes ++ more) ≡ whole bytes ++ rest)
+Begins = (bytes more : List ℕ) → (rest : List Block) × (log_blocks (bytes ++ more) ≡ log_whole bytes ++ rest)
 
 begun : (left : Option (List ℕ)) (sink : Seen) (reader : Reader) (engine : State) (known : Bool) → IsAt reader engine known [] → Goes left left sink sink reader engine known
 begun None sink reader engine known at = tt
 begun (Some log) sink reader engine known at = record { bytes = []; read = refl; at = at; wrote = wrote_nothing sink }
 
 -- nothing is read yet
-pub going_nothing : (source : SourceSeen) (sink : Seen) (faults steps : ℕ) (reader : Reader) (engine : State) (known : Bool) → IsAt reader engine known [] → IsTrue (is_idle engine) → Going source sink faults steps source sink faults steps reader engine known 0
-going_nothing source sink faults steps reader engine known at idle =
+pub going_nothing : (source : SourceSeen) (sink : Seen) (faults : ℕ) (reader : Reader) (engine : State) (known : Bool) → IsAt reader engine known [] → IsTrue (is_idle engine) → Going source sink faults source sink faults reader engine known 0
+going_nothing source sink faults reader engine known at idle =
     record {
       idle = idle;
       sure = refl;
       source_risen = omega arith;
       risen = omega arith;
-      counted = refl;
       short = omega arith;
       given = λ _. omega arith;
       goes = begun source.left sink reader engine known at;
@@ -85,8 +83,8 @@ not_sure : (sure : Bool) → (IsTrue sure → ⊥) → sure ≡ false
 not_sure true h = absurd (h refl)
 not_sure false h = refl
 
-pub read_failed : Begins → (source_before source source_after : SourceSeen) (before now : Seen) (faults_before faults steps_before steps : ℕ) (reader : Reader) (engine : State) (known : Bool) (total : ℕ) → Going source_before before faults_before steps_before source now faults steps reader engine known total → source_after.given ≡ source.given → Rose source.faults source_after.faults → (IsTrue source.sure → ⊥) → ReadFails source_before source_after before now
-read_failed law source_before source source_after before now faults_before faults steps_before steps reader engine known total going given rose unsure =
+pub read_failed : Begins → (source_before source source_after : SourceSeen) (before now : Seen) (faults_before faults : ℕ) (reader : Reader) (engine : State) (known : Bool) (total : ℕ) → Going source_before before faults_before source now faults reader engine known total → source_after.given ≡ source.given → Rose source.faults source_after.faults → (IsTrue source.sure → ⊥) → ReadFails source_before source_after before now
+read_failed law source_before source source_after before now faults_before faults reader engine known total going given rose unsure =
     record {
       rose = omega (arith, going.source_risen, rose);
       unsure = sym going.sure ∙ not_sure source.sure unsure;
@@ -94,8 +92,8 @@ read_failed law source_before source source_after before now faults_before fault
       short = λ below. omega (arith, going.given, going.short, given, below);
     }
 
-pub too_long : Begins → (source_before source source_after : SourceSeen) (before now : Seen) (faults_before faults steps_before steps : ℕ) (reader : Reader) (engine : State) (known : Bool) (total n : ℕ) → Going source_before before faults_before steps_before source now faults steps reader engine known total → source_after.given ≡ given_after source.given n → most_bytes < total + n → PassesLimit source_before source_after before now
-too_long law source_before source source_after before now faults_before faults steps_before steps reader engine known total n going given past =
+pub too_long : Begins → (source_before source source_after : SourceSeen) (before now : Seen) (faults_before faults : ℕ) (reader : Reader) (engine : State) (known : Bool) (total n : ℕ) → Going source_before before faults_before source now faults reader engine known total → source_after.given ≡ given_after source.given n → most_bytes < total + n → PassesLimit source_before source_after before now
+too_long law source_before source source_after before now faults_before faults reader engine known total n going given past =
     record {
       long =
           λ below.
@@ -123,8 +121,8 @@ answers_stop source_before source_after before now Memory stops short = record {
 answers_stop source_before source_after before now Write stops short =
     record { part = stops_part source_before.left before now stops; full = stops; short = short }
 
-pub work_stopped : (source_before source source_after : SourceSeen) (before mid now : Seen) (faults_before faults steps_before steps : ℕ) (reader : Reader) (engine : State) (known : Bool) (total n : ℕ) (piece : List ℕ) (why : Stop) → Going source_before before faults_before steps_before source mid faults steps reader engine known total → Consumes source.left source_after.left piece → source_after.given ≡ given_after source.given n → total + n ≤ most_bytes → ((bytes more : List ℕ) → IsAt reader engine known bytes → Breaks mid now bytes (piece ++ more) why) → AnswersLog source_before source_after before now (status_of (Err why))
-work_stopped source_before source source_after before mid now faults_before faults steps_before steps reader engine known total n piece why going consumed given within breaks =
+pub work_stopped : (source_before source source_after : SourceSeen) (before mid now : Seen) (faults_before faults : ℕ) (reader : Reader) (engine : State) (known : Bool) (total n : ℕ) (piece : List ℕ) (why : Stop) → Going source_before before faults_before source mid faults reader engine known total → Consumes source.left source_after.left piece → source_after.given ≡ given_after source.given n → total + n ≤ most_bytes → ((bytes more : List ℕ) → IsAt reader engine known bytes → Breaks mid now bytes (piece ++ more) why) → AnswersLog source_before source_after before now (status_of (Err why))
+work_stopped source_before source source_after before mid now faults_before faults reader engine known total n piece why going consumed given within breaks =
     answers_stop source_before source_after before now why
     (broken_part source_before.left source.left source_after.left before mid now reader engine known piece why going.goes consumed breaks)
     (λ below.
@@ -145,14 +143,13 @@ went_on (Some log) (Some rest) (Some more) before mid now reader reader_after en
       wrote = rw (added.1.added) (wrote_more before mid now _ _ goes.wrote added.1.wrote);
     }
 
-pub going_on : (source_before source source_after : SourceSeen) (before mid now : Seen) (faults_before faults faults_after steps_before steps steps_after : ℕ) (reader reader_after : Reader) (engine engine_after : State) (known known_after : Bool) (total n : ℕ) (piece : List ℕ) → Going source_before before faults_before steps_before source mid faults steps reader engine known total → Consumes source.left source_after.left piece → source_after.given ≡ given_after source.given n → total + n ≤ most_bytes → source.faults ≤ source_after.faults → source_after.sure ≡ source.sure → faults ≤ faults_after → steps_after ≡ steps → IsTrue (is_idle engine_after) → ((bytes : List ℕ) → IsAt reader engine known bytes → IsAt reader_after engine_after known_after (bytes ++ piece) × Adds mid now bytes piece) → Going source_before before faults_before steps_before source_after now faults_after steps_after reader_after engine_after known_after (total + n)
-going_on source_before source source_after before mid now faults_before faults faults_after steps_before steps steps_after reader reader_after engine engine_after known known_after total n piece going consumed given within source_risen sure risen counted idle adds =
+pub going_on : (source_before source source_after : SourceSeen) (before mid now : Seen) (faults_before faults faults_after : ℕ) (reader reader_after : Reader) (engine engine_after : State) (known known_after : Bool) (total n : ℕ) (piece : List ℕ) → Going source_before before faults_before source mid faults reader engine known total → Consumes source.left source_after.left piece → source_after.given ≡ given_after source.given n → total + n ≤ most_bytes → source.faults ≤ source_after.faults → source_after.sure ≡ source.sure → faults ≤ faults_after → IsTrue (is_idle engine_after) → ((bytes : List ℕ) → IsAt reader engine known bytes → IsAt reader_after engine_after known_after (bytes ++ piece) × Adds mid now bytes piece) → Going source_before before faults_before source_after now faults_after reader_after engine_after known_after (total + n)
+going_on source_before source source_after before mid now faults_before faults faults_after reader reader_after engine engine_after known known_after total n piece going consumed given within source_risen sure risen idle adds =
     record {
       idle = idle;
       sure = sure ∙ going.sure;
       source_risen = omega (arith, going.source_risen, source_risen);
       risen = omega (arith, going.risen, risen);
-      counted = counted ∙ going.counted;
       short = within;
       given = λ below. given_short source_before.given source.given source_after.given total n going.given given below;
       goes = went_on source_before.left source.left source_after.left before mid now reader reader_after engine engine_after known known_after piece going.goes consumed adds;
@@ -194,8 +191,8 @@ answers_end source_before source_after before now (Ok true) at_end ended short =
 answers_end source_before source_after before now (Err why) at_end ended short =
     answers_stop source_before source_after before now why (stopped_of source_before.left before now why ended) short
 
-pub log_ended : (source_before source source_after : SourceSeen) (before mid now : Seen) (faults_before faults steps_before steps : ℕ) (reader : Reader) (engine : State) (known : Bool) (total : ℕ) (result : Result Bool Stop) → Going source_before before faults_before steps_before source mid faults steps reader engine known total → Consumes source.left source_after.left [] → IsAtEnd source_after.left → source_after.given ≡ given_after source.given 0 → ((bytes : List ℕ) → IsAt reader engine known bytes → Closes mid now bytes result) → AnswersLog source_before source_after before now (status_of result)
-log_ended source_before source source_after before mid now faults_before faults steps_before steps reader engine known total result going consumed at_end given closes =
+pub log_ended : (source_before source source_after : SourceSeen) (before mid now : Seen) (faults_before faults : ℕ) (reader : Reader) (engine : State) (known : Bool) (total : ℕ) (result : Result Bool Stop) → Going source_before before faults_before source mid faults reader engine known total → Consumes source.left source_after.left [] → IsAtEnd source_after.left → source_after.given ≡ given_after source.given 0 → ((bytes : List ℕ) → IsAt reader engine known bytes → Closes mid now bytes result) → AnswersLog source_before source_after before now (status_of result)
+log_ended source_before source source_after before mid now faults_before faults reader engine known total result going consumed at_end given closes =
     answers_end source_before source_after before now result at_end
     (ended source_before.left source.left source_after.left before mid now reader engine known result going.goes consumed at_end closes)
     (λ below.

@@ -21,16 +21,15 @@ pub record Took (world : World) (all rest : List Block) (engine : State) (known 
   pub refused : refused_from world all ≡ (known || refused_from here rest)
   pub wrote : Wrote before now done
 
-pub record Taking (engine_before : State) (before : Seen) (faults_before steps_before : ℕ) (all : List Block) (engine : State) (now : Seen) (faults steps : ℕ) (rest : List Block) (known : Bool) : Type 0 where
+pub record Taking (engine_before : State) (before : Seen) (faults_before : ℕ) (all : List Block) (engine : State) (now : Seen) (faults : ℕ) (rest : List Block) (known : Bool) : Type 0 where
   pub idle : IsTrue (is_idle engine)
   pub timed : AllTimed rest
   pub took : (world : World) → Stands engine_before world [] → Took world all rest engine known before now
   pub risen : faults_before ≤ faults
-  pub counted : steps ≡ steps_before
 
 -- none is taken yet
-pub taking_none : (engine : State) (sink : Seen) (faults steps : ℕ) (all rest : List Block) → rest ≡ all → IsTrue (is_idle engine) → AllTimed all → Taking engine sink faults steps all engine sink faults steps rest false
-taking_none engine sink faults steps all rest is idle timed =
+pub taking_none : (engine : State) (sink : Seen) (faults : ℕ) (all rest : List Block) → rest ≡ all → IsTrue (is_idle engine) → AllTimed all → Taking engine sink faults all engine sink faults rest false
+taking_none engine sink faults all rest is idle timed =
     record {
       idle = idle;
       timed = rw is timed;
@@ -46,7 +45,6 @@ taking_none engine sink faults steps all rest is idle timed =
             wrote = wrote_nothing sink;
           };
       risen = omega arith;
-      counted = refl;
     }
 
 -- one block more
@@ -70,15 +68,14 @@ took_more world all rest more block engine after known this before mid now took 
       wrote = wrote_more before mid now _ _ took.wrote (text here took.stands);
     }
 
-pub taking_more : (engine_before : State) (before : Seen) (faults_before steps_before : ℕ) (all : List Block) (engine : State) (mid : Seen) (faults_mid steps_mid : ℕ) (rest : List Block) (known : Bool) (block : Block) (more : List Block) (after : State) (now : Seen) (faults steps : ℕ) (this : Bool) → Taking engine_before before faults_before steps_before all engine mid faults_mid steps_mid rest known → rest ≡ block ∷ more → IsTrue (is_idle after) → ((w : World) → Stands engine w [] → Wrote mid now (content_text w block.number block.content)) → ((w : World) → Stands engine w [] → (this ≡ content_refused w block.content) × Stands after (content_world w block.content) []) → faults_mid ≤ faults → steps ≡ steps_mid → Taking engine_before before faults_before steps_before all after now faults steps more (known || this)
-taking_more engine_before before faults_before steps_before all engine mid faults_mid steps_mid rest known block more after now faults steps this taking is idle text stands risen counted =
+pub taking_more : (engine_before : State) (before : Seen) (faults_before : ℕ) (all : List Block) (engine : State) (mid : Seen) (faults_mid : ℕ) (rest : List Block) (known : Bool) (block : Block) (more : List Block) (after : State) (now : Seen) (faults : ℕ) (this : Bool) → Taking engine_before before faults_before all engine mid faults_mid rest known → rest ≡ block ∷ more → IsTrue (is_idle after) → ((w : World) → Stands engine w [] → Wrote mid now (content_text w block.number block.content)) → ((w : World) → Stands engine w [] → (this ≡ content_refused w block.content) × Stands after (content_world w block.content) []) → faults_mid ≤ faults → Taking engine_before before faults_before all after now faults more (known || this)
+taking_more engine_before before faults_before all engine mid faults_mid rest known block more after now faults this taking is idle text stands risen =
     let timed : AllTimed (block ∷ more) = rw is at taking.timed in
     record {
       idle = idle;
       timed = timed.1;
       took = λ world at. took_more world all rest more block engine after known this before mid now (taking.took world at) is text stands;
       risen = omega (arith, taking.risen, risen);
-      counted = counted ∙ taking.counted;
     }
 
 pub next_timed : (rest : List Block) (block : Block) (more : List Block) → AllTimed rest → rest ≡ block ∷ more → IsTimed block.content

@@ -6,19 +6,21 @@ use Rattle.rsp_events.specs.declared.event.Event as events
 use Rattle.rsp_events.specs.declared.event.Block.{Block}
 use Rattle.rsp_events.specs.declared.event.Content.{Content}
 use Rattle.rsp_events.specs.declared.event.Content.TheVariants.{Event, Fault}
+use Rattle.rsp_events.specs.declared.event.BlockFault.{BlockFault}
+use Rattle.rsp_events.specs.declared.event.BlockFault.TheVariants.{BadBody, BadDirective, BlockTooLarge}
 use Rattle.rsp_events.specs.Blocks.{blocks, whole}
-use Rattle.rsp_streams_out.specs.Reports.{report_text}
+use Rattle.rsp_streams_out.specs.Reports.{overfull_text, report_text}
 use Rattle.rsp_engine.specs.declared.report.Report.{Report}
 use Rattle.rsp_engine.specs.declared.report.Outcome.{Outcome}
-use Rattle.rsp_engine.specs.declared.report.Outcome.TheVariants.{Rows}
+use Rattle.rsp_engine.specs.declared.report.Outcome.TheVariants.{Rows, Overfull}
 use Rattle.rsp_engine.specs.declared.refused.Refused.{Refused}
 use Rattle.rsp_engine.specs.declared.refused.Refused.TheVariants.{Broken, OutOfMemory, Late, Unbuilt}
 use Rattle.rsp_engine.specs.World.{World, empty_world}
 use Rattle.rsp_engine.specs.Accept.{accept}
 use Rattle.rsp_engine.specs.Moments.{moments}
-use Rattle.rsp_engine.specs.Reports.{reports}
+use Rattle.rsp_engine.specs.Reports.{reports, worked_off}
 
--- the line of a block that is of no form that is built, or of an event of a kind that isn't
+-- the line of an event of a kind that isn't built
 abbrev pub unbuilt_text : ℕ → List ℕ
 unbuilt_text number = codes "# refused block " ++ (decimal number ++ (codes " 22 Unbuilt" ++ (10 ∷ [])))
 
@@ -27,6 +29,13 @@ abbrev pub late_text : ℕ → ℕ → ℕ → List ℕ
 late_text number time next =
     codes "# refused block "
     ++ (decimal number ++ (codes " 15 Late time=" ++ (decimal time ++ (codes " next=" ++ (decimal next ++ (10 ∷ []))))))
+
+-- the line of a block that is no event
+abbrev pub fault_text : ℕ → BlockFault → List ℕ
+fault_text number BadDirective = codes "# refused block " ++ (decimal number ++ (codes " 3 BadDirective" ++ (10 ∷ [])))
+fault_text number (BadBody line) =
+    codes "# refused block " ++ (decimal number ++ (codes " 4 BadBody line=" ++ (decimal line ++ (10 ∷ []))))
+fault_text number BlockTooLarge = codes "# refused block " ++ (decimal number ++ (codes " 5 BlockTooLarge" ++ (10 ∷ [])))
 
 -- the line of a refused event; no event is refused for want of memory by definition
 abbrev pub refusal_text : ℕ → Refused → List ℕ
@@ -37,6 +46,7 @@ refusal_text number OutOfMemory = []
 
 abbrev pub outcome_text : List ℕ → ℕ → List (List ℕ) → Outcome → List ℕ
 outcome_text name at variables (Rows rows) = report_text name at variables rows
+outcome_text name at variables Overfull = overfull_text name at
 
 abbrev pub text_of_report : Report → List ℕ
 text_of_report report = outcome_text report.query report.at report.variables report.outcome
@@ -52,19 +62,19 @@ accepted_text world number event (Err why) = refusal_text number why
 abbrev pub event_text : World → ℕ → events.Event → List ℕ
 event_text world number event = accepted_text world number event (accept world event)
 
--- the world after an event: a refused one leaves it
-abbrev pub accepted_world : World → Result World Refused → World
-accepted_world world (Ok after) = after
-accepted_world world (Err why) = world
+-- the world after an event and its reports: a refused one leaves it
+abbrev pub accepted_world : World → events.Event → Result World Refused → World
+accepted_world world event (Ok after) = worked_off after (moments world event after)
+accepted_world world event (Err why) = world
 
 abbrev pub event_world : World → events.Event → World
-event_world world event = accepted_world world (accept world event)
+event_world world event = accepted_world world event (accept world event)
 
 -- ---- a block
 
 abbrev pub content_text : World → ℕ → Content → List ℕ
 content_text world number (Event event) = event_text world number event
-content_text world number (Fault fault) = unbuilt_text number
+content_text world number (Fault fault) = fault_text number fault
 
 abbrev pub content_world : World → Content → World
 content_world world (Event event) = event_world world event
@@ -92,17 +102,24 @@ refused_from world (block ∷ blocks) =
 
 -- ---- a whole text
 
+-- the log is document 1
+abbrev pub log_blocks : List ℕ → List Block
+log_blocks bytes = blocks 1 bytes
+
+abbrev pub log_whole : List ℕ → List Block
+log_whole bytes = whole 1 bytes
+
 -- what the program writes for a log
 abbrev pub output : List ℕ → List ℕ
-output bytes = text_from empty_world (blocks bytes)
+output bytes = text_from empty_world (log_blocks bytes)
 
 -- some block of the log is refused
 abbrev pub has_refusal : List ℕ → Bool
-has_refusal bytes = refused_from empty_world (blocks bytes)
+has_refusal bytes = refused_from empty_world (log_blocks bytes)
 
 -- what the blocks that have ended give
 abbrev pub whole_text : List ℕ → List ℕ
-whole_text bytes = text_from empty_world (whole bytes)
+whole_text bytes = text_from empty_world (log_whole bytes)
 
 -- what is written where the words are in no row of the table
 abbrev pub usage_text : List ℕ

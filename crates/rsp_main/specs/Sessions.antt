@@ -1,18 +1,19 @@
 -- Where a session stands that has read some bytes of a log.
 use Rattle.std.specs.Prelude.{◌≡◌, ℕ, Bool, List, [], ◌++◌, Result, MatchResult, ⊤}
-use Rattle.rsp_events.specs.Blocks.{Reader, HasRead, whole}
+use Rattle.rsp_events.specs.Blocks.{Reader, HasRead}
 use Rattle.rsp_engine.specs.World.{empty_world}
 use Rattle.rsp_engine.specs.Stands.{State, Stands}
-use Rattle.rsp_main.specs.Output.{world_from, refused_from, whole_text, output, has_refusal}
+use Rattle.rsp_main.specs.Output.{log_whole, world_from, refused_from, whole_text, output, has_refusal}
 use Rattle.rsp_main.specs.Sinks.{Seen, Wrote, Stops, Ends}
 use Rattle.rsp_main.specs.declared.stop.Stop.{Stop}
 
 -- these bytes were read; the engine stands for the world that their whole blocks make; and it is known whether one of
 -- these was refused
 pub record IsAt (reader : Reader) (engine : State) (known : Bool) (bytes : List ℕ) : Type 0 where
+  pub document : reader.document ≡ 1
   pub read : HasRead reader bytes
-  pub stands : Stands engine (world_from empty_world (whole bytes)) []
-  pub refused : known ≡ refused_from empty_world (whole bytes)
+  pub stands : Stands engine (world_from empty_world (log_whole bytes)) []
+  pub refused : known ≡ refused_from empty_world (log_whole bytes)
 
 -- the text that more bytes add was written
 pub record Adds (before now : Seen) (bytes piece : List ℕ) : Type 0 where

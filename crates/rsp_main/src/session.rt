@@ -1,17 +1,17 @@
 // A log that is worked off as its pieces come.
 ghost use Rattle.std.specs.Prelude.{◌≡◌, ◌||◌, ◌++◌, IsTrue, IfOk, OnOk, IfErr, List, ℕ, [], false};
 ghost use Rattle.rsp_events.specs.declared.event.Block.{Block};
-ghost use Rattle.rsp_events.specs.Blocks.{blocks, whole};
 ghost use Rattle.rsp_events.specs.Instants.{AllTimed};
 ghost use Rattle.rsp_engine.specs.World.{World};
 ghost use Rattle.rsp_engine.specs.Stands.{Stands, is_idle};
-ghost use Rattle.rsp_main.specs.Output.{text_from, world_from, refused_from};
+ghost use Rattle.rsp_main.specs.Output.{log_blocks, log_whole, text_from, world_from, refused_from};
 ghost use Rattle.rsp_main.specs.Sinks.{CausedBy, Ends, seen};
 ghost use Rattle.rsp_main.specs.Sessions.{IsAt, Adds, Breaks, Closes};
 
 use crate::stop::Stop;
 use crate::telling::take_content;
 use rsp_engine::Engine;
+use rsp_eval::Plain;
 use rsp_events::{Block, Blocks};
 use rsp_io::Sink;
 use rsp_steps::Steps;
@@ -19,12 +19,15 @@ use rsp_terms::Listed;
 use std::alloc::{AllocError, Global};
 use std::sync::ledger::Ledger;
 
+// The log's document number.
+const LOG: u32 = 1;
+
 /// The reader of the log's blocks, the engine, and whether some block was refused.
 #[derive(Drop)]
 pub struct Session {
     alloc: Global,
     blocks: Blocks,
-    engine: Engine,
+    engine: Engine<Plain>,
     refused: bool,
 }
 
@@ -33,11 +36,11 @@ impl Session {
     pub fn new(alloc: Global) -> Session
         ensures at { IsAt result.blocks result.engine result.refused [] }
         ensures idle { IsTrue (is_idle result.engine) }
-        ensures prefix { (bytes more : List ℕ) → (rest : List Block) × (blocks (bytes ++ more) ≡ whole bytes ++ rest) }
+        ensures prefix { (bytes more : List ℕ) → (rest : List Block) × (log_blocks (bytes ++ more) ≡ log_whole bytes ++ rest) }
     {
         Session {
             alloc,
-            blocks: Blocks::new(alloc),
+            blocks: Blocks::new(alloc, LOG),
             engine: Engine::new(alloc),
             refused: false,
         }
@@ -62,7 +65,6 @@ impl Session {
             (seen (K.taken out.old) (K.room out.old)) (seen (K.taken out.new) (K.room out.new))
             bytes (piece.now ++ more) why) }
         ensures cause { CausedBy (K.faults out.old) (K.faults out.new) result }
-        ensures steps { steps.new ≡ steps.old }
     {
         match self.blocks.feed(piece) {
             Ok(given) => match take_blocks(self.alloc, &mut self.engine, given, out, steps) {
@@ -89,7 +91,6 @@ impl Session {
             (seen (K.taken out.old) (K.room out.old)) (seen (K.taken out.new) (K.room out.new))
             bytes result }
         ensures cause { CausedBy (K.faults out.old) (K.faults out.new) result }
-        ensures steps { steps.new ≡ steps.old }
     {
         match self.blocks.finish() {
             Ok(Some(block)) => {
@@ -120,7 +121,7 @@ fn either(a: bool, b: bool) -> bool
 // Works off blocks in order. The answer is whether some block was refused.
 fn take_blocks<K: Sink, L: Ledger>(
     alloc: Global,
-    engine: &mut Engine,
+    engine: &mut Engine<Plain>,
     blocks: Listed<Block>,
     out: &mut K,
     steps: &mut Steps<L>,
@@ -135,7 +136,6 @@ fn take_blocks<K: Sink, L: Ledger>(
     ensures stands { IfOk result (λ refused. (world : World) → Stands engine.old world []
         → (refused ≡ refused_from world blocks) × Stands engine.new (world_from world blocks) []) }
     ensures cause { CausedBy (K.faults out.old) (K.faults out.new) result }
-    ensures steps { steps.new ≡ steps.old }
 {
     let mut refused = false;
     for block in blocks.into_vec() {

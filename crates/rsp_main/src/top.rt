@@ -46,7 +46,6 @@ pub fn rsp<S: Source, H: Shelf, K: Sink, L: Ledger>(
     ensures unread { ask_for_events words.now ≡ false → input.new ≡ input.old }
     ensures shelf { shelf.new ≡ shelf.old }
     ensures cause { HasWriteCause (K.faults out.old) (K.faults out.new) result }
-    ensures steps { steps.new ≡ steps.old }
 {
     let _ = shelf;
     if are_events(words) {
@@ -69,7 +68,6 @@ fn events<S: Source, K: Sink, L: Ledger>(
         (source_seen (S.left input.new) (S.given input.new) (S.faults input.new) (S.sure input.new))
         (seen (K.taken out.old) (K.room out.old)) (seen (K.taken out.new) (K.room out.new)) result }
     ensures cause { HasWriteCause (K.faults out.old) (K.faults out.new) result }
-    ensures steps { steps.new ≡ steps.old }
 {
     let mut buffer = [0u8; READ_BYTES];
     let mut session = Session::new(alloc);

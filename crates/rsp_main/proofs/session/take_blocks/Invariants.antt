@@ -9,11 +9,9 @@ invariant-loop-block g l =
     l.initial.engine
     (seen (g.K.Sink.taken l.initial.out) (g.K.Sink.room l.initial.out))
     (g.K.Sink.faults l.initial.out)
-    l.initial.steps
     l.fn.blocks
     l.engine
     (seen (g.K.Sink.taken l.out) (g.K.Sink.room l.out))
     (g.K.Sink.faults l.out)
-    l.steps
     (into_iter_items l.block-iterator)
     l.refused

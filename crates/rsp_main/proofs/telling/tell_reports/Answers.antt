@@ -4,7 +4,7 @@ use Rattle.rsp_main.proofs.telling.tell_reports.Goals as goal
 pub reports-preserved : goal.reports-preserved
 reports-preserved g c =
     let given = rw c.in-Ok-Some.field-0-is at c.in-Ok-Some.ensures.report in
-    telling_more _ _ _ _ _ _ _ _ _ _ _ _ _ c.reports.invariant given c.in-Ok.ensures.text c.tell.ensures.cause.0 c.next_report.ensures.steps
+    telling_more _ _ _ _ _ _ _ _ _ _ c.reports.invariant given c.in-Ok.ensures.text c.tell.ensures.cause.0
 
 pub returns-in-Err-tell-clause-text : goal.returns-in-Err-tell-clause-text
 returns-in-Err-tell-clause-text g c world left stands =

@@ -9,11 +9,9 @@ invariant-reports g l =
     l.initial.engine
     (seen (g.K.Sink.taken l.initial.out) (g.K.Sink.room l.initial.out))
     (g.K.Sink.faults l.initial.out)
-    l.initial.steps
     l.engine
     (seen (g.K.Sink.taken l.out) (g.K.Sink.room l.out))
     (g.K.Sink.faults l.out)
-    l.steps
 
 abbrev pub decreases-reports : goal.decreases-reports
 decreases-reports g l = instants_left l.engine

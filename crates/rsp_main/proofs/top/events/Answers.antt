@@ -4,13 +4,13 @@ use Rattle.rsp_main.proofs.Going.{going_nothing, going_on, log_ended, first_none
 use Rattle.rsp_main.proofs.top.events.Goals as goal
 
 pub reads-init : goal.reads-init
-reads-init g c = going_nothing _ _ _ _ _ _ _ c.new-session.ensures.at c.new-session.ensures.idle
+reads-init g c = going_nothing _ _ _ _ _ _ c.new-session.ensures.at c.new-session.ensures.idle
 
 pub reads-preserved : goal.reads-preserved
 reads-preserved g c =
     let within : c.reads.taken + c.in-Ok.read ≤ most_bytes = c.if-taken-gt-MOST_BYTES.false in
     let took = rw (← c.split_at.ensures.front) at c.in-Ok.ensures.bytes.0 in
-    going_on _ _ _ _ _ _ _ _ _ _ _ _ _ _ _ _ _ _ _ _ _
+    going_on _ _ _ _ _ _ _ _ _ _ _ _ _ _ _ _ _ _
     c.reads.invariant
     took
     c.in-Ok.ensures.given
@@ -18,7 +18,6 @@ reads-preserved g c =
     c.read.ensures.cause.0
     c.read.ensures.still_sure
     c.work.ensures.cause.0
-    c.work.ensures.steps
     c.in-Ok-work.ensures.idle
     c.in-Ok-work.ensures.ok
 
@@ -29,7 +28,7 @@ returns-in-Ok-eq0-clause-log g c =
     let given = rw c.in-Ok-eq0.field-0-test at c.in-Ok-eq0.ensures.given in
     rw
     c.status_of.ensures
-    (log_ended _ _ _ _ _ _ _ _ _ _ _ _ _ _ c.finish.result
+    (log_ended _ _ _ _ _ _ _ _ _ _ _ _ c.finish.result
     c.reads.invariant
     (rw none at read.0)
     (read.1 c.in-Ok-eq0.field-0-test)
@@ -38,7 +37,7 @@ returns-in-Ok-eq0-clause-log g c =
 
 pub returns-then-taken-gt-MOST_BYTES-clause-log : goal.returns-then-taken-gt-MOST_BYTES-clause-log
 returns-then-taken-gt-MOST_BYTES-clause-log g c =
-    too_long c.new-session.ensures.prefix _ _ _ _ _ _ _ _ _ _ _ _ _ c.in-Ok.read c.reads.invariant c.in-Ok.ensures.given c.if-taken-gt-MOST_BYTES.true
+    too_long c.new-session.ensures.prefix _ _ _ _ _ _ _ _ _ _ _ c.in-Ok.read c.reads.invariant c.in-Ok.ensures.given c.if-taken-gt-MOST_BYTES.true
 
 pub returns-in-Err-work-clause-log : goal.returns-in-Err-work-clause-log
 returns-in-Err-work-clause-log g c =
@@ -46,7 +45,7 @@ returns-in-Err-work-clause-log g c =
     let took = rw (← c.split_at.ensures.front) at c.in-Ok.ensures.bytes.0 in
     rw
     c.status_of-in-Err-work.ensures
-    (work_stopped _ _ _ _ _ _ _ _ _ _ _ _ _ _ _ _ c.in-Err-work.stop
+    (work_stopped _ _ _ _ _ _ _ _ _ _ _ _ _ _ c.in-Err-work.stop
     c.reads.invariant
     took
     c.in-Ok.ensures.given
@@ -55,4 +54,4 @@ returns-in-Err-work-clause-log g c =
 
 pub returns-in-Err-clause-log : goal.returns-in-Err-clause-log
 returns-in-Err-clause-log g c =
-    read_failed c.new-session.ensures.prefix _ _ _ _ _ _ _ _ _ _ _ _ _ c.reads.invariant c.in-Err.ensures.given c.in-Err.ensures.cause.1 (λ sure. true≢false (sym (c.in-Err.ensures.sure sure)))
+    read_failed c.new-session.ensures.prefix _ _ _ _ _ _ _ _ _ _ _ c.reads.invariant c.in-Err.ensures.given c.in-Err.ensures.cause.1 (λ sure. true≢false (sym (c.in-Err.ensures.sure sure)))

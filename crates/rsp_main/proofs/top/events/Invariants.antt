@@ -10,11 +10,9 @@ invariant-reads g l =
     (source_seen (g.S.Source.left l.initial.input) (g.S.Source.given l.initial.input) (g.S.Source.faults l.initial.input) (g.S.Source.sure l.initial.input))
     (seen (g.K.Sink.taken l.initial.out) (g.K.Sink.room l.initial.out))
     (g.K.Sink.faults l.initial.out)
-    l.initial.steps
     (source_seen (g.S.Source.left l.input) (g.S.Source.given l.input) (g.S.Source.faults l.input) (g.S.Source.sure l.input))
     (seen (g.K.Sink.taken l.out) (g.K.Sink.room l.out))
     (g.K.Sink.faults l.out)
-    l.steps
     l.session.blocks
     l.session.engine
     l.session.refused
