@@ -1,3 +1,5 @@
 pub mod Parts
 pub mod Statements
 pub mod Grammar
+pub mod Kinds
+pub mod Scans
