@@ -2,6 +2,7 @@
 use Rattle.std.proofs.Common.{◌≡◌, ℕ, zero, suc, ◌+◌, ◌-◌, ◌*◌, ◌^◌, ◌<◌, ◌≤◌, Bool, true, false, true≢false, List, [], ◌∷◌, ◌++◌, length, take, drop, get_or, refl, sym, ap, ◌∙◌, arith, Option, Some, None, IsUtf8, chars}
 use Rattle.std.specs.Prelude.{◌&&◌, ◌||◌, ◌==◌, not, nat_lt}
 use Rattle.std.specs.Char.{is_ascii_alphabetic, is_ascii_digit}
+use Rattle.std.specs.List.{slice_range}
 use Rattle.std.specs.Str.{all_scalars, encode_utf8_all, IsCharBoundary, IsAscii}
 use Rattle.std.proofs.lemmas.Bool.Decides.{nat_tests}
 use Rattle.std.proofs.lemmas.Grind.{common_steps}
@@ -104,3 +105,8 @@ digit_fits n i small within =
     let most : 16 ^ suc i ≤ 16 ^ 8 = pow-le-pow_right {n = 16} (omega arith) {i = suc i} {j = 8} (omega arith) in
     let next : 16 ^ suc i ≡ 16 * 16 ^ i = grind arith in
     omega arith
+
+pub range_front : (n : ℕ) (front text : List ℕ) → n ≡ length front → IsFront front text → slice_range text 0 n ≡ front
+range_front n front text is front_is =
+    let all : n - 0 ≡ length front = omega arith in
+    rw all (front_is.is)

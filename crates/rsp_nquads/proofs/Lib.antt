@@ -1,7 +1,14 @@
 pub mod Best
+pub mod EscapeLaws
 pub mod Fronts
+pub mod Halting
+pub mod Judging
+pub mod Lines
 pub mod Longest
 pub mod LongestLabel
 pub mod LongestTag
+pub mod NameLaws
+pub mod Pieces
+pub mod RuleLaws
 pub mod Spelling
 pub mod StatementRows

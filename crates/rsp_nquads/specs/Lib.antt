@@ -3,3 +3,5 @@ pub mod Statements
 pub mod Grammar
 pub mod Kinds
 pub mod Scans
+pub mod Results
+pub mod Writing

@@ -10,12 +10,12 @@ mod escapes;
 mod fault;
 mod labels;
 mod signs;
-
+mod statements;
 mod terms;
-
-
-
+#[cfg(test)]
+mod tests;
+mod writing;
 
 pub use fault::LineFault;
-
-
+pub use statements::statement;
+pub use writing::write;
