@@ -11,4 +11,6 @@ pub mod NameLaws
 pub mod Pieces
 pub mod RuleLaws
 pub mod Spelling
+pub mod StatementLaws
 pub mod StatementRows
+pub mod TermLaws

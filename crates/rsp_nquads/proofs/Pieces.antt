@@ -85,7 +85,7 @@ plain_characters test wide [] = refl
 plain_characters test wide (c ∷ cs) =
     list_all-append test (encode_utf8 c) (encode_utf8_all cs) ∙ rw (plain_bytes test wide c, plain_characters test wide cs) refl
 
-all_run : (test : ℕ → Bool) (xs : List ℕ) → list_all test (take_while test xs) ≡ true
+pub all_run : (test : ℕ → Bool) (xs : List ℕ) → list_all test (take_while test xs) ≡ true
 all_run test [] = refl
 all_run test (x ∷ xs) = rw (take_while-cons test x xs) (by (test x) refl (all_run test xs))
     where
@@ -93,7 +93,7 @@ all_run test (x ∷ xs) = rw (take_while-cons test x xs) (by (test x) refl (all_
       by true is more = rw is more
       by false is more = refl
 
-run_split : (test : ℕ → Bool) (xs : List ℕ) → xs ≡ take_while test xs ++ behind (take_while test xs) xs
+pub run_split : (test : ℕ → Bool) (xs : List ℕ) → xs ≡ take_while test xs ++ behind (take_while test xs) xs
 run_split test [] = refl
 run_split test (x ∷ xs) = by (test x) refl (run_split test xs)
     where
