@@ -41,7 +41,7 @@ module _ {S : Type 0} (m : Machine S) (s : S) (xs : List ℕ) (i end : ℕ) wher
 
   pub end_within : (t : S) → end ≤ i → (if m.ends t then i + 1 else end) ≤ i + 1
   end_within t within = by (m.ends t)
-      where
-        by : (b : Bool) → (if b then i + 1 else end) ≤ i + 1
-        by true = omega arith
-        by false = omega arith
+    where
+      by : (b : Bool) → (if b then i + 1 else end) ≤ i + 1
+      by true = omega arith
+      by false = omega arith

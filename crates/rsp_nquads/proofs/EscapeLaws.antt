@@ -95,30 +95,30 @@ unfolding uchar
 uchar_found [] rest c is = absurd (cc)
 uchar_found (a ∷ []) rest c is = absurd (cc)
 uchar_found (a ∷ b ∷ text) rest c is = by (a == 92) (b == 117) (b == 85) refl refl refl is
-    where
-      by : (bar u v : Bool) → (a == 92) ≡ bar → (b == 117) ≡ u → (b == 85) ≡ v
-          → (if bar then (if u then code_point 4 text else (if v then code_point 8 text else None)) else None) ≡ found_as c rest
-          → Escaped IsUchar (a ∷ b ∷ text) rest c
-      by false u v ha hb hc is = absurd (cc)
-      by true true v ha hb hc is =
-          let n = code_point_found 4 text rest c is in
-          record {
-            piece = short n.digits;
-            kind = tt;
-            text_is = rw (equal_from a 92 ha, equal_from b 117 hb) (ap (λ ys. 92 ∷ 117 ∷ ys) n.text_is);
-            scalar = n.scalar;
-            stands = n.number;
-          }
-      by true false true ha hb hc is =
-          let n = code_point_found 8 text rest c is in
-          record {
-            piece = long n.digits;
-            kind = tt;
-            text_is = rw (equal_from a 92 ha, equal_from b 85 hc) (ap (λ ys. 92 ∷ 85 ∷ ys) n.text_is);
-            scalar = n.scalar;
-            stands = n.number;
-          }
-      by true false false ha hb hc is = absurd (cc)
+  where
+    by : (bar u v : Bool) → (a == 92) ≡ bar → (b == 117) ≡ u → (b == 85) ≡ v
+        → (if bar then (if u then code_point 4 text else (if v then code_point 8 text else None)) else None) ≡ found_as c rest
+        → Escaped IsUchar (a ∷ b ∷ text) rest c
+    by false u v ha hb hc is = absurd (cc)
+    by true true v ha hb hc is =
+        let n = code_point_found 4 text rest c is in
+        record {
+          piece = short n.digits;
+          kind = tt;
+          text_is = rw (equal_from a 92 ha, equal_from b 117 hb) (ap (λ ys. 92 ∷ 117 ∷ ys) n.text_is);
+          scalar = n.scalar;
+          stands = n.number;
+        }
+    by true false true ha hb hc is =
+        let n = code_point_found 8 text rest c is in
+        record {
+          piece = long n.digits;
+          kind = tt;
+          text_is = rw (equal_from a 92 ha, equal_from b 85 hc) (ap (λ ys. 92 ∷ 85 ∷ ys) n.text_is);
+          scalar = n.scalar;
+          stands = n.number;
+        }
+    by true false false ha hb hc is = absurd (cc)
 
 uchar_finds : (p : Piece) (c : ℕ) (rest : List ℕ) → IsUchar p → is_scalar c ≡ true → StandsFor p c → uchar (written p ++ rest) ≡ found_as c rest
 unfolding uchar
@@ -149,21 +149,21 @@ unfolding echar
 echar_found [] rest c is = absurd (cc)
 echar_found (a ∷ []) rest c is = absurd (cc)
 echar_found (a ∷ d ∷ text) rest c is = by (a == 92) refl (named_character d) refl is
-    where
-      by : (bar : Bool) → (a == 92) ≡ bar → (o : Option ℕ) → named_character d ≡ o
-          → (if bar then option_map (λ n. (n, text)) o else None) ≡ found_as c rest → Escaped IsNamed (a ∷ d ∷ text) rest c
-      by false ha o ho is = absurd (cc)
-      by true ha None ho is = absurd (cc)
-      by true ha (Some n) ho is =
-          let same = found_same n c text rest is in
-          let name : named_character d ≡ Some c = ho ∙ ap (λ x. Some x) same.0 in
-          record {
-            piece = named d;
-            kind = tt;
-            text_is = rw (equal_from a 92 ha) (ap (λ ys. 92 ∷ d ∷ ys) same.1);
-            scalar = named_scalar d c name;
-            stands = name;
-          }
+  where
+    by : (bar : Bool) → (a == 92) ≡ bar → (o : Option ℕ) → named_character d ≡ o
+        → (if bar then option_map (λ n. (n, text)) o else None) ≡ found_as c rest → Escaped IsNamed (a ∷ d ∷ text) rest c
+    by false ha o ho is = absurd (cc)
+    by true ha None ho is = absurd (cc)
+    by true ha (Some n) ho is =
+        let same = found_same n c text rest is in
+        let name : named_character d ≡ Some c = ho ∙ ap (λ x. Some x) same.0 in
+        record {
+          piece = named d;
+          kind = tt;
+          text_is = rw (equal_from a 92 ha) (ap (λ ys. 92 ∷ d ∷ ys) same.1);
+          scalar = named_scalar d c name;
+          stands = name;
+        }
 
 echar_finds : (d c : ℕ) (rest : List ℕ) → named_character d ≡ Some c → echar (92 ∷ d ∷ rest) ≡ found_as c rest
 unfolding echar
@@ -183,25 +183,26 @@ iri_found : (text rest : List ℕ) (c : ℕ) → iri_escape text ≡ found_as c 
     → (p : Piece) × ((text ≡ written p ++ rest) × (is_scalar c ≡ true) × StandsFor p c × IsIriPiece p c)
 unfolding iri_escape
 iri_found text rest c is = by (uchar text) refl is
-    where
-      piece_of : (x : ℕ × List ℕ) → uchar text ≡ Some x → Passed (is_iri_character x.0) x.0 c x.1 rest
-          → (p : Piece) × ((text ≡ written p ++ rest) × (is_scalar c ≡ true) × StandsFor p c × IsIriPiece p c)
-      piece_of x read p =
-          let e = uchar_found text rest c (read ∙ rw (p.value, p.rest) refl) in
-          let passes : is_iri_character c ≡ true = ap is_iri_character (sym p.value) ∙ p.test in
-          kinds e.piece e.kind e.text_is e.scalar e.stands passes
-        where
-          kinds : (q : Piece) → IsUchar q → text ≡ written q ++ rest → is_scalar c ≡ true → StandsFor q c → is_iri_character c ≡ true
-              → (p : Piece) × ((text ≡ written p ++ rest) × (is_scalar c ≡ true) × StandsFor p c × IsIriPiece p c)
-          kinds (plain d) kind t s st passes = absurd kind
-          kinds (named d) kind t s st passes = absurd kind
-          kinds (short ds) kind t s st passes = (short ds, (t, s, st, passes))
-          kinds (long ds) kind t s st passes = (long ds, (t, s, st, passes))
-      by : (o : Option (ℕ × List ℕ)) → uchar text ≡ o
-          → option_and_then (λ x. if is_iri_character x.0 then Some x else None) o ≡ found_as c rest
-          → (p : Piece) × ((text ≡ written p ++ rest) × (is_scalar c ≡ true) × StandsFor p c × IsIriPiece p c)
-      by None read is = absurd (cc)
-      by (Some x) read is = piece_of x read (passed (is_iri_character x.0) x.0 c x.1 rest is)
+  where
+    piece_of : (x : ℕ × List ℕ) → uchar text ≡ Some x → Passed (is_iri_character x.0) x.0 c x.1 rest
+        → (p : Piece) × ((text ≡ written p ++ rest) × (is_scalar c ≡ true) × StandsFor p c × IsIriPiece p c)
+    piece_of x read p =
+        let e = uchar_found text rest c (read ∙ rw (p.value, p.rest) refl) in
+        let passes : is_iri_character c ≡ true = ap is_iri_character (sym p.value) ∙ p.test in
+        kinds e.piece e.kind e.text_is e.scalar e.stands passes
+      where
+        kinds : (q : Piece) → IsUchar q → text ≡ written q ++ rest → is_scalar c ≡ true → StandsFor q c → is_iri_character c ≡ true
+            → (p : Piece) × ((text ≡ written p ++ rest) × (is_scalar c ≡ true) × StandsFor p c × IsIriPiece p c)
+        kinds (plain d) kind t s st passes = absurd kind
+        kinds (named d) kind t s st passes = absurd kind
+        kinds (short ds) kind t s st passes = (short ds, (t, s, st, passes))
+        kinds (long ds) kind t s st passes = (long ds, (t, s, st, passes))
+
+    by : (o : Option (ℕ × List ℕ)) → uchar text ≡ o
+        → option_and_then (λ x. if is_iri_character x.0 then Some x else None) o ≡ found_as c rest
+        → (p : Piece) × ((text ≡ written p ++ rest) × (is_scalar c ≡ true) × StandsFor p c × IsIriPiece p c)
+    by None read is = absurd (cc)
+    by (Some x) read is = piece_of x read (passed (is_iri_character x.0) x.0 c x.1 rest is)
 
 iri_finds : (p : Piece) (c : ℕ) (rest : List ℕ) → IsEscape p → is_scalar c ≡ true → StandsFor p c → IsIriPiece p c
     → iri_escape (written p ++ rest) ≡ found_as c rest
@@ -235,29 +236,31 @@ string_found : (text rest : List ℕ) (c : ℕ) → string_escape text ≡ found
     → (p : Piece) × ((text ≡ written p ++ rest) × (is_scalar c ≡ true) × StandsFor p c × IsStringPiece p c)
 unfolding string_escape
 string_found text rest c is = by (echar text) refl is
-    where
-      of_name : Escaped IsNamed text rest c → (p : Piece) × ((text ≡ written p ++ rest) × (is_scalar c ≡ true) × StandsFor p c × IsStringPiece p c)
-      of_name e = kinds e.piece e.kind e.text_is e.scalar e.stands
-        where
-          kinds : (q : Piece) → IsNamed q → text ≡ written q ++ rest → is_scalar c ≡ true → StandsFor q c
-              → (p : Piece) × ((text ≡ written p ++ rest) × (is_scalar c ≡ true) × StandsFor p c × IsStringPiece p c)
-          kinds (plain d) kind t s st = absurd kind
-          kinds (short ds) kind t s st = absurd kind
-          kinds (long ds) kind t s st = absurd kind
-          kinds (named d) kind t s st = (named d, (t, s, st, tt))
-      of_number : Escaped IsUchar text rest c → (p : Piece) × ((text ≡ written p ++ rest) × (is_scalar c ≡ true) × StandsFor p c × IsStringPiece p c)
-      of_number e = kinds e.piece e.kind e.text_is e.scalar e.stands
-        where
-          kinds : (q : Piece) → IsUchar q → text ≡ written q ++ rest → is_scalar c ≡ true → StandsFor q c
-              → (p : Piece) × ((text ≡ written p ++ rest) × (is_scalar c ≡ true) × StandsFor p c × IsStringPiece p c)
-          kinds (plain d) kind t s st = absurd kind
-          kinds (named d) kind t s st = absurd kind
-          kinds (short ds) kind t s st = (short ds, (t, s, st, tt))
-          kinds (long ds) kind t s st = (long ds, (t, s, st, tt))
-      by : (o : Option (ℕ × List ℕ)) → echar text ≡ o → option_or o (uchar text) ≡ found_as c rest
-          → (p : Piece) × ((text ≡ written p ++ rest) × (is_scalar c ≡ true) × StandsFor p c × IsStringPiece p c)
-      by None read is = of_number (uchar_found text rest c is)
-      by (Some x) read is = of_name (echar_found text rest c (read ∙ is))
+  where
+    of_name : Escaped IsNamed text rest c → (p : Piece) × ((text ≡ written p ++ rest) × (is_scalar c ≡ true) × StandsFor p c × IsStringPiece p c)
+    of_name e = kinds e.piece e.kind e.text_is e.scalar e.stands
+      where
+        kinds : (q : Piece) → IsNamed q → text ≡ written q ++ rest → is_scalar c ≡ true → StandsFor q c
+            → (p : Piece) × ((text ≡ written p ++ rest) × (is_scalar c ≡ true) × StandsFor p c × IsStringPiece p c)
+        kinds (plain d) kind t s st = absurd kind
+        kinds (short ds) kind t s st = absurd kind
+        kinds (long ds) kind t s st = absurd kind
+        kinds (named d) kind t s st = (named d, (t, s, st, tt))
+
+    of_number : Escaped IsUchar text rest c → (p : Piece) × ((text ≡ written p ++ rest) × (is_scalar c ≡ true) × StandsFor p c × IsStringPiece p c)
+    of_number e = kinds e.piece e.kind e.text_is e.scalar e.stands
+      where
+        kinds : (q : Piece) → IsUchar q → text ≡ written q ++ rest → is_scalar c ≡ true → StandsFor q c
+            → (p : Piece) × ((text ≡ written p ++ rest) × (is_scalar c ≡ true) × StandsFor p c × IsStringPiece p c)
+        kinds (plain d) kind t s st = absurd kind
+        kinds (named d) kind t s st = absurd kind
+        kinds (short ds) kind t s st = (short ds, (t, s, st, tt))
+        kinds (long ds) kind t s st = (long ds, (t, s, st, tt))
+
+    by : (o : Option (ℕ × List ℕ)) → echar text ≡ o → option_or o (uchar text) ≡ found_as c rest
+        → (p : Piece) × ((text ≡ written p ++ rest) × (is_scalar c ≡ true) × StandsFor p c × IsStringPiece p c)
+    by None read is = of_number (uchar_found text rest c is)
+    by (Some x) read is = of_name (echar_found text rest c (read ∙ is))
 
 string_finds : (p : Piece) (c : ℕ) (rest : List ℕ) → IsEscape p → is_scalar c ≡ true → StandsFor p c → IsStringPiece p c
     → string_escape (written p ++ rest) ≡ found_as c rest

@@ -1,7 +1,6 @@
 pub mod Best
 pub mod EscapeLaws
 pub mod Fronts
-pub mod Halting
 pub mod Judging
 pub mod Lines
 pub mod Longest
@@ -9,6 +8,7 @@ pub mod LongestLabel
 pub mod LongestTag
 pub mod NameLaws
 pub mod Pieces
+pub mod ReadBack
 pub mod RuleLaws
 pub mod Spelling
 pub mod StatementLaws

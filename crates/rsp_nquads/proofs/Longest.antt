@@ -33,10 +33,10 @@ ended m s c cs k none = record {
   passes = λ some. absurd (omega arith);
   longer = later;
 }
-    where
-      later : (j : ℕ) → 0 < j → j ≤ k → accepts m s (take j (c ∷ cs)) ≡ false
-      later zero more most = absurd (omega arith)
-      later (suc j) more most = rw none refl
+  where
+    later : (j : ℕ) → 0 < j → j ≤ k → accepts m s (take j (c ∷ cs)) ≡ false
+    later zero more most = absurd (omega arith)
+    later (suc j) more most = rw none refl
 
 stepped : {S : Type 0} (m : Machine S) (s t : S) (c : ℕ) (cs : List ℕ) (j : ℕ) → m.step s c ≡ Some t
     → accepts m s (take (suc j) (c ∷ cs)) ≡ accepts m t (take j cs)
@@ -61,10 +61,10 @@ longest_more m s t c cs n is h may_end = record {
   passes = λ some. stepped m s t c cs n is ∙ some_pass m t cs n h may_end;
   longer = later;
 }
-    where
-      later : (j : ℕ) → suc n < j → j ≤ suc (length cs) → accepts m s (take j (c ∷ cs)) ≡ false
-      later zero more most = absurd (omega arith)
-      later (suc j) more most = stepped m s t c cs j is ∙ h.longer j (omega arith) (omega arith)
+  where
+    later : (j : ℕ) → suc n < j → j ≤ suc (length cs) → accepts m s (take j (c ∷ cs)) ≡ false
+    later zero more most = absurd (omega arith)
+    later (suc j) more most = stepped m s t c cs j is ∙ h.longer j (omega arith) (omega arith)
 
 lengthened_by : {S : Type 0} (m : Machine S) (s t : S) (c : ℕ) (cs : List ℕ) (n : ℕ) (b e : Bool) → m.step s c ≡ Some t
     → IsLongest (accepts m t) cs (length cs) n → (n == 0) ≡ b → m.ends t ≡ e
@@ -74,12 +74,12 @@ lengthened_by m s t c cs n true false is h none not_end = record {
   passes = λ some. absurd (omega arith);
   longer = later;
 }
-    where
-      later : (j : ℕ) → 0 < j → j ≤ suc (length cs) → accepts m s (take j (c ∷ cs)) ≡ false
-      later zero more most = absurd (omega arith)
-      later (suc j) more most =
-          let zero_is : n ≡ 0 = grind (arith, nat_tests) in
-          stepped m s t c cs j is ∙ none_longer m t cs n j h zero_is not_end (omega arith)
+  where
+    later : (j : ℕ) → 0 < j → j ≤ suc (length cs) → accepts m s (take j (c ∷ cs)) ≡ false
+    later zero more most = absurd (omega arith)
+    later (suc j) more most =
+        let zero_is : n ≡ 0 = grind (arith, nat_tests) in
+        stepped m s t c cs j is ∙ none_longer m t cs n j h zero_is not_end (omega arith)
 lengthened_by m s t c cs n true true is h none may_end = longest_more m s t c cs n is h (λ _. may_end)
 lengthened_by m s t c cs n false e is h some may_end =
     longest_more m s t c cs n is h (λ none. absurd (let zero_is : (n == 0) ≡ true = grind (arith, nat_tests) in true≢false (sym zero_is ∙ some)))

@@ -18,19 +18,19 @@ behind_first : (last : ℕ) (cs : List ℕ)
     → accepts label_machine (Some last) cs ≡ (list_all is_label_character cs && not (last_of last cs == 0x2E))
 behind_first last [] = refl
 behind_first last (c ∷ cs) = by (is_label_character c) refl (behind_first c cs)
-    where
-      by : (b : Bool) → is_label_character c ≡ b → accepts label_machine (Some c) cs ≡ (list_all is_label_character cs && not (last_of c cs == 0x2E))
-          → accepts label_machine (Some last) (c ∷ cs) ≡ (list_all is_label_character (c ∷ cs) && not (last_of last (c ∷ cs) == 0x2E))
-      by true is more = rw is more
-      by false is more = rw is refl
+  where
+    by : (b : Bool) → is_label_character c ≡ b → accepts label_machine (Some c) cs ≡ (list_all is_label_character cs && not (last_of c cs == 0x2E))
+        → accepts label_machine (Some last) (c ∷ cs) ≡ (list_all is_label_character (c ∷ cs) && not (last_of last (c ∷ cs) == 0x2E))
+    by true is more = rw is more
+    by false is more = rw is refl
 
 is_label : (cs : List ℕ) → is_label_text cs ≡ accepts label_machine None cs
 is_label [] = refl
 is_label (c ∷ cs) = by (is_label_start c) refl
-    where
-      by : (b : Bool) → is_label_start c ≡ b → is_label_text (c ∷ cs) ≡ accepts label_machine None (c ∷ cs)
-      by true is = rw is (sym (behind_first c cs))
-      by false is = rw is refl
+  where
+    by : (b : Bool) → is_label_start c ≡ b → is_label_text (c ∷ cs) ≡ accepts label_machine None (c ∷ cs)
+    by true is = rw is (sym (behind_first c cs))
+    by false is = rw is refl
 
 pub longest_label_is : (cs : List ℕ) → longest_front is_label_text cs ≡ take (scan label_machine None cs) cs
 longest_label_is cs = longest_scanned label_machine None is_label_text cs is_label
@@ -106,7 +106,6 @@ end_within true read end len within = omega arith
 end_within false read end len within = omega arith
 
 -- ---- the first character
-
 
 dot_begins_none : is_label_start 0x2E ≡ false
 dot_begins_none = refl

@@ -30,10 +30,10 @@ some_onto c (part ∷ parts) = omega arith
 split_some : (p : ℕ → Bool) (cs : List ℕ) → 0 < length (slice_split p cs)
 split_some p [] = omega arith
 split_some p (c ∷ cs) = by (p c)
-    where
-      by : (b : Bool) → 0 < length (cond b ([] ∷ slice_split p cs) (onto_first c (slice_split p cs)))
-      by true = omega arith
-      by false = some_onto c (slice_split p cs)
+  where
+    by : (b : Bool) → 0 < length (cond b ([] ∷ slice_split p cs) (onto_first c (slice_split p cs)))
+    by true = omega arith
+    by false = some_onto c (slice_split p cs)
 
 further_parts : (parts : List (List ℕ)) → 0 < length parts → are_parts false false parts ≡ list_all (is_run_of is_ascii_alphanumeric) parts
 further_parts [] some = absurd (omega arith)
@@ -101,7 +101,10 @@ is_tag : (parts : List (List ℕ)) → 0 < length parts → are_subtags parts �
 is_tag [] some = absurd (omega arith)
 is_tag (part ∷ parts) some = refl
 
+pub tag_is : (cs : List ℕ) → is_tag_text cs ≡ accepts tag_machine (true, false) cs
+tag_is cs = is_tag (slice_split is_hyphen cs) (split_some is_hyphen cs) ∙ sym (answers cs true false)
+
 pub longest_tag : (text : List ℕ) → longest_front is_tag_text text ≡ take (scan tag_machine (true, false) text) text
 longest_tag text =
     longest_scanned tag_machine (true, false) is_tag_text text
-    (λ cs. is_tag (slice_split is_hyphen cs) (split_some is_hyphen cs) ∙ sym (answers cs true false))
+    tag_is

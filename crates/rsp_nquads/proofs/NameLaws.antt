@@ -29,13 +29,13 @@ record IsThere (front inner rest value : List ℕ) : Type 0 where
 
 there : (front inner rest value : List ℕ) → some_of front inner ≡ both_of value rest → IsThere front inner rest value
 there front inner rest value is = by (length front == 0) refl is
-    where
-      by : (b : Bool) → (length front == 0) ≡ b → (if b then None else both_of front (behind front inner)) ≡ both_of value rest
-          → IsThere front inner rest value
-      by true none is = absurd (cc)
-      by false some is =
-          let same = pair_same front value (behind front inner) rest is in
-          record { some = grind (arith, nat_tests); value_is = sym same.0; rest_is = sym same.1 }
+  where
+    by : (b : Bool) → (length front == 0) ≡ b → (if b then None else both_of front (behind front inner)) ≡ both_of value rest
+        → IsThere front inner rest value
+    by true none is = absurd (cc)
+    by false some is =
+        let same = pair_same front value (behind front inner) rest is in
+        record { some = grind (arith, nat_tests); value_is = sym same.0; rest_is = sym same.1 }
 
 is_there : (front rest : List ℕ) → 0 < length front → some_of front (front ++ rest) ≡ both_of front rest
 is_there front rest some = rw (differs (length front) 0 (omega arith), drop_front front rest) refl
@@ -45,20 +45,20 @@ is_there front rest some = rw (differs (length front) 0 (omega arith), drop_fron
 tag_sound : (text rest value : List ℕ) → tag text ≡ both_of value rest → (part : List ℕ) × ((text ≡ part ++ rest) × IsTag part rest value)
 unfolding tag
 tag_sound text rest value is = by (sign 64 text) refl is
-    where
-      by : (o : Option (List ℕ)) → sign 64 text ≡ o → option_and_then (λ inner. some_of (longest_front is_tag_text inner) inner) o ≡ both_of value rest
-          → (part : List ℕ) × ((text ≡ part ++ rest) × IsTag part rest value)
-      by None open_is is = absurd (cc)
-      by (Some inner) open_is is =
-          let t = there (longest_front is_tag_text inner) inner rest value is in
-          let h = front_longest is_tag_text inner in
-          let size = length_take (longest_up_to (length inner) is_tag_text inner) inner h.within in
-          let some = t.some in
-          let whole : inner ≡ longest_front is_tag_text inner ++ rest
-          = sym (take-append-drop (longest_up_to (length inner) is_tag_text inner) inner)
-          ∙ (ap (λ n. longest_front is_tag_text inner ++ drop n inner) (sym size) ∙ ap (λ ys. longest_front is_tag_text inner ++ ys) (sym t.rest_is)) in (
-            64 ∷ longest_front is_tag_text inner,
-            (
+  where
+    by : (o : Option (List ℕ)) → sign 64 text ≡ o → option_and_then (λ inner. some_of (longest_front is_tag_text inner) inner) o ≡ both_of value rest
+        → (part : List ℕ) × ((text ≡ part ++ rest) × IsTag part rest value)
+    by None open_is is = absurd (cc)
+    by (Some inner) open_is is =
+        let t = there (longest_front is_tag_text inner) inner rest value is in
+        let h = front_longest is_tag_text inner in
+        let size = length_take (longest_up_to (length inner) is_tag_text inner) inner h.within in
+        let some = t.some in
+        let whole : inner ≡ longest_front is_tag_text inner ++ rest
+        = sym (take-append-drop (longest_up_to (length inner) is_tag_text inner) inner)
+        ∙ (ap (λ n. longest_front is_tag_text inner ++ drop n inner) (sym size) ∙ ap (λ ys. longest_front is_tag_text inner ++ ys) (sym t.rest_is)) in (
+          64 ∷ longest_front is_tag_text inner,
+          (
             sign_found 64 text inner open_is ∙ ap (λ ys. 64 ∷ ys) whole,
             rw t.value_is
                 record {
@@ -70,8 +70,8 @@ tag_sound text rest value is = by (sign 64 text) refl is
                       ∙ sym (append_assoc (longest_front is_tag_text inner) more others)))
                       passes;
                 },
-            ),
-          )
+          ),
+        )
 
 some_tag : (language : List ℕ) → is_tag_text language ≡ true → 0 < length language
 some_tag [] is = absurd (true≢false (sym is))
@@ -91,23 +91,23 @@ tag_reads = record { sound = tag_sound; full = tag_full }
 valid_is_utf8 : (bs : List ℕ) (n : ℕ) → IsUtf8 (take (valid_len_up_to bs n) bs)
 valid_is_utf8 bs zero = IsUtf8-nil
 valid_is_utf8 bs (suc n) = by (is_utf8 (take (suc n) bs)) refl (valid_is_utf8 bs n)
-    where
-      by : (b : Bool) → is_utf8 (take (suc n) bs) ≡ b → IsUtf8 (take (valid_len_up_to bs n) bs)
-          → IsUtf8 (take (if b then suc n else valid_len_up_to bs n) bs)
-      by true is more = IsUtf8-from_is_utf8 (take (suc n) bs) is
-      by false is more = more
+  where
+    by : (b : Bool) → is_utf8 (take (suc n) bs) ≡ b → IsUtf8 (take (valid_len_up_to bs n) bs)
+        → IsUtf8 (take (if b then suc n else valid_len_up_to bs n) bs)
+    by true is more = IsUtf8-from_is_utf8 (take (suc n) bs) is
+    by false is more = more
 
 valid_most : (bs : List ℕ) (k n : ℕ) → is_utf8 (take k bs) ≡ true → k ≤ n → k ≤ valid_len_up_to bs n
 valid_most bs k zero is within = within
 valid_most bs k (suc n) is within = by (is_utf8 (take (suc n) bs)) refl (λ less. valid_most bs k n is less)
-    where
-      by : (b : Bool) → is_utf8 (take (suc n) bs) ≡ b → (k ≤ n → k ≤ valid_len_up_to bs n) → k ≤ (if b then suc n else valid_len_up_to bs n)
-      by true top more = within
-      by false top more = by_last (k == suc n) refl
-        where
-          by_last : (b : Bool) → (k == suc n) ≡ b → k ≤ valid_len_up_to bs n
-          by_last true same = absurd (true≢false (sym is ∙ (ap (λ i. is_utf8 (take i bs)) (equal_from k (suc n) same) ∙ top)))
-          by_last false other = more (grind (arith, nat_tests))
+  where
+    by : (b : Bool) → is_utf8 (take (suc n) bs) ≡ b → (k ≤ n → k ≤ valid_len_up_to bs n) → k ≤ (if b then suc n else valid_len_up_to bs n)
+    by true top more = within
+    by false top more = by_last (k == suc n) refl
+      where
+        by_last : (b : Bool) → (k == suc n) ≡ b → k ≤ valid_len_up_to bs n
+        by_last true same = absurd (true≢false (sym is ∙ (ap (λ i. is_utf8 (take i bs)) (equal_from k (suc n) same) ∙ top)))
+        by_last false other = more (grind (arith, nat_tests))
 
 abbrev front_characters : List ℕ → List ℕ
 front_characters inner = chars (take (utf8_valid_len inner) inner)
@@ -230,43 +230,45 @@ label_from inner rest value t =
     let scalars = scalars-take n c.cs c.scalars in (
       95 ∷ 58 ∷ value,
       (
-      ap (λ ys. 95 ∷ 58 ∷ ys) whole,
-      record {
-        characters = longest_front is_label_text c.cs;
-        scalars = scalars-take n c.cs c.scalars;
-        is_label = h.passes (omega arith);
-        label_is = t.value_is ∙ label_is;
-        part_is = refl;
-        longest = λ more others more_scalars more_is passes.
-            let all : inner ≡ encode_utf8_all (longest_front is_label_text c.cs ++ more) ++ others
-            = whole ∙ (ap (λ ys. ys ++ rest) (t.value_is ∙ label_is)
-            ∙ (ap (λ ys. encode_utf8_all (longest_front is_label_text c.cs) ++ ys) more_is
-            ∙ (sym (append_assoc (encode_utf8_all (longest_front is_label_text c.cs)) (encode_utf8_all more) others)
-            ∙ ap (λ ys. ys ++ others) (sym (encodes-append (longest_front is_label_text c.cs) more))))) in
-            let b = begun (longest_front is_label_text c.cs ++ more) inner others
-                (scalars-join (longest_front is_label_text c.cs) more scalars more_scalars) all in
-            no_longer is_label_text c.cs more b.es (sym c.is ∙ b.is) passes;
-      },
+        ap (λ ys. 95 ∷ 58 ∷ ys) whole,
+        record {
+          characters = longest_front is_label_text c.cs;
+          scalars = scalars-take n c.cs c.scalars;
+          is_label = h.passes (omega arith);
+          label_is = t.value_is ∙ label_is;
+          part_is = refl;
+          longest = λ more others more_scalars more_is passes.
+              let all : inner ≡ encode_utf8_all (longest_front is_label_text c.cs ++ more) ++ others
+              = whole ∙ (ap (λ ys. ys ++ rest) (t.value_is ∙ label_is)
+              ∙ (ap (λ ys. encode_utf8_all (longest_front is_label_text c.cs) ++ ys) more_is
+              ∙ (sym (append_assoc (encode_utf8_all (longest_front is_label_text c.cs)) (encode_utf8_all more) others)
+              ∙ ap (λ ys. ys ++ others) (sym (encodes-append (longest_front is_label_text c.cs) more))))) in
+              let b = begun (longest_front is_label_text c.cs ++ more) inner others
+              (scalars-join (longest_front is_label_text c.cs) more scalars more_scalars) all in
+              no_longer is_label_text c.cs more b.es (sym c.is ∙ b.is) passes;
+        },
       ),
     )
 
 label_sound : (text rest value : List ℕ) → label text ≡ both_of value rest → (part : List ℕ) × ((text ≡ part ++ rest) × IsLabel part rest value)
 unfolding label
 label_sound text rest value is = by_first (sign 95 text) refl is
-    where
-      Goal : Type 0
-      Goal = (part : List ℕ) × ((text ≡ part ++ rest) × IsLabel part rest value)
-      by_second : (behind_it : List ℕ) → sign 95 text ≡ Some behind_it → (o : Option (List ℕ)) → sign 58 behind_it ≡ o
-          → option_and_then (λ inner. some_of (longest_label inner) inner) o ≡ both_of value rest → Goal
-      by_second behind_it first None second is = absurd (cc)
-      by_second behind_it first (Some inner) second is =
-          let all = label_from inner rest value (there (longest_label inner) inner rest value is) in
-          let start = sign_found 95 text behind_it first ∙ ap (λ ys. 95 ∷ ys) (sign_found 58 behind_it inner second) in
-          (all.0, (start ∙ all.1.0, all.1.1))
-      by_first : (o : Option (List ℕ)) → sign 95 text ≡ o
-          → option_and_then (λ inner. some_of (longest_label inner) inner) (option_and_then (sign 58) o) ≡ both_of value rest → Goal
-      by_first None first is = absurd (cc)
-      by_first (Some behind_it) first is = by_second behind_it first (sign 58 behind_it) refl is
+  where
+    Goal : Type 0
+    Goal = (part : List ℕ) × ((text ≡ part ++ rest) × IsLabel part rest value)
+
+    by_second : (behind_it : List ℕ) → sign 95 text ≡ Some behind_it → (o : Option (List ℕ)) → sign 58 behind_it ≡ o
+        → option_and_then (λ inner. some_of (longest_label inner) inner) o ≡ both_of value rest → Goal
+    by_second behind_it first None second is = absurd (cc)
+    by_second behind_it first (Some inner) second is =
+        let all = label_from inner rest value (there (longest_label inner) inner rest value is) in
+        let start = sign_found 95 text behind_it first ∙ ap (λ ys. 95 ∷ ys) (sign_found 58 behind_it inner second) in
+        (all.0, (start ∙ all.1.0, all.1.1))
+
+    by_first : (o : Option (List ℕ)) → sign 95 text ≡ o
+        → option_and_then (λ inner. some_of (longest_label inner) inner) (option_and_then (sign 58) o) ≡ both_of value rest → Goal
+    by_first None first is = absurd (cc)
+    by_first (Some behind_it) first is = by_second behind_it first (sign 58 behind_it) refl is
 
 some_label : (cs : List ℕ) → is_label_text cs ≡ true → 0 < length (encode_utf8_all cs)
 some_label [] is = absurd (true≢false (sym is))

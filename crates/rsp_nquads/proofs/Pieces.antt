@@ -49,21 +49,28 @@ scalar_to c cs h = let one : all_scalars (c ∷ []) ≡ true = and_both _ true (
 abbrev pub IsWide : (ℕ → Bool) → Type 0
 IsWide test = (c : ℕ) → 128 ≤ c → test c ≡ true
 
-wide_bytes : (test : ℕ → Bool) → IsWide test → (c : ℕ) → 128 ≤ c → list_all test (encode_utf8 c) ≡ true
+pub wide_bytes : (test : ℕ → Bool) → IsWide test → (c : ℕ) → 128 ≤ c → list_all test (encode_utf8 c) ≡ true
 unfolding encode_utf8
 wide_bytes test wide c high = by (nat_lt c 2048) (nat_lt c 65536) refl refl
-    where
-      ascii : nat_lt c 128 ≡ false
-      ascii = grind (arith, nat_tests)
-      by : (two three : Bool) → nat_lt c 2048 ≡ two → nat_lt c 65536 ≡ three → list_all test (encode_utf8 c) ≡ true
-      by true three a b = rw (ascii, a, wide (192 + c / 64) (omega arith), wide (128 + c % 64) (omega arith)) refl
-      by false true a b =
-          rw (ascii, a, b, wide (224 + c / 4096) (omega arith), wide (128 + c / 64 % 64) (omega arith), wide (128 + c % 64) (omega arith)) refl
-      by false false a b =
-          rw
-          (ascii, a, b, wide (240 + c / 262144) (omega arith), wide (128 + c / 4096 % 64) (omega arith), wide (128 + c / 64 % 64) (omega arith),
-          wide (128 + c % 64) (omega arith))
-          refl
+  where
+    ascii : nat_lt c 128 ≡ false
+    ascii = grind (arith, nat_tests)
+
+    by : (two three : Bool) → nat_lt c 2048 ≡ two → nat_lt c 65536 ≡ three → list_all test (encode_utf8 c) ≡ true
+    by true three a b = rw (ascii, a, wide (192 + c / 64) (omega arith), wide (128 + c % 64) (omega arith)) refl
+    by false true a b =
+        rw (ascii, a, b, wide (224 + c / 4096) (omega arith), wide (128 + c / 64 % 64) (omega arith), wide (128 + c % 64) (omega arith)) refl
+    by false false a b =
+        rw (
+          ascii,
+          a,
+          b,
+          wide (240 + c / 262144) (omega arith),
+          wide (128 + c / 4096 % 64) (omega arith),
+          wide (128 + c / 64 % 64) (omega arith),
+          wide (128 + c % 64) (omega arith),
+        )
+        refl
 
 and_true : (a : Bool) → (a && true) ≡ a
 and_true true = refl
@@ -88,19 +95,19 @@ plain_characters test wide (c ∷ cs) =
 pub all_run : (test : ℕ → Bool) (xs : List ℕ) → list_all test (take_while test xs) ≡ true
 all_run test [] = refl
 all_run test (x ∷ xs) = rw (take_while-cons test x xs) (by (test x) refl (all_run test xs))
-    where
-      by : (b : Bool) → test x ≡ b → list_all test (take_while test xs) ≡ true → list_all test (cond b (x ∷ take_while test xs) []) ≡ true
-      by true is more = rw is more
-      by false is more = refl
+  where
+    by : (b : Bool) → test x ≡ b → list_all test (take_while test xs) ≡ true → list_all test (cond b (x ∷ take_while test xs) []) ≡ true
+    by true is more = rw is more
+    by false is more = refl
 
 pub run_split : (test : ℕ → Bool) (xs : List ℕ) → xs ≡ take_while test xs ++ behind (take_while test xs) xs
 run_split test [] = refl
 run_split test (x ∷ xs) = by (test x) refl (run_split test xs)
-    where
-      by : (b : Bool) → test x ≡ b → xs ≡ take_while test xs ++ behind (take_while test xs) xs
-          → (x ∷ xs) ≡ take_while test (x ∷ xs) ++ behind (take_while test (x ∷ xs)) (x ∷ xs)
-      by true is more = rw (take_while-cons test x xs, is) (ap (λ ys. x ∷ ys) more)
-      by false is more = rw (take_while-cons test x xs, is) refl
+  where
+    by : (b : Bool) → test x ≡ b → xs ≡ take_while test xs ++ behind (take_while test xs) xs
+        → (x ∷ xs) ≡ take_while test (x ∷ xs) ++ behind (take_while test (x ∷ xs)) (x ∷ xs)
+    by true is more = rw (take_while-cons test x xs, is) (ap (λ ys. x ∷ ys) more)
+    by false is more = rw (take_while-cons test x xs, is) refl
 
 run_onto : (test : ℕ → Bool) (xs ys : List ℕ) → list_all test xs ≡ true → take_while test (xs ++ ys) ≡ xs ++ take_while test ys
 run_onto test [] ys h = refl
@@ -149,14 +156,14 @@ joined may a b c v w p q = record {
 }
 
 -- plain characters are pieces
-abbrev plains : List ℕ → List (Piece × ℕ)
+abbrev pub plains : List ℕ → List (Piece × ℕ)
 plains cs = map (λ c. (plain c, c)) cs
 
-plain_texts : (cs : List ℕ) → texts (plains cs) ≡ encode_utf8_all cs
+pub plain_texts : (cs : List ℕ) → texts (plains cs) ≡ encode_utf8_all cs
 plain_texts [] = refl
 plain_texts (c ∷ cs) = ap (λ ys. encode_utf8 c ++ ys) (plain_texts cs)
 
-plain_values : (cs : List ℕ) → values (plains cs) ≡ encode_utf8_all cs
+pub plain_values : (cs : List ℕ) → values (plains cs) ≡ encode_utf8_all cs
 plain_values [] = refl
 plain_values (c ∷ cs) = ap (λ ys. encode_utf8 c ++ ys) (plain_values cs)
 
@@ -179,9 +186,10 @@ pub record Spells (test : ℕ → Bool) (escape : Reader ℕ) (may : Piece → �
 module _ (test : ℕ → Bool) (escape : Reader ℕ) (may : Piece → ℕ → Type 0) (h : Spells test escape may) where
   each_plain : (cs : List ℕ) → all_scalars cs ≡ true → list_all test cs ≡ true → AllByRecursion (IsPieceOf may) (plains cs)
   each_plain [] scalars passes = tt
-  each_plain (c ∷ cs) scalars passes =
-      ((scalar_to c cs scalars, refl, h.may_from c (and_left (test c) (list_all test cs) passes)),
-      each_plain cs (and_right _ (all_scalars cs) scalars) (and_right (test c) (list_all test cs) passes))
+  each_plain (c ∷ cs) scalars passes = (
+    (scalar_to c cs scalars, refl, h.may_from c (and_left (test c) (list_all test cs) passes)),
+    each_plain cs (and_right _ (all_scalars cs) scalars) (and_right (test c) (list_all test cs) passes),
+  )
 
   run_pieced : (text : List ℕ) → is_utf8 (take_while test text) ≡ true
       → Pieced may text (behind (take_while test text) text) (take_while test text)
@@ -218,24 +226,24 @@ module _ (test : ℕ → Bool) (escape : Reader ℕ) (may : Piece → ℕ → Ty
   pieced zero text rest v is = absurd (cc)
   pieced (suc n) text rest v is =
       by (is_utf8 (take_while test text)) refl (escape (behind (take_while test text) text)) refl (λ t w. pieced n t rest w)
-      where
-        by : (b : Bool) → is_utf8 (take_while test text) ≡ b → (o : Option (ℕ × List ℕ)) → escape (behind (take_while test text) text) ≡ o
-            → ((t w : List ℕ) → spelled n test escape t ≡ Some (w, rest) → Pieced may t rest w) → Pieced may text rest v
-        by false whole o esc more = absurd (let none = none_spelled n test escape text whole in cc)
-        by true whole None esc more =
-            let all : Some (take_while test text, behind (take_while test text) text) ≡ Some (v, rest)
-            = sym (last_spelled n test escape text whole esc) ∙ is in
-            let same = pair_same (take_while test text) v (behind (take_while test text) text) rest all in
-            subst (λ y. Pieced may text y v) same.1 (subst (λ y. Pieced may text (behind (take_while test text) text) y) same.0 (run_pieced text whole))
-        by true whole (Some x) esc more =
-            let all = sym (more_spelled n test escape text whole x.0 x.1 esc) ∙ is in
-            let parts = onto_some (take_while test text ++ encode_utf8 x.0) v rest (spelled n test escape x.1) all in
-            rw parts.1.1
-            (joined may text x.1 rest (take_while test text ++ encode_utf8 x.0) parts.0
-            (joined may text (behind (take_while test text) text) x.1 (take_while test text) (encode_utf8 x.0)
-            (run_pieced text whole)
-            (escape_pieced (behind (take_while test text) text) x.1 x.0 esc))
-            (more x.1 parts.0 parts.1.0))
+    where
+      by : (b : Bool) → is_utf8 (take_while test text) ≡ b → (o : Option (ℕ × List ℕ)) → escape (behind (take_while test text) text) ≡ o
+          → ((t w : List ℕ) → spelled n test escape t ≡ Some (w, rest) → Pieced may t rest w) → Pieced may text rest v
+      by false whole o esc more = absurd (let none = none_spelled n test escape text whole in cc)
+      by true whole None esc more =
+          let all : Some (take_while test text, behind (take_while test text) text) ≡ Some (v, rest)
+          = sym (last_spelled n test escape text whole esc) ∙ is in
+          let same = pair_same (take_while test text) v (behind (take_while test text) text) rest all in
+          subst (λ y. Pieced may text y v) same.1 (subst (λ y. Pieced may text (behind (take_while test text) text) y) same.0 (run_pieced text whole))
+      by true whole (Some x) esc more =
+          let all = sym (more_spelled n test escape text whole x.0 x.1 esc) ∙ is in
+          let parts = onto_some (take_while test text ++ encode_utf8 x.0) v rest (spelled n test escape x.1) all in
+          rw parts.1.1
+          (joined may text x.1 rest (take_while test text ++ encode_utf8 x.0) parts.0
+          (joined may text (behind (take_while test text) text) x.1 (take_while test text) (encode_utf8 x.0)
+          (run_pieced text whole)
+          (escape_pieced (behind (take_while test text) text) x.1 x.0 esc))
+          (more x.1 parts.0 parts.1.0))
 
   -- ---- and the other way round
 
@@ -246,29 +254,31 @@ module _ (test : ℕ → Bool) (escape : Reader ℕ) (may : Piece → ℕ → Ty
   plain_step : (n c : ℕ) (text v rest : List ℕ) → is_scalar c ≡ true → test c ≡ true → spelled (suc n) test escape text ≡ Some (v, rest)
       → spelled (suc n) test escape (encode_utf8 c ++ text) ≡ Some (encode_utf8 c ++ v, rest)
   plain_step n c text v rest scalar passes is = by (is_utf8 (take_while test text)) refl (escape (behind (take_while test text) text)) refl
-      where
-        run : take_while test (encode_utf8 c ++ text) ≡ encode_utf8 c ++ take_while test text
-        run = run_onto test (encode_utf8 c) text (plain_bytes test h.wide c ∙ passes)
-        rest_is : behind (take_while test (encode_utf8 c ++ text)) (encode_utf8 c ++ text) ≡ behind (take_while test text) text
-        rest_is = ap (λ xs. drop (length xs) (encode_utf8 c ++ text)) run ∙ drop_both (encode_utf8 c) (take_while test text) text
-        by : (b : Bool) → is_utf8 (take_while test text) ≡ b → (o : Option (ℕ × List ℕ)) → escape (behind (take_while test text) text) ≡ o
-            → spelled (suc n) test escape (encode_utf8 c ++ text) ≡ Some (encode_utf8 c ++ v, rest)
-        by false whole o esc = absurd (let none = none_spelled n test escape text whole in cc)
-        by true whole None esc =
-            let same = pair_same (take_while test text) v (behind (take_while test text) text) rest (sym (last_spelled n test escape text whole esc) ∙ is) in
-            last_spelled n test escape (encode_utf8 c ++ text)
-            (ap is_utf8 run ∙ is_utf8-from_IsUtf8 _ (IsUtf8-append _ _ (IsUtf8-encode c (and_left _ true (scalar_from c scalar))) (IsUtf8-from_is_utf8 _ whole)))
-            (ap escape rest_is ∙ esc)
-            ∙ both_same (run ∙ ap (λ ys. encode_utf8 c ++ ys) same.0) (rest_is ∙ same.1)
-        by true whole (Some x) esc =
-            more_spelled n test escape (encode_utf8 c ++ text)
-            (ap is_utf8 run ∙ is_utf8-from_IsUtf8 _ (IsUtf8-append _ _ (IsUtf8-encode c (and_left _ true (scalar_from c scalar))) (IsUtf8-from_is_utf8 _ whole)))
-            x.0 x.1
-            (ap escape rest_is ∙ esc)
-            ∙ (ap (λ xs. onto (xs ++ encode_utf8 x.0) (spelled n test escape x.1)) run
-            ∙ (ap (λ xs. onto xs (spelled n test escape x.1)) (append_assoc (encode_utf8 c) (take_while test text) (encode_utf8 x.0))
-            ∙ (sym (onto_onto (encode_utf8 c) (take_while test text ++ encode_utf8 x.0) (spelled n test escape x.1))
-            ∙ ap (onto (encode_utf8 c)) (sym (more_spelled n test escape text whole x.0 x.1 esc) ∙ is))))
+    where
+      run : take_while test (encode_utf8 c ++ text) ≡ encode_utf8 c ++ take_while test text
+      run = run_onto test (encode_utf8 c) text (plain_bytes test h.wide c ∙ passes)
+
+      rest_is : behind (take_while test (encode_utf8 c ++ text)) (encode_utf8 c ++ text) ≡ behind (take_while test text) text
+      rest_is = ap (λ xs. drop (length xs) (encode_utf8 c ++ text)) run ∙ drop_both (encode_utf8 c) (take_while test text) text
+
+      by : (b : Bool) → is_utf8 (take_while test text) ≡ b → (o : Option (ℕ × List ℕ)) → escape (behind (take_while test text) text) ≡ o
+          → spelled (suc n) test escape (encode_utf8 c ++ text) ≡ Some (encode_utf8 c ++ v, rest)
+      by false whole o esc = absurd (let none = none_spelled n test escape text whole in cc)
+      by true whole None esc =
+          let same = pair_same (take_while test text) v (behind (take_while test text) text) rest (sym (last_spelled n test escape text whole esc) ∙ is) in
+          last_spelled n test escape (encode_utf8 c ++ text)
+          (ap is_utf8 run ∙ is_utf8-from_IsUtf8 _ (IsUtf8-append _ _ (IsUtf8-encode c (and_left _ true (scalar_from c scalar))) (IsUtf8-from_is_utf8 _ whole)))
+          (ap escape rest_is ∙ esc)
+          ∙ both_same (run ∙ ap (λ ys. encode_utf8 c ++ ys) same.0) (rest_is ∙ same.1)
+      by true whole (Some x) esc =
+          more_spelled n test escape (encode_utf8 c ++ text)
+          (ap is_utf8 run ∙ is_utf8-from_IsUtf8 _ (IsUtf8-append _ _ (IsUtf8-encode c (and_left _ true (scalar_from c scalar))) (IsUtf8-from_is_utf8 _ whole)))
+          x.0 x.1
+          (ap escape rest_is ∙ esc)
+          ∙ (ap (λ xs. onto (xs ++ encode_utf8 x.0) (spelled n test escape x.1)) run
+          ∙ (ap (λ xs. onto xs (spelled n test escape x.1)) (append_assoc (encode_utf8 c) (take_while test text) (encode_utf8 x.0))
+          ∙ (sym (onto_onto (encode_utf8 c) (take_while test text ++ encode_utf8 x.0) (spelled n test escape x.1))
+          ∙ ap (onto (encode_utf8 c)) (sym (more_spelled n test escape text whole x.0 x.1 esc) ∙ is))))
 
   escape_step : (n c : ℕ) (bytes text v rest : List ℕ) → escape ((92 ∷ bytes) ++ text) ≡ Some (c, text) → spelled n test escape text ≡ Some (v, rest)
       → spelled (suc n) test escape ((92 ∷ bytes) ++ text) ≡ Some (encode_utf8 c ++ v, rest)

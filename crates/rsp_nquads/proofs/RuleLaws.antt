@@ -32,10 +32,10 @@ pub sign_found : (c : ℕ) (text rest : List ℕ) → sign c text ≡ Some rest 
 unfolding sign
 sign_found c [] rest is = absurd (cc)
 sign_found c (d ∷ text) rest is = by (c == d) refl is
-    where
-      by : (b : Bool) → (c == d) ≡ b → (if b then Some text else None) ≡ Some rest → (d ∷ text) ≡ c ∷ rest
-      by true same is = let rest_is : text ≡ rest = cc in rw (equal_from c d same, rest_is) refl
-      by false other is = absurd (cc)
+  where
+    by : (b : Bool) → (c == d) ≡ b → (if b then Some text else None) ≡ Some rest → (d ∷ text) ≡ c ∷ rest
+    by true same is = let rest_is : text ≡ rest = cc in rw (equal_from c d same, rest_is) refl
+    by false other is = absurd (cc)
 
 pub sign_finds : (c : ℕ) (rest : List ℕ) → sign c (c ∷ rest) ≡ Some rest
 unfolding sign
@@ -68,8 +68,8 @@ module _ (opening closing : ℕ) (test : ℕ → Bool) (escape : Reader ℕ) (ma
       let end = sign_found closing behind_it rest close in (
         opening ∷ (texts p.pieces ++ (closing ∷ [])),
         (
-        ap (λ ys. opening ∷ ys) (p.text_is ∙ (ap (λ ys. texts p.pieces ++ ys) end ∙ sym (append_assoc (texts p.pieces) (closing ∷ []) rest))),
-        record { pieces = p.pieces; each = p.each; part_is = refl; value_is = p.value_is },
+          ap (λ ys. opening ∷ ys) (p.text_is ∙ (ap (λ ys. texts p.pieces ++ ys) end ∙ sym (append_assoc (texts p.pieces) (closing ∷ []) rest))),
+          record { pieces = p.pieces; each = p.each; part_is = refl; value_is = p.value_is },
         ),
       )
 
@@ -77,28 +77,31 @@ module _ (opening closing : ℕ) (test : ℕ → Bool) (escape : Reader ℕ) (ma
       → (part : List ℕ) × ((text ≡ part ++ rest) × IsEnclosed may opening closing part value)
   unfolding enclosed
   enclosed_sound text rest value is = by_open (sign opening text) refl is
-      where
-        Goal : Type 0
-        Goal = (part : List ℕ) × ((text ≡ part ++ rest) × IsEnclosed may opening closing part value)
-        by_close : (inner : List ℕ) → sign opening text ≡ Some inner → (x : List ℕ × List ℕ)
-            → spelled (suc (length inner)) test escape inner ≡ Some x → (o : Option (List ℕ)) → sign closing x.1 ≡ o
-            → option_map (λ behind_it. (x.0, behind_it)) o ≡ both_of value rest → Goal
-        by_close inner open_is x read None close is = absurd (cc)
-        by_close inner open_is x read (Some behind_it) close is =
-            let same = pair_same x.0 value behind_it rest is in
-            let start = sign_found opening text inner open_is in
-            let all = closed inner rest value x.1 (read ∙ ap (λ y. Some (y, x.1)) same.0) (close ∙ ap (λ y. Some y) same.1) in
-            (all.0, (start ∙ all.1.0, all.1.1))
-        by_inner : (inner : List ℕ) → sign opening text ≡ Some inner → (o : Option (List ℕ × List ℕ))
-            → spelled (suc (length inner)) test escape inner ≡ o
-            → option_and_then (λ x. option_map (λ behind_it. (x.0, behind_it)) (sign closing x.1)) o ≡ both_of value rest → Goal
-        by_inner inner open_is None read is = absurd (cc)
-        by_inner inner open_is (Some x) read is = by_close inner open_is x read (sign closing x.1) refl is
-        by_open : (o : Option (List ℕ)) → sign opening text ≡ o
-            → option_and_then (λ inner. option_and_then (λ x. option_map (λ behind_it. (x.0, behind_it)) (sign closing x.1))
-                (spelled (suc (length inner)) test escape inner)) o ≡ both_of value rest → Goal
-        by_open None open_is is = absurd (cc)
-        by_open (Some inner) open_is is = by_inner inner open_is (spelled (suc (length inner)) test escape inner) refl is
+    where
+      Goal : Type 0
+      Goal = (part : List ℕ) × ((text ≡ part ++ rest) × IsEnclosed may opening closing part value)
+
+      by_close : (inner : List ℕ) → sign opening text ≡ Some inner → (x : List ℕ × List ℕ)
+          → spelled (suc (length inner)) test escape inner ≡ Some x → (o : Option (List ℕ)) → sign closing x.1 ≡ o
+          → option_map (λ behind_it. (x.0, behind_it)) o ≡ both_of value rest → Goal
+      by_close inner open_is x read None close is = absurd (cc)
+      by_close inner open_is x read (Some behind_it) close is =
+          let same = pair_same x.0 value behind_it rest is in
+          let start = sign_found opening text inner open_is in
+          let all = closed inner rest value x.1 (read ∙ ap (λ y. Some (y, x.1)) same.0) (close ∙ ap (λ y. Some y) same.1) in
+          (all.0, (start ∙ all.1.0, all.1.1))
+
+      by_inner : (inner : List ℕ) → sign opening text ≡ Some inner → (o : Option (List ℕ × List ℕ))
+          → spelled (suc (length inner)) test escape inner ≡ o
+          → option_and_then (λ x. option_map (λ behind_it. (x.0, behind_it)) (sign closing x.1)) o ≡ both_of value rest → Goal
+      by_inner inner open_is None read is = absurd (cc)
+      by_inner inner open_is (Some x) read is = by_close inner open_is x read (sign closing x.1) refl is
+
+      by_open : (o : Option (List ℕ)) → sign opening text ≡ o
+          → option_and_then (λ inner. option_and_then (λ x. option_map (λ behind_it. (x.0, behind_it)) (sign closing x.1))
+          (spelled (suc (length inner)) test escape inner)) o ≡ both_of value rest → Goal
+      by_open None open_is is = absurd (cc)
+      by_open (Some inner) open_is is = by_inner inner open_is (spelled (suc (length inner)) test escape inner) refl is
 
   enclosed_full : (part rest value : List ℕ) → IsEnclosed may opening closing part value
       → enclosed opening closing test escape (part ++ rest) ≡ both_of value rest
@@ -138,13 +141,13 @@ front_step false test xs k n is h = record {
   passes = h.passes;
   longer = λ j more most. later j more most;
 }
-    where
-      later : (j : ℕ) → n < j → j ≤ suc k → test (take j xs) ≡ false
-      later j more most = by (j == suc k) refl
-        where
-          by : (b : Bool) → (j == suc k) ≡ b → test (take j xs) ≡ false
-          by true same = ap (λ i. test (take i xs)) (equal_from j (suc k) same) ∙ is
-          by false other = h.longer j more (grind (arith, nat_tests))
+  where
+    later : (j : ℕ) → n < j → j ≤ suc k → test (take j xs) ≡ false
+    later j more most = by (j == suc k) refl
+      where
+        by : (b : Bool) → (j == suc k) ≡ b → test (take j xs) ≡ false
+        by true same = ap (λ i. test (take i xs)) (equal_from j (suc k) same) ∙ is
+        by false other = h.longer j more (grind (arith, nat_tests))
 
 front_longest_to : (test : List ℕ → Bool) (xs : List ℕ) (k : ℕ) → IsLongest test xs k (longest_up_to k test xs)
 front_longest_to test xs zero = record {
@@ -188,24 +191,25 @@ pub longest_given : (test : List ℕ → Bool) (front rest : List ℕ) → test 
     → longest_front test (front ++ rest) ≡ front
 longest_given test front rest passes longest =
     let is = longest_is test (front ++ rest) (length (front ++ rest)) (length front)
-        (record {
-          within = let all = length-append front rest in omega arith;
-          passes = λ some. ap test (take_front front rest) ∙ passes;
-          longer = later;
-        }) in
+    (record {
+      within = let all = length-append front rest in omega arith;
+      passes = λ some. ap test (take_front front rest) ∙ passes;
+      longer = later;
+    }) in
     ap (λ n. take n (front ++ rest)) is ∙ take_front front rest
-    where
-      later : (j : ℕ) → length front < j → j ≤ length (front ++ rest) → test (take j (front ++ rest)) ≡ false
-      later j more most = by (test (take j (front ++ rest))) refl
-        where
-          taken : take j (front ++ rest) ≡ front ++ take (j - length front) rest
-          taken = take_past front rest j (omega arith)
-          by : (b : Bool) → test (take j (front ++ rest)) ≡ b → b ≡ false
-          by false is = refl
-          by true is =
-              let none = longest (take (j - length front) rest) (drop (j - length front) rest) (sym (take-append-drop (j - length front) rest))
-                  (ap test (sym taken) ∙ is) in
-              let all = length-append front rest in
-              let size = length_take (j - length front) rest (omega arith) in
-              let zero_is = ap length none in
-              absurd (omega arith)
+  where
+    later : (j : ℕ) → length front < j → j ≤ length (front ++ rest) → test (take j (front ++ rest)) ≡ false
+    later j more most = by (test (take j (front ++ rest))) refl
+      where
+        taken : take j (front ++ rest) ≡ front ++ take (j - length front) rest
+        taken = take_past front rest j (omega arith)
+
+        by : (b : Bool) → test (take j (front ++ rest)) ≡ b → b ≡ false
+        by false is = refl
+        by true is =
+            let none = longest (take (j - length front) rest) (drop (j - length front) rest) (sym (take-append-drop (j - length front) rest))
+            (ap test (sym taken) ∙ is) in
+            let all = length-append front rest in
+            let size = length_take (j - length front) rest (omega arith) in
+            let zero_is = ap length none in
+            absurd (omega arith)

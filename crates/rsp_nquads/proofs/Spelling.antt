@@ -9,10 +9,10 @@ use Rattle.rsp_nquads.specs.Parts.{Reader, behind, onto, spelled}
 
 pub not_utf8 : (bs : List ℕ) → ¬ (IsUtf8 bs) → is_utf8 bs ≡ false
 not_utf8 bs wrong = by (is_utf8 bs) refl
-    where
-      by : (b : Bool) → is_utf8 bs ≡ b → b ≡ false
-      by true is = absurd (wrong (IsUtf8-from_is_utf8 bs is))
-      by false is = refl
+  where
+    by : (b : Bool) → is_utf8 bs ≡ b → b ≡ false
+    by true is = absurd (wrong (IsUtf8-from_is_utf8 bs is))
+    by false is = refl
 
 pub onto_onto : (front more : List ℕ) (read : Option (List ℕ × List ℕ)) → onto front (onto more read) ≡ onto (front ++ more) read
 onto_onto front more None = refl

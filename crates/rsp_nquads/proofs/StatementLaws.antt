@@ -37,14 +37,14 @@ term_of term rest = Some (term, rest)
 part_found : (reader : Reader Term) (text rest : List ℕ) (part : Part) → part_of reader text ≡ read_as part rest
     → reader (behind_blanks text) ≡ term_of part.term rest
 part_found reader text rest part is = by (reader (behind_blanks text)) refl is
-    where
-      by : (o : Option (Term × List ℕ)) → reader (behind_blanks text) ≡ o
-          → option_map_or (λ x. read_as (record { term = x.0; left = length (behind_blanks text) }) x.1) o (Err (length (behind_blanks text))) ≡ read_as part rest
-          → reader (behind_blanks text) ≡ term_of part.term rest
-      by None read is = absurd (cc)
-      by (Some x) read is =
-          let same = read_same (record { term = x.0; left = length (behind_blanks text) }) part x.1 rest is in
-          read ∙ (ap (λ r. term_of x.0 r) same.1 ∙ ap (λ (p : Part). term_of p.term rest) same.0)
+  where
+    by : (o : Option (Term × List ℕ)) → reader (behind_blanks text) ≡ o
+        → option_map_or (λ x. read_as (record { term = x.0; left = length (behind_blanks text) }) x.1) o (Err (length (behind_blanks text))) ≡ read_as part rest
+        → reader (behind_blanks text) ≡ term_of part.term rest
+    by None read is = absurd (cc)
+    by (Some x) read is =
+        let same = read_same (record { term = x.0; left = length (behind_blanks text) }) part x.1 rest is in
+        read ∙ (ap (λ r. term_of x.0 r) same.1 ∙ ap (λ (p : Part). term_of p.term rest) same.0)
 
 part_finds : (reader : Reader Term) (text rest : List ℕ) (term : Term) → reader (behind_blanks text) ≡ term_of term rest
     → part_of reader text ≡ read_as (record { term = term; left = length (behind_blanks text) }) rest
@@ -108,43 +108,43 @@ record Closed (text : List ℕ) : Type 0 where
 
 closed_found : (text : List ℕ) (b : Bool) → closes text ≡ Ok b → Closed text
 closed_found text b is = by (sign 46 (behind_blanks text)) refl is
-    where
-      ended : (rest : List ℕ) (e : Bool) → is_end (behind_blanks rest) ≡ e → (if e then Ok true else Err (length (behind_blanks rest))) ≡ Ok b
-          → is_end (behind_blanks rest) ≡ true
-      ended rest true test is = test
-      ended rest false test is = absurd (cc)
-      by : (o : Option (List ℕ)) → sign 46 (behind_blanks text) ≡ o → option_map_or ends o (Err (length (behind_blanks text))) ≡ Ok b → Closed text
-      by None read is = absurd (cc)
-      by (Some rest) read is = record {
-        rest = rest;
-        dot = record {
-          blanks = take (prefix_len is_blank text) text;
-          part = 46 ∷ [];
-          are_blanks = all_run is_blank text;
-          text_is = blanks_split text ∙ ap (λ ys. take (prefix_len is_blank text) text ++ ys) (sign_found 46 (behind_blanks text) rest read);
-          is = refl;
-        };
-        ends = end_found rest (ended rest (is_end (behind_blanks rest)) refl is);
-      }
+  where
+    ended : (rest : List ℕ) (e : Bool) → is_end (behind_blanks rest) ≡ e → (if e then Ok true else Err (length (behind_blanks rest))) ≡ Ok b
+        → is_end (behind_blanks rest) ≡ true
+    ended rest true test is = test
+    ended rest false test is = absurd (cc)
+
+    by : (o : Option (List ℕ)) → sign 46 (behind_blanks text) ≡ o → option_map_or ends o (Err (length (behind_blanks text))) ≡ Ok b → Closed text
+    by None read is = absurd (cc)
+    by (Some rest) read is = record {
+      rest = rest;
+      dot = record {
+        blanks = take (prefix_len is_blank text) text;
+        part = 46 ∷ [];
+        are_blanks = all_run is_blank text;
+        text_is = blanks_split text ∙ ap (λ ys. take (prefix_len is_blank text) text ++ ys) (sign_found 46 (behind_blanks text) rest read);
+        is = refl;
+      };
+      ends = end_found rest (ended rest (is_end (behind_blanks rest)) refl is);
+    }
 
 closed_finds : (text rest : List ℕ) → Stands IsDot text rest tt → IsEnd rest → closes text ≡ Ok true
 closed_finds text rest s e = rw (dot_behind text rest s, sign_finds 46 rest, end_finds rest e) refl
 
 -- ---- the graph
 
-
 abbrev graph_read : List ℕ → Option (Term × List ℕ) → Option Part × List ℕ
 graph_read text o = option_map_or (λ x. (Some (record { term = x.0; left = length (behind_blanks text) }), x.1)) o (None, text)
 
 graph_found : (document : ℕ) (text : List ℕ)
     → IsGraph document text (graph_read text (node document (behind_blanks text))).1
-        (option_map (λ (part : Part). part.term) (graph_read text (node document (behind_blanks text))).0)
+    (option_map (λ (part : Part). part.term) (graph_read text (node document (behind_blanks text))).0)
 graph_found document text = by (node document (behind_blanks text)) refl
-    where
-      by : (o : Option (Term × List ℕ)) → node document (behind_blanks text) ≡ o
-          → IsGraph document text (graph_read text o).1 (option_map (λ (part : Part). part.term) (graph_read text o).0)
-      by None read = refl
-      by (Some x) read = stands_sound (node document) (IsNode document) (node_reads document) text x.1 x.0 read
+  where
+    by : (o : Option (Term × List ℕ)) → node document (behind_blanks text) ≡ o
+        → IsGraph document text (graph_read text o).1 (option_map (λ (part : Part). part.term) (graph_read text o).0)
+    by None read = refl
+    by (Some x) read = stands_sound (node document) (IsNode document) (node_reads document) text x.1 x.0 read
 
 no_node_at_dot : (document : ℕ) (rest : List ℕ) → node document (46 ∷ rest) ≡ None
 unfolding node enclosed label sign
@@ -195,10 +195,10 @@ node_first document part rest (Tagged lexical language) e = absurd e
 
 node_free : (text : List ℕ) (n : Node (behind_blanks text)) → IsFree text
 node_free text n = by n.kind
-    where
-      by : (n.first ≡ 60) ⊎ (n.first ≡ 95) → IsFree text
-      by (inl is) = free_at text 60 n.others (n.is ∙ ap (λ c. c ∷ n.others) is) refl refl
-      by (inr is) = free_at text 95 n.others (n.is ∙ ap (λ c. c ∷ n.others) is) refl refl
+  where
+    by : (n.first ≡ 60) ⊎ (n.first ≡ 95) → IsFree text
+    by (inl is) = free_at text 60 n.others (n.is ∙ ap (λ c. c ∷ n.others) is) refl refl
+    by (inr is) = free_at text 95 n.others (n.is ∙ ap (λ c. c ∷ n.others) is) refl refl
 
 graph_free : (document : ℕ) (text rest after : List ℕ) (graph : Option Term) → IsGraph document text rest graph → Stands IsDot rest after tt → IsFree text
 graph_free document text rest after None same dot =
@@ -210,10 +210,10 @@ graph_free document text rest after (Some term) s dot =
 not_end : (text : List ℕ) → Node text → is_end text ≡ false
 unfolding is_end
 not_end text n = rw n.is (by n.kind)
-    where
-      by : (n.first ≡ 60) ⊎ (n.first ≡ 95) → ((n.first == 35) && is_utf8 n.others) ≡ false
-      by (inl is) = rw is refl
-      by (inr is) = rw is refl
+  where
+    by : (n.first ≡ 60) ⊎ (n.first ≡ 95) → ((n.first == 35) && is_utf8 n.others) ≡ false
+    by (inl is) = rw is refl
+    by (inr is) = rw is refl
 
 -- ---- all parts
 
@@ -274,39 +274,42 @@ ok_same a b h = cc
 parts_found : (document : ℕ) (line : List ℕ) (parts : Parts) → parts_of document line ≡ Ok parts → PartsRead document line parts
 unfolding parts_of
 parts_found document line parts is = by_subject (part_of (node document) line) refl is
-    where
-      by_end : (s p o : Part × List ℕ) → part_of (node document) line ≡ Ok s → part_of iri_term s.1 ≡ Ok p → part_of (object document) p.1 ≡ Ok o
-          → (r : Result Bool ℕ) → closes (optional_part (node document) o.1).1 ≡ r
-          → onward r (last_step s.0 p.0 o.0 (optional_part (node document) o.1).0) ≡ Ok parts → PartsRead document line parts
-      by_end s p o hs hp ho (Err left) hc is = absurd (cc)
-      by_end s p o hs hp ho (Ok b) hc is =
-          let same = ok_same (given s.0 p.0 o.0 (optional_part (node document) o.1).0) parts is in
-          let c = closed_found (optional_part (node document) o.1).1 b hc in
-          subst (PartsRead document line) same
-          (record {
-            after_subject = s.1;
-            after_predicate = p.1;
-            after_object = o.1;
-            after_graph = (optional_part (node document) o.1).1;
-            after_dot = c.rest;
-            subject = stands_sound (node document) (IsNode document) (node_reads document) line s.1 s.0.term (part_found (node document) line s.1 s.0 hs);
-            predicate = stands_sound iri_term IsIriTerm iri_term_reads s.1 p.1 p.0.term (part_found iri_term s.1 p.1 p.0 hp);
-            object = object_stands document p.1 o.1 o.0.term (part_found (object document) p.1 o.1 o.0 ho);
-            graph = graph_found document o.1;
-            dot = c.dot;
-            ends = c.ends;
-          })
-      by_object : (s p : Part × List ℕ) → part_of (node document) line ≡ Ok s → part_of iri_term s.1 ≡ Ok p
-          → (r : Result (Part × List ℕ) ℕ) → part_of (object document) p.1 ≡ r → onward r (graph_step document s.0 p.0) ≡ Ok parts → PartsRead document line parts
-      by_object s p hs hp (Err left) ho is = absurd (cc)
-      by_object s p hs hp (Ok o) ho is = by_end s p o hs hp ho (closes (optional_part (node document) o.1).1) refl is
-      by_predicate : (s : Part × List ℕ) → part_of (node document) line ≡ Ok s
-          → (r : Result (Part × List ℕ) ℕ) → part_of iri_term s.1 ≡ r → onward r (object_step document s.0) ≡ Ok parts → PartsRead document line parts
-      by_predicate s hs (Err left) hp is = absurd (cc)
-      by_predicate s hs (Ok p) hp is = by_object s p hs hp (part_of (object document) p.1) refl is
-      by_subject : (r : Result (Part × List ℕ) ℕ) → part_of (node document) line ≡ r → onward r (predicate_step document) ≡ Ok parts → PartsRead document line parts
-      by_subject (Err left) hs is = absurd (cc)
-      by_subject (Ok s) hs is = by_predicate s hs (part_of iri_term s.1) refl is
+  where
+    by_end : (s p o : Part × List ℕ) → part_of (node document) line ≡ Ok s → part_of iri_term s.1 ≡ Ok p → part_of (object document) p.1 ≡ Ok o
+        → (r : Result Bool ℕ) → closes (optional_part (node document) o.1).1 ≡ r
+        → onward r (last_step s.0 p.0 o.0 (optional_part (node document) o.1).0) ≡ Ok parts → PartsRead document line parts
+    by_end s p o hs hp ho (Err left) hc is = absurd (cc)
+    by_end s p o hs hp ho (Ok b) hc is =
+        let same = ok_same (given s.0 p.0 o.0 (optional_part (node document) o.1).0) parts is in
+        let c = closed_found (optional_part (node document) o.1).1 b hc in
+        subst (PartsRead document line) same
+        (record {
+          after_subject = s.1;
+          after_predicate = p.1;
+          after_object = o.1;
+          after_graph = (optional_part (node document) o.1).1;
+          after_dot = c.rest;
+          subject = stands_sound (node document) (IsNode document) (node_reads document) line s.1 s.0.term (part_found (node document) line s.1 s.0 hs);
+          predicate = stands_sound iri_term IsIriTerm iri_term_reads s.1 p.1 p.0.term (part_found iri_term s.1 p.1 p.0 hp);
+          object = object_stands document p.1 o.1 o.0.term (part_found (object document) p.1 o.1 o.0 ho);
+          graph = graph_found document o.1;
+          dot = c.dot;
+          ends = c.ends;
+        })
+
+    by_object : (s p : Part × List ℕ) → part_of (node document) line ≡ Ok s → part_of iri_term s.1 ≡ Ok p
+        → (r : Result (Part × List ℕ) ℕ) → part_of (object document) p.1 ≡ r → onward r (graph_step document s.0 p.0) ≡ Ok parts → PartsRead document line parts
+    by_object s p hs hp (Err left) ho is = absurd (cc)
+    by_object s p hs hp (Ok o) ho is = by_end s p o hs hp ho (closes (optional_part (node document) o.1).1) refl is
+
+    by_predicate : (s : Part × List ℕ) → part_of (node document) line ≡ Ok s
+        → (r : Result (Part × List ℕ) ℕ) → part_of iri_term s.1 ≡ r → onward r (object_step document s.0) ≡ Ok parts → PartsRead document line parts
+    by_predicate s hs (Err left) hp is = absurd (cc)
+    by_predicate s hs (Ok p) hp is = by_object s p hs hp (part_of (object document) p.1) refl is
+
+    by_subject : (r : Result (Part × List ℕ) ℕ) → part_of (node document) line ≡ r → onward r (predicate_step document) ≡ Ok parts → PartsRead document line parts
+    by_subject (Err left) hs is = absurd (cc)
+    by_subject (Ok s) hs is = by_predicate s hs (part_of iri_term s.1) refl is
 
 record PartsGiven (document : ℕ) (line : List ℕ) (quad : Quad) : Type 0 where
   parts : Parts
@@ -321,11 +324,11 @@ unfolding parts_of
 parts_given document line quad h =
     let free = graph_free document h.after_object h.after_graph h.after_dot quad.graph h.graph h.dot in
     let s = part_finds (node document) line h.after_subject quad.triple.subject
-        (stands_full (node document) (IsNode document) (node_reads document) (node_starts document) line h.after_subject quad.triple.subject h.subject) in
+    (stands_full (node document) (IsNode document) (node_reads document) (node_starts document) line h.after_subject quad.triple.subject h.subject) in
     let p = part_finds iri_term h.after_subject h.after_predicate quad.triple.predicate
-        (stands_full iri_term IsIriTerm iri_term_reads iri_term_starts h.after_subject h.after_predicate quad.triple.predicate h.predicate) in
+    (stands_full iri_term IsIriTerm iri_term_reads iri_term_starts h.after_subject h.after_predicate quad.triple.predicate h.predicate) in
     let o = part_finds (object document) h.after_predicate h.after_object quad.triple.object
-        (object_finds document h.after_predicate h.after_object quad.triple.object free h.object) in
+    (object_finds document h.after_predicate h.after_object quad.triple.object free h.object) in
     let g = graph_finds document h.after_object h.after_graph h.after_dot quad.graph h.graph h.dot in
     let c = closed_finds h.after_graph h.after_dot h.dot h.ends in
     record {
@@ -338,10 +341,10 @@ parts_given document line quad h =
 
 find_none : (f : Part → Bool) (x : Part) (xs : List Part) → find f (x ∷ xs) ≡ None → (f x ≡ false) × (find f xs ≡ None)
 find_none f x xs is = by (f x) refl is
-    where
-      by : (b : Bool) → f x ≡ b → cond b (Some x) (find f xs) ≡ None → (f x ≡ false) × (find f xs ≡ None)
-      by true test is = absurd (cc)
-      by false test is = (test, is)
+  where
+    by : (b : Bool) → f x ≡ b → cond b (Some x) (find f xs) ≡ None → (f x ≡ false) × (find f xs ≡ None)
+    by true test is = absurd (cc)
+    by false test is = (test, is)
 
 abbrev holds_relative : Part → Bool
 holds_relative part = is_relative part.term
@@ -397,19 +400,21 @@ says_parts document line parts r a = record {
 pub says_from : (document : ℕ) (line : List ℕ) (quad : Quad) → statement_of document line ≡ statement quad → Says document line quad
 unfolding statement_of
 says_from document line quad is = by (is_end (behind_blanks line)) refl is
-    where
-      by_fault : (parts : Parts) → parts_of document line ≡ Ok parts → (o : Option Part) → first_relative parts ≡ o
-          → option_map_or (λ part. relative_iri (column line part.left)) o (statement (quad_of parts)) ≡ statement quad → Says document line quad
-      by_fault parts read (Some part) found is = absurd (cc)
-      by_fault parts read None found is =
-          subst (Says document line) (statement_same (quad_of parts) quad is)
-          (says_parts document line parts (parts_found document line parts read) (absolute_found parts found))
-      by_parts : (r : Result Parts ℕ) → parts_of document line ≡ r → answer line r ≡ statement quad → Says document line quad
-      by_parts (Err left) read is = absurd (cc)
-      by_parts (Ok parts) read is = by_fault parts read (first_relative parts) refl is
-      by : (b : Bool) → is_end (behind_blanks line) ≡ b → (if b then nothing else answer line (parts_of document line)) ≡ statement quad → Says document line quad
-      by true end is = absurd (cc)
-      by false end is = by_parts (parts_of document line) refl is
+  where
+    by_fault : (parts : Parts) → parts_of document line ≡ Ok parts → (o : Option Part) → first_relative parts ≡ o
+        → option_map_or (λ part. relative_iri (column line part.left)) o (statement (quad_of parts)) ≡ statement quad → Says document line quad
+    by_fault parts read (Some part) found is = absurd (cc)
+    by_fault parts read None found is =
+        subst (Says document line) (statement_same (quad_of parts) quad is)
+        (says_parts document line parts (parts_found document line parts read) (absolute_found parts found))
+
+    by_parts : (r : Result Parts ℕ) → parts_of document line ≡ r → answer line r ≡ statement quad → Says document line quad
+    by_parts (Err left) read is = absurd (cc)
+    by_parts (Ok parts) read is = by_fault parts read (first_relative parts) refl is
+
+    by : (b : Bool) → is_end (behind_blanks line) ≡ b → (if b then nothing else answer line (parts_of document line)) ≡ statement quad → Says document line quad
+    by true end is = absurd (cc)
+    by false end is = by_parts (parts_of document line) refl is
 
 pub says_to : (document : ℕ) (line : List ℕ) (quad : Quad) → Says document line quad → statement_of document line ≡ statement quad
 unfolding statement_of
@@ -420,31 +425,33 @@ says_to document line quad h =
     = not_end (behind_blanks line) (subst Node (sym here) (node_first document h.subject.part h.after_subject quad.triple.subject h.subject.is)) in
     let absolute = absolute_of g.parts quad g.quad_is h in
     rw (end, g.is, absolute_finds g.parts absolute, g.quad_is) refl
-    where
-      absolute_of : (parts : Parts) (q : Quad) → quad_of parts ≡ q → Says document line q → AllAbsolute parts
-      absolute_of parts q is h =
-          let at : Says document line (quad_of parts) = subst (Says document line) (sym is) h in
-          record {
-            subject = at.absolute_subject;
-            predicate = at.absolute_predicate;
-            object = at.absolute_object;
-            graph = at.absolute_graph;
-          }
+  where
+    absolute_of : (parts : Parts) (q : Quad) → quad_of parts ≡ q → Says document line q → AllAbsolute parts
+    absolute_of parts q is h =
+        let at : Says document line (quad_of parts) = subst (Says document line) (sym is) h in
+        record {
+          subject = at.absolute_subject;
+          predicate = at.absolute_predicate;
+          object = at.absolute_object;
+          graph = at.absolute_graph;
+        }
 
 pub nothing_from : (document : ℕ) (line : List ℕ) → statement_of document line ≡ nothing → SaysNothing line
 unfolding statement_of
 nothing_from document line is = by (is_end (behind_blanks line)) refl is
-    where
-      by_fault : (parts : Parts) → (o : Option Part)
-          → option_map_or (λ part. relative_iri (column line part.left)) o (statement (quad_of parts)) ≡ nothing → SaysNothing line
-      by_fault parts (Some part) is = absurd (cc)
-      by_fault parts None is = absurd (cc)
-      by_parts : (r : Result Parts ℕ) → answer line r ≡ nothing → SaysNothing line
-      by_parts (Err left) is = absurd (cc)
-      by_parts (Ok parts) is = by_fault parts (first_relative parts) is
-      by : (b : Bool) → is_end (behind_blanks line) ≡ b → (if b then nothing else answer line (parts_of document line)) ≡ nothing → SaysNothing line
-      by true end is = end_found line end
-      by false end is = by_parts (parts_of document line) is
+  where
+    by_fault : (parts : Parts) → (o : Option Part)
+        → option_map_or (λ part. relative_iri (column line part.left)) o (statement (quad_of parts)) ≡ nothing → SaysNothing line
+    by_fault parts (Some part) is = absurd (cc)
+    by_fault parts None is = absurd (cc)
+
+    by_parts : (r : Result Parts ℕ) → answer line r ≡ nothing → SaysNothing line
+    by_parts (Err left) is = absurd (cc)
+    by_parts (Ok parts) is = by_fault parts (first_relative parts) is
+
+    by : (b : Bool) → is_end (behind_blanks line) ≡ b → (if b then nothing else answer line (parts_of document line)) ≡ nothing → SaysNothing line
+    by true end is = end_found line end
+    by false end is = by_parts (parts_of document line) is
 
 pub nothing_to : (document : ℕ) (line : List ℕ) → SaysNothing line → statement_of document line ≡ nothing
 unfolding statement_of

@@ -29,14 +29,13 @@ behind_none (c ∷ cs) h = rw h refl
 pub behind_onto : (bs xs : List ℕ) → list_all is_blank bs ≡ true → blank_first xs ≡ false → behind_blanks (bs ++ xs) ≡ xs
 behind_onto [] xs h first = behind_none xs first
 behind_onto (b ∷ bs) xs h first = by (is_blank b) refl h (λ more. behind_onto bs xs more first)
-    where
-      by : (x : Bool) → is_blank b ≡ x → (x && list_all is_blank bs) ≡ true → (list_all is_blank bs ≡ true → behind_blanks (bs ++ xs) ≡ xs)
-          → behind_blanks ((b ∷ bs) ++ xs) ≡ xs
-      by true is all more =
-          let one : 1 + prefix_len is_blank (bs ++ xs) ≡ suc (prefix_len is_blank (bs ++ xs)) = omega arith in
-          rw (is, one) (more all)
-      by false is all more = absurd (true≢false (sym all))
-
+  where
+    by : (x : Bool) → is_blank b ≡ x → (x && list_all is_blank bs) ≡ true → (list_all is_blank bs ≡ true → behind_blanks (bs ++ xs) ≡ xs)
+        → behind_blanks ((b ∷ bs) ++ xs) ≡ xs
+    by true is all more =
+        let one : 1 + prefix_len is_blank (bs ++ xs) ≡ suc (prefix_len is_blank (bs ++ xs)) = omega arith in
+        rw (is, one) (more all)
+    by false is all more = absurd (true≢false (sym all))
 
 pub blanks_split : (text : List ℕ) → text ≡ take (prefix_len is_blank text) text ++ behind_blanks text
 blanks_split text = sym (take-append-drop (prefix_len is_blank text) text)
@@ -85,18 +84,19 @@ datatype_starts part rest v e = rw e.part_is refl
 datatype_sound : (text rest v : List ℕ) → datatype text ≡ both_of v rest → (part : List ℕ) × ((text ≡ part ++ rest) × IsDatatype part rest v)
 unfolding datatype
 datatype_sound text rest v is = by_first (sign 94 text) refl is
-    where
-      Goal : Type 0
-      Goal = (part : List ℕ) × ((text ≡ part ++ rest) × IsDatatype part rest v)
-      by_second : (more : List ℕ) → sign 94 text ≡ Some more → (o : Option (List ℕ)) → sign 94 more ≡ o
-          → option_and_then (λ inner. iri (behind_blanks inner)) o ≡ both_of v rest → Goal
-      by_second more first None second is = absurd (cc)
-      by_second more first (Some inner) second is =
-          let s = stands_sound iri IsIri iri_reads inner rest v is in
-          let start = sign_found 94 text more first ∙ ap (λ ys. 94 ∷ ys) (sign_found 94 more inner second) in
-          let split : inner ≡ (s.blanks ++ s.part) ++ rest = s.text_is ∙ sym (append_assoc s.blanks s.part rest) in (
-            94 ∷ 94 ∷ (s.blanks ++ s.part),
-            (
+  where
+    Goal : Type 0
+    Goal = (part : List ℕ) × ((text ≡ part ++ rest) × IsDatatype part rest v)
+
+    by_second : (more : List ℕ) → sign 94 text ≡ Some more → (o : Option (List ℕ)) → sign 94 more ≡ o
+        → option_and_then (λ inner. iri (behind_blanks inner)) o ≡ both_of v rest → Goal
+    by_second more first None second is = absurd (cc)
+    by_second more first (Some inner) second is =
+        let s = stands_sound iri IsIri iri_reads inner rest v is in
+        let start = sign_found 94 text more first ∙ ap (λ ys. 94 ∷ ys) (sign_found 94 more inner second) in
+        let split : inner ≡ (s.blanks ++ s.part) ++ rest = s.text_is ∙ sym (append_assoc s.blanks s.part rest) in (
+          94 ∷ 94 ∷ (s.blanks ++ s.part),
+          (
             start ∙ ap (λ ys. 94 ∷ 94 ∷ ys) split,
             record {
               behind = s.blanks ++ s.part;
@@ -109,12 +109,13 @@ datatype_sound text rest v is = by_first (sign 94 text) refl is
                 is = s.is;
               };
             },
-            ),
-          )
-      by_first : (o : Option (List ℕ)) → sign 94 text ≡ o
-          → option_and_then (λ inner. iri (behind_blanks inner)) (option_and_then (sign 94) o) ≡ both_of v rest → Goal
-      by_first None first is = absurd (cc)
-      by_first (Some more) first is = by_second more first (sign 94 more) refl is
+          ),
+        )
+
+    by_first : (o : Option (List ℕ)) → sign 94 text ≡ o
+        → option_and_then (λ inner. iri (behind_blanks inner)) (option_and_then (sign 94) o) ≡ both_of v rest → Goal
+    by_first None first is = absurd (cc)
+    by_first (Some more) first is = by_second more first (sign 94 more) refl is
 
 datatype_full : (part rest v : List ℕ) → IsDatatype part rest v → datatype (part ++ rest) ≡ both_of v rest
 unfolding datatype
@@ -162,49 +163,49 @@ literal_from : (all s text rest lexical : List ℕ) (term : Term) → all ≡ s 
 unfolding literal_of
 literal_from all s text rest lexical term split string_is is =
     by (datatype (behind_blanks text)) refl (tag (behind_blanks text)) refl is
-    where
-      by : (d : Option (List ℕ × List ℕ)) → datatype (behind_blanks text) ≡ d → (t : Option (List ℕ × List ℕ)) → tag (behind_blanks text) ≡ t
-          → option_or (told (λ name. Literal lexical name) d)
-              (option_or (told (λ language. Tagged lexical language) t) (term_of (Literal lexical xsd_string) text)) ≡ term_of term rest
-          → (part : List ℕ) × ((all ≡ part ++ rest) × IsLiteral part rest term)
-      by (Some x) d_is t t_is is =
-          let same = term_same (Literal lexical x.0) term x.1 rest is in
-          let q = stands_sound datatype IsDatatype datatype_reads text rest x.0 (d_is ∙ ap (λ r. both_of x.0 r) same.1) in (
-            s ++ (q.blanks ++ q.part),
-            (
+  where
+    by : (d : Option (List ℕ × List ℕ)) → datatype (behind_blanks text) ≡ d → (t : Option (List ℕ × List ℕ)) → tag (behind_blanks text) ≡ t
+        → option_or (told (λ name. Literal lexical name) d)
+        (option_or (told (λ language. Tagged lexical language) t) (term_of (Literal lexical xsd_string) text)) ≡ term_of term rest
+        → (part : List ℕ) × ((all ≡ part ++ rest) × IsLiteral part rest term)
+    by (Some x) d_is t t_is is =
+        let same = term_same (Literal lexical x.0) term x.1 rest is in
+        let q = stands_sound datatype IsDatatype datatype_reads text rest x.0 (d_is ∙ ap (λ r. both_of x.0 r) same.1) in (
+          s ++ (q.blanks ++ q.part),
+          (
             split_again s q.blanks q.part rest text all split q.text_is,
             subst (λ y. IsLiteral (s ++ (q.blanks ++ q.part)) rest y) same.0 (inl (qualified IsDatatype s rest lexical x.0 text string_is q)),
-            ),
-          )
-      by None d_is (Some x) t_is is =
-          let same = term_same (Tagged lexical x.0) term x.1 rest is in
-          let q = stands_sound tag IsTag tag_reads text rest x.0 (t_is ∙ ap (λ r. both_of x.0 r) same.1) in (
-            s ++ (q.blanks ++ q.part),
-            (
+          ),
+        )
+    by None d_is (Some x) t_is is =
+        let same = term_same (Tagged lexical x.0) term x.1 rest is in
+        let q = stands_sound tag IsTag tag_reads text rest x.0 (t_is ∙ ap (λ r. both_of x.0 r) same.1) in (
+          s ++ (q.blanks ++ q.part),
+          (
             split_again s q.blanks q.part rest text all split q.text_is,
             subst (λ y. IsLiteral (s ++ (q.blanks ++ q.part)) rest y) same.0 (qualified IsTag s rest lexical x.0 text string_is q),
-            ),
-          )
-      by None d_is None t_is is =
-          let same = term_same (Literal lexical xsd_string) term text rest is in (
-            s,
-            (
+          ),
+        )
+    by None d_is None t_is is =
+        let same = term_same (Literal lexical xsd_string) term text rest is in (
+          s,
+          (
             split ∙ ap (λ ys. s ++ ys) same.1,
             subst (λ y. IsLiteral s rest y) same.0 (inr (refl, subst (λ r. IsString s r lexical) same.1 string_is)),
-            ),
-          )
+          ),
+        )
 
 pub literal_sound : (text rest : List ℕ) (term : Term) → literal text ≡ term_of term rest
     → (part : List ℕ) × ((text ≡ part ++ rest) × IsLiteral part rest term)
 unfolding literal
 literal_sound text rest term is = by (string text) refl is
-    where
-      by : (o : Option (List ℕ × List ℕ)) → string text ≡ o → option_and_then (λ x. literal_of x.0 x.1) o ≡ term_of term rest
-          → (part : List ℕ) × ((text ≡ part ++ rest) × IsLiteral part rest term)
-      by None read is = absurd (cc)
-      by (Some x) read is =
-          let s = string_reads.sound text x.1 x.0 read in
-          literal_from text s.0 x.1 rest x.0 term s.1.0 s.1.1 is
+  where
+    by : (o : Option (List ℕ × List ℕ)) → string text ≡ o → option_and_then (λ x. literal_of x.0 x.1) o ≡ term_of term rest
+        → (part : List ℕ) × ((text ≡ part ++ rest) × IsLiteral part rest term)
+    by None read is = absurd (cc)
+    by (Some x) read is =
+        let s = string_reads.sound text x.1 x.0 read in
+        literal_from text s.0 x.1 rest x.0 term s.1.0 s.1.1 is
 
 -- no datatype and no tag stands behind the blanks
 pub record IsFree (rest : List ℕ) : Type 0 where
@@ -221,9 +222,11 @@ literal_full part rest (Iri name) free e = absurd e
 literal_full part rest (Blank number name) free e = absurd e
 literal_full part rest (Literal lexical name) free (inl q) =
     let split : part ++ rest ≡ q.string ++ (q.behind ++ rest) = ap (λ ys. ys ++ rest) q.part_is ∙ append_assoc q.string q.behind rest in
-    rw
-    (split, string_reads.full q.string (q.behind ++ rest) lexical q.is_string,
-    stands_full datatype IsDatatype datatype_reads datatype_starts (q.behind ++ rest) rest name q.name_is)
+    rw (
+      split,
+      string_reads.full q.string (q.behind ++ rest) lexical q.is_string,
+      stands_full datatype IsDatatype datatype_reads datatype_starts (q.behind ++ rest) rest name q.name_is,
+    )
     refl
 literal_full part rest (Literal lexical name) free (inr e) =
     rw (string_reads.full part rest lexical e.1, free.no_datatype, free.no_tag, e.0) refl
@@ -232,23 +235,26 @@ literal_full part rest (Tagged lexical language) free q =
     let behind = stands_behind tag IsTag tag_reads tag_starts (q.behind ++ rest) rest language q.name_is in
     let none : datatype (behind_blanks (q.behind ++ rest)) ≡ None
     = ap datatype behind ∙ no_datatype_at_tag q.name_is.part rest language q.name_is.is in
-    rw
-    (split, string_reads.full q.string (q.behind ++ rest) lexical q.is_string, none,
-    stands_full tag IsTag tag_reads tag_starts (q.behind ++ rest) rest language q.name_is)
+    rw (
+      split,
+      string_reads.full q.string (q.behind ++ rest) lexical q.is_string,
+      none,
+      stands_full tag IsTag tag_reads tag_starts (q.behind ++ rest) rest language q.name_is,
+    )
     refl
 
 -- ---- terms of a statement
 
 iri_term_sound : (text rest : List ℕ) (term : Term) → iri_term text ≡ term_of term rest → (part : List ℕ) × ((text ≡ part ++ rest) × IsIriTerm part rest term)
 iri_term_sound text rest term is = by (iri text) refl is
-    where
-      by : (o : Option (List ℕ × List ℕ)) → iri text ≡ o → told (λ name. Iri name) o ≡ term_of term rest
-          → (part : List ℕ) × ((text ≡ part ++ rest) × IsIriTerm part rest term)
-      by None read is = absurd (cc)
-      by (Some x) read is =
-          let same = term_same (Iri x.0) term x.1 rest is in
-          let p = iri_reads.sound text rest x.0 (read ∙ ap (λ r. both_of x.0 r) same.1) in
-          (p.0, (p.1.0, subst (λ y. IsIriTerm p.0 rest y) same.0 p.1.1))
+  where
+    by : (o : Option (List ℕ × List ℕ)) → iri text ≡ o → told (λ name. Iri name) o ≡ term_of term rest
+        → (part : List ℕ) × ((text ≡ part ++ rest) × IsIriTerm part rest term)
+    by None read is = absurd (cc)
+    by (Some x) read is =
+        let same = term_same (Iri x.0) term x.1 rest is in
+        let p = iri_reads.sound text rest x.0 (read ∙ ap (λ r. both_of x.0 r) same.1) in
+        (p.0, (p.1.0, subst (λ y. IsIriTerm p.0 rest y) same.0 p.1.1))
 
 iri_term_full : (part rest : List ℕ) (term : Term) → IsIriTerm part rest term → iri_term (part ++ rest) ≡ term_of term rest
 iri_term_full part rest (Iri name) e = rw (iri_reads.full part rest name e) refl
@@ -274,25 +280,25 @@ node_of_iri document part rest (Tagged lexical language) e = absurd e
 module _ (document : ℕ) where
   blank_sound : (text rest : List ℕ) (term : Term) → blank document text ≡ term_of term rest → (part : List ℕ) × ((text ≡ part ++ rest) × IsNode document part rest term)
   blank_sound text rest term is = by (label text) refl is
-      where
-        by : (o : Option (List ℕ × List ℕ)) → label text ≡ o → told (λ name. Blank document name) o ≡ term_of term rest
-            → (part : List ℕ) × ((text ≡ part ++ rest) × IsNode document part rest term)
-        by None read is = absurd (cc)
-        by (Some x) read is =
-            let same = term_same (Blank document x.0) term x.1 rest is in
-            let p = label_reads.sound text rest x.0 (read ∙ ap (λ r. both_of x.0 r) same.1) in
-            (p.0, (p.1.0, subst (λ y. IsNode document p.0 rest y) same.0 (refl, p.1.1)))
+    where
+      by : (o : Option (List ℕ × List ℕ)) → label text ≡ o → told (λ name. Blank document name) o ≡ term_of term rest
+          → (part : List ℕ) × ((text ≡ part ++ rest) × IsNode document part rest term)
+      by None read is = absurd (cc)
+      by (Some x) read is =
+          let same = term_same (Blank document x.0) term x.1 rest is in
+          let p = label_reads.sound text rest x.0 (read ∙ ap (λ r. both_of x.0 r) same.1) in
+          (p.0, (p.1.0, subst (λ y. IsNode document p.0 rest y) same.0 (refl, p.1.1)))
 
   node_sound : (text rest : List ℕ) (term : Term) → node document text ≡ term_of term rest → (part : List ℕ) × ((text ≡ part ++ rest) × IsNode document part rest term)
   unfolding node
   node_sound text rest term is = by (iri_term text) refl is
-      where
-        by : (o : Option (Term × List ℕ)) → iri_term text ≡ o → option_or o (blank document text) ≡ term_of term rest
-            → (part : List ℕ) × ((text ≡ part ++ rest) × IsNode document part rest term)
-        by None read is = blank_sound text rest term is
-        by (Some x) read is =
-            let p = iri_term_sound text rest term (read ∙ is) in
-            (p.0, (p.1.0, node_of_iri document p.0 rest term p.1.1))
+    where
+      by : (o : Option (Term × List ℕ)) → iri_term text ≡ o → option_or o (blank document text) ≡ term_of term rest
+          → (part : List ℕ) × ((text ≡ part ++ rest) × IsNode document part rest term)
+      by None read is = blank_sound text rest term is
+      by (Some x) read is =
+          let p = iri_term_sound text rest term (read ∙ is) in
+          (p.0, (p.1.0, node_of_iri document p.0 rest term p.1.1))
 
   no_iri_at_label : (part rest name : List ℕ) → IsLabel part rest name → iri_term (part ++ rest) ≡ None
   unfolding enclosed sign
@@ -318,11 +324,11 @@ module _ (document : ℕ) where
       → (part : List ℕ) × ((text ≡ part ++ rest) × IsObject document part rest term)
   unfolding object
   object_sound text rest term is = by (node document text) refl is
-      where
-        by : (o : Option (Term × List ℕ)) → node document text ≡ o → option_or o (literal text) ≡ term_of term rest
-            → (part : List ℕ) × ((text ≡ part ++ rest) × IsObject document part rest term)
-        by None read is = let p = literal_sound text rest term is in (p.0, (p.1.0, inr p.1.1))
-        by (Some x) read is = let p = node_sound text rest term (read ∙ is) in (p.0, (p.1.0, inl p.1.1))
+    where
+      by : (o : Option (Term × List ℕ)) → node document text ≡ o → option_or o (literal text) ≡ term_of term rest
+          → (part : List ℕ) × ((text ≡ part ++ rest) × IsObject document part rest term)
+      by None read is = let p = literal_sound text rest term is in (p.0, (p.1.0, inr p.1.1))
+      by (Some x) read is = let p = node_sound text rest term (read ∙ is) in (p.0, (p.1.0, inl p.1.1))
 
   -- a literal begins with its quotation mark
   quoted : (part rest : List ℕ) (term : Term) → IsLiteral part rest term → (more : List ℕ) × (part ++ rest ≡ 34 ∷ more)

@@ -24,7 +24,8 @@ impl Kind {
         ensures { result ≡ kinds.is_plain self c }
     {
         match self {
-            Kind::Iri => !matches!(c, 0..=b' ' | b'"' | b'<' | b'>' | b'\\' | b'^' | b'`' | b'{'..=b'}'),
+            Kind::Iri =>
+                !matches!(c, 0..=b' ' | b'"' | b'<' | b'>' | b'\\' | b'^' | b'`' | b'{'..=b'}'),
             Kind::String => !matches!(c, b'"' | b'\\' | b'\n' | b'\r'),
         }
     }
@@ -78,7 +79,10 @@ pub(crate) fn iri<'a>(alloc: Global, text: &'a [u8]) -> Result<Option<(Text, &'a
 
 /// The string at the front of a text, with escapes replaced, and the text behind it.
 #[tactic(auto, unfolding(crate::specs::Parts::enclosed))]
-pub(crate) fn string<'a>(alloc: Global, text: &'a [u8]) -> Result<Option<(Text, &'a [u8])>, AllocError>
+pub(crate) fn string<'a>(
+    alloc: Global,
+    text: &'a [u8],
+) -> Result<Option<(Text, &'a [u8])>, AllocError>
     ensures { IfOk result (λ r. MatchOption r (part.string text.now ≡ None) (λ x. part.string text.now ≡ Some (x.0, x.1.now))) }
 {
     let Some(inner) = sign(b'"', text) else {
@@ -94,7 +98,11 @@ pub(crate) fn string<'a>(alloc: Global, text: &'a [u8]) -> Result<Option<(Text, 
 }
 
 // Plain characters and escapes as far as they go. A text without escapes is copied once.
-fn spelled<'a>(alloc: Global, kind: Kind, text: &'a [u8]) -> Result<Option<(Text, &'a [u8])>, AllocError>
+fn spelled<'a>(
+    alloc: Global,
+    kind: Kind,
+    text: &'a [u8],
+) -> Result<Option<(Text, &'a [u8])>, AllocError>
     ensures { IfOk result (λ r. MatchOption r
         (part.spelled (suc (length text.now)) (kinds.is_plain kind) (kinds.escape kind) text.now ≡ None)
         (λ x. part.spelled (suc (length text.now)) (kinds.is_plain kind) (kinds.escape kind) text.now ≡ Some (x.0, x.1.now))) }

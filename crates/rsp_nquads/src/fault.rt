@@ -1,5 +1,4 @@
 // Why a line is refused.
-use std::alloc::AllocError;
 use thiserror::Error;
 
 /// Why a line isn't taken. Columns count bytes from 1.
@@ -14,15 +13,4 @@ pub enum LineFault {
     /// Memory was refused.
     #[error("out of memory")]
     OutOfMemory,
-}
-
-impl From<AllocError> for LineFault {
-    ghost use Rattle.std.specs.Prelude.{◌≡◌};
-    ghost use Rattle.rsp_nquads.specs.declared.fault.LineFault.TheVariants.{OutOfMemory};
-
-    ghost from_gives = { λ _ fault. fault ≡ OutOfMemory };
-
-    fn from(_refused: AllocError) -> LineFault {
-        LineFault::OutOfMemory
-    }
 }

@@ -15,7 +15,10 @@ use std::str;
 
 /// The blank node label at the front of a text, without `_:`, and the text behind it.
 #[tactic(auto, unfolding(crate::specs::Parts::label))]
-pub(crate) fn label<'a>(alloc: Global, text: &'a [u8]) -> Result<Option<(Text, &'a [u8])>, AllocError>
+pub(crate) fn label<'a>(
+    alloc: Global,
+    text: &'a [u8],
+) -> Result<Option<(Text, &'a [u8])>, AllocError>
     ensures { IfOk result (λ r. MatchOption r (part.label text.now ≡ None) (λ x. part.label text.now ≡ Some (x.0, x.1.now))) }
 {
     let Some(behind) = sign(b'_', text) else {

@@ -232,7 +232,12 @@ fn parts_of(alloc: Global, document: u32, line: &[u8]) -> Result<Parts, Halt>
 }
 
 // the wanted part behind blanks
-fn read_part<'a>(alloc: Global, wanted: Wanted, document: u32, text: &'a [u8]) -> Result<(Part, &'a [u8]), Halt>
+fn read_part<'a>(
+    alloc: Global,
+    wanted: Wanted,
+    document: u32,
+    text: &'a [u8],
+) -> Result<(Part, &'a [u8]), Halt>
     ensures { MatchResult result (λ x. lines.part_of (reader wanted document) text.now ≡ Ok (x.0, x.1.now))
         (λ halt. Halts halt (lines.part_of (reader wanted document) text.now)) }
 {
@@ -249,7 +254,12 @@ fn read_part<'a>(alloc: Global, wanted: Wanted, document: u32, text: &'a [u8]) -
     }
 }
 
-fn read<'a>(alloc: Global, wanted: Wanted, document: u32, text: &'a [u8]) -> Result<Option<(Term, &'a [u8])>, AllocError>
+fn read<'a>(
+    alloc: Global,
+    wanted: Wanted,
+    document: u32,
+    text: &'a [u8],
+) -> Result<Option<(Term, &'a [u8])>, AllocError>
     ensures { IfOk result (λ r. MatchOption r (reader wanted document text.now ≡ None) (λ x. reader wanted document text.now ≡ Some (x.0, x.1.now))) }
 {
     match wanted {
@@ -260,7 +270,11 @@ fn read<'a>(alloc: Global, wanted: Wanted, document: u32, text: &'a [u8]) -> Res
 }
 
 // the graph behind blanks, where one is named
-fn read_graph<'a>(alloc: Global, document: u32, text: &'a [u8]) -> Result<(Option<Part>, &'a [u8]), AllocError>
+fn read_graph<'a>(
+    alloc: Global,
+    document: u32,
+    text: &'a [u8],
+) -> Result<(Option<Part>, &'a [u8]), AllocError>
     ensures { IfOk result (λ x. lines.optional_part (part.node document) text.now ≡ (x.0, x.1.now)) }
 {
     let here = behind_blanks(text);

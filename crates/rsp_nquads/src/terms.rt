@@ -11,7 +11,10 @@ use std::alloc::{AllocError, Global};
 const XSD_STRING: &str = "http://www.w3.org/2001/XMLSchema#string";
 
 /// An IRI.
-pub(crate) fn iri_term<'a>(alloc: Global, text: &'a [u8]) -> Result<Option<(Term, &'a [u8])>, AllocError>
+pub(crate) fn iri_term<'a>(
+    alloc: Global,
+    text: &'a [u8],
+) -> Result<Option<(Term, &'a [u8])>, AllocError>
     ensures { IfOk result (λ r. MatchOption r (part.iri_term text.now ≡ None) (λ x. part.iri_term text.now ≡ Some (x.0, x.1.now))) }
 {
     match iri(alloc, text)? {
@@ -22,7 +25,11 @@ pub(crate) fn iri_term<'a>(alloc: Global, text: &'a [u8]) -> Result<Option<(Term
 
 /// An IRI or a blank node of this document.
 #[tactic(auto, unfolding(crate::specs::Parts::node))]
-pub(crate) fn node<'a>(alloc: Global, document: u32, text: &'a [u8]) -> Result<Option<(Term, &'a [u8])>, AllocError>
+pub(crate) fn node<'a>(
+    alloc: Global,
+    document: u32,
+    text: &'a [u8],
+) -> Result<Option<(Term, &'a [u8])>, AllocError>
     ensures { IfOk result (λ r. MatchOption r (part.node document text.now ≡ None) (λ x. part.node document text.now ≡ Some (x.0, x.1.now))) }
 {
     match iri_term(alloc, text)? {
@@ -31,7 +38,11 @@ pub(crate) fn node<'a>(alloc: Global, document: u32, text: &'a [u8]) -> Result<O
     }
 }
 
-fn blank<'a>(alloc: Global, document: u32, text: &'a [u8]) -> Result<Option<(Term, &'a [u8])>, AllocError>
+fn blank<'a>(
+    alloc: Global,
+    document: u32,
+    text: &'a [u8],
+) -> Result<Option<(Term, &'a [u8])>, AllocError>
     ensures { IfOk result (λ r. MatchOption r (part.blank document text.now ≡ None) (λ x. part.blank document text.now ≡ Some (x.0, x.1.now))) }
 {
     match label(alloc, text)? {
@@ -42,7 +53,11 @@ fn blank<'a>(alloc: Global, document: u32, text: &'a [u8]) -> Result<Option<(Ter
 
 /// An IRI, a blank node or a literal.
 #[tactic(auto, unfolding(crate::specs::Parts::object))]
-pub(crate) fn object<'a>(alloc: Global, document: u32, text: &'a [u8]) -> Result<Option<(Term, &'a [u8])>, AllocError>
+pub(crate) fn object<'a>(
+    alloc: Global,
+    document: u32,
+    text: &'a [u8],
+) -> Result<Option<(Term, &'a [u8])>, AllocError>
     ensures { IfOk result (λ r. MatchOption r (part.object document text.now ≡ None) (λ x. part.object document text.now ≡ Some (x.0, x.1.now))) }
 {
     match node(alloc, document, text)? {
@@ -62,7 +77,11 @@ fn literal<'a>(alloc: Global, text: &'a [u8]) -> Result<Option<(Term, &'a [u8])>
 }
 
 #[tactic(auto, unfolding(crate::specs::Parts::literal_of))]
-fn literal_of<'a>(alloc: Global, lexical: Text, text: &'a [u8]) -> Result<(Term, &'a [u8]), AllocError>
+fn literal_of<'a>(
+    alloc: Global,
+    lexical: Text,
+    text: &'a [u8],
+) -> Result<(Term, &'a [u8]), AllocError>
     ensures { IfOk result (λ x. part.literal_of lexical text.now ≡ Some (x.0, x.1.now)) }
 {
     let behind = behind_blanks(text);

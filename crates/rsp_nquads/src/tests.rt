@@ -33,7 +33,10 @@ fn statements_are_written_again(rt: HostRuntime) -> Result<(), Fail> {
             b"\t<a:1>\t<p:v> \"x\"^^<http://www.w3.org/2001/XMLSchema#string> .",
             b"<a:1> <p:v> \"x\" .\n",
         ),
-        (b"_:a.b <p:v> _:a:b _:1.", b"_:b1xa.b <p:v> _:b1xa:b _:b1x1 .\n"),
+        (
+            b"_:a.b <p:v> _:a:b _:1.",
+            b"_:b1xa.b <p:v> _:b1xa:b _:b1x1 .\n",
+        ),
         (b"", b""),
         (b" # note", b""),
     ] {

@@ -1,7 +1,8 @@
 // Quads as lines.
-ghost use Rattle.std.specs.Prelude.{◌≡◌, ◌++◌, ◌∷◌, [], codes, OnOk, OnErr};
+ghost use Rattle.std.specs.Prelude.{◌≡◌, ℕ, List, ◌++◌, ◌∷◌, [], codes, OnOk, OnErr};
 ghost use Rattle.rsp_terms.specs.Terms.{printed};
-ghost use Rattle.rsp_nquads.specs.Writing.{line_of, graph_text};
+ghost use Rattle.rsp_nquads.specs.Statements.{statement_of, statement};
+ghost use Rattle.rsp_nquads.specs.Writing.{line_of, graph_text, HasNoBlank};
 
 use rsp_terms::{Quad, Term, print};
 use std::alloc::AllocError;
@@ -11,6 +12,9 @@ use std::alloc::AllocError;
 pub fn write(quad: &Quad, out: &mut Vec<u8>) -> Result<(), AllocError>
     ensures ok { OnOk result (out.new.items ≡ out.old.items ++ (line_of quad.now ++ (10 ∷ []))) }
     ensures err { OnErr result (out.new.items ≡ out.old.items) }
+    // every document reads the same quad from the line
+    ensures read_back { (of : ℕ) (line : List ℕ) → statement_of of line ≡ statement quad.now → HasNoBlank quad.now
+        → (document : ℕ) → statement_of document (line_of quad.now) ≡ statement quad.now }
 {
     let before = out.len();
     let written = push_line(quad, out);

@@ -26,6 +26,6 @@ returns-in_ok-push-in-Some-escape c =
     let bytes : string_bytes c.push.new.self ≡ take_while (is_plain c.args.kind) c.args.text.now ++ encode_utf8 c.in-Some-escape.character
     = c.in_ok-push-in-Some-escape.ensures.bytes ∙ ap (λ xs. xs ++ encode_utf8 c.in-Some-escape.character) (c.in_ok-begun-in-Some-escape.ensures.ok ∙ run.1) in
     let all : spelled (suc (length c.args.text.now)) (is_plain c.args.kind) (escape c.args.kind) c.args.text.now
-        ≡ onto (string_bytes c.push.new.self) (spelled (length c.args.text.now) (is_plain c.args.kind) (escape c.args.kind) c.in-Some-escape.rest.now)
+    ≡ onto (string_bytes c.push.new.self) (spelled (length c.args.text.now) (is_plain c.args.kind) (escape c.args.kind) c.in-Some-escape.rest.now)
     = rw bytes (more_spelled (length c.args.text.now) (is_plain c.args.kind) (escape c.args.kind) c.args.text.now run.0 c.in-Some-escape.character c.in-Some-escape.rest.now some) in
     subst (λ o. IfOk c.spelled_onto.result (λ r. MatchOption r (o ≡ None) (λ x. o ≡ Some (x.0, x.1.now)))) (sym all) c.spelled_onto.ensures
