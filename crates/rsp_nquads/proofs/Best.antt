@@ -1,9 +1,8 @@
 -- A pass over a text keeps the place where the longest accepted front ends so far.
-use Rattle.std.proofs.Common.{◌≡◌, ℕ, zero, suc, ◌+◌, ◌-◌, ◌<◌, ◌≤◌, Bool, true, false, true≢false, cond, List, [], ◌∷◌, ◌++◌, length, take, drop, get_or, refl, sym, ap, ◌∙◌, arith, if◌then◌else◌, Option, Some, None, add-one, drop-cons, drop_of_length-le}
-use Rattle.std.specs.Prelude.{◌&&◌, ◌==◌, not}
-use Rattle.std.specs.Option.{option_map_or}
+use Rattle.std.proofs.Common.{◌≡◌, ℕ, zero, suc, ◌+◌, ◌<◌, ◌≤◌, Bool, true, false, List, ◌∷◌, length, drop, get_or, refl, arith, if◌then◌else◌, Some, None, add-one, drop-cons, drop_of_length-le}
+use Rattle.std.specs.Prelude.{◌==◌}
 use Rattle.std.proofs.lemmas.Bool.Decides.{nat_tests}
-use Rattle.rsp_nquads.specs.Scans.{Machine, accepts, lengthened, scan}
+use Rattle.rsp_nquads.specs.Scans.{Machine, lengthened, scan}
 
 -- where it ends, with n items that are still to be read
 abbrev pub best : ℕ → ℕ → ℕ → ℕ

@@ -1,6 +1,6 @@
 -- Escapes in IRIs and strings, as readers and as pieces.
-use Rattle.std.proofs.Common.{◌≡◌, ◌≢◌, ℕ, zero, suc, ◌+◌, ◌-◌, ◌<◌, ◌≤◌, Bool, true, false, true≢false, cond, List, [], ◌∷◌, ◌++◌, length, take, drop, refl, sym, ap, subst, ◌∙◌, arith, Option, Some, None, if◌then◌else◌}
-use Rattle.std.specs.Prelude.{◌&&◌, ◌||◌, ◌==◌, not, ⊤}
+use Rattle.std.proofs.Common.{◌≡◌, ◌≢◌, ℕ, ◌≤◌, Bool, true, false, true≢false, List, [], ◌∷◌, ◌++◌, length, take, drop, refl, sym, ap, ◌∙◌, arith, Option, Some, None, if◌then◌else◌}
+use Rattle.std.specs.Prelude.{◌&&◌, ◌==◌, ⊤}
 use Rattle.std.specs.Char.{is_ascii_hexdigit}
 use Rattle.std.specs.List.{list_all}
 use Rattle.std.specs.Option.{option_map, option_and_then, option_or}
@@ -8,7 +8,7 @@ use Rattle.std.specs.Str.Parse.{digits_value}
 use Rattle.std.proofs.lemmas.Bool.Decides.{nat_tests}
 use Rattle.std.proofs.lemmas.List.{take-append-drop}
 use Rattle.rsp_terms.specs.Characters.{is_iri_character}
-use Rattle.rsp_nquads.specs.Parts.{Reader, code_point, uchar, echar, named_character, iri_escape, string_escape, is_scalar, is_string_character}
+use Rattle.rsp_nquads.specs.Parts.{code_point, uchar, echar, named_character, iri_escape, string_escape, is_scalar, is_string_character}
 use Rattle.rsp_nquads.specs.Grammar.{Piece, plain, short, long, named, written, IsNumbered, StandsFor, IsIriPiece, IsStringPiece}
 use Rattle.rsp_nquads.proofs.Fronts.{take_front, drop_front}
 use Rattle.rsp_nquads.proofs.Pieces.{IsEscape, Spells}

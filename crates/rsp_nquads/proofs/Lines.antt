@@ -1,5 +1,5 @@
 -- A line in its parts.
-use Rattle.std.proofs.Common.{◌≡◌, ℕ, List, [], ◌∷◌, ◌++◌, refl, sym, ap, ◌∙◌, append_assoc}
+use Rattle.std.proofs.Common.{◌≡◌, ℕ, List, [], ◌∷◌, ◌++◌, refl, append_assoc}
 use Rattle.std.specs.Prelude.{codes}
 
 pub line_in_parts : (old a b c d e s p o g : List ℕ) → a ≡ old ++ (s ++ codes " ") → b ≡ a ++ (p ++ codes " ") → c ≡ b ++ o → d ≡ c ++ g

@@ -1,16 +1,15 @@
 -- Labels of blank nodes: the machine answers whether characters are one, and the pass finds the longest, in bytes.
-use Rattle.std.proofs.Common.{◌≡◌, ℕ, zero, suc, ◌+◌, ◌-◌, ◌<◌, ◌≤◌, Bool, true, false, true≢false, cond, List, [], ◌∷◌, ◌++◌, length, take, drop, refl, sym, ap, ◌∙◌, arith, if◌then◌else◌, Option, Some, None, IsUtf8, chars, length-append}
-use Rattle.std.specs.Prelude.{◌&&◌, ◌||◌, ◌==◌, ◌≢◌, not}
+use Rattle.std.proofs.Common.{◌≡◌, ℕ, zero, suc, ◌+◌, ◌<◌, ◌≤◌, Bool, true, false, true≢false, List, [], ◌∷◌, ◌++◌, length, take, refl, sym, ap, ◌∙◌, arith, if◌then◌else◌, Some, None, IsUtf8, chars, length-append}
+use Rattle.std.specs.Prelude.{◌&&◌, ◌==◌, ◌≢◌, not}
 use Rattle.std.specs.Char.{encode_utf8, len_utf8}
-use Rattle.std.specs.Option.{option_map_or}
 use Rattle.std.specs.List.{list_all}
 use Rattle.std.specs.Str.{encode_utf8_all}
 use Rattle.std.proofs.lemmas.Bool.Decides.{nat_tests}
 use Rattle.std.proofs.lemmas.List.{nil_from_length}
-use Rattle.std.proofs.lemmas.Str.{chars-nil, chars_past_char, encodes-append, length-encode, len_utf8_bounds}
+use Rattle.std.proofs.lemmas.Str.{chars-nil, chars_past_char, length-encode, len_utf8_bounds}
 use Rattle.rsp_terms.specs.Characters.{is_label_start, is_label_character, is_label_text, last_of}
 use Rattle.rsp_nquads.specs.Parts.{longest_front}
-use Rattle.rsp_nquads.specs.Scans.{Machine, accepts, lengthened, scan, further_bytes, label_machine, ends_label}
+use Rattle.rsp_nquads.specs.Scans.{accepts, lengthened, scan, further_bytes, label_machine}
 use Rattle.rsp_nquads.proofs.Longest.{longest_scanned, scan_is}
 use Rattle.rsp_nquads.proofs.Best.{best}
 

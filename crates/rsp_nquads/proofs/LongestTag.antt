@@ -1,13 +1,12 @@
 -- Language tags: the machine answers whether a text is one, and the pass finds the longest.
-use Rattle.std.proofs.Common.{◌≡◌, ℕ, zero, suc, ◌+◌, ◌-◌, ◌<◌, ◌≤◌, Bool, true, false, true≢false, cond, List, [], ◌∷◌, ◌++◌, length, take, drop, refl, sym, ap, ◌∙◌, arith, if◌then◌else◌, Option, Some, None}
+use Rattle.std.proofs.Common.{◌≡◌, ℕ, suc, ◌<◌, Bool, true, false, cond, List, [], ◌∷◌, length, take, refl, sym, ◌∙◌, arith}
 use Rattle.std.specs.Prelude.{◌&&◌, ◌||◌, ◌==◌, not}
 use Rattle.std.specs.Char.{is_ascii_alphabetic, is_ascii_alphanumeric, is_ascii_digit, is_ascii_uppercase, is_ascii_lowercase}
-use Rattle.std.specs.Option.{option_map_or}
 use Rattle.std.specs.List.{list_all, slice_split, onto_first}
 use Rattle.std.proofs.lemmas.Bool.Decides.{nat_tests}
 use Rattle.rsp_terms.specs.Characters.{is_run_of, are_subtags, is_tag_text}
 use Rattle.rsp_nquads.specs.Parts.{longest_front}
-use Rattle.rsp_nquads.specs.Scans.{Machine, accepts, lengthened, scan, next_of_tag, tag_machine}
+use Rattle.rsp_nquads.specs.Scans.{accepts, scan, tag_machine}
 use Rattle.rsp_nquads.proofs.Longest.{longest_scanned}
 
 abbrev kind_of : Bool → ℕ → Bool

@@ -1,19 +1,17 @@
 -- Labels and tags: what the readers give is the longest that stands there.
-use Rattle.std.proofs.Common.{◌≡◌, ◌≢◌, ℕ, zero, suc, ◌+◌, ◌-◌, ◌<◌, ◌≤◌, Bool, true, false, true≢false, cond, List, [], ◌∷◌, ◌++◌, length, take, drop, refl, sym, ap, subst, ◌∙◌, arith, append_assoc, append-nil, length-append, Option, Some, None, IsUtf8, chars, codes, if◌then◌else◌}
-use Rattle.std.specs.Prelude.{◌&&◌, ◌||◌, ◌==◌, not, ⊤}
-use Rattle.std.specs.Char.{encode_utf8, len_utf8}
+use Rattle.std.proofs.Common.{◌≡◌, ◌≢◌, ℕ, zero, suc, ◌-◌, ◌<◌, ◌≤◌, Bool, true, false, true≢false, List, [], ◌∷◌, ◌++◌, length, take, drop, refl, sym, ap, subst, ◌∙◌, arith, append_assoc, length-append, Option, Some, None, IsUtf8, chars, if◌then◌else◌}
+use Rattle.std.specs.Prelude.{◌&&◌, ◌==◌}
+use Rattle.std.specs.Char.{encode_utf8}
 use Rattle.std.specs.Option.{option_and_then}
 use Rattle.std.specs.Str.{is_utf8, all_scalars, encode_utf8_all}
 use Rattle.std.specs.Str.Lossy.{utf8_valid_len, valid_len_up_to}
 use Rattle.std.proofs.lemmas.Bool.Decides.{nat_tests}
-use Rattle.std.proofs.lemmas.Grind.{common_steps}
-use Rattle.std.proofs.lemmas.List.{take-append-drop, nil_from_length}
+use Rattle.std.proofs.lemmas.List.{take-append-drop}
 use Rattle.std.proofs.lemmas.Str.{is_utf8-from_IsUtf8, IsUtf8-from_is_utf8, IsUtf8-nil, length-encode, len_utf8_bounds, encodes-append, chars-encodes, cons_from_encodes}
 use Rattle.rsp_terms.specs.Characters.{is_label_text, is_tag_text}
-use Rattle.rsp_nquads.specs.Parts.{Reader, sign, label, longest_label, longest_front, longest_up_to, some_of, behind, tag}
-use Rattle.rsp_nquads.specs.Grammar.{Rule, IsLabel, IsTag}
+use Rattle.rsp_nquads.specs.Parts.{sign, label, longest_label, longest_front, longest_up_to, some_of, behind, tag}
+use Rattle.rsp_nquads.specs.Grammar.{IsLabel, IsTag}
 use Rattle.rsp_nquads.proofs.Fronts.{take_front, drop_front, scalars-take, scalars-drop, parted}
-use Rattle.rsp_nquads.proofs.Longest.{IsLongest}
 use Rattle.rsp_nquads.proofs.Pieces.{both_of, pair_same}
 use Rattle.rsp_nquads.proofs.RuleLaws.{Reads, equal_from, sign_found, sign_finds, front_longest, no_longer, longest_given, length_take, take_past}
 

@@ -1,17 +1,15 @@
 -- What is spelled is made of pieces, and pieces are what is spelled.
-use Rattle.std.proofs.Common.{◌≡◌, ◌≢◌, ℕ, zero, suc, ◌+◌, ◌-◌, ◌/◌, ◌%◌, ◌<◌, ◌≤◌, Bool, true, false, true≢false, cond, List, [], ◌∷◌, ◌++◌, map, length, take, drop, refl, sym, ap, subst, ◌∙◌, arith, append_assoc, append-nil, Option, Some, None, IsUtf8}
-use Rattle.std.specs.Prelude.{◌&&◌, ◌||◌, ◌==◌, not, ⊤, nat_lt}
+use Rattle.std.proofs.Common.{◌≡◌, ◌≢◌, ℕ, zero, suc, ◌+◌, ◌/◌, ◌%◌, ◌<◌, ◌≤◌, Bool, true, false, true≢false, cond, List, [], ◌∷◌, ◌++◌, map, length, drop, refl, sym, ap, subst, ◌∙◌, arith, append_assoc, append-nil, Option, Some, None}
+use Rattle.std.specs.Prelude.{◌&&◌, ⊤, nat_lt}
 use Rattle.std.specs.Char.{encode_utf8}
 use Rattle.std.specs.List.{list_all, take_while, concat, AllByRecursion}
-use Rattle.std.specs.Option.{option_map, option_map_or}
 use Rattle.std.specs.Str.{is_utf8, all_scalars, encode_utf8_all}
 use Rattle.std.proofs.lemmas.Bool.Decides.{nat_tests}
 use Rattle.std.proofs.lemmas.List.Folds.{list_all-append}
 use Rattle.std.proofs.lemmas.List.Sums.{take_while-cons}
-use Rattle.std.proofs.lemmas.Str.{is_utf8-from_IsUtf8, IsUtf8-from_is_utf8, IsUtf8-append, IsUtf8-encode, IsUtf8-nil, encode_ascii, encodes-append}
-use Rattle.rsp_nquads.specs.Parts.{Reader, behind, onto, spelled, told, is_scalar}
+use Rattle.std.proofs.lemmas.Str.{is_utf8-from_IsUtf8, IsUtf8-from_is_utf8, IsUtf8-append, IsUtf8-encode, IsUtf8-nil, encode_ascii}
+use Rattle.rsp_nquads.specs.Parts.{Reader, behind, onto, spelled, is_scalar}
 use Rattle.rsp_nquads.specs.Grammar.{Piece, plain, short, long, named, written, StandsFor, IsPieceOf}
-use Rattle.rsp_nquads.proofs.Fronts.{drop_front}
 use Rattle.rsp_nquads.proofs.Spelling.{onto_onto, none_spelled, last_spelled, more_spelled}
 
 and_left : (a b : Bool) → (a && b) ≡ true → a ≡ true

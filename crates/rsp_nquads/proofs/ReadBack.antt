@@ -1,10 +1,10 @@
 -- A line that `write` makes of a quad without blank nodes says that quad.
-use Rattle.std.proofs.Common.{◌≡◌, ◌≢◌, ℕ, zero, suc, ◌+◌, ◌-◌, ◌<◌, ◌≤◌, Bool, true, false, true≢false, cond, List, [], ◌∷◌, ◌++◌, map, length, refl, sym, ap, subst, ◌∙◌, arith, append_assoc, append-nil, Option, Some, None, codes, if◌then◌else◌}
-use Rattle.std.specs.Prelude.{◌&&◌, ◌||◌, ◌==◌, not, ⊤, ◌⊎◌, nat_lt, nat_eq}
+use Rattle.std.proofs.Common.{◌≡◌, ℕ, ◌<◌, ◌≤◌, Bool, true, false, true≢false, List, [], ◌∷◌, ◌++◌, map, refl, sym, ap, subst, ◌∙◌, arith, append_assoc, append-nil, Option, Some, None, codes, if◌then◌else◌}
+use Rattle.std.specs.Prelude.{◌&&◌, ◌==◌, not, nat_lt}
 use mathlib.Core.Logic.{inl, inr}
-use Rattle.std.specs.Char.{encode_utf8, is_ascii_alphabetic, is_ascii_digit}
+use Rattle.std.specs.Char.{encode_utf8}
 use Rattle.std.specs.Cmp.Lexicographic.{bytes_decides}
-use Rattle.std.specs.List.{list_all, concat, AllByRecursion}
+use Rattle.std.specs.List.{list_all, AllByRecursion}
 use Rattle.std.specs.Option.{option_map_or}
 use Rattle.std.specs.Str.{encode_utf8_all, bytes_eq}
 use Rattle.std.proofs.lemmas.Bool.Decides.{nat_tests}
@@ -12,10 +12,10 @@ use Rattle.std.proofs.lemmas.Str.{encode_ascii}
 use Rattle.rsp_terms.specs.declared.term.Term.{Term}
 use Rattle.rsp_terms.specs.declared.term.Term.TheVariants.{Iri, Blank, Literal, Tagged}
 use Rattle.rsp_terms.specs.declared.statement.Quad.{Quad}
-use Rattle.rsp_terms.specs.Terms.{xsd_string, escaped_byte, escaped, iri_text, string_text, datatype_text, printed}
+use Rattle.rsp_terms.specs.Terms.{xsd_string, escaped_byte, escaped, iri_text, string_text, printed}
 use Rattle.rsp_terms.specs.Characters.{is_iri_character, is_tag_text}
-use Rattle.rsp_nquads.specs.Parts.{is_scalar, is_string_character, is_blank}
-use Rattle.rsp_nquads.specs.Grammar.{Piece, plain, short, long, named, written, StandsFor, IsIriPiece, IsStringPiece, IsPieceOf, IsEnclosed, IsIri, IsString, IsTag, IsDatatype, IsQualified, IsLiteral, IsIriTerm, IsNode, IsObject, IsGraph, Stands, IsDot, IsEnd, Says, Rule}
+use Rattle.rsp_nquads.specs.Parts.{is_scalar}
+use Rattle.rsp_nquads.specs.Grammar.{Piece, plain, short, long, named, written, StandsFor, IsIriPiece, IsStringPiece, IsPieceOf, IsEnclosed, IsIri, IsTag, IsDatatype, IsQualified, IsLiteral, IsIriTerm, IsNode, IsObject, IsGraph, Stands, Says, Rule}
 use Rattle.rsp_nquads.specs.Scans.{accepts, next_of_tag, tag_machine}
 use Rattle.rsp_nquads.specs.Statements.{statement_of, statement}
 use Rattle.rsp_nquads.specs.Writing.{line_of, graph_text, IsNotBlank, IsNotBlankIn, HasNoBlank}

@@ -1,21 +1,17 @@
 -- Readers and rules: a reader gives what its rule says of the part at the front.
-use Rattle.std.proofs.Common.{◌≡◌, ◌≢◌, ℕ, zero, suc, ◌+◌, ◌-◌, ◌<◌, ◌≤◌, Bool, true, false, true≢false, cond, List, [], ◌∷◌, ◌++◌, length, take, drop, refl, sym, ap, subst, ◌∙◌, arith, append_assoc, append-nil, length-append, Option, Some, None, IsUtf8, chars, codes, if◌then◌else◌}
-use Rattle.std.specs.Prelude.{◌&&◌, ◌||◌, ◌==◌, not, ⊤, ◌⊎◌}
-use Rattle.std.specs.Char.{encode_utf8, len_utf8}
-use Rattle.std.specs.List.{AllByRecursion}
-use Rattle.std.specs.Option.{option_map, option_and_then, option_or}
-use Rattle.std.specs.Str.{is_utf8, all_scalars, encode_utf8_all}
-use Rattle.std.specs.Str.Lossy.{utf8_valid_len, valid_len_up_to}
+use Rattle.std.proofs.Common.{◌≡◌, ◌≢◌, ℕ, zero, suc, ◌-◌, ◌<◌, ◌≤◌, Bool, true, false, true≢false, List, [], ◌∷◌, ◌++◌, length, take, drop, refl, sym, ap, ◌∙◌, arith, append_assoc, length-append, Option, Some, None, if◌then◌else◌}
+use Rattle.std.specs.Prelude.{◌==◌}
+use Rattle.std.specs.Char.{encode_utf8}
+use Rattle.std.specs.Option.{option_map, option_and_then}
 use Rattle.std.proofs.lemmas.Bool.Decides.{nat_tests}
 use Rattle.std.proofs.lemmas.Grind.{common_steps}
 use Rattle.std.proofs.lemmas.List.{take-append-drop}
-use Rattle.std.proofs.lemmas.Str.{is_utf8-from_IsUtf8, IsUtf8-from_is_utf8, IsUtf8-nil, length-encode, len_utf8_bounds, encodes-append, chars-encodes, cons_from_encodes}
-use Rattle.rsp_terms.specs.Characters.{is_label_text, is_tag_text}
-use Rattle.rsp_nquads.specs.Parts.{Reader, sign, spelled, enclosed, iri, string, label, longest_label, longest_front, longest_up_to, some_of, behind, tag}
-use Rattle.rsp_nquads.specs.Grammar.{Rule, Piece, plain, short, long, named, written, IsPieceOf, IsEnclosed, IsIri, IsString, IsLabel, IsTag}
-use Rattle.rsp_nquads.proofs.Fronts.{take_front, drop_front, scalars-take, scalars-drop, parted}
+use Rattle.std.proofs.lemmas.Str.{length-encode, len_utf8_bounds}
+use Rattle.rsp_nquads.specs.Parts.{Reader, sign, spelled, enclosed, iri, string, longest_front, longest_up_to}
+use Rattle.rsp_nquads.specs.Grammar.{Rule, Piece, plain, short, long, named, written, IsEnclosed, IsIri, IsString}
+use Rattle.rsp_nquads.proofs.Fronts.{take_front}
 use Rattle.rsp_nquads.proofs.Longest.{IsLongest, longest_is}
-use Rattle.rsp_nquads.proofs.Pieces.{Spells, texts, values, pieced, pieces_spelled, both_of, pair_same}
+use Rattle.rsp_nquads.proofs.Pieces.{Spells, texts, pieced, pieces_spelled, both_of, pair_same}
 use Rattle.rsp_nquads.proofs.EscapeLaws.{iri_spells, string_spells}
 
 pub record Reads {A : Type 0} (reader : Reader A) (rule : Rule A) : Type 0 where

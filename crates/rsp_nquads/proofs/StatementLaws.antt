@@ -1,8 +1,8 @@
 -- What a line says, by the grammar: the answers of `statement_of` and the relation `Says` agree.
-use Rattle.std.proofs.Common.{◌≡◌, ◌≢◌, ℕ, zero, suc, ◌+◌, ◌-◌, ◌<◌, ◌≤◌, Bool, true, false, true≢false, cond, List, [], ◌∷◌, ◌++◌, length, take, drop, refl, sym, ap, subst, ◌∙◌, arith, append_assoc, append-nil, Option, Some, None, Result, Ok, Err, codes, if◌then◌else◌, IsUtf8}
-use Rattle.std.specs.Prelude.{◌&&◌, ◌||◌, ◌==◌, not, ⊤, ◌⊎◌}
+use Rattle.std.proofs.Common.{◌≡◌, ℕ, Bool, true, false, true≢false, cond, List, [], ◌∷◌, ◌++◌, length, take, refl, sym, ap, subst, ◌∙◌, Option, Some, None, Result, Ok, Err, codes, if◌then◌else◌, IsUtf8}
+use Rattle.std.specs.Prelude.{◌&&◌, ◌==◌, ◌⊎◌}
 use mathlib.Core.Logic.{inl, inr}
-use Rattle.std.specs.List.{list_all, prefix_len, find, cons_option}
+use Rattle.std.specs.List.{prefix_len, find, cons_option}
 use Rattle.std.specs.Option.{option_map, option_map_or}
 use Rattle.std.specs.Str.{is_utf8}
 use Rattle.std.proofs.lemmas.Str.{is_utf8-from_IsUtf8, IsUtf8-from_is_utf8}
@@ -14,12 +14,12 @@ use Rattle.rsp_nquads.specs.declared.statements.Parts.{Parts}
 use Rattle.rsp_nquads.specs.declared.fault.LineFault.{LineFault}
 use Rattle.rsp_nquads.specs.declared.fault.LineFault.TheVariants.{BadStatement, RelativeIri, OutOfMemory}
 use Rattle.rsp_nquads.specs.Parts.{Reader, behind_blanks, is_blank, sign, enclosed, iri_term, label, tag, datatype, node, object}
-use Rattle.rsp_nquads.specs.Grammar.{Rule, Stands, IsIriTerm, IsNode, IsObject, IsGraph, IsEnd, IsDot, Says, SaysNothing, IsAbsoluteIn}
-use Rattle.rsp_nquads.specs.Statements.{Answer, nothing, statement, bad_statement, relative_iri, part_of, optional_part, is_end, ends, closes, onward, parts_of, is_relative, quad_of, column, first_relative, judged, answer, statement_of}
+use Rattle.rsp_nquads.specs.Grammar.{Stands, IsIriTerm, IsNode, IsObject, IsGraph, IsEnd, IsDot, Says, SaysNothing, IsAbsoluteIn}
+use Rattle.rsp_nquads.specs.Statements.{Answer, nothing, statement, bad_statement, relative_iri, part_of, optional_part, is_end, ends, closes, onward, parts_of, is_relative, quad_of, column, first_relative, answer, statement_of}
 use Rattle.rsp_nquads.specs.Results.{IsAnswer, IsByGrammar, SaysNeither}
 use Rattle.rsp_nquads.proofs.Pieces.{all_run}
-use Rattle.rsp_nquads.proofs.RuleLaws.{Reads, sign_found, sign_finds, equal_from}
-use Rattle.rsp_nquads.proofs.TermLaws.{blank_first, behind_none, behind_onto, blanks_split, StartsWell, stands_sound, stands_full, stands_behind, IsFree, iri_term_reads, iri_term_starts, node_reads, node_starts, object_sound, object_full, object_starts}
+use Rattle.rsp_nquads.proofs.RuleLaws.{sign_found, sign_finds, equal_from}
+use Rattle.rsp_nquads.proofs.TermLaws.{blank_first, behind_onto, blanks_split, StartsWell, stands_sound, stands_full, stands_behind, IsFree, iri_term_reads, iri_term_starts, node_reads, node_starts, object_sound, object_full, object_starts}
 
 -- ---- one part
 

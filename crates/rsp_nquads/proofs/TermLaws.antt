@@ -1,18 +1,16 @@
 -- Literals and terms: readers and rules.
-use Rattle.std.proofs.Common.{◌≡◌, ◌≢◌, ℕ, zero, suc, ◌+◌, ◌-◌, ◌<◌, ◌≤◌, Bool, true, false, true≢false, cond, List, [], ◌∷◌, ◌++◌, length, take, drop, refl, sym, ap, subst, ◌∙◌, arith, append_assoc, append-nil, Option, Some, None, codes, if◌then◌else◌}
-use Rattle.std.specs.Prelude.{◌&&◌, ◌||◌, ◌==◌, not, ⊤, ◌⊎◌}
+use Rattle.std.proofs.Common.{◌≡◌, ℕ, suc, ◌+◌, Bool, true, false, true≢false, List, [], ◌∷◌, ◌++◌, take, refl, sym, ap, subst, ◌∙◌, arith, append_assoc, Option, Some, None}
+use Rattle.std.specs.Prelude.{◌&&◌}
 use mathlib.Core.Logic.{inl, inr}
-use Rattle.std.specs.List.{list_all, take_while, prefix_len}
-use Rattle.std.specs.Option.{option_map, option_and_then, option_or}
+use Rattle.std.specs.List.{list_all, prefix_len}
+use Rattle.std.specs.Option.{option_and_then, option_or}
 use Rattle.std.proofs.lemmas.List.{take-append-drop}
-use Rattle.std.proofs.lemmas.List.Sums.{take_while-cons}
 use Rattle.rsp_terms.specs.declared.term.Term.{Term}
 use Rattle.rsp_terms.specs.declared.term.Term.TheVariants.{Iri, Blank, Literal, Tagged}
 use Rattle.rsp_terms.specs.Terms.{xsd_string}
 use Rattle.rsp_nquads.specs.Parts.{Reader, is_blank, behind_blanks, told, sign, enclosed, iri, string, label, tag, datatype, literal_of, literal, iri_term, blank, node, object}
-use Rattle.rsp_nquads.specs.Grammar.{Rule, Stands, IsEnclosed, IsIri, IsString, IsLabel, IsTag, IsDatatype, IsQualified, IsLiteral, IsIriTerm, IsNode, IsObject}
-use Rattle.rsp_nquads.proofs.Fronts.{take_front, drop_front}
-use Rattle.rsp_nquads.proofs.Pieces.{both_of, pair_same, run_split, all_run}
+use Rattle.rsp_nquads.specs.Grammar.{Rule, Stands, IsIri, IsString, IsLabel, IsTag, IsDatatype, IsQualified, IsLiteral, IsIriTerm, IsNode, IsObject}
+use Rattle.rsp_nquads.proofs.Pieces.{both_of, all_run}
 use Rattle.rsp_nquads.proofs.RuleLaws.{Reads, sign_found, sign_finds, iri_reads, string_reads}
 use Rattle.rsp_nquads.proofs.NameLaws.{tag_reads, label_reads}
 

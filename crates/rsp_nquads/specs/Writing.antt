@@ -1,7 +1,7 @@
 -- A quad as a line (RDF 1.1 N-Quads, section 2).
-use Rattle.std.specs.Prelude.{ℕ, ⊤, Option, None, Some, List, [], ◌∷◌, ◌++◌, codes}
+use Rattle.std.specs.Prelude.{ℕ, ⊤, Option, None, Some, List, [], ◌++◌, codes}
 use Rattle.rsp_terms.specs.declared.term.Term.{Term}
-use Rattle.rsp_terms.specs.declared.term.Term.TheVariants.{Iri, Blank, Literal, Tagged}
+use Rattle.rsp_terms.specs.declared.term.Term.TheVariants.{Blank}
 use Rattle.rsp_terms.specs.declared.statement.Quad.{Quad}
 use Rattle.rsp_terms.specs.Terms.{printed}
 

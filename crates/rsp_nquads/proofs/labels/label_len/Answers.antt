@@ -1,4 +1,4 @@
-use Rattle.std.proofs.Common.{◌∙◌, ◌≡◌, sym, ap, chars}
+use Rattle.std.proofs.Common.{◌∙◌, sym}
 use Rattle.rsp_nquads.proofs.LongestLabel.{label_begun_at, no_label_at}
 use Rattle.rsp_nquads.proofs.labels.label_len.Goals as goal
 

@@ -1,4 +1,4 @@
-use Rattle.std.proofs.Common.{◌∙◌, ◌≡◌}
+use Rattle.std.proofs.Common.{◌∙◌}
 use Rattle.rsp_terms.specs.Characters.{is_label_text}
 use Rattle.rsp_nquads.proofs.Fronts.{front_of, range_front}
 use Rattle.rsp_nquads.proofs.labels.longest_label.Goals as goal

@@ -1,4 +1,4 @@
-use Rattle.std.proofs.Common.{◌≡◌, IsUtf8, rules, sym}
+use Rattle.std.proofs.Common.{IsUtf8, rules, sym}
 use Rattle.std.proofs.lemmas.Str.{is_utf8-from_IsUtf8}
 use Rattle.rsp_nquads.proofs.Spelling.{not_utf8}
 use Rattle.rsp_nquads.proofs.statements.is_utf8.Goals as goal
