@@ -9,6 +9,9 @@ use Rattle.rsp_terms.specs.declared.term.Term.{Term}
 use Rattle.rsp_terms.specs.declared.term.Term.TheVariants.{Iri, Blank, Literal, Tagged}
 use Rattle.rsp_terms.specs.declared.statement.Quad.{Quad}
 use Rattle.rsp_terms.specs.Characters.{is_absolute}
+-- a part is a term and how many bytes of the line are left from its first one on
+use Rattle.rsp_nquads.specs.declared.statements.Part.{Part}
+use Rattle.rsp_nquads.specs.declared.statements.Parts.{Parts}
 use Rattle.rsp_nquads.specs.Parts.{Reader, behind_blanks, sign, iri_term, node, object}
 
 pub data Answer : Type 0 where
@@ -16,11 +19,6 @@ pub data Answer : Type 0 where
   statement : Quad → Answer
   bad_statement : ℕ → Answer
   relative_iri : ℕ → Answer
-
--- a part that was read, and how many bytes of the line are left from its first one on
-pub record Part : Type 0 where
-  pub term : Term
-  pub left : ℕ
 
 -- the wanted part behind blanks; where it doesn't stand there, how many bytes are left from there on
 abbrev pub part_of : Reader Term → List ℕ → Result (Part × List ℕ) ℕ
@@ -45,12 +43,6 @@ ends text = if is_end (behind_blanks text) then Ok true else Err (length (behind
 
 abbrev pub closes : List ℕ → Result Bool ℕ
 closes text = option_map_or ends (sign 46 (behind_blanks text)) (Err (length (behind_blanks text)))
-
-pub record Parts : Type 0 where
-  pub subject : Part
-  pub predicate : Part
-  pub object : Part
-  pub graph : Option Part
 
 -- the value of a reading, told by another
 abbrev pub onward : {A B : Type 0} → Result A ℕ → (A → Result B ℕ) → Result B ℕ
@@ -84,13 +76,14 @@ quad_of parts = record {
 abbrev pub column : List ℕ → ℕ → ℕ
 column line left = length line - left + 1
 
+abbrev pub first_relative : Parts → Option Part
+first_relative parts =
+    find (λ part. is_relative part.term) (parts.subject ∷ parts.predicate ∷ parts.object ∷ cons_option parts.graph [])
+
 -- a statement by its grammar: the first part that holds a relative IRI is its fault
 abbrev pub judged : List ℕ → Parts → Answer
 judged line parts =
-    option_map_or
-    (λ part. relative_iri (column line part.left))
-    (find (λ part. is_relative part.term) (parts.subject ∷ parts.predicate ∷ parts.object ∷ cons_option parts.graph []))
-    (statement (quad_of parts))
+    option_map_or (λ part. relative_iri (column line part.left)) (first_relative parts) (statement (quad_of parts))
 
 abbrev pub answer : List ℕ → Result Parts ℕ → Answer
 answer line (Ok parts) = judged line parts
