@@ -5,3 +5,4 @@ pub mod Kinds
 pub mod Scans
 pub mod Results
 pub mod Writing
+pub mod Fields

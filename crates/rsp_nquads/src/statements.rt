@@ -177,7 +177,7 @@ fn is_relative(term: &Term) -> bool
     }
 }
 
-fn is_absolute(iri: &[u8]) -> bool
+pub(crate) fn is_absolute(iri: &[u8]) -> bool
     ensures { result ≡ is_absolute iri.now }
 {
     match iri {
