@@ -6,3 +6,4 @@ pub mod Reading
 pub mod Taking
 pub mod Parted
 pub mod Going
+mod BlockRows

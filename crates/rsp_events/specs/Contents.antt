@@ -1,5 +1,5 @@
 -- What the lines of a block hold: the event, or the block's first fault.
-use Rattle.std.specs.Prelude.{◌≡◌, ℕ, ◌+◌, Bool, true, false, not, if◌then◌else◌, Option, None, Some, Ok, Err, Result, List, [], ◌∷◌, ◌++◌, length, option_to_list}
+use Rattle.std.specs.Prelude.{◌≡◌, ℕ, ◌+◌, Bool, true, false, not, if◌then◌else◌, Option, None, Some, Ok, Err, Result, List, [], ◌∷◌, ◌++◌, length}
 use Rattle.std.specs.List.{before_first, flat_map, list_any, position_or_len}
 use Rattle.std.specs.Option.{is_some}
 use Rattle.std.specs.Str.{is_utf8}

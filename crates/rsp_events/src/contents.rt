@@ -83,7 +83,15 @@ fn item(
         (λ lines. event.Item stream time (flat_map (form.triple_on document) lines))) }
 {
     match graph_of(alloc, document, before_end(body))? {
-        Ok(graph) => ended(first, body, Event::Item { stream, time, graph }),
+        Ok(graph) => ended(
+            first,
+            body,
+            Event::Item {
+                stream,
+                time,
+                graph,
+            },
+        ),
         Err(place) => bad_line(first, place),
     }
 }

@@ -12,19 +12,10 @@ use std::alloc::{AllocError, Global};
 /// What a block does, by its first line.
 #[derive(Drop)]
 pub enum Directive {
-    Register {
-        name: Text,
-    },
-    Cancel {
-        name: Text,
-    },
-    Item {
-        stream: Text,
-        time: u64,
-    },
-    Tick {
-        time: u64,
-    },
+    Register { name: Text },
+    Cancel { name: Text },
+    Item { stream: Text, time: u64 },
+    Tick { time: u64 },
     Insert,
     Delete,
 }
