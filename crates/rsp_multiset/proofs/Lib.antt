@@ -1,4 +1,9 @@
+pub mod Changing
 pub mod Held
 pub mod Linear
+pub mod Merging
+pub mod Renaming
+pub mod Signs
 pub mod Sums
 pub mod Whole
+mod WorkedRows

@@ -2,7 +2,7 @@
 use Rattle.std.proofs.Common.{◌≡◌, ◌≤◌, ℕ, zero, suc, Bool, true, false, not, cond, List, [], ◌∷◌, ◌++◌, ℤ, pos, ◌+ℤ◌, ◌*ℤ◌, neg_ℤ, length, map, filter, refl, sym, ap, subst, ◌∙◌, arith, Decides}
 use Rattle.std.proofs.lemmas.Int.{ints}
 use Rattle.std.proofs.Math.IntN.{zero-*ℤ}
-use Rattle.rsp_multiset.specs.Weights.{sum_z, only, weight, total, times, negated, size, IsChanged}
+use Rattle.rsp_multiset.specs.Weights.{sum_z, only, weight, total, times, negated, cardinality, IsChanged}
 use Rattle.rsp_multiset.proofs.Whole.{+ℤ-*ℤ, neg-*ℤ, one-*ℤ, times-one}
 use Rattle.rsp_multiset.proofs.Held.{weight-append, weight-negated}
 use Rattle.rsp_multiset.proofs.Sums.{sum_z-append, sum_z-alike, length-sum}
@@ -27,8 +27,8 @@ module _ {E : Type 0} where
   weight-entries_of eq [] q = refl
   weight-entries_of eq (x ∷ xs) q = ap (λ s. only (eq q x) (pos 1) +ℤ s) (weight-entries_of eq xs q)
 
-  pub size-total : (es : List (E × ℤ)) → size es ≡ total (λ _. pos 1) es
-  size-total es = sum_z-alike (λ e. e.1) (λ e. e.1 *ℤ pos 1) (λ e. sym (times-one e.1)) es
+  pub cardinality-total : (es : List (E × ℤ)) → cardinality es ≡ total (λ _. pos 1) es
+  cardinality-total es = sum_z-alike (λ e. e.1) (λ e. e.1 *ℤ pos 1) (λ e. sym (times-one e.1)) es
 
 module _ {E : Type 0} {eq : E → E → Bool} (same : (x y : E) → Decides (eq x y) (x ≡ y)) where
   pub itself : (x : E) → eq x x ≡ true
@@ -129,13 +129,13 @@ module _ {E : Type 0} {eq : E → E → Bool} (same : (x y : E) → Decides (eq 
   pub total-held : (f : E → ℤ) (es : List (E × ℤ)) (xs : List E) → ((q : E) → weight eq es q ≡ times eq xs q) → total f es ≡ sum_z f xs
   total-held f es xs held = total-same f es (entries_of xs) (λ q. held q ∙ sym (weight-entries_of eq xs q)) ∙ total-entries_of f xs
 
-  pub size-held : (es : List (E × ℤ)) (xs : List E) → ((q : E) → weight eq es q ≡ times eq xs q) → size es ≡ pos (length xs)
-  size-held es xs held = size-total es ∙ total-held (λ _. pos 1) es xs held ∙ length-sum xs
+  pub cardinality-held : (es : List (E × ℤ)) (xs : List E) → ((q : E) → weight eq es q ≡ times eq xs q) → cardinality es ≡ pos (length xs)
+  cardinality-held es xs held = cardinality-total es ∙ total-held (λ _. pos 1) es xs held ∙ length-sum xs
 
   pub length-same : (xs ys : List E) → ((q : E) → times eq xs q ≡ times eq ys q) → length xs ≡ length ys
   length-same xs ys alike =
       let e = sym (length-sum xs) ∙ sum-same (λ _. pos 1) xs ys alike ∙ length-sum ys in
       omega (arith, ints)
 
-  pub size-same : (es ds : List (E × ℤ)) → ((q : E) → weight eq es q ≡ weight eq ds q) → size es ≡ size ds
-  size-same es ds alike = size-total es ∙ total-same (λ _. pos 1) es ds alike ∙ sym (size-total ds)
+  pub cardinality-same : (es ds : List (E × ℤ)) → ((q : E) → weight eq es q ≡ weight eq ds q) → cardinality es ≡ cardinality ds
+  cardinality-same es ds alike = cardinality-total es ∙ total-same (λ _. pos 1) es ds alike ∙ sym (cardinality-total ds)

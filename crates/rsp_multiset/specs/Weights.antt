@@ -25,6 +25,14 @@ total f entries = sum_z (λ e. e.1 *ℤ f e.0) entries
 abbrev pub times : {E : Type 0} → (E → E → Bool) → List E → E → ℤ
 times eq xs q = sum_z (λ x. only (eq q x) (pos 1)) xs
 
+-- the lists hold each value equally often: they are one multiset
+abbrev pub IsSameMultiset : {E : Type 0} → (E → E → Bool) → List E → List E → Type 0
+IsSameMultiset {E} eq xs ys = (q : E) → times eq xs q ≡ times eq ys q
+
+-- the entries hold each value as often as the list
+abbrev pub Holds : {E : Type 0} → (E → E → Bool) → List (E × ℤ) → List E → Type 0
+Holds {E} eq entries xs = (q : E) → weight eq entries q ≡ times eq xs q
+
 -- the second list holds each value as often as the first with the change
 abbrev pub IsChanged : {E : Type 0} → (E → E → Bool) → List E → List (E × ℤ) → List E → Type 0
 IsChanged {E} eq before entries after = (q : E) → times eq after q ≡ times eq before q +ℤ weight eq entries q
@@ -43,11 +51,16 @@ abbrev pub above : ℤ → ℤ
 above (pos n) = pos n
 above (negsuc n) = pos 0
 
+-- n where it is below 0, else 0
+abbrev pub below : ℤ → ℤ
+below (pos n) = pos 0
+below (negsuc n) = negsuc n
+
 -- the entries are distinct, and each is there at least once
 pub record AreCounts {E : Type 0} (eq : E → E → Bool) (entries : List (E × ℤ)) : Type 0 where
   pub distinct : IsDistinct eq (keys_of entries)
   pub counted : All (λ (e : E × ℤ). pos 0 <ℤ e.1) entries
 
 -- how many values the entries stand for, each as often as its count says
-abbrev pub size : {E : Type 0} → List (E × ℤ) → ℤ
-size entries = sum_z (λ e. e.1) entries
+abbrev pub cardinality : {E : Type 0} → List (E × ℤ) → ℤ
+cardinality entries = sum_z (λ e. e.1) entries

@@ -50,7 +50,7 @@ impl Count {
         }
     }
 
-    /// None.
+    /// The count 0.
     pub fn zero() -> Count
         ensures { result ≡ pos 0 }
     {
@@ -72,12 +72,14 @@ impl Count {
         self.value.unsigned_abs()
     }
 
+    /// Whether it is 0.
     pub fn is_zero(self) -> bool
         ensures { IsTrue result ↔ (self ≡ pos 0) }
     {
         self.value == 0
     }
 
+    /// Whether it is below 0.
     pub fn is_negative(self) -> bool
         ensures { IsTrue result ↔ (self <ℤ pos 0) }
     {

@@ -5,12 +5,18 @@
 //! Below: `indexmap`. Above: terms, the index, operators and the engine.
 #![tactic(auto)]
 
+mod bag;
 mod cell;
 mod changes;
 mod count;
+mod parts;
 mod row;
+#[cfg(test)]
+mod tests;
 
+pub use bag::Bag;
 pub use cell::Cell;
 pub use changes::Changes;
 pub use count::Count;
+pub use parts::{apply, negative, positive};
 pub use row::Row;

@@ -1,3 +1,5 @@
+pub mod Copies
 pub mod InOrder
+pub mod SameTexts
 pub mod Sorted
 pub mod Tabs

@@ -41,7 +41,7 @@ module _ {X : Type 0} (lt : X → X → Bool) (o : IsStrictWeakOrder lt) where
   tied : (x y : X) → lt x y ≡ false → lt y x ≡ false → ties lt x y ≡ true
   tied x y p q = λ i. not (p i) && not (q i)
 
-  tied_parts : (x y : X) → ties lt x y ≡ true → (lt x y ≡ false) × (lt y x ≡ false)
+  pub tied_parts : (x y : X) → ties lt x y ≡ true → (lt x y ≡ false) × (lt y x ≡ false)
   tied_parts x y h = let parts = and_parts (not (lt x y)) (not (lt y x)) h in (not-true _ parts.0, not-true _ parts.1)
 
   -- what ties with x occurs among what is at least n
@@ -133,11 +133,11 @@ module _ {X : Type 0} (lt : X → X → Bool) (o : IsStrictWeakOrder lt) where
             subst Rises (sym (put-here x y ys at_least)) ((at_least, AreAtLeast-below x y ys at_least h.0), h)
       ]
 
-  Rises-put_all : (xs : List X) → Rises (put_all xs)
+  pub Rises-put_all : (xs : List X) → Rises (put_all xs)
   Rises-put_all [] = tt
   Rises-put_all (x ∷ xs) = Rises-put x (put_all xs) (Rises-put_all xs)
 
-  put_all-ties : (xs : List X) → IsStableBy lt xs (put_all xs)
+  pub put_all-ties : (xs : List X) → IsStableBy lt xs (put_all xs)
   put_all-ties [] z = refl
   put_all-ties (x ∷ xs) z =
       put-ties x (put_all xs) z ∙ ap (λ l. cond (ties lt z x) (x ∷ l) l) (put_all-ties xs z)

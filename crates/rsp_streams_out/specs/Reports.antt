@@ -3,6 +3,7 @@ use Rattle.std.specs.Prelude.{ℕ, List, [], ◌∷◌, ◌++◌, length, map, c
 use Rattle.std.specs.List.{join_with_byte}
 use Rattle.std.specs.Fmt.{decimal}
 use Rattle.rsp_terms.specs.declared.term.Term.{Term}
+use Rattle.rsp_multiset.specs.Rows.{Cells}
 use Rattle.rsp_streams_out.specs.Rows.{row_text}
 
 -- `# report NAME TIME ROWS`
@@ -15,10 +16,14 @@ abbrev pub variables_line : List (List ℕ) → List ℕ
 variables_line variables = join_with_byte 9 (map (λ name. 63 ∷ name) variables) ++ (10 ∷ [])
 
 -- a line for each row
-abbrev pub rows_text : List (List Term) → List ℕ
+abbrev pub rows_text : List (Cells Term) → List ℕ
 rows_text [] = []
 rows_text (row ∷ rows) = row_text row ++ (10 ∷ rows_text rows)
 
-abbrev pub report_text : List ℕ → ℕ → List (List ℕ) → List (List Term) → List ℕ
+abbrev pub report_text : List ℕ → ℕ → List (List ℕ) → List (Cells Term) → List ℕ
 report_text name at variables rows =
     report_head name at (length rows) ++ (variables_line variables ++ rows_text rows)
+
+-- `# overfull NAME TIME`: the report of a query that has too many rows
+abbrev pub overfull_text : List ℕ → ℕ → List ℕ
+overfull_text name at = codes "# overfull " ++ (name ++ (codes " " ++ (decimal at ++ (10 ∷ []))))

@@ -1,25 +1,31 @@
--- Rows of a report (SPARQL 1.1 Query Results TSV Format) and their order.
-use Rattle.std.specs.Prelude.{ℕ, Bool, if◌then◌else◌, List, [], ◌∷◌, map}
+-- Rows of a report (SPARQL 1.1 Query Results TSV Format, section 4) and their order.
+use Rattle.std.specs.Prelude.{ℕ, Bool, if◌then◌else◌, List, [], ◌∷◌, Option, Some, None, map}
 use Rattle.std.specs.List.{join_with_byte}
 use Rattle.std.specs.Ordering.{nat_cmp, is_gt}
 use Rattle.std.specs.Cmp.Lexicographic.{slice_cmp}
+use Rattle.rsp_multiset.specs.Rows.{Cells}
 use Rattle.rsp_terms.specs.declared.term.Term.{Term}
 use Rattle.rsp_terms.specs.Terms.{printed}
 
--- the printed terms, with tabs between
-abbrev pub row_text : List Term → List ℕ
-row_text row = join_with_byte 9 (map printed row)
+-- the printed term; an unbound variable has no text
+abbrev pub cell_text : Option Term → List ℕ
+cell_text None = []
+cell_text (Some term) = printed term
+
+-- the texts of the cells, with tabs between
+abbrev pub row_text : Cells Term → List ℕ
+row_text row = join_with_byte 9 (map cell_text row)
 
 -- the first row's text stands behind the second's in the order of bytes
-abbrev pub stands_behind : List Term → List Term → Bool
+abbrev pub stands_behind : Cells Term → Cells Term → Bool
 stands_behind row other = is_gt (slice_cmp nat_cmp (row_text row) (row_text other))
 
 -- a row before the first row that doesn't stand before it
-abbrev pub put_in : List Term → List (List Term) → List (List Term)
+abbrev pub put_in : Cells Term → List (Cells Term) → List (Cells Term)
 put_in row [] = row ∷ []
 put_in row (first ∷ rows) = if stands_behind row first then first ∷ put_in row rows else row ∷ (first ∷ rows)
 
 -- the rows in the byte order of their texts; rows of one text keep their order
-abbrev pub in_order : List (List Term) → List (List Term)
+abbrev pub in_order : List (Cells Term) → List (Cells Term)
 in_order [] = []
 in_order (row ∷ rows) = put_in row (in_order rows)

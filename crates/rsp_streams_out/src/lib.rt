@@ -1,11 +1,16 @@
 //! Reports as rows in order and as text (SPARQL 1.1 Query Results TSV Format).
 //!
-//! `ordered` puts rows into the byte order of their texts; `report_text` appends exactly the defined text of a report.
-//! Above: the engine orders rows, the program writes reports. Below: terms and their printing.
+//! `rows_of` lists a bag's rows, each as often as it is there; `ordered` puts rows into the byte order of their texts,
+//! and these texts depend on the rows as a multiset alone; `report_text` and `overfull_text` append exactly the defined
+//! text of a report. Above: the engine orders rows, the program writes reports. Below: terms, their printing, and rows.
 #![tactic(auto)]
 
+mod listing;
 mod order;
+#[cfg(test)]
+mod tests;
 mod text;
 
+pub use listing::rows_of;
 pub use order::ordered;
-pub use text::{report_text, row_text};
+pub use text::{overfull_text, report_text, row_text};

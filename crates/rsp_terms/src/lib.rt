@@ -1,8 +1,9 @@
-//! RDF terms (RDF 1.1 Concepts, section 3): shared texts, terms, triples, and how a term is printed.
+//! RDF terms (RDF 1.1 Concepts, section 3): shared texts, terms, triples, quads, facts, and how a term is printed.
 //!
-//! Contracts see a [`Text`] as its bytes and a [`Listed`] as the list of its items; [`Term`] and [`Triple`] are plain
-//! data over these. `print` appends exactly the defined text of a term, and different terms have different texts.
-//! Above: reports, events and the engine speak of these types. Below: std alone.
+//! Contracts see a [`Text`] as its bytes and a [`Listed`] as the list of its items; terms and what is said with them are
+//! plain data over these. `print` appends exactly the defined text of a term, and different terms have different
+//! texts. `is_iri`, `is_label` and `is_tag` test a text exactly. Terms and facts are cells of rows and changes.
+//! Above: statements, reports, events, the algebra and the engine. Below: `rsp_multiset`.
 #![tactic(auto)]
 
 mod cells;
@@ -17,7 +18,7 @@ mod text;
 
 pub use characters::{is_iri, is_label, is_tag};
 pub use listed::Listed;
-pub use printing::print;
+pub use printing::{XSD_STRING, print};
 pub use statement::{Fact, Quad, Spot, Triple};
 pub use term::Term;
 pub use text::Text;
