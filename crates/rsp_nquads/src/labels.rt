@@ -5,9 +5,8 @@ ghost use Rattle.std.specs.Str.Lossy.{utf8_valid_len};
 ghost use Rattle.rsp_terms.specs.Characters.{is_label_text, is_tag_text};
 ghost use Rattle.rsp_nquads.specs.Parts as part;
 ghost use Rattle.rsp_nquads.specs.Scans.{further_bytes, next_of_tag, scan, tag_machine};
-ghost use Rattle.std.specs.Char.{is_ascii_alphabetic, is_ascii_digit};
 
-use crate::signs::sign;
+use crate::signs::{is_digit, is_letter, sign};
 use rsp_terms::Text;
 use rsp_terms::characters::{is_label_character, is_label_start};
 use std::alloc::{AllocError, Global};
@@ -144,18 +143,6 @@ fn next_of_tag(state: (bool, bool), c: u8) -> Option<(bool, bool)>
         return Some((is_first, true));
     }
     None
-}
-
-fn is_letter(c: u8) -> bool
-    ensures { result ≡ is_ascii_alphabetic c }
-{
-    c.is_ascii_alphabetic()
-}
-
-fn is_digit(c: u8) -> bool
-    ensures { result ≡ is_ascii_digit c }
-{
-    c.is_ascii_digit()
 }
 
 fn furthest(ends: bool, place: usize, end: usize) -> usize

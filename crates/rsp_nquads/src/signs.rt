@@ -1,5 +1,6 @@
-// Blanks and single signs at the front of a text.
+// Blanks and single signs at the front of a text, and classes of bytes.
 ghost use Rattle.std.specs.Prelude.{◌≡◌, ◌≤◌, MatchOption, Some, None, length};
+ghost use Rattle.std.specs.Char.{is_ascii_alphabetic, is_ascii_digit};
 ghost use Rattle.std.specs.List.{prefix_len};
 ghost use Rattle.rsp_nquads.specs.Parts as part;
 
@@ -32,4 +33,16 @@ pub(crate) fn sign(c: u8, text: &[u8]) -> Option<&[u8]>
         [first, rest @ ..] if *first == c => Some(rest),
         _ => None,
     }
+}
+
+pub(crate) fn is_letter(c: u8) -> bool
+    ensures { result ≡ is_ascii_alphabetic c }
+{
+    c.is_ascii_alphabetic()
+}
+
+pub(crate) fn is_digit(c: u8) -> bool
+    ensures { result ≡ is_ascii_digit c }
+{
+    c.is_ascii_digit()
 }

@@ -2,13 +2,12 @@
 ghost use Rattle.std.specs.Prelude.{◌≡◌, MatchOption, MatchResult, Some, None, Ok, Err, IfOk, true, false, length};
 ghost use Rattle.std.specs.Option.{option_map};
 ghost use Rattle.rsp_terms.specs.Characters.{is_absolute, goes_on_to_colon, is_scheme_character};
-ghost use Rattle.std.specs.Char.{is_ascii_alphabetic};
 ghost use Rattle.rsp_nquads.specs.Parts as part;
 ghost use Rattle.rsp_nquads.specs.Statements as lines;
 ghost use Rattle.rsp_nquads.specs.Results.{reader, IsAnswer, IsByGrammar, Halts};
 
 use crate::LineFault;
-use crate::signs::{behind_blanks, sign};
+use crate::signs::{behind_blanks, is_letter, sign};
 use crate::terms::{iri_term, node, object};
 use rsp_terms::{Quad, Term, Triple};
 use std::alloc::{AllocError, Global};
@@ -204,12 +203,6 @@ fn is_scheme_character(c: u8) -> bool
     ensures { result ≡ is_scheme_character c }
 {
     c.is_ascii_alphanumeric() || c == b'+' || c == b'-' || c == b'.'
-}
-
-fn is_letter(c: u8) -> bool
-    ensures { result ≡ is_ascii_alphabetic c }
-{
-    c.is_ascii_alphabetic()
 }
 
 #[tactic(auto, unfolding(crate::specs::Statements::parts_of))]

@@ -5,10 +5,8 @@ ghost use Rattle.rsp_nquads.specs.Parts as part;
 use crate::enclosed::{iri, string};
 use crate::labels::{label, tag};
 use crate::signs::{behind_blanks, sign};
-use rsp_terms::{Term, Text};
+use rsp_terms::{Term, Text, XSD_STRING};
 use std::alloc::{AllocError, Global};
-
-const XSD_STRING: &str = "http://www.w3.org/2001/XMLSchema#string";
 
 /// An IRI.
 pub(crate) fn iri_term<'a>(

@@ -45,7 +45,7 @@ read-escaped (byte ∷ lexical) rest =
     ∙ read-escaped_byte byte (escaped lexical ++ 34 ∷ rest)
     ∙ ap (put byte) (read-escaped lexical rest)
 
-strings : (lexical rest other more : List ℕ) → string_text lexical ++ rest ≡ string_text other ++ more → (lexical ≡ other) × (rest ≡ more)
+pub strings : (lexical rest other more : List ℕ) → string_text lexical ++ rest ≡ string_text other ++ more → (lexical ≡ other) × (rest ≡ more)
 strings lexical rest other more same =
     let left = append_assoc (escaped lexical) (34 ∷ []) rest in
     let right = append_assoc (escaped other) (34 ∷ []) more in
@@ -53,7 +53,7 @@ strings lexical rest other more same =
     sym (read-escaped lexical rest) ∙ ap (read false) (sym left ∙ ap tail same ∙ right) ∙ read-escaped other more in
     (ap (λ (p : List ℕ × List ℕ). p.0) both, ap (λ (p : List ℕ × List ℕ). p.1) both)
 
-iris : (iri other : List ℕ) → iri_text iri ≡ iri_text other → iri ≡ other
+pub iris : (iri other : List ℕ) → iri_text iri ≡ iri_text other → iri ≡ other
 iris iri other same = append_cancel_right iri other (62 ∷ []) (ap tail same)
 
 is_xsd_string : (datatype : List ℕ) → bytes_eq datatype xsd_string ≡ true → datatype ≡ xsd_string
@@ -75,7 +75,7 @@ datatypes_by datatype other false true is too same =
 datatypes_by datatype other false false is too same =
     iris datatype other (ap (λ text. tail (tail text)) (sym (written datatype is) ∙ same ∙ written other too))
 
-datatypes : (datatype other : List ℕ) → datatype_text datatype ≡ datatype_text other → datatype ≡ other
+pub datatypes : (datatype other : List ℕ) → datatype_text datatype ≡ datatype_text other → datatype ≡ other
 datatypes datatype other = datatypes_by datatype other _ _ refl refl
 
 untagged_by : (datatype tag : List ℕ) (a : Bool) → bytes_eq datatype xsd_string ≡ a → datatype_text datatype ≡ 64 ∷ tag → ⊥
@@ -96,7 +96,7 @@ labels (c ∷ digits) label (d ∷ more) rest are too same =
     let behind = labels digits label more rest are.1 too.1 (ap tail same) in
     ((λ i. ap head same i ∷ behind.0 i), behind.1)
 
-blanks : (document number : ℕ) (label other : List ℕ) → document < 2 ^ 32 → number < 2 ^ 32
+pub blanks : (document number : ℕ) (label other : List ℕ) → document < 2 ^ 32 → number < 2 ^ 32
     → decimal document ++ 120 ∷ label ≡ decimal number ++ 120 ∷ other → (document ≡ number) × (label ≡ other)
 blanks document number label other fits too same =
     let small : document < 2 ^ 64 = omega (arith, fits) in

@@ -1,4 +1,4 @@
 mod CharacterRows
-mod CharacterSteps
-mod Injective
+pub mod CharacterSteps
+pub mod Injective
 mod TermRows

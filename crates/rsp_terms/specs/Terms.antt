@@ -1,4 +1,4 @@
--- How terms are printed (RDF 1.1 N-Quads, section 2; canonical form as of RDF 1.1 N-Triples, section 4).
+-- How terms are printed (RDF 1.1 N-Quads, section 2).
 use Rattle.std.specs.Prelude.{ℕ, ◌==◌, ◌<◌, ◌^◌, ⊤, List, [], ◌∷◌, ◌++◌, if◌then◌else◌, codes}
 use Rattle.std.specs.Str.{bytes_eq}
 use Rattle.std.specs.Fmt.{decimal}
@@ -9,7 +9,8 @@ use Rattle.rsp_terms.specs.declared.term.Term.TheVariants.{Iri, Blank, Literal, 
 abbrev pub xsd_string : List ℕ
 xsd_string = codes "http://www.w3.org/2001/XMLSchema#string"
 
--- a byte of a lexical form: `"` `\` tab, line feed and carriage return by an escape (ECHAR), each other as it is
+-- a byte of a lexical form: `"` `\` tab, line feed and carriage return by an escape (ECHAR), each other as it is.
+-- So no text has a tab or a line feed of a lexical form in it, and a row of texts can be told apart.
 abbrev pub escaped_byte : ℕ → List ℕ
 escaped_byte byte =
     if byte == 34 then codes "\\\""

@@ -10,9 +10,10 @@ use std::alloc::AllocError;
 /// The datatype that is left out where a literal is printed.
 pub const XSD_STRING: &str = "http://www.w3.org/2001/XMLSchema#string";
 
-/// Appends the text of a term (RDF 1.1 N-Quads, section 2, in the canonical form of RDF 1.1 N-Triples, section 4). The
-/// label of a blank node is `b`, the number of its document, `x` and the label that it has there. Fails only where
-/// memory is refused; `out` then holds the bytes that it held before. Different terms have different texts.
+/// Appends the text of a term (RDF 1.1 N-Quads, section 2), without the datatype `xsd:string`. Of a string, `"`, `\`,
+/// line feed, carriage return and tab alone are escaped. The label of a blank node is `b`, the number of its document,
+/// `x` and the label that it has there. Fails only where memory is refused; `out` then holds the bytes that it held
+/// before. Different terms have different texts.
 pub fn print(term: &Term, out: &mut Vec<u8>) -> Result<(), AllocError>
     ensures ok { OnOk result (out.new.items ≡ out.old.items ++ printed term.now) }
     ensures err { OnErr result (out.new.items ≡ out.old.items) }

@@ -25,7 +25,7 @@ fn triple(alloc: Global, object: &str) -> Result<Triple, AllocError> {
     })
 }
 
-// RDF 1.1 N-Quads, examples 2 and 4, and canonical escapes
+// RDF 1.1 N-Quads, examples 2 and 4, and escapes
 #[test]
 fn prints_each_kind_of_term(rt: HostRuntime) -> Result<(), Fail> {
     let alloc = rt.alloc();
