@@ -4,3 +4,6 @@ pub mod Grouping
 pub mod Times
 pub mod Reading
 pub mod Taking
+pub mod Parted
+pub mod Going
+mod BlockRows

@@ -1,5 +1,5 @@
 -- What a reader does with a line that has come to its end.
-use Rattle.std.proofs.Common.{◌≡◌, ℕ, ◌+◌, List, [], ◌∷◌, ◌++◌, length, refl, ap, sym, ◌∙◌, arith}
+use Rattle.std.proofs.Common.{◌≡◌, ℕ, ◌+◌, List, [], ◌∷◌, ◌++◌, refl, ap, sym, ◌∙◌, arith}
 use Rattle.rsp_events.specs.declared.event.Block.{Block}
 use Rattle.rsp_events.specs.declared.begun.BegunBlock.{BegunBlock}
 use Rattle.rsp_events.specs.declared.begun.BegunBlock.TheVariants as begun
@@ -8,9 +8,9 @@ use Rattle.rsp_events.specs.declared.blocks.Place.{Place}
 use Rattle.rsp_events.specs.declared.blocks.Place.TheVariants.{Passed, Inside, Last}
 use Rattle.rsp_events.specs.Lines.{Line}
 use Rattle.rsp_events.specs.Begun.{begun_block_of, held_line_of}
-use Rattle.rsp_events.specs.Blocks.{Reader, content_of, numbered_from}
-use Rattle.rsp_events.specs.Instants.{AllTimed, IsTimed}
-use Rattle.rsp_events.specs.Steps.{TakesLine, begun_at, closed_at, place_of}
+use Rattle.rsp_events.specs.Blocks.{Reader, content_of}
+use Rattle.rsp_events.specs.Instants.{IsTimed}
+use Rattle.rsp_events.specs.Steps.{TakesLine, place_of}
 
 abbrev pub IsPlace : BegunBlock → HeldLine → Place → Type 0
 IsPlace block held place =

@@ -1,8 +1,171 @@
 -- The times of a log's events are instants.
-use Rattle.std.proofs.Common.{List, [], ◌∷◌, ◌++◌}
+use Rattle.std.proofs.Common.{◌≡◌, ℕ, ◌+◌, ◌*◌, ◌≤◌, Bool, true, false, List, [], ◌∷◌, ◌++◌, length, take, drop, refl, arith}
+use Rattle.std.specs.Prelude.{⊤, nat_le, if◌then◌else◌, Option, None, Some, ℤ, pos, negsuc, ◌&&◌, ◌||◌, ◌==◌, codes, ◌+ℤ◌, ◌-ℤ◌, ◌*ℤ◌}
+use Rattle.std.specs.List.{before_first, flat_map, list_any, position_or_len}
+use Rattle.std.specs.Option.{option_and_then, option_map, option_or}
+use Rattle.std.proofs.lemmas.Bool.Decides.{nat_tests}
+use Rattle.rsp_spec.specs.Windows.{last_instant}
+use Rattle.rsp_text.specs.Digits.{fraction, read_u64, thousandths}
+use Rattle.rsp_text.specs.Instants.{day_number, instant, instant_of, is_date, is_fraction, is_offset, is_time, is_utc, minutes_ahead, seconds_of_day, since_1970}
+use Rattle.rsp_nquads.specs.Fields.{absolute_iri}
+use Rattle.rsp_events.specs.declared.directives.Directive.{Directive}
+use Rattle.rsp_events.specs.declared.directives.Directive.TheVariants as directive
 use Rattle.rsp_events.specs.declared.event.Block.{Block}
-use Rattle.rsp_events.specs.Instants.{AllTimed}
+use Rattle.rsp_events.specs.declared.event.BlockFault.TheVariants.{BadBody}
+use Rattle.rsp_events.specs.declared.event.Content.{Content}
+use Rattle.rsp_events.specs.declared.event.Content.TheVariants as content
+use Rattle.rsp_events.specs.declared.event.Event.{Event}
+use Rattle.rsp_events.specs.declared.event.Event.TheVariants as event
+use Rattle.rsp_events.specs.Contents.{content_by, content_of_directive, is_bad_quad, is_bad_text, is_bad_triple, of_body, quad_on, triple_on, with_line_feed}
+use Rattle.rsp_events.specs.Directives.{alone, directive_by, directive_of, fields, item, item_of, name_of, named, number_of, only, time_of, timed, two}
+use Rattle.rsp_events.specs.Instants.{AllTimed, IsInstant, IsTimed}
+use Rattle.rsp_events.specs.Lines.{first_field, is_end, same}
 
 pub AllTimed-append : (xs ys : List Block) → AllTimed xs → AllTimed ys → AllTimed (xs ++ ys)
 AllTimed-append [] ys hx hy = hy
 AllTimed-append (x ∷ xs) ys hx hy = (hx.0, AllTimed-append xs ys hx.1 hy)
+
+-- ---- the times of directives
+
+abbrev AtMost : Option ℕ → Type 0
+AtMost None = ⊤
+AtMost (Some time) = time ≤ last_instant
+
+abbrev IsTimedDirective : Option Directive → Type 0
+IsTimedDirective None = ⊤
+IsTimedDirective (Some (directive.Register name)) = ⊤
+IsTimedDirective (Some (directive.Cancel name)) = ⊤
+IsTimedDirective (Some (directive.Item stream time)) = time ≤ last_instant
+IsTimedDirective (Some (directive.Tick time)) = time ≤ last_instant
+IsTimedDirective (Some directive.Insert) = ⊤
+IsTimedDirective (Some directive.Delete) = ⊤
+
+within : (n : ℕ) → AtMost (if nat_le n last_instant then Some n else None)
+within n =
+    elim (nat_le n last_instant) as (λ v. nat_le n last_instant ≡ v → AtMost (if v then Some n else None)) [
+      | true ↦ λ e. grind (arith, nat_tests)
+      | false ↦ λ e. tt
+    ] refl
+
+number_within : (o : Option ℕ) → AtMost (option_and_then (λ n. if nat_le n last_instant then Some n else None) o)
+number_within None = tt
+number_within (Some n) = within n
+
+since_within : (z : ℤ) → AtMost (since_1970 z)
+since_within (pos n) = within n
+since_within (negsuc n) = tt
+
+chosen : (b : Bool) (o : Option ℕ) → AtMost o → AtMost (if b then o else None)
+chosen true o h = h
+chosen false o h = tt
+
+instant_of_within : (date time part zone : List ℕ) → AtMost (instant_of date time part zone)
+instant_of_within date time part zone =
+    let ms : ℤ =
+    ((day_number date *ℤ pos 86400000) +ℤ pos (seconds_of_day time * 1000 + thousandths part)) -ℤ (minutes_ahead zone *ℤ pos 60000) in
+    chosen ((is_date date && is_time time) && (is_fraction part && (is_utc zone || is_offset zone))) (since_1970 ms) (since_within ms)
+
+instant_within : (text : List ℕ) → AtMost (instant text)
+unfolding instant
+instant_within text =
+    let behind = drop 19 text in
+    let part = fraction behind in
+    instant_of_within (take 10 text) (take 9 (drop 10 text)) part (drop (length part) behind)
+
+either_within : (a b : Option ℕ) → AtMost a → AtMost b → AtMost (option_or a b)
+either_within None b ha hb = hb
+either_within (Some n) b ha hb = ha
+
+time_within : (text : List ℕ) → AtMost (time_of text)
+time_within text = either_within (number_of text) (instant text) (number_within (read_u64 text)) (instant_within text)
+
+registered : (o : Option (List ℕ)) → IsTimedDirective (option_map (λ name. directive.Register name) o)
+registered None = tt
+registered (Some name) = tt
+
+cancelled : (o : Option (List ℕ)) → IsTimedDirective (option_map (λ name. directive.Cancel name) o)
+cancelled None = tt
+cancelled (Some name) = tt
+
+ticked : (o : Option ℕ) → AtMost o → IsTimedDirective (option_map (λ time. directive.Tick time) o)
+ticked None h = tt
+ticked (Some time) h = h
+
+only_within : (o : Option (List ℕ)) → AtMost (option_and_then time_of o)
+only_within None = tt
+only_within (Some text) = time_within text
+
+item_at : (iri : List ℕ) (o : Option ℕ) → AtMost o → IsTimedDirective (option_map (λ at. directive.Item iri at) o)
+item_at iri None h = tt
+item_at iri (Some time) h = h
+
+item_on : (time : List ℕ) (o : Option (List ℕ))
+    → IsTimedDirective (option_and_then (λ iri. option_map (λ at. directive.Item iri at) (time_of time)) o)
+item_on time None = tt
+item_on time (Some iri) = item_at iri (time_of time) (time_within time)
+
+item_by : (o : Option (List ℕ × List ℕ)) → IsTimedDirective (option_and_then (λ x. item x.0 x.1) o)
+item_by None = tt
+item_by (Some x) = item_on x.1 (absolute_iri x.0)
+
+choice : (b : Bool) (o p : Option Directive) → IsTimedDirective o → IsTimedDirective p → IsTimedDirective (if b then o else p)
+choice true o p ho hp = ho
+choice false o p ho hp = hp
+
+one_of : (a b c d e f : Bool) (o p q r s t : Option Directive) → IsTimedDirective o → IsTimedDirective p → IsTimedDirective q
+    → IsTimedDirective r → IsTimedDirective s → IsTimedDirective t
+    → IsTimedDirective (if a then o else (if b then p else (if c then q else (if d then r else (if e then s else (if f then t else None))))))
+one_of true b c d e f o p q r s t ho hp hq hr hs ht = ho
+one_of false true c d e f o p q r s t ho hp hq hr hs ht = hp
+one_of false false true d e f o p q r s t ho hp hq hr hs ht = hq
+one_of false false false true e f o p q r s t ho hp hq hr hs ht = hr
+one_of false false false false true f o p q r s t ho hp hq hr hs ht = hs
+one_of false false false false false f o p q r s t ho hp hq hr hs ht = choice f t None ht tt
+
+directive_timed : (word : List ℕ) (fields : List (List ℕ)) → IsTimedDirective (directive_by word fields)
+unfolding directive_by
+directive_timed word fields =
+    one_of (same word (codes "@register")) (same word (codes "@cancel")) (same word (codes "@item")) (same word (codes "@tick"))
+    (same word (codes "@insert")) (same word (codes "@delete"))
+    (named (λ name. directive.Register name) fields) (named (λ name. directive.Cancel name) fields) (item_of fields)
+    (timed (λ time. directive.Tick time) fields) (alone directive.Insert fields) (alone directive.Delete fields)
+    (registered (option_and_then name_of (only fields))) (cancelled (option_and_then name_of (only fields))) (item_by (two fields))
+    (ticked (option_and_then time_of (only fields)) (only_within (only fields)))
+    (choice (length fields == 0) (Some directive.Insert) None tt tt) (choice (length fields == 0) (Some directive.Delete) None tt tt)
+
+body_timed : (first : ℕ) (body : List (List ℕ)) (bad : List ℕ → Bool) (event_of : List (List ℕ) → Event)
+    → ((lines : List (List ℕ)) → IsInstant (event_of lines)) → IsTimed (of_body first body bad event_of)
+body_timed first body bad event_of h =
+    elim (list_any bad (before_first is_end body)) as (λ v.
+    IsTimed (if v then content.Fault (BadBody (first + 1 + position_or_len bad (before_first is_end body)))
+    else (if list_any is_end body then content.Event (event_of (before_first is_end body)) else content.Fault (BadBody (first + 1 + length body))))) [
+      | true ↦ tt
+      | false ↦
+          elim (list_any is_end body) as (λ v.
+          IsTimed (if v then content.Event (event_of (before_first is_end body)) else content.Fault (BadBody (first + 1 + length body)))) [
+            | true ↦ h (before_first is_end body)
+            | false ↦ tt
+          ]
+    ]
+
+by_timed : (document first : ℕ) (o : Option Directive) (body : List (List ℕ))
+    → IsTimedDirective o → IsTimed (content_by document first o body)
+unfolding content_of_directive
+by_timed document first None body h = tt
+by_timed document first (Some (directive.Register name)) body h =
+    body_timed first body is_bad_text (λ lines. event.Register name (flat_map with_line_feed lines)) (λ lines. tt)
+by_timed document first (Some (directive.Cancel name)) body h = tt
+by_timed document first (Some (directive.Item stream time)) body h =
+    body_timed first body (is_bad_triple document) (λ lines. event.Item stream time (flat_map (triple_on document) lines)) (λ lines. h)
+by_timed document first (Some (directive.Tick time)) body h = h
+by_timed document first (Some directive.Insert) body h =
+    body_timed first body (is_bad_quad document) (λ lines. event.Insert (flat_map (quad_on document) lines)) (λ lines. tt)
+by_timed document first (Some directive.Delete) body h =
+    body_timed first body (is_bad_quad document) (λ lines. event.Delete (flat_map (quad_on document) lines)) (λ lines. tt)
+
+line_timed : (line : List ℕ) → IsTimedDirective (directive_of line)
+line_timed line = directive_timed (first_field line) (fields (drop (length (first_field line)) line))
+
+pub said_timed : (document first : ℕ) (line : List ℕ) (d : Directive) (body : List (List ℕ)) → directive_of line ≡ Some d
+    → (made : Content) → made ≡ content_of_directive document first d body → IsTimed made
+said_timed document first line d body said made is = rw is (by_timed document first (Some d) body (rw said at (line_timed line)))

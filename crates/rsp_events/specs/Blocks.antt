@@ -1,5 +1,5 @@
 -- The blocks of a whole text.
-use Rattle.std.specs.Prelude.{◌≡◌, ℕ, zero, suc, ◌+◌, Bool, true, false, ◌||◌, not, ◌==◌, nat_lt, if◌then◌else◌, List, [], ◌∷◌, length, filter, map}
+use Rattle.std.specs.Prelude.{◌≡◌, ℕ, zero, suc, ◌+◌, Bool, true, false, ◌||◌, not, nat_lt, if◌then◌else◌, List, [], ◌∷◌, length, filter, map}
 use Rattle.std.specs.List.{list_any, flat_map}
 use Rattle.rsp_events.specs.declared.event.Content.{Content}
 use Rattle.rsp_events.specs.declared.event.Content.TheVariants.{Fault}
@@ -7,7 +7,7 @@ use Rattle.rsp_events.specs.declared.event.BlockFault.TheVariants.{BlockTooLarge
 use Rattle.rsp_events.specs.declared.event.Block.{Block}
 use Rattle.rsp_events.specs.declared.begun.BegunLine.{BegunLine}
 use Rattle.rsp_events.specs.declared.begun.BegunBlock.{BegunBlock}
-use Rattle.rsp_events.specs.Lines.{Line, parts, lines_of_parts, log_lines, text_of, sizes_of, most_bytes, passes, begins_body, ends_body}
+use Rattle.rsp_events.specs.Lines.{Line, parts, log_lines, text_of, sizes_of, most_bytes, passes, begins_body, ends_body}
 use Rattle.rsp_events.specs.Contents.{content_of_texts}
 use Rattle.rsp_events.specs.Begun.{begun_line_of, begun_block_of}
 

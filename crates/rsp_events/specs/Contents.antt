@@ -1,9 +1,105 @@
--- What the lines of a block hold.
-use Rattle.std.specs.Prelude.{ℕ, List}
+-- What the lines of a block hold: the event, or the block's first fault.
+use Rattle.std.specs.Prelude.{◌≡◌, ℕ, ◌+◌, Bool, true, false, not, if◌then◌else◌, Option, None, Some, Ok, Err, Result, List, [], ◌∷◌, ◌++◌, length}
+use Rattle.std.specs.List.{before_first, flat_map, list_any, position_or_len}
+use Rattle.std.specs.Option.{is_some}
+use Rattle.std.specs.Str.{is_utf8}
+use Rattle.rsp_terms.specs.declared.statement.Quad.{Quad}
+use Rattle.rsp_terms.specs.declared.statement.Triple.{Triple}
+use Rattle.rsp_nquads.specs.Statements.{Answer, nothing, statement, bad_statement, relative_iri, statement_of}
+use Rattle.rsp_events.specs.declared.directives.Directive.{Directive}
+use Rattle.rsp_events.specs.declared.directives.Directive.TheVariants as directive
+use Rattle.rsp_events.specs.declared.event.Event.{Event}
+use Rattle.rsp_events.specs.declared.event.Event.TheVariants as event
 use Rattle.rsp_events.specs.declared.event.Content.{Content}
-use Rattle.rsp_events.specs.declared.event.Content.TheVariants.{Event, Fault}
-use Rattle.rsp_events.specs.declared.event.BlockFault.TheVariants.{BadDirective}
+use Rattle.rsp_events.specs.declared.event.Content.TheVariants as content
+use Rattle.rsp_events.specs.declared.event.BlockFault.TheVariants.{BadDirective, BadBody}
+use Rattle.rsp_events.specs.Directives.{directive_of}
+use Rattle.rsp_events.specs.Lines.{is_end}
 
--- the event of a block's lines, or its first fault
+-- ---- a line of statements (RDF 1.1 N-Quads, section 2)
+
+-- the quad that a line says; a blank line and a comment say none
+abbrev pub quad_said : Answer → List Quad
+quad_said nothing = []
+quad_said (statement quad) = quad ∷ []
+quad_said (bad_statement column) = []
+quad_said (relative_iri column) = []
+
+abbrev pub quad_on : ℕ → List ℕ → List Quad
+quad_on document line = quad_said (statement_of document line)
+
+abbrev pub is_bad : Answer → Bool
+is_bad nothing = false
+is_bad (statement quad) = false
+is_bad (bad_statement column) = true
+is_bad (relative_iri column) = true
+
+abbrev pub is_bad_quad : ℕ → List ℕ → Bool
+is_bad_quad document line = is_bad (statement_of document line)
+
+-- the same of the statements of an item, which have no graph
+abbrev pub triple_said : Answer → List Triple
+triple_said nothing = []
+triple_said (statement quad) = quad.triple ∷ []
+triple_said (bad_statement column) = []
+triple_said (relative_iri column) = []
+
+abbrev pub triple_on : ℕ → List ℕ → List Triple
+triple_on document line = triple_said (statement_of document line)
+
+abbrev pub is_bad_in_item : Answer → Bool
+is_bad_in_item nothing = false
+is_bad_in_item (statement quad) = is_some quad.graph
+is_bad_in_item (bad_statement column) = true
+is_bad_in_item (relative_iri column) = true
+
+abbrev pub is_bad_triple : ℕ → List ℕ → Bool
+is_bad_triple document line = is_bad_in_item (statement_of document line)
+
+-- ---- a line of query text
+
+abbrev pub with_line_feed : List ℕ → List ℕ
+with_line_feed line = line ++ (10 ∷ [])
+
+abbrev pub is_bad_text : List ℕ → Bool
+is_bad_text line = not (is_utf8 line)
+
+-- ---- bodies
+
+-- a body, from the line behind the directive's, whose number is `first`: the event that its lines before `@end` are, or
+-- the number of the first bad one; where none is bad and `@end` is missing, the number of the line that would be it
+abbrev pub of_body : ℕ → List (List ℕ) → (List ℕ → Bool) → (List (List ℕ) → Event) → Content
+of_body first body bad event_of =
+    let lines = before_first is_end body in
+    if list_any bad lines
+    then content.Fault (BadBody (first + 1 + position_or_len bad lines))
+    else
+    (if list_any is_end body
+    then content.Event (event_of lines)
+    else content.Fault (BadBody (first + 1 + length body)))
+
+unfoldable pub content_of_directive : ℕ → ℕ → Directive → List (List ℕ) → Content
+content_of_directive document first (directive.Register name) body =
+    of_body first body is_bad_text (λ lines. event.Register name (flat_map with_line_feed lines))
+content_of_directive document first (directive.Cancel name) body = content.Event (event.Cancel name)
+content_of_directive document first (directive.Item stream time) body =
+    of_body first body (is_bad_triple document) (λ lines. event.Item stream time (flat_map (triple_on document) lines))
+content_of_directive document first (directive.Tick time) body = content.Event (event.Tick time)
+content_of_directive document first directive.Insert body =
+    of_body first body (is_bad_quad document) (λ lines. event.Insert (flat_map (quad_on document) lines))
+content_of_directive document first directive.Delete body =
+    of_body first body (is_bad_quad document) (λ lines. event.Delete (flat_map (quad_on document) lines))
+
+abbrev pub content_by : ℕ → ℕ → Option Directive → List (List ℕ) → Content
+content_by document first None body = content.Fault BadDirective
+content_by document first (Some directive) body = content_of_directive document first directive body
+
+-- the content of a block's lines, of which the first has this number
 unfoldable pub content_of_texts : ℕ → ℕ → List (List ℕ) → Content
-content_of_texts document first texts = Fault BadDirective
+content_of_texts document first [] = content.Fault BadDirective
+content_of_texts document first (head ∷ body) = content_by document first (directive_of head) body
+
+-- ---- what reading some lines answers: all is good, or the place of the first bad line
+abbrev pub IsRead : {A : Type 0} → (List ℕ → Bool) → List (List ℕ) → A → Result A ℕ → Type 0
+IsRead bad lines value (Ok read) = (list_any bad lines ≡ false) × (read ≡ value)
+IsRead bad lines value (Err place) = (list_any bad lines ≡ true) × (place ≡ position_or_len bad lines)

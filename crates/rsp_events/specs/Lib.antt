@@ -1,4 +1,5 @@
 pub mod Lines
+pub mod Directives
 pub mod Contents
 pub mod Begun
 pub mod Blocks

@@ -1,6 +1,6 @@
 -- What the reader does with a next line, and with some bytes. No public clause cites this: `Blocks` is the definition,
 -- and the laws that join the two are proved.
-use Rattle.std.specs.Prelude.{◌≡◌, ℕ, ◌+◌, false, if◌then◌else◌, List, [], ◌∷◌, ◌++◌, length}
+use Rattle.std.specs.Prelude.{◌≡◌, ℕ, ◌+◌, if◌then◌else◌, List, [], ◌∷◌, ◌++◌, length}
 use Rattle.rsp_events.specs.declared.event.Block.{Block}
 use Rattle.rsp_events.specs.declared.begun.HeldLine.{HeldLine}
 use Rattle.rsp_events.specs.declared.blocks.Place.{Place}

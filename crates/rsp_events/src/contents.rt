@@ -1,13 +1,22 @@
-// What the lines of a block hold.
-ghost use Rattle.std.specs.Prelude.{◌≡◌, IfOk};
+// What the lines of a block hold: the event, or the block's first fault.
+ghost use Rattle.std.specs.Prelude.{◌≡◌, ◌+◌, IfOk, if◌then◌else◌, length};
+ghost use Rattle.std.specs.List.{flat_map, list_any};
+ghost use Rattle.rsp_events.specs.Contents as form;
 ghost use Rattle.rsp_events.specs.Contents.{content_of_texts};
 ghost use Rattle.rsp_events.specs.Instants.{IsTimed};
+ghost use Rattle.rsp_events.specs.Lines as text;
+ghost use Rattle.rsp_events.specs.declared.event.BlockFault.TheVariants.{BadBody};
+ghost use Rattle.rsp_events.specs.declared.event.Content.TheVariants as content;
+ghost use Rattle.rsp_events.specs.declared.event.Event.TheVariants as event;
 
-use crate::{BlockFault, Content};
-use rsp_terms::Listed;
+use crate::bodies::{before_end, graph_of, has_end, quads_of, text_of};
+use crate::directives::{Directive, directive_of};
+use crate::{BlockFault, Content, Event};
+use rsp_terms::{Listed, Text};
 use std::alloc::{AllocError, Global};
 
-/// The event of a block's lines, or its first fault.
+/// The event of a block's lines, of which the first has this number in the text, or its first fault. Fails only where
+/// memory is refused, or the 64-bit number of a line would pass its last value.
 #[tactic(auto, unfolding(crate::specs::Contents::content_of_texts))]
 pub fn content_of_texts(
     alloc: Global,
@@ -18,5 +27,125 @@ pub fn content_of_texts(
     ensures value { IfOk result (λ content. content ≡ content_of_texts document first texts.now) }
     ensures timed { IfOk result IsTimed }
 {
-    Ok(Content::Fault(BlockFault::BadDirective))
+    let Some((head, body)) = texts.split_first() else {
+        return Ok(Content::Fault(BlockFault::BadDirective));
+    };
+    match directive_of(alloc, head.as_slice())? {
+        None => Ok(Content::Fault(BlockFault::BadDirective)),
+        Some(directive) => content_of_directive(alloc, document, first, directive, body),
+    }
+}
+
+#[tactic(auto, unfolding(crate::specs::Contents::content_of_directive))]
+fn content_of_directive(
+    alloc: Global,
+    document: u32,
+    first: u64,
+    directive: Directive,
+    body: &[Listed<u8>],
+) -> Result<Content, AllocError>
+    ensures { IfOk result (λ content. content ≡ form.content_of_directive document first directive body.now) }
+{
+    match directive {
+        Directive::Register { name } => register(alloc, first, name, body),
+        Directive::Cancel { name } => Ok(Content::Event(Event::Cancel { name })),
+        Directive::Item { stream, time } => item(alloc, document, first, stream, time, body),
+        Directive::Tick { time } => Ok(Content::Event(Event::Tick { time })),
+        Directive::Insert => insert(alloc, document, first, body),
+        Directive::Delete => delete(alloc, document, first, body),
+    }
+}
+
+fn register(
+    alloc: Global,
+    first: u64,
+    name: Text,
+    body: &[Listed<u8>],
+) -> Result<Content, AllocError>
+    ensures { IfOk result (λ content. content ≡ form.of_body first body.now form.is_bad_text
+        (λ lines. event.Register name (flat_map form.with_line_feed lines))) }
+{
+    match text_of(alloc, before_end(body))? {
+        Ok(text) => ended(first, body, Event::Register { name, text }),
+        Err(place) => bad_line(first, place),
+    }
+}
+
+fn item(
+    alloc: Global,
+    document: u32,
+    first: u64,
+    stream: Text,
+    time: u64,
+    body: &[Listed<u8>],
+) -> Result<Content, AllocError>
+    ensures { IfOk result (λ content. content ≡ form.of_body first body.now (form.is_bad_triple document)
+        (λ lines. event.Item stream time (flat_map (form.triple_on document) lines))) }
+{
+    match graph_of(alloc, document, before_end(body))? {
+        Ok(graph) => ended(
+            first,
+            body,
+            Event::Item {
+                stream,
+                time,
+                graph,
+            },
+        ),
+        Err(place) => bad_line(first, place),
+    }
+}
+
+fn insert(
+    alloc: Global,
+    document: u32,
+    first: u64,
+    body: &[Listed<u8>],
+) -> Result<Content, AllocError>
+    ensures { IfOk result (λ content. content ≡ form.of_body first body.now (form.is_bad_quad document)
+        (λ lines. event.Insert (flat_map (form.quad_on document) lines))) }
+{
+    match quads_of(alloc, document, before_end(body))? {
+        Ok(quads) => ended(first, body, Event::Insert { quads }),
+        Err(place) => bad_line(first, place),
+    }
+}
+
+fn delete(
+    alloc: Global,
+    document: u32,
+    first: u64,
+    body: &[Listed<u8>],
+) -> Result<Content, AllocError>
+    ensures { IfOk result (λ content. content ≡ form.of_body first body.now (form.is_bad_quad document)
+        (λ lines. event.Delete (flat_map (form.quad_on document) lines))) }
+{
+    match quads_of(alloc, document, before_end(body))? {
+        Ok(quads) => ended(first, body, Event::Delete { quads }),
+        Err(place) => bad_line(first, place),
+    }
+}
+
+// the event of a body without a bad line, where the body has its `@end`
+fn ended(first: u64, body: &[Listed<u8>], event: Event) -> Result<Content, AllocError>
+    ensures { IfOk result (λ made. made ≡ (if list_any text.is_end body.now
+        then content.Event event else content.Fault (BadBody (first + 1 + length body.now)))) }
+{
+    if has_end(body) {
+        return Ok(Content::Event(event));
+    }
+    bad_line(first, body.len())
+}
+
+// the fault of the line at this place of a body
+fn bad_line(first: u64, place: usize) -> Result<Content, AllocError>
+    ensures { IfOk result (λ made. made ≡ content.Fault (BadBody (first + 1 + place))) }
+{
+    let Some(behind) = first.checked_add(1) else {
+        return Err(AllocError);
+    };
+    let Some(line) = behind.checked_add(place as u64) else {
+        return Err(AllocError);
+    };
+    Ok(Content::Fault(BlockFault::BadBody { line }))
 }

@@ -2,15 +2,20 @@
 //!
 //! [`Blocks`] reads the text in pieces. Its contract is over the whole text: the blocks that `feed` has given so far are
 //! exactly the whole blocks of the bytes so far, and with `finish` they are the blocks of the text, for every cutting.
-//! By now a block is an event only in the forms of `Forms`; every other block is the fault `Unbuilt`.
-//! Above: the engine takes the events, the program the blocks. Below: terms and windows.
+//! A block is an event, or has its first fault: too many bytes, no directive, or a bad line of its body by its number.
+//! Above: the engine takes the events, the program the blocks. Below: statements, and numbers and instants as texts.
 #![tactic(auto)]
 
 mod begun;
 mod blocks;
+mod bodies;
 mod contents;
+mod directives;
 mod event;
+mod fields;
 mod lines;
+#[cfg(test)]
+mod tests;
 
 pub use blocks::Blocks;
 pub use event::{Block, BlockFault, Content, Event};

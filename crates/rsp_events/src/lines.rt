@@ -55,16 +55,16 @@ pub fn has_body(line: &[u8]) -> bool
     same(b"@delete", directive)
 }
 
-// what stands before the first blank
-fn first_field(line: &[u8]) -> &[u8]
+/// What stands before the first blank of a line.
+pub fn first_field(line: &[u8]) -> &[u8]
     ensures { result.now ≡ text.first_field line.now }
 {
     let end = first_blank(line);
     &line[..end]
 }
 
-// where the first blank stands, or the line's length
-fn first_blank(line: &[u8]) -> usize
+/// Where the first blank stands, or the line's length.
+pub fn first_blank(line: &[u8]) -> usize
     ensures place { result ≡ position_or_len text.is_blank line.now }
     ensures bound { result ≤ length line.now }
 {

@@ -1,1 +1,16 @@
+pub mod Best
+pub mod EscapeLaws
+pub mod Fronts
+pub mod Judging
+pub mod Lines
+pub mod Longest
+pub mod LongestLabel
+pub mod LongestTag
+pub mod NameLaws
+pub mod Pieces
+pub mod ReadBack
+pub mod RuleLaws
+pub mod Spelling
+pub mod StatementLaws
 pub mod StatementRows
+pub mod TermLaws

@@ -3,7 +3,7 @@
 --
 -- A part is made of characters: nowhere does it hold bytes that aren't UTF-8. Each character that ends a part is ASCII,
 -- and no byte of another character is, so bytes tell where a part ends; labels alone are read by code points.
-use Rattle.std.specs.Prelude.{ℕ, zero, suc, ◌+◌, Bool, not, ◌&&◌, ◌||◌, ◌==◌, nat_lt, if◌then◌else◌, Option, None, Some, List, [], ◌∷◌, ◌++◌, length, take, drop}
+use Rattle.std.specs.Prelude.{ℕ, zero, suc, Bool, not, ◌&&◌, ◌||◌, ◌==◌, nat_lt, if◌then◌else◌, Option, None, Some, List, [], ◌∷◌, ◌++◌, length, take, drop}
 use Rattle.std.specs.Char.{encode_utf8, is_ascii_hexdigit}
 use Rattle.std.specs.Int.{is_in_range}
 use Rattle.std.specs.List.{list_all, prefix_len, take_while}
@@ -91,6 +91,9 @@ string_escape text = option_or (echar text) (uchar text)
 abbrev pub is_string_character : ℕ → Bool
 is_string_character c = not ((c == 34) || ((c == 92) || ((c == 10) || (c == 13))))
 
+abbrev pub onto : List ℕ → Option (List ℕ × List ℕ) → Option (List ℕ × List ℕ)
+onto front read = told (λ others. front ++ others) read
+
 -- Plain characters, an escape, plain characters, and so on, as far as they go, with escapes replaced. `most` bounds the
 -- number of runs; a text has fewer escapes than bytes.
 unfoldable pub spelled : ℕ → (ℕ → Bool) → Reader ℕ → Reader (List ℕ)
@@ -100,7 +103,7 @@ spelled (suc most) plain escape text =
     if is_utf8 run
     then
     option_map_or
-    (λ x. told (λ others. run ++ (encode_utf8 x.0 ++ others)) (spelled most plain escape x.1))
+    (λ x. onto (run ++ encode_utf8 x.0) (spelled most plain escape x.1))
     (escape (behind run text))
     (Some (run, behind run text))
     else None
@@ -117,7 +120,7 @@ enclosed opening closing plain escape text =
     (λ inner.
     option_and_then
     (λ x. option_map (λ rest. (x.0, rest)) (sign closing x.1))
-    (spelled (length inner + 1) plain escape inner))
+    (spelled (suc (length inner)) plain escape inner))
     (sign opening text)
 
 -- IRIREF
@@ -166,9 +169,12 @@ literal text = option_and_then (λ x. literal_of x.0 x.1) (string text)
 abbrev pub iri_term : Reader Term
 iri_term text = told (λ name. Iri name) (iri text)
 
+abbrev pub blank : ℕ → Reader Term
+blank document text = told (λ name. Blank document name) (label text)
+
 -- subjects and graphs
 unfoldable pub node : ℕ → Reader Term
-node document text = option_or (iri_term text) (told (λ name. Blank document name) (label text))
+node document text = option_or (iri_term text) (blank document text)
 
 unfoldable pub object : ℕ → Reader Term
 object document text = option_or (node document text) (literal text)

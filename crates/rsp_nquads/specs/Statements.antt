@@ -9,20 +9,20 @@ use Rattle.rsp_terms.specs.declared.term.Term.{Term}
 use Rattle.rsp_terms.specs.declared.term.Term.TheVariants.{Iri, Blank, Literal, Tagged}
 use Rattle.rsp_terms.specs.declared.statement.Quad.{Quad}
 use Rattle.rsp_terms.specs.Characters.{is_absolute}
+use Rattle.rsp_nquads.specs.declared.statements.Part.{Part}
+use Rattle.rsp_nquads.specs.declared.statements.Parts.{Parts}
 use Rattle.rsp_nquads.specs.Parts.{Reader, behind_blanks, sign, iri_term, node, object}
 
+-- The column of a bad statement is that of the first byte, behind blanks, at which no wanted part stands. Only a line
+-- that is a statement by its grammar has a relative IRI: the column is that of the first part that holds one.
 pub data Answer : Type 0 where
   nothing : Answer
   statement : Quad → Answer
   bad_statement : ℕ → Answer
   relative_iri : ℕ → Answer
 
--- a part that was read, and how many bytes of the line are left from its first one on
-pub record Part : Type 0 where
-  pub term : Term
-  pub left : ℕ
-
--- the wanted part behind blanks; where it doesn't stand there, how many bytes are left from there on
+-- The wanted part behind blanks: a term, and how many bytes of the line are left from its first one on. Where it doesn't
+-- stand there, how many bytes are left from there on.
 abbrev pub part_of : Reader Term → List ℕ → Result (Part × List ℕ) ℕ
 part_of reader text =
     let here = behind_blanks text in
@@ -46,13 +46,7 @@ ends text = if is_end (behind_blanks text) then Ok true else Err (length (behind
 abbrev pub closes : List ℕ → Result Bool ℕ
 closes text = option_map_or ends (sign 46 (behind_blanks text)) (Err (length (behind_blanks text)))
 
-pub record Parts : Type 0 where
-  pub subject : Part
-  pub predicate : Part
-  pub object : Part
-  pub graph : Option Part
-
--- the value of a reading, told by another
+-- a reading, and what is read behind it; the first fault stays
 abbrev pub onward : {A B : Type 0} → Result A ℕ → (A → Result B ℕ) → Result B ℕ
 onward (Ok x) f = f x
 onward (Err left) f = Err left
@@ -80,17 +74,18 @@ quad_of parts = record {
   graph = option_map (λ part. part.term) parts.graph;
 }
 
--- columns count from 1
+-- columns count bytes, from 1
 abbrev pub column : List ℕ → ℕ → ℕ
 column line left = length line - left + 1
+
+abbrev pub first_relative : Parts → Option Part
+first_relative parts =
+    find (λ part. is_relative part.term) (parts.subject ∷ parts.predicate ∷ parts.object ∷ cons_option parts.graph [])
 
 -- a statement by its grammar: the first part that holds a relative IRI is its fault
 abbrev pub judged : List ℕ → Parts → Answer
 judged line parts =
-    option_map_or
-    (λ part. relative_iri (column line part.left))
-    (find (λ part. is_relative part.term) (parts.subject ∷ parts.predicate ∷ parts.object ∷ cons_option parts.graph []))
-    (statement (quad_of parts))
+    option_map_or (λ part. relative_iri (column line part.left)) (first_relative parts) (statement (quad_of parts))
 
 abbrev pub answer : List ℕ → Result Parts ℕ → Answer
 answer line (Ok parts) = judged line parts

@@ -1,4 +1,4 @@
-use Rattle.std.proofs.Common.{ap, ◌∙◌, ◌++◌, take}
+use Rattle.std.proofs.Common.{ap, ◌∙◌, ◌++◌}
 use Rattle.std.proofs.lemmas.List.{take_all}
 use Rattle.rsp_events.specs.Begun.{ending_of}
 use Rattle.rsp_events.proofs.Endings.{more_bytes}

@@ -1,4 +1,4 @@
-use Rattle.std.proofs.Common.{rules, ◌++◌, ◌∙◌, ◌<◌, ◌-◌, ◌≡◌, length, take, drop, arith, ap}
+use Rattle.std.proofs.Common.{rules, ◌++◌, ◌∙◌, ◌<◌, ◌-◌, ◌≡◌, length, take, drop}
 use Rattle.rsp_events.specs.Begun.{ending_of}
 use Rattle.rsp_events.specs.Lines.{most_bytes}
 use Rattle.rsp_events.proofs.Endings.{long_now}

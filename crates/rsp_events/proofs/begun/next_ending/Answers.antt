@@ -1,5 +1,3 @@
-use Rattle.std.proofs.Common.{ap, sym, ◌∙◌}
-use Rattle.rsp_events.specs.declared.begun.Ending.{Ending}
 use Rattle.rsp_events.proofs.Endings.{next_fed, next_other}
 use Rattle.rsp_events.proofs.begun.next_ending.Goals as goal
 

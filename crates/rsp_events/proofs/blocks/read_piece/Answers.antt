@@ -1,6 +1,6 @@
-use Rattle.std.proofs.Common.{rules, ◌≡◌, ◌++◌, ◌∷◌, ◌∙◌, sym, ap, append-nil}
+use Rattle.std.proofs.Common.{◌≡◌, ◌++◌, ◌∷◌, ◌∙◌, sym, ap}
 use Rattle.std.proofs.lemmas.List.{take-append-drop}
-use Rattle.rsp_events.proofs.Reading.{all_in_front, feed_behind, reads_last, reads_next, in_front, feed_first}
+use Rattle.rsp_events.proofs.Reading.{all_in_front, feed_behind, reads_last, reads_next, in_front}
 use Rattle.rsp_events.proofs.blocks.read_piece.Goals as goal
 
 pub take_run-requires : goal.take_run-requires

@@ -1,0 +1,154 @@
+// Bodies: the lines up to `@end`, and what they say.
+ghost use Rattle.std.specs.Prelude.{◌≡◌, ◌++◌, ◌≤◌, IfOk, MatchOption, length, not, true, false};
+ghost use Rattle.std.specs.List.{before_first, flat_map, list_any, position_or_len};
+ghost use Rattle.std.specs.Str.{is_utf8};
+ghost use Rattle.std.specs.String.{string_bytes};
+ghost use Rattle.rsp_events.specs.Contents as form;
+ghost use Rattle.rsp_events.specs.Contents.{IsRead};
+ghost use Rattle.rsp_events.specs.Lines as text;
+ghost use Rattle.rsp_nquads.specs.Statements.{statement_of};
+
+use crate::lines::is_end;
+use rsp_nquads::{LineFault, statement};
+use rsp_terms::{Listed, Quad, Text, Triple};
+use std::alloc::{AllocError, Global};
+use std::str;
+
+/// The lines before `@end`, or all where there is none.
+pub fn before_end(body: &[Listed<u8>]) -> &[Listed<u8>]
+    ensures { result.now ≡ before_first text.is_end body.now }
+{
+    &body[..end_place(body)]
+}
+
+fn end_place(body: &[Listed<u8>]) -> usize
+    ensures place { result ≡ position_or_len text.is_end body.now }
+    ensures bound { result ≤ length body.now }
+{
+    body.iter()
+        .take_while(|line| !is_end(line.as_slice()))
+        .count()
+}
+
+/// Whether a body has its `@end`.
+pub fn has_end(body: &[Listed<u8>]) -> bool
+    ensures { result ≡ list_any text.is_end body.now }
+{
+    body.iter().any(|line| is_end(line.as_slice()))
+}
+
+// ---- statements
+
+/// The quads that the lines say, in order, or the place of the first line that is refused.
+pub fn quads_of(
+    alloc: Global,
+    document: u32,
+    lines: &[Listed<u8>],
+) -> Result<Result<Listed<Quad>, usize>, AllocError>
+    ensures { IfOk result (λ read. IsRead (form.is_bad_quad document) lines.now (flat_map (form.quad_on document) lines.now) read) }
+{
+    let mut quads = Listed::new(alloc);
+    for (place, line) in lines.iter().enumerate() {
+        if !take_quad(alloc, document, &mut quads, line.as_slice())? {
+            return Ok(Err(place));
+        }
+    }
+    Ok(Ok(quads))
+}
+
+// puts what a line says behind the quads; whether the line isn't refused
+fn take_quad(
+    alloc: Global,
+    document: u32,
+    quads: &mut Listed<Quad>,
+    line: &[u8],
+) -> Result<bool, AllocError>
+    ensures { IfOk result (λ taken. (form.is_bad_quad document line.now ≡ not taken)
+        × (quads.new ≡ quads.old ++ form.quad_on document line.now)) }
+{
+    match statement(alloc, document, line) {
+        Ok(None) => Ok(true),
+        Ok(Some(quad)) => {
+            quads.push(quad)?;
+            Ok(true)
+        }
+        Err(LineFault::OutOfMemory) => Err(AllocError),
+        Err(_) => Ok(false),
+    }
+}
+
+/// The triples of an item's lines, in order, or the place of the first line that is refused or has a graph.
+pub fn graph_of(
+    alloc: Global,
+    document: u32,
+    lines: &[Listed<u8>],
+) -> Result<Result<Listed<Triple>, usize>, AllocError>
+    ensures { IfOk result (λ read. IsRead (form.is_bad_triple document) lines.now (flat_map (form.triple_on document) lines.now) read) }
+{
+    let mut graph = Listed::new(alloc);
+    for (place, line) in lines.iter().enumerate() {
+        if !take_triple(alloc, document, &mut graph, line.as_slice())? {
+            return Ok(Err(place));
+        }
+    }
+    Ok(Ok(graph))
+}
+
+// puts what a line says behind the triples; whether the line isn't refused and has no graph
+fn take_triple(
+    alloc: Global,
+    document: u32,
+    graph: &mut Listed<Triple>,
+    line: &[u8],
+) -> Result<bool, AllocError>
+    ensures { IfOk result (λ taken. (form.is_bad_triple document line.now ≡ not taken)
+        × (graph.new ≡ graph.old ++ form.triple_on document line.now)) }
+{
+    match statement(alloc, document, line) {
+        Ok(None) => Ok(true),
+        Ok(Some(quad)) => {
+            let without_graph = quad.graph.is_none();
+            graph.push(quad.triple)?;
+            Ok(without_graph)
+        }
+        Err(LineFault::OutOfMemory) => Err(AllocError),
+        Err(_) => Ok(false),
+    }
+}
+
+// ---- query text
+
+/// The lines as one text, each with a line feed behind it, or the place of the first line that isn't UTF-8.
+pub fn text_of(alloc: Global, lines: &[Listed<u8>]) -> Result<Result<Text, usize>, AllocError>
+    ensures { IfOk result (λ read. IsRead form.is_bad_text lines.now (flat_map form.with_line_feed lines.now) read) }
+{
+    let mut text = String::new(alloc);
+    for (place, line) in lines.iter().enumerate() {
+        if !take_text(&mut text, line.as_slice())? {
+            return Ok(Err(place));
+        }
+    }
+    Ok(Ok(Text::new(alloc, text.as_str())?))
+}
+
+// puts a line behind the text; whether it is UTF-8
+fn take_text(text: &mut String, line: &[u8]) -> Result<bool, AllocError>
+    ensures { IfOk result (λ taken. (form.is_bad_text line.now ≡ not taken)
+        × (taken ≡ true → string_bytes text.new ≡ string_bytes text.old ++ form.with_line_feed line.now)) }
+{
+    let Some(line) = utf8(line) else {
+        return Ok(false);
+    };
+    text.push_str(line)?;
+    text.push_str("\n")?;
+    Ok(true)
+}
+
+fn utf8(line: &[u8]) -> Option<&str>
+    ensures { MatchOption result (is_utf8 line.now ≡ false) (λ text. (is_utf8 line.now ≡ true) × (text.now ≡ line.now)) }
+{
+    match str::from_utf8(line) {
+        Ok(text) => Some(text),
+        Err(_) => None,
+    }
+}

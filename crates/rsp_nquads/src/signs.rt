@@ -1,0 +1,48 @@
+// Blanks and single signs at the front of a text, and classes of bytes.
+ghost use Rattle.std.specs.Prelude.{◌≡◌, ◌≤◌, MatchOption, Some, None, length};
+ghost use Rattle.std.specs.Char.{is_ascii_alphabetic, is_ascii_digit};
+ghost use Rattle.std.specs.List.{prefix_len};
+ghost use Rattle.rsp_nquads.specs.Parts as part;
+
+/// The text behind the blanks at its front.
+pub(crate) fn behind_blanks(text: &[u8]) -> &[u8]
+    ensures { result.now ≡ part.behind_blanks text.now }
+{
+    &text[blanks(text)..]
+}
+
+fn blanks(text: &[u8]) -> usize
+    ensures value { result ≡ prefix_len part.is_blank text.now }
+    ensures bound { result ≤ length text.now }
+{
+    text.iter().take_while(|c| is_blank(**c)).count()
+}
+
+fn is_blank(c: u8) -> bool
+    ensures { result ≡ part.is_blank c }
+{
+    c == b' ' || c == b'\t'
+}
+
+/// The text behind this sign, where the sign stands at the front.
+#[tactic(auto, unfolding(crate::specs::Parts::sign))]
+pub(crate) fn sign(c: u8, text: &[u8]) -> Option<&[u8]>
+    ensures { MatchOption result (part.sign c text.now ≡ None) (λ rest. part.sign c text.now ≡ Some rest.now) }
+{
+    match text {
+        [first, rest @ ..] if *first == c => Some(rest),
+        _ => None,
+    }
+}
+
+pub(crate) fn is_letter(c: u8) -> bool
+    ensures { result ≡ is_ascii_alphabetic c }
+{
+    c.is_ascii_alphabetic()
+}
+
+pub(crate) fn is_digit(c: u8) -> bool
+    ensures { result ≡ is_ascii_digit c }
+{
+    c.is_ascii_digit()
+}
