@@ -1,4 +1,9 @@
-//! Evaluation of algebra trees.
+//! Evaluation of algebra trees (SPARQL 1.1 Query, section 18.5), the plain way.
+//!
+//! [`evaluate`] gives exactly the rows of a tree over a set of facts, or None exactly where some subtree has more than
+//! 1,000,000 rows. Joins go by a key, and the pairs of a join are counted before memory is taken for them. [`Plain`] is
+//! an `Answer` that keeps its facts and evaluates its tree anew at each change; it takes no step.
+//! Below: trees and the trait `Answer`, rows and changes, terms. Above: the engine over any `Answer`, run on this one.
 #![tactic(auto)]
 
 mod changing;
