@@ -218,39 +218,49 @@ const SECOND_BEGINS: usize = FIRST_BEGINS + FIRST.len();
 
 const TICK_BEGINS: usize = SECOND_BEGINS + SECOND.len();
 
+// where the body of the first block ends
+const QUERY_ENDS: usize = FIRST_BEGINS - 5;
+
 // What the log gives that ends after some bytes, worked out by hand: a block is whole without its last line feed.
 fn cut_text(cut: usize) -> &'static str {
-    if cut == 0 {
-        return "";
-    }
     if cut <= FIRST_BEGINS {
-        return if cut < FIRST_BEGINS - 1 {
-            "# refused block 1 22 Unbuilt\n"
-        } else {
-            ""
-        };
+        return cut_register(cut);
     }
     if cut <= SECOND_BEGINS {
-        return if cut < SECOND_BEGINS - 1 {
-            "# refused block 2 22 Unbuilt\n"
-        } else {
-            ""
+        return match cut - FIRST_BEGINS {
+            1..=12 => "# refused block 2 3 BadDirective\n",
+            13..=35 => "# refused block 2 4 BadBody line=5\n",
+            36..=40 => "# refused block 2 4 BadBody line=6\n",
+            _ => "",
         };
     }
     if cut <= TICK_BEGINS {
-        return if cut < TICK_BEGINS - 1 {
-            "# refused block 3 22 Unbuilt\n"
-        } else {
-            ""
+        return match cut - SECOND_BEGINS {
+            1..=12 => "# refused block 3 3 BadDirective\n",
+            13..=35 => "# refused block 3 4 BadBody line=8\n",
+            36..=40 => "# refused block 3 4 BadBody line=9\n",
+            _ => "",
         };
     }
     match cut - TICK_BEGINS {
-        1..=6 => "# refused block 4 22 Unbuilt\n",
+        1..=6 => "# refused block 4 3 BadDirective\n",
         7 => "# refused block 4 15 Late time=1 next=4000\n",
         8 => "# refused block 4 15 Late time=10 next=4000\n",
         9 => "# refused block 4 15 Late time=100 next=4000\n",
         10 => "# refused block 4 15 Late time=1000 next=4000\n",
         _ => REPORT,
+    }
+}
+
+// the same within the first block
+fn cut_register(cut: usize) -> &'static str {
+    match cut {
+        0 => "",
+        1..=10 => "# refused block 1 3 BadDirective\n",
+        11..=12 => "# refused block 1 4 BadBody line=2\n",
+        13..=QUERY_ENDS => "# refused block 1 4 BadBody line=3\n",
+        _ if cut <= QUERY_ENDS + 3 => "# refused block 1 4 BadBody line=4\n",
+        _ => "",
     }
 }
 
