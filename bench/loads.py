@@ -45,7 +45,7 @@ def pairs(size):
 
 
 def matches(size):
-    """A report of so many rows, up to 60,000: each row of a pattern has one partner in the other."""
+    """A report of so many rows, up to 500,000: each row of a pattern has one partner in the other."""
     query = block("@register q", [QUERY % ("?x ?z", "?x <p:v> ?y . ?y <p:m> ?z") + "\n"])
     graphs = []
     for first in range(0, size, 500):
