@@ -35,6 +35,17 @@ def items(size):
     return b"".join(block(f"@item <s:a> {at}", [f'<a:{at}> <p:v> "{at}" .\n']) for at in range(1, size + 1))
 
 
+def long_line(size):
+    """An item of one triple, whose string has about so many bytes, with an escape in each six of them."""
+    string = "xxxx\\n" * (size // 6)
+    return block("@item <s:a> 1", [f'<a:1> <p:v> "{string}" .\n'])
+
+
+def empty_lines(size):
+    """So many empty lines."""
+    return b"\n" * size
+
+
 def pairs(size):
     """A report of about so many rows: all pairs of two patterns."""
     side = min(round(size**0.5), 1000)
