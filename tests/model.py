@@ -1,79 +1,357 @@
-"""What the definitions say `rsp events` writes for a log: a second reading of specs/, slow and plain."""
+"""What the definitions say `rsp events` writes for a log: a second reading of specs/, slow and plain.
+
+`python3 tests/model.py events < LOG` writes it; `python3 tests/model.py --rows` compares all rows and examples with it.
+"""
+import datetime
+import itertools
+import os
 import re
 import sys
+from collections import namedtuple
 
-LAST = 253402300799999
 USAGE = b"usage: rsp events [--json] | run [--json] [--store FILE] QUERY STREAM=FILE.. | check QUERY | gen COUNT\n"
-QUERY = re.compile(
-    rb"REGISTER RSTREAM <q:o> REPORT CLOSE TICK TIME AS SELECT \?s \?p \?o FROM NAMED WINDOW <w:1> ON <s:a> "
-    rb"\[RANGE PT([0-9]{1,5})S STEP PT([0-9]{1,5})S\] WHERE \{ WINDOW <w:1> \{ \?s \?p \?o \} \}"
+DOCUMENT = 1
+LAST_INSTANT = 253402300799999
+MOST_BYTES = 16_777_216
+MOST_ROWS = 1_000_000
+MOST_ITEMS = MOST_TRIPLES = 1_000
+
+# ---- terms
+
+Iri = namedtuple("Iri", "name")
+Blank = namedtuple("Blank", "label")
+Literal = namedtuple("Literal", "lexical datatype")
+Tagged = namedtuple("Tagged", "lexical language")
+
+XSD_STRING = b"http://www.w3.org/2001/XMLSchema#string"
+ESCAPES = {b'"': b'\\"', b"\\": b"\\\\", b"\t": b"\\t", b"\n": b"\\n", b"\r": b"\\r"}
+
+
+def printed(term):
+    if isinstance(term, Iri):
+        return b"<%s>" % term.name
+    if isinstance(term, Blank):
+        return b"_:b%dx%s" % (DOCUMENT, term.label)
+    text = b'"%s"' % re.sub(rb'["\\\t\n\r]', lambda found: ESCAPES[found[0]], term.lexical)
+    if isinstance(term, Tagged):
+        return text + b"@" + term.language
+    return text if term.datatype == XSD_STRING else b"%s^^<%s>" % (text, term.datatype)
+
+
+def is_absolute(name):
+    return re.match(rb"[A-Za-z][A-Za-z0-9+.-]*:", name) is not None
+
+
+def is_utf8(text):
+    return valid_front(text) == len(text)
+
+
+def valid_front(text):
+    """How many bytes of the text are UTF-8, from its first on."""
+    try:
+        text.decode()
+        return len(text)
+    except UnicodeDecodeError as wrong:
+        return wrong.start
+
+
+# ---- parts of a statement: each reader answers (value, place behind), or None where the part doesn't stand at the place
+
+UCHAR = rb"\\u[0-9A-Fa-f]{4}|\\U[0-9A-Fa-f]{8}"
+IRIREF = re.compile(rb'<((?:[^\x00-\x20<>"{}|^`\\]|%s)*)>' % UCHAR)
+STRING = re.compile(rb'"((?:[^"\\\n\r]|\\[tbnrf"\'\\]|%s)*)"' % UCHAR)
+NOT_IN_IRI = re.compile(r'[\x00-\x20<>"{}|^`\\]')
+NAMED = {"t": "\t", "b": "\b", "n": "\n", "r": "\r", "f": "\f", '"': '"', "'": "'", "\\": "\\"}
+TAG = re.compile(rb"@([A-Za-z]+(?:-[A-Za-z0-9]+)*)")
+BASE = (
+    "A-Za-z\u00c0-\u00d6\u00d8-\u00f6\u00f8-\u02ff\u0370-\u037d\u037f-\u1fff\u200c-\u200d\u2070-\u218f\u2c00-\u2fef"
+    "\u3001-\ud7ff\uf900-\ufdcf\ufdf0-\ufffd\U00010000-\U000effff"
 )
-IRI = re.compile(rb'<([A-Za-z][A-Za-z0-9+.-]*:[\x21\x23-\x3b\x3d\x3f-\x5b\x5d\x5f\x61-\x7a\x7e\x7f]*)>')
-TIME = re.compile(rb"[0-9]{1,15}")
-NAME = re.compile(rb"[A-Za-z0-9_-]{1,64}")
+LABEL = re.compile(f"[{BASE}_:0-9][{BASE}_:0-9.\u00b7\u0300-\u036f\u203f-\u2040-]*")
 
 
-def lines_of(text):
-    *ended, last = text.split(b"\n")
-    lines = [line[:-1] if line.endswith(b"\r") else line for line in ended]
-    return lines + [last] if last else lines
-
-
-def is_end(line):
-    return line.startswith(b"@end") and not line[4:].strip(b" \t")
-
-
-def groups(lines):
-    found, at = [], 0
-    while at < len(lines):
-        line = lines[at]
+def behind_blanks(text, at):
+    while text[at:at + 1] in (b" ", b"\t"):
         at += 1
-        if line.startswith(b"#") or not line.strip(b" \t"):
-            continue
-        group = [line]
-        if re.split(rb"[ \t]", line)[0] in (b"@register", b"@item", b"@insert", b"@delete"):
-            while at < len(lines):
-                group.append(lines[at])
-                at += 1
-                if is_end(group[-1]):
-                    break
-        found.append(group)
-    return found
+    return at
+
+
+def unescaped(raw, may_escape):
+    """The characters of an IRI or string with their escapes replaced, or None where one isn't good."""
+    pieces = []
+    for plain, escape in re.findall(r"([^\\]+)|\\(u.{4}|U.{8}|.)", raw):
+        if not escape:
+            pieces.append(plain)
+        elif escape[0] in "uU":
+            code = int(escape[1:], 16)
+            if code > 0x10FFFF or 0xD800 <= code <= 0xDFFF or not may_escape(chr(code)):
+                return None
+            pieces.append(chr(code))
+        else:
+            pieces.append(NAMED[escape])
+    return "".join(pieces)
+
+
+def enclosed(form, text, at, may_escape):
+    found = form.match(text, at)
+    if not found or not is_utf8(found[1]):
+        return None
+    value = unescaped(found[1].decode(), may_escape)
+    return None if value is None else (value.encode(), found.end())
+
+
+def iri(text, at):
+    return enclosed(IRIREF, text, at, lambda c: not NOT_IN_IRI.match(c))
+
+
+def iri_term(text, at):
+    found = iri(text, at)
+    return found and (Iri(found[0]), found[1])
+
+
+def node(text, at):
+    if not text.startswith(b"_:", at):
+        return iri_term(text, at)
+    behind = text[at + 2:]
+    found = LABEL.match(behind[:valid_front(behind)].decode())
+    label = found[0].rstrip(".").encode() if found else b""
+    return (Blank(label), at + 2 + len(label)) if label else None
+
+
+def literal(text, at):
+    string = enclosed(STRING, text, at, lambda c: True)
+    if string is None:
+        return None
+    lexical, end = string
+    there = behind_blanks(text, end)
+    if text.startswith(b"^^", there):
+        datatype = iri(text, behind_blanks(text, there + 2))
+        if datatype:
+            return Literal(lexical, datatype[0]), datatype[1]
+    tag = TAG.match(text, there)
+    if tag:
+        return Tagged(lexical, tag[1]), tag.end()
+    return Literal(lexical, XSD_STRING), end
+
+
+def object_term(text, at):
+    return literal(text, at) if text.startswith(b'"', at) else node(text, at)
+
+
+# ---- statements
+
+
+class BadLine(Exception):
+    """The line is refused at a column."""
+
+    def __init__(self, name, column):
+        super().__init__(name, column)
+        self.name, self.column = name, column
+
+
+def ends(text, at):
+    return at == len(text) or (text[at:at + 1] == b"#" and is_utf8(text[at:]))
+
+
+def statement(text):
+    """The terms of the line's statement, three or four, or None for a blank line or a comment."""
+    at = behind_blanks(text, 0)
+    if ends(text, at):
+        return None
+    terms, places = [], []
+    for reader, may_lack in [(node, False), (iri_term, False), (object_term, False), (node, True)]:
+        at = behind_blanks(text, at)
+        found = reader(text, at)
+        if found:
+            terms.append(found[0])
+            places.append(at)
+            at = found[1]
+        elif not may_lack:
+            raise BadLine("BadStatement", at + 1)
+    at = behind_blanks(text, at)
+    if text[at:at + 1] != b".":
+        raise BadLine("BadStatement", at + 1)
+    at = behind_blanks(text, at + 1)
+    if not ends(text, at):
+        raise BadLine("BadStatement", at + 1)
+    for term, place in zip(terms, places):
+        name = term.name if isinstance(term, Iri) else term.datatype if isinstance(term, Literal) else b"a:"
+        if not is_absolute(name):
+            raise BadLine("RelativeIri", place + 1)
+    return tuple(terms)
+
+
+# ---- numbers and instants
+
+INSTANT = re.compile(
+    rb"([0-9]{4})-([0-9]{2})-([0-9]{2})T([0-9]{2}):([0-9]{2}):([0-9]{2})(?:\.([0-9]{1,9}))?(?:Z|([+-])([0-9]{2}):([0-9]{2}))"
+)
+
+
+def instant(text):
+    found = INSTANT.fullmatch(text)
+    if not found:
+        return None
+    year, month, day, hour, minute, second = map(int, found.groups()[:6])
+    ahead = 60 * int(found[9] or 0) + int(found[10] or 0)
+    if hour > 23 or minute > 59 or second > 59 or int(found[10] or 0) > 59 or ahead > 14 * 60:
+        return None
+    try:
+        days = (datetime.date(year, month, day) - datetime.date(1970, 1, 1)).days
+    except ValueError:
+        return None
+    thousandths = int((found[7] or b"")[:3].ljust(3, b"0"))
+    minutes = (days * 24 + hour) * 60 + minute + (ahead if found[8] == b"-" else -ahead)
+    return 1000 * (60 * minutes + second) + thousandths
 
 
 def time_of(text):
-    return int(text) if TIME.fullmatch(text) and int(text) <= LAST else None
+    """The instant that a TIME says, or None."""
+    time = int(text) if re.fullmatch(rb"[0-9]{1,20}", text) else instant(text)
+    return time if time is not None and 0 <= time <= LAST_INSTANT else None
 
 
-def triple_of(line):
-    fields = line.split(b" ")
-    if len(fields) == 4 and fields[3] == b"." and all(IRI.fullmatch(it) for it in fields[:3]):
-        return tuple(fields[:3])
-    return None
+# ---- lines and blocks
+
+Line = namedtuple("Line", "number text size is_long")
+BODIES = (b"@register", b"@item", b"@insert", b"@delete")
+NAME = re.compile(rb"[A-Za-z0-9_-]{1,64}")
+
+
+class BadBlock(Exception):
+    """The block has this fault; the text is that of its refusal line."""
+
+
+def lines_of(log):
+    *ended, last = log.split(b"\n")
+    for number, raw in enumerate(ended, 1):
+        yield Line(number, raw[:-1] if raw.endswith(b"\r") else raw, len(raw) + 1, len(raw) > MOST_BYTES)
+    if last:
+        yield Line(len(ended) + 1, last, len(last), len(last) > MOST_BYTES)
+
+
+def is_end(line):
+    return line.text.startswith(b"@end") and not line.text[4:].strip(b" \t")
+
+
+def groups(lines):
+    """The lines of each block."""
+    lines = iter(lines)
+    for line in lines:
+        if not line.is_long and (line.text.startswith(b"#") or not line.text.strip(b" \t")):
+            continue
+        group = [line]
+        if not line.is_long and re.split(rb"[ \t]", line.text, maxsplit=1)[0] in BODIES:
+            for member in lines:
+                group.append(member)
+                if is_end(member):
+                    break
+        yield group
+
+
+def directive(text):
+    """The directive and the values of its further fields."""
+    head, *fields = re.split(rb"[ \t]+", text.rstrip(b" \t"))
+    if not is_utf8(text):
+        raise BadBlock("3 BadDirective")
+    if head in (b"@register", b"@cancel") and len(fields) == 1 and NAME.fullmatch(fields[0]):
+        return head, fields
+    if head in (b"@insert", b"@delete") and not fields:
+        return head, fields
+    if head == b"@tick" and len(fields) == 1 and time_of(fields[0]) is not None:
+        return head, [time_of(fields[0])]
+    if head == b"@item" and len(fields) == 2 and time_of(fields[1]) is not None:
+        stream = iri(fields[0], 0)
+        if stream and stream[1] == len(fields[0]) and is_absolute(stream[0]):
+            return head, [stream[0], time_of(fields[1])]
+    raise BadBlock("3 BadDirective")
+
+
+def is_good_line(head, text):
+    if head == b"@register":
+        return is_utf8(text)
+    try:
+        terms = statement(text)
+    except BadLine:
+        return False
+    return head != b"@item" or terms is None or len(terms) == 3
 
 
 def event_of(group):
-    head, body = group[0], group[1:]
-    if any(len(line) > 4096 for line in group):
+    """The event of a block: its directive, the values of the fields, and what its body says."""
+    if sum(line.size for line in group) > MOST_BYTES:
+        raise BadBlock("5 BlockTooLarge")
+    head, fields = directive(group[0].text)
+    if head not in BODIES:
+        return head, *fields
+    has_end = len(group) > 1 and is_end(group[-1])
+    body = group[1:-1] if has_end else group[1:]
+    for line in body:
+        if not is_good_line(head, line.text):
+            raise BadBlock(f"4 BadBody line={line.number}")
+    if not has_end:
+        raise BadBlock(f"4 BadBody line={group[-1].number + 1}")
+    if head == b"@register":
+        return head, *fields, b"".join(line.text + b"\n" for line in body)
+    return head, *fields, [terms for terms in (statement(line.text) for line in body) if terms]
+
+
+# ---- the query line
+
+VARIABLE = rb"\?[A-Za-z0-9]{1,16}"
+SLOT = rb"(?:%s|<[A-Za-z][A-Za-z0-9+.-]*:[\x21\x23-\x3b\x3d\x3f-\x5b\x5d\x5f\x61-\x7a\x7e\x7f]*>)" % VARIABLE
+PATTERN = b" ".join([SLOT] * 3)
+QUERY = re.compile(
+    rb"REGISTER RSTREAM <q:o> REPORT CLOSE TICK TIME AS SELECT (%s(?: %s){0,7}) FROM NAMED WINDOW <w:1> ON <s:a> "
+    rb"\[RANGE PT([0-9]{1,5})S STEP PT([0-9]{1,5})S\] WHERE \{ WINDOW <w:1> \{ (%s(?: \. %s){0,7}) \} \}\n?"
+    % (VARIABLE, VARIABLE, PATTERN, PATTERN)
+)
+Query = namedtuple("Query", "name width slide shown patterns first")
+
+
+def query_of(name, text, first):
+    """The query of a text of the one form that is built, or None."""
+    found = QUERY.fullmatch(text)
+    if not found:
         return None
-    fields = head.split(b" ")
-    if fields[0] == b"@tick" and len(fields) == 2:
-        time = time_of(fields[1])
-        return None if time is None else ("tick", time)
-    if not body or not is_end(body[-1]):
+    shown, width, slide, patterns = found[1].split(b" "), int(found[2]), int(found[3]), found[4].split(b" . ")
+    patterns = [pattern.split(b" ") for pattern in patterns]
+    known = {slot for pattern in patterns for slot in pattern if slot.startswith(b"?")}
+    if not (1 <= width <= 86400 and 1 <= slide <= 86400 and len(set(shown)) == len(shown) and known.issuperset(shown)):
         return None
-    body = body[:-1]
-    if fields[0] == b"@register" and len(fields) == 2 and NAME.fullmatch(fields[1]) and len(body) == 1:
-        spans = QUERY.fullmatch(body[0])
-        if not spans or not all(1 <= int(it) <= 86400 for it in spans.groups()):
+    return Query(name, 1000 * width, 1000 * slide, shown, patterns, first)
+
+
+def row_of(pattern, triple):
+    """The row that makes the pattern the triple, or None."""
+    row = {}
+    for slot, term in zip(pattern, triple):
+        if not slot.startswith(b"?"):
+            if term != Iri(slot[1:-1]):
+                return None
+        elif row.setdefault(slot, term) != term:
             return None
-        width, slide = (1000 * int(it) for it in spans.groups())
-        return "register", fields[1], width, slide
-    if fields[0] == b"@item" and len(fields) == 3 and IRI.fullmatch(fields[1]) and len(body) <= 1000:
-        time, triples = time_of(fields[2]), [triple_of(line) for line in body]
-        if time is not None and None not in triples:
-            return "item", fields[1][1:-1], time, triples
-    return None
+    return row
+
+
+def joined(lefts, rights):
+    for left, right in itertools.product(lefts, rights):
+        if all(left.get(variable, term) == term for variable, term in right.items()):
+            yield {**left, **right}
+
+
+def rows_of(patterns, graph):
+    """The rows of the left-deep join, or None where some part of it has too many."""
+    rows = [{}]
+    for pattern in patterns:
+        found = [row for row in (row_of(pattern, triple) for triple in graph) if row is not None]
+        rows = list(itertools.islice(joined(rows, found), MOST_ROWS + 1))
+        if max(len(found), len(rows)) > MOST_ROWS:
+            return None
+    return rows
+
+
+# ---- the world
 
 
 class World:
@@ -81,56 +359,108 @@ class World:
         self.next, self.items, self.query = None, [], None
 
     def report(self, at):
-        name, width, slide, first = self.query
-        k = max(0, -(-(at - width) // slide))
-        seen = {t for stream, time, graph in self.items[first:] if stream == b"s:a" and k * slide < time <= at for t in graph}
-        rows = sorted(b"\t".join(triple) + b"\n" for triple in seen)
-        return b"# report %s %d %d\n?s\t?p\t?o\n" % (name, at, len(rows)) + b"".join(rows)
+        name, width, slide, shown, patterns, first = self.query
+        opening = slide * max(0, -(-(at - width) // slide))
+        graph = {t for stream, time, triples in self.items[first:] if stream == b"s:a" and opening < time <= at for t in triples}
+        rows = rows_of(patterns, graph)
+        if rows is None:
+            self.query = None
+            return b"# overfull %s %d\n" % (name, at)
+        texts = sorted(b"\t".join(printed(row[variable]) for variable in shown) for row in rows)
+        lines = [b"# report %s %d %d" % (name, at, len(texts)), b"\t".join(shown), *texts]
+        return b"".join(line + b"\n" for line in lines)
 
     def pass_to(self, to):
+        """The reports of the instants before `to` that weren't complete."""
         start, self.next = self.next, to
         if start is None or self.query is None:
             return b""
-        width, slide = self.query[1:3]
-        first = width if start <= width else width + -(-(start - width) // slide) * slide
-        return b"".join(self.report(at) for at in range(first, to, slide))
+        width, slide = self.query.width, self.query.slide
+        at = width + max(0, -(-(start - width) // slide)) * slide
+        written = b""
+        while at < to and self.query:
+            written += self.report(at)
+            at += slide
+        return written
 
     def refusal(self, event):
-        if event is None:
-            return b"22 Unbuilt"
-        if event[0] == "register":
-            return b"22 Unbuilt" if self.query else None
-        if event[0] == "item" and len(self.items) >= 1000:
-            return b"22 Unbuilt"
-        time = event[2] if event[0] == "item" else event[1]
-        least = time if event[0] == "item" else time + 1
-        if least < (self.next or 0):
-            return b"15 Late time=%d next=%d" % (time, self.next)
-        return None
+        head, *values = event
+        if head == b"@register":
+            is_free = self.query is None and query_of(*values, len(self.items))
+            return None if is_free else "22 Unbuilt"
+        if head in (b"@cancel", b"@insert", b"@delete"):
+            return "22 Unbuilt"
+        if head == b"@item" and (len(values[2]) > MOST_TRIPLES or len(self.items) >= MOST_ITEMS):
+            return "22 Unbuilt"
+        time, least = (values[1], values[1]) if head == b"@item" else (values[0], values[0] + 1)
+        return f"15 Late time={time} next={self.next}" if least < (self.next or 0) else None
 
     def take(self, event):
-        if event[0] == "register":
-            self.query = (*event[1:], len(self.items))
+        head, *values = event
+        if head == b"@register":
+            self.query = query_of(*values, len(self.items))
             return b""
-        if event[0] == "item":
-            self.items.append(event[1:])
-            return self.pass_to(event[2])
-        return self.pass_to(event[1] + 1)
+        if head == b"@tick":
+            return self.pass_to(values[0] + 1)
+        self.items.append(values)
+        return self.pass_to(values[1])
 
 
-def run(words, text):
-    if words not in ([b"events"], [b"events", b"--"]):
-        return USAGE, 2
-    world, written, refused = World(), b"", False
-    for number, group in enumerate(groups(lines_of(text)), 1):
+def answer(world, group):
+    """What a block gives, and whether it is refused."""
+    try:
         event = event_of(group)
         why = world.refusal(event)
+    except BadBlock as wrong:
+        why = str(wrong)
+    return (world.take(event), None) if why is None else (b"", why)
+
+
+def run(words, log):
+    """The output and the status of a run."""
+    if words not in ([b"events"], [b"events", b"--"]):
+        return USAGE, 2
+    world, written, refused = World(), [], False
+    for number, group in enumerate(groups(lines_of(log)), 1):
+        text, why = answer(world, group)
+        written.append(text if why is None else b"# refused block %d %s\n" % (number, why.encode()))
         refused = refused or why is not None
-        written += world.take(event) if why is None else b"# refused block %d %s\n" % (number, why)
-    return written, int(refused)
+    return b"".join(written), int(refused)
+
+
+# ---- the rows
+
+
+def read(path):
+    with open(path, "rb") as file:
+        return file.read()
+
+
+def compare_rows():
+    """How many rows and examples the model answers as they want it; it names the others."""
+    top = os.path.dirname(os.path.dirname(os.path.realpath(__file__)))
+    passed = failed = 0
+    for folder, name_of_input in [(f"{top}/tests/rows", "stdin"), (f"{top}/examples", "log")]:
+        for name in sorted(os.listdir(folder)):
+            row = f"{folder}/{name}"
+            words = read(f"{row}/words").split(b"\n")[:-1]
+            status = int(read(f"{row}/status")) if os.path.exists(f"{row}/status") else 0
+            if run(words, read(f"{row}/{name_of_input}")) == (read(f"{row}/stdout"), status):
+                passed += 1
+            else:
+                failed += 1
+                print(f"the model differs on {os.path.relpath(row, top)}")
+    print(f"{passed} passed, {failed} failed")
+    return int(failed > 0)
+
+
+def main():
+    if sys.argv[1:] == ["--rows"]:
+        return compare_rows()
+    text, status = run([word.encode() for word in sys.argv[1:]], sys.stdin.buffer.read())
+    sys.stdout.buffer.write(text)
+    return status
 
 
 if __name__ == "__main__":
-    out, status = run([it.encode() for it in sys.argv[1:]], sys.stdin.buffer.read())
-    sys.stdout.buffer.write(out)
-    sys.exit(status)
+    sys.exit(main())
