@@ -6,3 +6,4 @@ pub mod OrderedRows
 pub mod FirstReport
 pub mod Reported
 pub mod Behind
+mod WorldRows

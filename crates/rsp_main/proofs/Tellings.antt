@@ -1,5 +1,5 @@
 -- The reports of an event, written one behind another.
-use Rattle.std.proofs.Common.{◌≡◌, ℕ, suc, ◌≤◌, List, [], ◌∷◌, ◌++◌, length, map, refl, sym, ◌∙◌, ap, append_assoc, arith}
+use Rattle.std.proofs.Common.{◌≡◌, ℕ, suc, ◌≤◌, Result, Ok, Err, List, [], ◌∷◌, ◌++◌, length, map, refl, sym, ◌∙◌, ap, append_assoc, arith}
 use Rattle.std.proofs.lemmas.List.{append-nil}
 use Rattle.rsp_multiset.specs.Rows.{Cells}
 use Rattle.rsp_terms.specs.declared.term.Term.{Term}
@@ -8,13 +8,16 @@ use Rattle.rsp_streams_out.specs.Reports.{report_head, report_text, rows_text, v
 use Rattle.rsp_engine.specs.declared.report.Report.{Report}
 use Rattle.rsp_engine.specs.declared.report.Outcome.{Outcome}
 use Rattle.rsp_engine.specs.declared.report.Outcome.TheVariants.{Rows, Overfull}
+use Rattle.rsp_events.specs.declared.event.Event.{Event}
+use Rattle.rsp_engine.specs.declared.refused.Refused.{Refused}
 use Rattle.rsp_engine.specs.World.{World}
+use Rattle.rsp_engine.specs.Accept.{accept}
 use Rattle.rsp_engine.specs.Moments.{Moment}
 use Rattle.rsp_engine.specs.Reports.{AreRows, IsOutcome, IsReport, reports, worked_off}
 use Rattle.rsp_engine.specs.Stands.{State, Stands}
 use Rattle.rsp_engine.specs.Offers.{GivesFirst, GivesOf, HasNone}
 use Rattle.rsp_main.specs.declared.stop.Stop.{Stop}
-use Rattle.rsp_main.specs.Output.{outcome_text, reports_text, text_of_report}
+use Rattle.rsp_main.specs.Output.{accepted_text, event_text, outcome_text, refusal_text, reports_text, text_of_report}
 use Rattle.rsp_main.specs.Sinks.{Seen, Wrote, WrotePart, Stops}
 use Rattle.rsp_main.proofs.Writings.{wrote_more, stops_behind, stops_before_more}
 
@@ -115,3 +118,10 @@ telling_more engine_before before faults_before engine mid faults_mid after now 
       told = λ world left stands. told_more world left engine after before mid now report (telling.told world left stands) gives wrote;
       risen = omega (arith, telling.risen, risen);
     }
+
+-- ---- a refused event
+
+pub told_refusal : (world : World) (number : ℕ) (event : Event) (before now : Seen) (why : Refused) → accept world event ≡ Err why → Wrote before now (refusal_text number why) → Wrote before now (event_text world number event)
+told_refusal world number event before now why is wrote =
+    let text : event_text world number event ≡ refusal_text number why = ap (accepted_text world number event) is in
+    rw text wrote
