@@ -21,6 +21,22 @@ world_at bytes = world_from empty_world (log_whole bytes)
 pub text_behind : (bytes log : List ℕ) (rest : List Block) → log_blocks log ≡ log_whole bytes ++ rest → output log ≡ whole_text bytes ++ text_from (world_at bytes) rest
 text_behind bytes log rest is = ap (text_from empty_world) is ∙ text_from-append empty_world (log_whole bytes) rest
 
+-- ---- the reader's document is the log's
+
+-- what the blocks of the reader's document begin with, as the log's
+pub as_log : (bytes more : List ℕ) (document : ℕ) → document ≡ 1 → (rest : List Block) × (blocks document (bytes ++ more) ≡ whole document bytes ++ rest)
+    → (rest : List Block) × (log_blocks (bytes ++ more) ≡ log_whole bytes ++ rest)
+as_log bytes more document is behind =
+    subst (λ d. (rest : List Block) × (blocks d (bytes ++ more) ≡ whole d bytes ++ rest)) is behind
+
+-- what a piece ends
+pub more_as_log : (bytes piece : List ℕ) (document : ℕ) (given : List Block) → document ≡ 1 → whole document (bytes ++ piece) ≡ whole document bytes ++ given → log_whole (bytes ++ piece) ≡ log_whole bytes ++ given
+more_as_log bytes piece document given is more = subst (λ d. whole d (bytes ++ piece) ≡ whole d bytes ++ given) is more
+
+-- what the end of the text ends
+pub end_as_log : (bytes : List ℕ) (document : ℕ) (given : List Block) → document ≡ 1 → blocks document bytes ≡ whole document bytes ++ given → log_blocks bytes ≡ log_whole bytes ++ given
+end_as_log bytes document given is last = subst (λ d. blocks d bytes ≡ whole d bytes ++ given) is last
+
 -- the blocks that a piece ends were taken
 pub worked : (bytes piece : List ℕ) (reader after : Reader) (engine engine_after : State) (known this : Bool) (given : List Block) (before now : Seen) → IsAt reader engine known bytes → after.document ≡ reader.document → HasRead after (bytes ++ piece) → log_whole (bytes ++ piece) ≡ log_whole bytes ++ given → Wrote before now (text_from (world_at bytes) given) → (this ≡ refused_from (world_at bytes) given) × Stands engine_after (world_from (world_at bytes) given) [] → IsAt after engine_after (known || this) (bytes ++ piece) × Adds before now bytes piece
 worked bytes piece reader after engine engine_after known this given before now at document read more wrote stands =
@@ -86,8 +102,9 @@ close_stops bytes reader engine known block before now why at is stops =
     }
 
 -- the end of the log ends none
-pub closed_none : (bytes : List ℕ) (reader : Reader) (engine : State) (known : Bool) (sink : Seen) → IsAt reader engine known bytes → log_blocks bytes ≡ log_whole bytes ++ [] → Closes sink sink bytes (Ok known)
-closed_none bytes reader engine known sink at is =
+pub closed_none : (bytes : List ℕ) (reader : Reader) (engine : State) (known : Bool) (sink : Seen) → IsAt reader engine known bytes → blocks reader.document bytes ≡ whole reader.document bytes ++ [] → Closes sink sink bytes (Ok known)
+closed_none bytes reader engine known sink at last =
+    let is = end_as_log bytes reader.document [] at.document last in
     let same : log_blocks bytes ≡ log_whole bytes = is ∙ append-nil (log_whole bytes) in
     record {
       text = [];
@@ -105,9 +122,3 @@ close_refused bytes rest sink is =
       ends = stopped_at_once sink _;
       refused = tt;
     }
-
--- what the blocks of the reader's document begin with, as the log's
-pub as_log : (bytes more : List ℕ) (document : ℕ) → document ≡ 1 → (rest : List Block) × (blocks document (bytes ++ more) ≡ whole document bytes ++ rest)
-    → (rest : List Block) × (log_blocks (bytes ++ more) ≡ log_whole bytes ++ rest)
-as_log bytes more document is behind =
-    subst (λ d. (rest : List Block) × (blocks d (bytes ++ more) ≡ whole d bytes ++ rest)) is behind

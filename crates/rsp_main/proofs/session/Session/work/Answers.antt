@@ -1,5 +1,5 @@
 use Rattle.std.proofs.Common.{◌++◌}
-use Rattle.rsp_main.proofs.Working.{as_log, worked, work_stops, work_refused, world_at}
+use Rattle.rsp_main.proofs.Working.{as_log, more_as_log, worked, work_stops, work_refused, world_at}
 use Rattle.rsp_main.proofs.session.Session.work.Goals as goal
 
 pub returns-in-Ok-take_blocks-clause-ok : goal.returns-in-Ok-take_blocks-clause-ok
@@ -12,7 +12,7 @@ returns-in-Ok-take_blocks-clause-ok g c bytes at =
     at
     c.feed.ensures.document
     (fed.read bytes at.read)
-    (rw at.document at fed.given bytes at.read)
+    (more_as_log bytes c.args.piece.now _ _ at.document (fed.given bytes at.read))
     (took.text (world_at bytes) at.stands)
     (took.stands (world_at bytes) at.stands))
 
@@ -21,7 +21,7 @@ returns-in-Err-take_blocks-clause-err g c bytes more at =
     let fed = c.in-Ok.ensures in
     let behind = as_log (bytes ++ c.args.piece.now) more _ at.document (fed.prefix (bytes ++ c.args.piece.now) more) in
     work_stops bytes c.args.piece.now more c.in-Ok.given behind.0 _ _ c.in-Err-take_blocks.stop
-    (rw at.document at fed.given bytes at.read)
+    (more_as_log bytes c.args.piece.now _ _ at.document (fed.given bytes at.read))
     behind.1
     (c.in-Err-take_blocks.ensures.text (world_at bytes) at.stands)
 
