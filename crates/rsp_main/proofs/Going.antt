@@ -11,9 +11,9 @@ use Rattle.rsp_engine.specs.Stands.{State, is_idle}
 use Rattle.rsp_main.specs.declared.stop.Stop.{Stop}
 use Rattle.rsp_main.specs.declared.stop.Stop.TheVariants.{Memory, Write}
 use Rattle.rsp_main.specs.Output.{log_blocks, log_whole, whole_text, output, has_refusal, text_from}
-use Rattle.rsp_main.specs.Sinks.{Seen, Wrote, WrotePart, WriteFailed, Stops, Ends}
+use Rattle.rsp_main.specs.Sinks.{HasFault, Seen, Wrote, WrotePart, WriteFailed, Stops, Ends}
 use Rattle.rsp_main.specs.Sessions.{IsAt, Adds, Breaks, Closes}
-use Rattle.rsp_main.specs.Answers.{SourceSeen, AnswersLog, ReadFails, PassesLimit, IsShort, status_of, most_bytes}
+use Rattle.rsp_main.specs.Answers.{HasWriteCause, SourceSeen, AnswersLog, ReadFails, PassesLimit, IsShort, status_of, most_bytes}
 use Rattle.rsp_main.proofs.Writings.{wrote_nothing, wrote_more, ends_behind, stops_behind}
 use Rattle.rsp_main.proofs.Working.{text_behind, world_at}
 
@@ -128,6 +128,11 @@ work_stopped source_before source source_after before mid now faults_before faul
     (λ below.
     let is = given_short source_before.given source.given source_after.given total n going.given given below in
     omega (arith, is, within))
+
+-- a write that failed on a piece has a cause since the start
+pub write_cause : (first before now : ℕ) (why : Stop) → first ≤ before → HasFault before now why → HasWriteCause first now (status_of (Err why))
+write_cause first before now Memory risen fault = tt
+write_cause first before now Write risen fault = omega (arith, risen, fault)
 
 -- a piece was worked off
 went_on : (left_before left after : Option (List ℕ)) (before mid now : Seen) (reader reader_after : Reader) (engine engine_after : State) (known known_after : Bool) (piece : List ℕ) → Goes left_before left before mid reader engine known → Consumes left after piece → ((bytes : List ℕ) → IsAt reader engine known bytes → IsAt reader_after engine_after known_after (bytes ++ piece) × Adds mid now bytes piece) → Goes left_before after before now reader_after engine_after known_after

@@ -1,6 +1,6 @@
 use Rattle.std.proofs.Common.{◌+◌, ◌≤◌, sym, true≢false}
 use Rattle.rsp_main.specs.Answers.{most_bytes}
-use Rattle.rsp_main.proofs.Going.{going_nothing, going_on, log_ended, first_none, read_failed, too_long, work_stopped}
+use Rattle.rsp_main.proofs.Going.{going_nothing, going_on, log_ended, first_none, read_failed, too_long, work_stopped, write_cause}
 use Rattle.rsp_main.proofs.top.events.Goals as goal
 
 pub reads-init : goal.reads-init
@@ -51,6 +51,14 @@ returns-in-Err-work-clause-log g c =
     c.in-Ok.ensures.given
     within
     c.in-Err-work.ensures.err)
+
+pub returns-in-Err-work-clause-cause : goal.returns-in-Err-work-clause-cause
+returns-in-Err-work-clause-cause g c =
+    rw
+    c.status_of-in-Err-work.ensures
+    (write_cause (g.K.Sink.faults c.args.out.now) (g.K.Sink.faults c.reads.out) (g.K.Sink.faults c.work.new.out) c.in-Err-work.stop
+    c.reads.invariant.risen
+    c.in-Err-work.ensures.cause.1)
 
 pub returns-in-Err-clause-log : goal.returns-in-Err-clause-log
 returns-in-Err-clause-log g c =
