@@ -1,5 +1,9 @@
 // The top call.
-ghost use Rattle.std.specs.Prelude.{◌≡◌, true, false};
+ghost use Rattle.std.specs.Prelude.{◌≡◌, ◌++◌, IsTrue, true, false, List, ℕ, []};
+ghost use Rattle.rsp_events.specs.declared.event.Block.{Block};
+ghost use Rattle.rsp_engine.specs.Stands.{is_idle};
+ghost use Rattle.rsp_main.specs.Output.{log_blocks, log_whole};
+ghost use Rattle.rsp_main.specs.Sessions.{IsAt};
 ghost use Rattle.rsp_main.specs.Words.{ask_for_events};
 ghost use Rattle.rsp_main.specs.Sinks.{seen};
 ghost use Rattle.rsp_main.specs.Answers.{source_seen, AnswersLog, AnswersUsage, HasWriteCause, status_of};
@@ -57,7 +61,7 @@ pub fn rsp<S: Source, H: Shelf, K: Sink, L: Ledger>(
     }
 }
 
-// Reads the log to its end, a piece at a time, and works off each.
+// Reads the log to its end and works it off.
 fn events<S: Source, K: Sink, L: Ledger>(
     alloc: Global,
     input: &mut S,
@@ -69,8 +73,26 @@ fn events<S: Source, K: Sink, L: Ledger>(
         (seen (K.taken out.old) (K.room out.old)) (seen (K.taken out.new) (K.room out.new)) result }
     ensures cause { HasWriteCause (K.faults out.old) (K.faults out.new) result }
 {
-    let mut buffer = [0u8; READ_BYTES];
     let mut session = Session::new(alloc);
+    read_log(&mut session, input, out, steps)
+}
+
+// Works off the log a piece at a time. The session is the caller's, so that no return here drops it.
+fn read_log<S: Source, K: Sink, L: Ledger>(
+    session: &mut Session,
+    input: &mut S,
+    out: &mut K,
+    steps: &mut Steps<L>,
+) -> Status
+    requires at { IsAt session.old.blocks session.old.engine session.old.refused [] }
+    requires idle { IsTrue (is_idle session.old.engine) }
+    requires prefix { (bytes more : List ℕ) → (rest : List Block) × (log_blocks (bytes ++ more) ≡ log_whole bytes ++ rest) }
+    ensures log { AnswersLog (source_seen (S.left input.old) (S.given input.old) (S.faults input.old) (S.sure input.old))
+        (source_seen (S.left input.new) (S.given input.new) (S.faults input.new) (S.sure input.new))
+        (seen (K.taken out.old) (K.room out.old)) (seen (K.taken out.new) (K.room out.new)) result }
+    ensures cause { HasWriteCause (K.faults out.old) (K.faults out.new) result }
+{
+    let mut buffer = [0u8; READ_BYTES];
     let mut taken = 0;
     'reads: loop {
         match input.read(&mut buffer[..]) {

@@ -1,10 +1,10 @@
 use Rattle.std.proofs.Common.{◌+◌, ◌≤◌, sym, true≢false}
 use Rattle.rsp_main.specs.Answers.{most_bytes}
 use Rattle.rsp_main.proofs.Going.{going_nothing, going_on, log_ended, first_none, read_failed, too_long, work_stopped, write_cause}
-use Rattle.rsp_main.proofs.top.events.Goals as goal
+use Rattle.rsp_main.proofs.top.read_log.Goals as goal
 
 pub reads-init : goal.reads-init
-reads-init g c = going_nothing _ _ _ _ _ _ c.new-session.ensures.at c.new-session.ensures.idle
+reads-init g c = going_nothing _ _ _ _ _ _ c.requires.at c.requires.idle
 
 pub reads-preserved : goal.reads-preserved
 reads-preserved g c =
@@ -37,7 +37,7 @@ returns-in-Ok-eq0-clause-log g c =
 
 pub returns-then-taken-gt-MOST_BYTES-clause-log : goal.returns-then-taken-gt-MOST_BYTES-clause-log
 returns-then-taken-gt-MOST_BYTES-clause-log g c =
-    too_long c.new-session.ensures.prefix _ _ _ _ _ _ _ _ _ _ _ c.in-Ok.read c.reads.invariant c.in-Ok.ensures.given c.if-taken-gt-MOST_BYTES.true
+    too_long c.requires.prefix _ _ _ _ _ _ _ _ _ _ _ c.in-Ok.read c.reads.invariant c.in-Ok.ensures.given c.if-taken-gt-MOST_BYTES.true
 
 pub returns-in-Err-work-clause-log : goal.returns-in-Err-work-clause-log
 returns-in-Err-work-clause-log g c =
@@ -62,4 +62,4 @@ returns-in-Err-work-clause-cause g c =
 
 pub returns-in-Err-clause-log : goal.returns-in-Err-clause-log
 returns-in-Err-clause-log g c =
-    read_failed c.new-session.ensures.prefix _ _ _ _ _ _ _ _ _ _ _ c.reads.invariant c.in-Err.ensures.given c.in-Err.ensures.cause.1 (λ sure. true≢false (sym (c.in-Err.ensures.sure sure)))
+    read_failed c.requires.prefix _ _ _ _ _ _ _ _ _ _ _ c.reads.invariant c.in-Err.ensures.given c.in-Err.ensures.cause.1 (λ sure. true≢false (sym (c.in-Err.ensures.sure sure)))

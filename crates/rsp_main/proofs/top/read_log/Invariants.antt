@@ -2,7 +2,7 @@ use Rattle.std.proofs.Common.{◌-◌, ◌+◌}
 use Rattle.rsp_main.specs.Sinks.{seen}
 use Rattle.rsp_main.specs.Answers.{source_seen, most_bytes}
 use Rattle.rsp_main.proofs.Going.{Going}
-use Rattle.rsp_main.proofs.top.events.Given as goal
+use Rattle.rsp_main.proofs.top.read_log.Given as goal
 
 abbrev pub invariant-reads : goal.invariant-reads
 invariant-reads g l =
