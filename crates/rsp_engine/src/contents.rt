@@ -1,5 +1,5 @@
 // What a query sees of its window at an instant.
-ghost use Rattle.std.specs.Prelude.{◌≡◌, ◌≤◌, ◌&&◌, nat_lt, nat_le, IfOk, OnOk, fold, filter, map, drop, length, [], ◌∷◌};
+ghost use Rattle.std.specs.Prelude.{◌≡◌, ◌≤◌, ◌&&◌, nat_lt, nat_le, IfOk, OnOk, fold, filter, drop, length};
 ghost use Rattle.std.specs.List.{flat_map};
 ghost use Rattle.rsp_spec.specs.Windows.{last_instant};
 ghost use Rattle.rsp_terms.specs.declared.statement.Spot.TheVariants as spot;

@@ -50,15 +50,15 @@ impl<A: Answer> Model for Engine<A> {
 }
 
 impl<A: Answer> Engine<A> {
-    ghost use Rattle.std.specs.Prelude.{◌≡◌, ◌<◌, None, ◌↔◌, ◌==◌, ◌≤◌, ◌+◌, ◌++◌, ◌∷◌, ℕ, List, [], true, false, IsTrue, OnOk, OnErr, Some, is_some, length, IfOk, IfSome, IsSomeAnd, unwrap_or};
+    ghost use Rattle.std.specs.Prelude.{◌≡◌, ◌<◌, None, ◌↔◌, ◌==◌, ◌≤◌, ◌+◌, ◌++◌, ◌∷◌, List, [], true, false, IsTrue, OnOk, OnErr, Some, is_some, length, IfOk, unwrap_or};
     ghost use Rattle.rsp_spec.specs.Windows.{last_instant};
-    ghost use Rattle.rsp_engine.specs.Passing.{Passes, WorksOff, ReportsFirst};
+    ghost use Rattle.rsp_engine.specs.Passing.{Passes, ReportsFirst};
     ghost use Rattle.rsp_engine.specs.Inside.{Answers, live_of};
     ghost use Rattle.std.specs.Option.{option_map, option_map_or};
     ghost use Rattle.rsp_engine.specs.World.{World, empty_world};
     ghost use Rattle.rsp_engine.specs.Moments.{Moment};
     ghost use Rattle.rsp_engine.specs.Kept.{triples_of};
-    ghost use Rattle.rsp_engine.specs.Stands.{Stands, is_idle, query_of};
+    ghost use Rattle.rsp_engine.specs.Stands.{Stands, is_idle};
     ghost use Rattle.rsp_engine.specs.Offers.{Offers, NextReport};
     ghost use Rattle.rsp_events.specs.Instants.{IsInstant};
 

@@ -1,9 +1,9 @@
 // The rows of a report.
-ghost use Rattle.std.specs.Prelude.{◌≡◌, ◌++◌, IfOk, map, slice_index_or};
+ghost use Rattle.std.specs.Prelude.{◌≡◌, IfOk, map, slice_index_or};
 ghost use Rattle.rsp_terms.specs.Same.{term_eq};
 ghost use Rattle.rsp_multiset.specs.Weights.{weight, times};
 ghost use Rattle.rsp_multiset.specs.Rows.{row_eq};
-ghost use Rattle.rsp_streams_out.specs.Rows.{in_order, row_text};
+ghost use Rattle.rsp_streams_out.specs.Rows.{in_order};
 ghost use Rattle.rsp_engine.specs.Reports.{AreRows, cut};
 
 use rsp_multiset::{Bag, Row};

@@ -1,5 +1,5 @@
 // The next instant at which a query reports, found by walking.
-ghost use Rattle.std.specs.Prelude.{◌≡◌, ℕ, ◌+◌, Option, ◌<◌, ◌≤◌, false, true, Some, List, [], map, option_to_list, unwrap_or};
+ghost use Rattle.std.specs.Prelude.{◌≡◌, ℕ, ◌+◌, Option, ◌<◌, ◌≤◌, false, true, Some, [], map, option_to_list, unwrap_or};
 ghost use Rattle.std.specs.Option.{option_map, option_map_or};
 ghost use Rattle.rsp_spec.specs.Windows.{closes_at, last_instant};
 ghost use Rattle.rsp_engine.specs.World.{World};

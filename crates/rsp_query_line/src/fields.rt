@@ -1,5 +1,5 @@
 // The fields of a line, and what they may be.
-ghost use Rattle.std.specs.Prelude.{◌≡◌, ◌∷◌, ◌++◌, ◌≤◌, ◌<◌, ◌==◌, ◌&&◌, ◌*◌, [], nat_lt, if◌then◌else◌, Option, Some, None, IfOk, IfSome, MatchOption, length, take, drop, is_some, codes, nat_le};
+ghost use Rattle.std.specs.Prelude.{◌≡◌, ◌∷◌, ◌++◌, ◌≤◌, ◌<◌, ◌==◌, ◌&&◌, ◌*◌, [], nat_lt, if◌then◌else◌, Option, Some, None, IfOk, IfSome, MatchOption, length, drop, codes, nat_le};
 ghost use Rattle.std.specs.Option.{option_and_then};
 ghost use Rattle.rsp_text.specs.Digits.{read_u64};
 ghost use Rattle.std.specs.Char.{is_ascii_alphanumeric, is_ascii_digit};

@@ -1,7 +1,5 @@
 // The query line, and what it says.
-ghost use Rattle.std.specs.Prelude.{◌≡◌, ◌∷◌, ◌++◌, ◌≤◌, ◌&&◌, [], ℕ, List, Bool, None, Some, IfOk, IfSome, OnOk, MatchOption, true, length, map, take, drop, fold, nat_le, codes};
-ghost use Rattle.std.specs.List.{flat_map, take_while, list_all};
-ghost use Rattle.std.specs.Option.{option_map, is_some};
+ghost use Rattle.std.specs.Prelude.{◌≡◌, None, Some, IfOk, IfSome, true};
 ghost use Rattle.rsp_query_line.specs.QueryLine as form;
 
 use crate::Written;

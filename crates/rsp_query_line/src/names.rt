@@ -1,6 +1,6 @@
 // The variables of patterns by their names.
-ghost use Rattle.std.specs.Prelude.{◌≡◌, ◌∷◌, ◌++◌, ◌≤◌, ◌==◌, ◌&&◌, [], IfOk, OnOk, length, fold, nat_le};
-ghost use Rattle.std.specs.List.{flat_map, list_all};
+ghost use Rattle.std.specs.Prelude.{◌≡◌, ◌==◌, [], IfOk, OnOk, fold};
+ghost use Rattle.std.specs.List.{list_all};
 ghost use Rattle.rsp_query_line.specs.QueryLine as form;
 
 use crate::{Part, Written};

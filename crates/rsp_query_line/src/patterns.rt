@@ -1,6 +1,5 @@
 // Triple patterns and windows, from fields.
-ghost use Rattle.std.specs.Prelude.{◌≡◌, ◌∷◌, ◌≤◌, ◌++◌, [], Option, Some, None, IfOk, IfSome, MatchOption, OnOk, length, take, drop, codes};
-ghost use Rattle.std.specs.Option.{option_map, option_and_then};
+ghost use Rattle.std.specs.Prelude.{◌≡◌, ◌∷◌, Option, Some, None, IfOk, take, drop, codes};
 ghost use Rattle.rsp_query_line.specs.QueryLine as form;
 
 use crate::Written;

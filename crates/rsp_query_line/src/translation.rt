@@ -1,7 +1,6 @@
 // The algebra tree of a query line.
-ghost use Rattle.std.specs.Prelude.{◌≡◌, ◌∷◌, ◌++◌, ◌≤◌, ◌<◌, [], IfOk, length, map, None, true, false};
+ghost use Rattle.std.specs.Prelude.{◌≡◌, ◌<◌, [], IfOk, map, true, false};
 ghost use Rattle.rsp_algebra.specs.Overfull.{overfull};
-ghost use Rattle.std.specs.List.{position_or_len};
 ghost use Rattle.rsp_algebra.specs.Nodes.{IsPlaced, node_of, project};
 ghost use Rattle.rsp_query_line.specs.QueryLine as form;
 ghost use Rattle.rsp_query_line.specs.Meaning.{node_of_line, place_of, shown_of, slot_of, triple_pattern_of, width_of};
