@@ -1,8 +1,8 @@
 //! The one form of query text that is built by now, until the grammar of queries is there.
 //!
-//! [`read`] reads the text: exactly a query line is read, and the tree is the projection of the left-deep join of its
-//! patterns over one window. Above: the engine, which registers queries by their texts. Below: algebra trees, windows
-//! and terms.
+//! [`query_line`] reads a text exactly where it is a query line; [`translated`] makes of that the projection of the
+//! left-deep join of its patterns, over one window. Above: the engine, which registers queries by their texts. Below:
+//! algebra trees, windows and terms.
 #![tactic(auto)]
 
 mod fields;
