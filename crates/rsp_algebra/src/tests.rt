@@ -1,4 +1,4 @@
-ghost use Rattle.std.specs.Prelude.{◌≡◌, ℕ, ◌+◌, ◌≤◌, false, IfOk, IfSome, List, ◌+ℤ◌};
+ghost use Rattle.std.specs.Prelude.{◌≡◌, ◌+◌, false, IfOk, IfSome, ◌+ℤ◌};
 ghost use Rattle.rsp_multiset.specs.Weights.{weight, times, IsChanged};
 ghost use Rattle.rsp_multiset.specs.Rows.{row_eq};
 ghost use Rattle.rsp_terms.specs.declared.statement.Fact.{Fact};

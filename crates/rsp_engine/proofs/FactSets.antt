@@ -1,12 +1,11 @@
 -- How a live query comes to stand for the facts of an instant.
-use Rattle.std.proofs.Common.{◌≡◌, ◌⊎◌, inl, inr, ℕ, ◌+◌, ◌<◌, Bool, true, false, true≢false, ◌&&◌, ◌||◌, cond, List, [], ◌∷◌, ◌++◌, ℤ, pos, negsuc, ◌+ℤ◌, drop, fold, length, get_or, refl, sym, ap, ◌∙◌, arith}
+use Rattle.std.proofs.Common.{◌≡◌, ◌⊎◌, inl, inr, ℕ, ◌+◌, Bool, true, false, true≢false, ◌&&◌, ◌||◌, cond, List, [], ◌∷◌, ◌++◌, ℤ, pos, negsuc, ◌+ℤ◌, drop, fold, refl, sym, ap, ◌∙◌, arith}
 use Rattle.std.specs.List.{AllByRecursion, IsDistinct, flat_map, list_any}
 use Rattle.rsp_spec.specs.Windows.{Shape}
 use Rattle.rsp_engine.specs.declared.item.Item.{Item}
 use Rattle.rsp_engine.specs.Passing.{window_facts}
 use Rattle.std.specs.Prelude.{filter, nat_eq}
 use Rattle.std.proofs.lemmas.Int.{ints}
-use Rattle.std.proofs.lemmas.List.{at_drop_more}
 use Rattle.rsp_multiset.specs.Weights.{IsChanged, only, times, weight}
 use Rattle.rsp_multiset.proofs.Linear.{turned}
 use Rattle.rsp_terms.specs.declared.statement.Fact.{Fact}
@@ -16,33 +15,6 @@ use Rattle.rsp_terms.specs.Same.{fact_eq, fact_same, triple_eq, triple_same}
 use Rattle.rsp_algebra.specs.Changing.{IsSet, MayChange}
 use Rattle.rsp_algebra.proofs.Sets.{times-set}
 use Rattle.rsp_engine.specs.Contents.{add_once, distinct, facts_of, in_content}
-
--- ---- counting
-
--- the next of the facts comes in
-pub one_more : (facts : List Fact) (i : ℕ) (fact shared : Fact) (before after whole : ℤ) (q : Fact) → i < length facts → fact ≡ get_or facts i fact → shared ≡ fact → after ≡ before +ℤ only (fact_eq q shared) (pos 1) → before +ℤ times fact_eq (drop i facts) q ≡ whole → after +ℤ times fact_eq (drop (i + 1) facts) q ≡ whole
-one_more facts i fact shared before after whole q below is same made so_far =
-    let step : times fact_eq (drop i facts) q ≡ only (fact_eq q fact) (pos 1) +ℤ times fact_eq (drop (i + 1) facts) q =
-    at_drop_more (λ fs. times fact_eq fs q) facts i fact below
-    ∙ ap (λ y. only (fact_eq q y) (pos 1) +ℤ times fact_eq (drop (i + 1) facts) q) (sym is)
-    in
-    let added : after ≡ before +ℤ only (fact_eq q fact) (pos 1) = made ∙ ap (λ y. before +ℤ only (fact_eq q y) (pos 1)) same in
-    omega (arith, ints, step, added, so_far)
-
-taken : (b : Bool) → only b (negsuc 0) +ℤ only b (pos 1) ≡ pos 0
-taken true = refl
-taken false = refl
-
--- the next of the facts goes out
-pub one_less : (facts : List Fact) (i : ℕ) (fact shared : Fact) (before after whole : ℤ) (q : Fact) → i < length facts → fact ≡ get_or facts i fact → shared ≡ fact → after ≡ before +ℤ only (fact_eq q shared) (negsuc 0) → whole +ℤ times fact_eq (drop i facts) q ≡ before +ℤ times fact_eq facts q → whole +ℤ times fact_eq (drop (i + 1) facts) q ≡ after +ℤ times fact_eq facts q
-one_less facts i fact shared before after whole q below is same made so_far =
-    let step : times fact_eq (drop i facts) q ≡ only (fact_eq q fact) (pos 1) +ℤ times fact_eq (drop (i + 1) facts) q =
-    at_drop_more (λ fs. times fact_eq fs q) facts i fact below
-    ∙ ap (λ y. only (fact_eq q y) (pos 1) +ℤ times fact_eq (drop (i + 1) facts) q) (sym is)
-    in
-    let gone : after ≡ before +ℤ only (fact_eq q fact) (negsuc 0) = made ∙ ap (λ y. before +ℤ only (fact_eq q y) (negsuc 0)) same in
-    let pair = taken (fact_eq q fact) in
-    omega (arith, ints, step, gone, pair, so_far)
 
 -- ---- a window's graph is a set
 

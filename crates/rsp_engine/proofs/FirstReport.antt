@@ -7,7 +7,6 @@ use Rattle.rsp_algebra.specs.Overfull.{overfull}
 use Rattle.rsp_query_line.specs.Meaning.{node_of_line, width_of}
 use Rattle.std.specs.List.{flat_map, range_with_len}
 use Rattle.std.specs.Option.{option_map_or}
-use Rattle.std.specs.Cmp.Lexicographic.{bytes_decides}
 use Rattle.rsp_spec.specs.Windows.{closes_at}
 use Rattle.rsp_engine.specs.declared.item.Item.{Item}
 use Rattle.rsp_engine.specs.declared.report.Outcome.{Outcome}
@@ -21,9 +20,7 @@ use Rattle.rsp_engine.specs.Stands.{Live, State, Stands, query_of}
 use Rattle.rsp_engine.specs.Offers.{GivesOf}
 use Rattle.rsp_engine.specs.Passing.{ReportsFirst, WorksOff, is_overfull_outcome, live_facts, outcome_over, seeing}
 use Rattle.rsp_engine.proofs.Walks.{busy, first_left, quiet}
-
-same_bytes : (name : List ℕ) → same name name ≡ true
-same_bytes name = (bytes_decides name name).1 refl
+use Rattle.rsp_engine.proofs.Offering.{same_bytes}
 
 -- ---- what a query has seen doesn't move its moments
 

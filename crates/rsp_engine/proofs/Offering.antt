@@ -19,7 +19,7 @@ use Rattle.rsp_engine.specs.Contents.{same}
 use Rattle.rsp_engine.specs.Passing.{Passes}
 use Rattle.rsp_engine.proofs.Walks.{none_on_items}
 
-same_bytes : (name : List ℕ) → same name name ≡ true
+pub same_bytes : (name : List ℕ) → same name name ≡ true
 same_bytes name = (bytes_decides name name).1 refl
 
 -- the engine stands for the world that the event makes, and for the event's moments

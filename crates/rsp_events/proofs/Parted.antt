@@ -1,9 +1,10 @@
 -- Fields one after another, and names in ASCII.
-use Rattle.std.proofs.Common.{◌≡◌, ℕ, zero, suc, ◌+◌, ◌<◌, Bool, true, false, true≢false, cond, List, [], ◌∷◌, length, take, drop, refl, ap, sym, ◌∙◌, arith}
+use Rattle.std.proofs.Common.{◌≡◌, ℕ, suc, ◌+◌, ◌<◌, Bool, true, false, cond, List, [], ◌∷◌, length, take, drop, refl, ap, sym, ◌∙◌, arith}
 use Rattle.std.specs.Prelude.{◌≢◌, ◌==◌, ◌&&◌, not, nat_le, filter}
 use Rattle.std.specs.List.{list_all, onto_first, position_or_len, prefix_len, slice_split}
 use Rattle.std.specs.Str.{IsAscii}
 use Rattle.std.proofs.lemmas.Bool.Decides.{nat_tests}
+use Rattle.rsp_spec.proofs.Truths.{and_right, all_ascii}
 use Rattle.rsp_events.specs.Directives.{is_name, is_name_character}
 
 -- ---- fields between what passes a test
@@ -71,19 +72,6 @@ next_part p xs (c ∷ cs) n is some at =
     ∙ (some_part c (take (position_or_len p cs) cs) r.more ∙ ap (λ rest. (c ∷ take (position_or_len p cs) cs) ∷ rest) r.rest)))
 
 -- ---- ASCII
-
-and_left : (a b : Bool) → (a && b) ≡ true → a ≡ true
-and_left true b h = refl
-and_left false b h = h
-
-and_right : (a b : Bool) → (a && b) ≡ true → b ≡ true
-and_right true b h = h
-and_right false b h = absurd (true≢false (sym h))
-
-all_ascii : (p : ℕ → Bool) → ((c : ℕ) → p c ≡ true → c < 128) → (xs : List ℕ) → list_all p xs ≡ true → IsAscii xs
-all_ascii p below [] h i = omega arith
-all_ascii p below (x ∷ xs) h zero = below x (and_left (p x) (list_all p xs) h)
-all_ascii p below (x ∷ xs) h (suc i) = all_ascii p below xs (and_right (p x) (list_all p xs) h) i
 
 name_character_ascii : (c : ℕ) → is_name_character c ≡ true → c < 128
 name_character_ascii c h = grind (arith, nat_tests)

@@ -1,5 +1,5 @@
 // What is kept of a line and of a block that have begun: their bytes, as long as they are no more than a block may have.
-ghost use Rattle.std.specs.Prelude.{◌≡◌, ◌+◌, ◌++◌, ◌∷◌, ◌≤◌, ◌<◌, ◌&&◌, [], ℕ, List, Bool, IfOk, length, if◌then◌else◌, nat_lt};
+ghost use Rattle.std.specs.Prelude.{◌≡◌, ◌+◌, ◌++◌, ◌∷◌, ◌≤◌, ◌<◌, ◌&&◌, [], ℕ, List, IfOk, length, if◌then◌else◌, nat_lt};
 ghost use Rattle.std.specs.Str.Lines.{strip_carriage_return};
 ghost use Rattle.rsp_events.specs.Begun.{begun_block_of, begun_line_of, ending_of, held_line_of};
 ghost use Rattle.rsp_events.specs.Lines as lines;

@@ -1,5 +1,5 @@
 // The reader of a log's blocks.
-ghost use Rattle.std.specs.Prelude.{◌≡◌, ◌+◌, ◌++◌, ◌∷◌, ◌↔◌, ◌≤◌, ◌==◌, [], ℕ, List, Bool, true, if◌then◌else◌, length, IfOk, OnOk, OnErr, IsErr, option_to_list};
+ghost use Rattle.std.specs.Prelude.{◌≡◌, ◌+◌, ◌++◌, ◌∷◌, ◌↔◌, ◌≤◌, ◌==◌, [], ℕ, List, true, if◌then◌else◌, length, IfOk, OnOk, OnErr, IsErr, option_to_list};
 ghost use Rattle.rsp_events.specs.declared.event.Block.{Block};
 ghost use Rattle.rsp_events.specs.declared.begun.BegunLine.TheVariants as line;
 ghost use Rattle.rsp_events.specs.declared.begun.BegunBlock.TheVariants as begun;

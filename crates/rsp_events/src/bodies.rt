@@ -6,7 +6,6 @@ ghost use Rattle.std.specs.String.{string_bytes};
 ghost use Rattle.rsp_events.specs.Contents as form;
 ghost use Rattle.rsp_events.specs.Contents.{IsRead};
 ghost use Rattle.rsp_events.specs.Lines as text;
-ghost use Rattle.rsp_nquads.specs.Statements.{statement_of};
 
 use crate::lines::is_end;
 use rsp_nquads::{LineFault, statement};

@@ -1,5 +1,4 @@
-ghost use Rattle.std.specs.Prelude.{◌≡◌, ◌<◌, ◌≤◌, Some, IfOk, Ok, min, length};
-ghost use Rattle.rsp_spec.specs.Faults.{HasCause};
+ghost use Rattle.std.specs.Prelude.{◌≡◌, ◌<◌, ◌≤◌, Some, Ok, min, length};
 ghost use Rattle.rsp_io.specs.Reading.{ReadTakes, GivenRises};
 
 use crate::remainder::Remainder;

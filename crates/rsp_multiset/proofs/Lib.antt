@@ -7,3 +7,4 @@ pub mod Signs
 pub mod Sums
 pub mod Whole
 mod WorkedRows
+pub mod Counting

@@ -1,31 +1,18 @@
 -- Escapes in IRIs and strings, as readers and as pieces.
-use Rattle.std.proofs.Common.{◌≡◌, ◌≢◌, ℕ, ◌≤◌, Bool, true, false, true≢false, List, [], ◌∷◌, ◌++◌, length, take, drop, refl, sym, ap, ◌∙◌, arith, Option, Some, None, if◌then◌else◌}
-use Rattle.std.specs.Prelude.{◌&&◌, ◌==◌, ⊤}
+use Rattle.std.proofs.Common.{◌≡◌, ◌≢◌, ℕ, ◌≤◌, Bool, true, false, List, [], ◌∷◌, ◌++◌, length, take, drop, refl, sym, ap, ◌∙◌, arith, Option, Some, None, if◌then◌else◌}
+use Rattle.std.specs.Prelude.{◌==◌, ⊤}
 use Rattle.std.specs.Char.{is_ascii_hexdigit}
 use Rattle.std.specs.List.{list_all}
 use Rattle.std.specs.Option.{option_map, option_and_then, option_or}
 use Rattle.std.specs.Str.Parse.{digits_value}
 use Rattle.std.proofs.lemmas.Bool.Decides.{nat_tests}
 use Rattle.std.proofs.lemmas.List.{take-append-drop}
+use Rattle.rsp_spec.proofs.Truths.{and_left, and_right, equal_from, differs}
 use Rattle.rsp_terms.specs.Characters.{is_iri_character}
 use Rattle.rsp_nquads.specs.Parts.{code_point, uchar, echar, named_character, iri_escape, string_escape, is_scalar, is_string_character}
 use Rattle.rsp_nquads.specs.Grammar.{Piece, plain, short, long, named, written, IsNumbered, StandsFor, IsIriPiece, IsStringPiece}
 use Rattle.rsp_nquads.proofs.Fronts.{take_front, drop_front}
 use Rattle.rsp_nquads.proofs.Pieces.{IsEscape, Spells}
-
-and_left : (a b : Bool) → (a && b) ≡ true → a ≡ true
-and_left true b h = refl
-and_left false b h = h
-
-and_right : (a b : Bool) → (a && b) ≡ true → b ≡ true
-and_right true b h = h
-and_right false b h = absurd (true≢false (sym h))
-
-equal_from : (c d : ℕ) → (c == d) ≡ true → c ≡ d
-equal_from c d h = grind (arith, nat_tests)
-
-differs : (c d : ℕ) → c ≢ d → (c == d) ≡ false
-differs c d other = grind (arith, nat_tests)
 
 equal_to : (c d : ℕ) → c ≡ d → (c == d) ≡ true
 equal_to c d is = grind (arith, nat_tests)

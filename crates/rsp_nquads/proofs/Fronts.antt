@@ -1,6 +1,6 @@
 -- A front of the characters of a text is a front of its bytes.
 use Rattle.std.proofs.Common.{◌≡◌, ℕ, zero, suc, ◌+◌, ◌-◌, ◌*◌, ◌^◌, ◌<◌, ◌≤◌, Bool, true, false, true≢false, List, [], ◌∷◌, ◌++◌, length, take, drop, refl, sym, ap, ◌∙◌, arith, Option, Some, None, IsUtf8, chars}
-use Rattle.std.specs.Prelude.{◌&&◌, ◌==◌, nat_lt}
+use Rattle.std.specs.Prelude.{◌==◌, nat_lt}
 use Rattle.std.specs.Char.{is_ascii_alphabetic, is_ascii_digit}
 use Rattle.std.specs.List.{slice_range}
 use Rattle.std.specs.Str.{all_scalars, encode_utf8_all, IsCharBoundary, IsAscii}
@@ -8,17 +8,10 @@ use Rattle.std.proofs.lemmas.Bool.Decides.{nat_tests}
 use Rattle.std.proofs.lemmas.Grind.{common_steps}
 use Rattle.std.proofs.lemmas.Str.{chars-encodes, encodes-append, IsCharBoundary-at_seam, IsUtf8-from_ascii, IsUtf8-nil}
 use Rattle.std.proofs.Math.Nat.{pow-le-pow_right}
+use Rattle.rsp_spec.proofs.Truths.{and_left, and_right}
 use Rattle.rsp_nquads.specs.Parts.{longest_front, longest_up_to}
 use Rattle.rsp_nquads.specs.Scans.{accepts, scan, next_of_tag, tag_machine}
 use Rattle.rsp_nquads.proofs.Longest.{scan_is}
-
-and_left : (a b : Bool) → (a && b) ≡ true → a ≡ true
-and_left true b h = refl
-and_left false b h = h
-
-and_right : (a b : Bool) → (a && b) ≡ true → b ≡ true
-and_right true b h = h
-and_right false b h = absurd (true≢false (sym h))
 
 pub scalars-drop : (n : ℕ) (cs : List ℕ) → all_scalars cs ≡ true → all_scalars (drop n cs) ≡ true
 scalars-drop zero cs h = h

@@ -7,6 +7,7 @@ use Rattle.std.specs.Str.{encode_utf8_all}
 use Rattle.std.proofs.lemmas.Bool.Decides.{nat_tests}
 use Rattle.std.proofs.lemmas.List.{nil_from_length}
 use Rattle.std.proofs.lemmas.Str.{chars-nil, chars_past_char, length-encode, len_utf8_bounds}
+use Rattle.rsp_spec.proofs.Truths.{differs}
 use Rattle.rsp_terms.specs.Characters.{is_label_start, is_label_character, is_label_text, last_of}
 use Rattle.rsp_nquads.specs.Parts.{longest_front}
 use Rattle.rsp_nquads.specs.Scans.{accepts, lengthened, scan, further_bytes, label_machine}
@@ -108,9 +109,6 @@ end_within false read end len within = omega arith
 
 dot_begins_none : is_label_start 0x2E ≡ false
 dot_begins_none = refl
-
-differs : (c d : ℕ) → c ≢ d → (c == d) ≡ false
-differs c d other = grind (arith, nat_tests)
 
 may_end : (c : ℕ) → is_label_start c ≡ true → not (c == 0x2E) ≡ true
 may_end c start = ap not (differs c 0x2E (λ dot. true≢false (sym start ∙ (ap is_label_start dot ∙ dot_begins_none))))

@@ -1,6 +1,6 @@
 -- Labels and tags: what the readers give is the longest that stands there.
 use Rattle.std.proofs.Common.{◌≡◌, ◌≢◌, ℕ, zero, suc, ◌-◌, ◌<◌, ◌≤◌, Bool, true, false, true≢false, List, [], ◌∷◌, ◌++◌, length, take, drop, refl, sym, ap, subst, ◌∙◌, arith, append_assoc, length-append, Option, Some, None, IsUtf8, chars, if◌then◌else◌}
-use Rattle.std.specs.Prelude.{◌&&◌, ◌==◌}
+use Rattle.std.specs.Prelude.{◌==◌}
 use Rattle.std.specs.Char.{encode_utf8}
 use Rattle.std.specs.Option.{option_and_then}
 use Rattle.std.specs.Str.{is_utf8, all_scalars, encode_utf8_all}
@@ -8,15 +8,14 @@ use Rattle.std.specs.Str.Lossy.{utf8_valid_len, valid_len_up_to}
 use Rattle.std.proofs.lemmas.Bool.Decides.{nat_tests}
 use Rattle.std.proofs.lemmas.List.{take-append-drop}
 use Rattle.std.proofs.lemmas.Str.{is_utf8-from_IsUtf8, IsUtf8-from_is_utf8, IsUtf8-nil, length-encode, len_utf8_bounds, encodes-append, chars-encodes, cons_from_encodes}
+use Rattle.std.proofs.lemmas.Bool.{and_from}
+use Rattle.rsp_spec.proofs.Truths.{and_left, and_right, equal_from, differs}
 use Rattle.rsp_terms.specs.Characters.{is_label_text, is_tag_text}
 use Rattle.rsp_nquads.specs.Parts.{sign, label, longest_label, longest_front, longest_up_to, some_of, behind, tag}
 use Rattle.rsp_nquads.specs.Grammar.{IsLabel, IsTag}
 use Rattle.rsp_nquads.proofs.Fronts.{take_front, drop_front, scalars-take, scalars-drop, parted}
 use Rattle.rsp_nquads.proofs.Pieces.{both_of, pair_same}
-use Rattle.rsp_nquads.proofs.RuleLaws.{Reads, equal_from, sign_found, sign_finds, front_longest, no_longer, longest_given, length_take, take_past}
-
-differs : (c d : ℕ) → c ≢ d → (c == d) ≡ false
-differs c d other = grind (arith, nat_tests)
+use Rattle.rsp_nquads.proofs.RuleLaws.{Reads, sign_found, sign_finds, front_longest, no_longer, longest_given, length_take, take_past}
 
 -- ---- a front that is there
 
@@ -187,24 +186,13 @@ some_characters : (cs : List ℕ) → 0 < length (encode_utf8_all cs) → 0 < le
 some_characters [] some = some
 some_characters (c ∷ cs) some = omega arith
 
-and_left : (a b : Bool) → (a && b) ≡ true → a ≡ true
-and_left true b h = refl
-and_left false b h = h
-
-and_right : (a b : Bool) → (a && b) ≡ true → b ≡ true
-and_right true b h = h
-and_right false b h = absurd (true≢false (sym h))
-
-and_both : (a b : Bool) → a ≡ true → b ≡ true → (a && b) ≡ true
-and_both a b ha hb = rw (ha, hb) refl
-
 scalars-front : (ps es : List ℕ) → all_scalars (ps ++ es) ≡ true → all_scalars ps ≡ true
 scalars-front ps es h = ap all_scalars (sym (take_front ps es)) ∙ scalars-take (length ps) (ps ++ es) h
 
 scalars-join : (xs ys : List ℕ) → all_scalars xs ≡ true → all_scalars ys ≡ true → all_scalars (xs ++ ys) ≡ true
 scalars-join [] ys hx hy = hy
 scalars-join (x ∷ xs) ys hx hy =
-    and_both _ _ (and_left _ (all_scalars xs) hx) (scalars-join xs ys (and_right _ (all_scalars xs) hx) hy)
+    and_from _ _ (and_left _ (all_scalars xs) hx) (scalars-join xs ys (and_right _ (all_scalars xs) hx) hy)
 
 label_from : (inner rest value : List ℕ) → IsThere (longest_label inner) inner rest value → (part : List ℕ) × (((95 ∷ 58 ∷ inner) ≡ part ++ rest) × IsLabel part rest value)
 label_from inner rest value t =

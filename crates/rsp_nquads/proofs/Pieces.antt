@@ -1,6 +1,6 @@
 -- What is spelled is made of pieces, and pieces are what is spelled.
-use Rattle.std.proofs.Common.{◌≡◌, ◌≢◌, ℕ, zero, suc, ◌+◌, ◌/◌, ◌%◌, ◌<◌, ◌≤◌, Bool, true, false, true≢false, cond, List, [], ◌∷◌, ◌++◌, map, length, drop, refl, sym, ap, subst, ◌∙◌, arith, append_assoc, append-nil, Option, Some, None}
-use Rattle.std.specs.Prelude.{◌&&◌, ⊤, nat_lt}
+use Rattle.std.proofs.Common.{◌≡◌, ◌≢◌, ℕ, zero, suc, ◌+◌, ◌/◌, ◌%◌, ◌<◌, ◌≤◌, Bool, true, false, cond, List, [], ◌∷◌, ◌++◌, map, length, drop, refl, sym, ap, subst, ◌∙◌, arith, append_assoc, append-nil, Option, Some, None}
+use Rattle.std.specs.Prelude.{⊤, nat_lt}
 use Rattle.std.specs.Char.{encode_utf8}
 use Rattle.std.specs.List.{list_all, take_while, concat, AllByRecursion}
 use Rattle.std.specs.Str.{is_utf8, all_scalars, encode_utf8_all}
@@ -8,20 +8,12 @@ use Rattle.std.proofs.lemmas.Bool.Decides.{nat_tests}
 use Rattle.std.proofs.lemmas.List.Folds.{list_all-append}
 use Rattle.std.proofs.lemmas.List.Sums.{take_while-cons}
 use Rattle.std.proofs.lemmas.Str.{is_utf8-from_IsUtf8, IsUtf8-from_is_utf8, IsUtf8-append, IsUtf8-encode, IsUtf8-nil, encode_ascii}
+use Rattle.std.proofs.Math.Bool.{and-true}
+use Rattle.std.proofs.lemmas.Bool.{and_from}
+use Rattle.rsp_spec.proofs.Truths.{and_left, and_right}
 use Rattle.rsp_nquads.specs.Parts.{Reader, behind, onto, spelled, is_scalar}
 use Rattle.rsp_nquads.specs.Grammar.{Piece, plain, short, long, named, written, StandsFor, IsPieceOf}
 use Rattle.rsp_nquads.proofs.Spelling.{onto_onto, none_spelled, last_spelled, more_spelled}
-
-and_left : (a b : Bool) → (a && b) ≡ true → a ≡ true
-and_left true b h = refl
-and_left false b h = h
-
-and_right : (a b : Bool) → (a && b) ≡ true → b ≡ true
-and_right true b h = h
-and_right false b h = absurd (true≢false (sym h))
-
-and_both : (a b : Bool) → a ≡ true → b ≡ true → (a && b) ≡ true
-and_both a b ha hb = rw (ha, hb) refl
 
 abbrev pub both_of : List ℕ → List ℕ → Option (List ℕ × List ℕ)
 both_of a b = Some (a, b)
@@ -40,7 +32,7 @@ pub scalar_from : (c : ℕ) → is_scalar c ≡ true → all_scalars (c ∷ []) 
 scalar_from c h = grind (arith, nat_tests)
 
 pub scalar_to : (c : ℕ) (cs : List ℕ) → all_scalars (c ∷ cs) ≡ true → is_scalar c ≡ true
-scalar_to c cs h = let one : all_scalars (c ∷ []) ≡ true = and_both _ true (and_left _ (all_scalars cs) h) refl in grind (arith, nat_tests)
+scalar_to c cs h = let one : all_scalars (c ∷ []) ≡ true = and_from _ true (and_left _ (all_scalars cs) h) refl in grind (arith, nat_tests)
 
 -- ---- plain bytes and plain characters
 
@@ -70,14 +62,10 @@ wide_bytes test wide c high = by (nat_lt c 2048) (nat_lt c 65536) refl refl
         )
         refl
 
-and_true : (a : Bool) → (a && true) ≡ a
-and_true true = refl
-and_true false = refl
-
 plain_bytes_by : (test : ℕ → Bool) → IsWide test → (c : ℕ) (low : Bool) → nat_lt c 128 ≡ low → list_all test (encode_utf8 c) ≡ test c
 plain_bytes_by test wide c true is =
     let ascii : c < 128 = grind (arith, nat_tests) in
-    rw (encode_ascii c ascii) (and_true (test c))
+    rw (encode_ascii c ascii) (and-true (test c))
 plain_bytes_by test wide c false is =
     let high : 128 ≤ c = grind (arith, nat_tests) in
     wide_bytes test wide c high ∙ sym (wide c high)

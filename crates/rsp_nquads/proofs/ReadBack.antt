@@ -9,6 +9,7 @@ use Rattle.std.specs.Option.{option_map_or}
 use Rattle.std.specs.Str.{encode_utf8_all, bytes_eq}
 use Rattle.std.proofs.lemmas.Bool.Decides.{nat_tests}
 use Rattle.std.proofs.lemmas.Str.{encode_ascii}
+use Rattle.rsp_spec.proofs.Truths.{equal_from}
 use Rattle.rsp_terms.specs.declared.term.Term.{Term}
 use Rattle.rsp_terms.specs.declared.term.Term.TheVariants.{Iri, Blank, Literal, Tagged}
 use Rattle.rsp_terms.specs.declared.statement.Quad.{Quad}
@@ -62,9 +63,6 @@ piece_of d =
     else if d == 10 then named 110
     else if d == 13 then named 114
     else plain d
-
-equal_from : (c d : ℕ) → (c == d) ≡ true → c ≡ d
-equal_from c d h = grind (arith, nat_tests)
 
 -- each character has its piece, and an ASCII one is escaped to it
 record Escapes (d : ℕ) : Type 0 where

@@ -7,6 +7,7 @@ use Rattle.std.proofs.lemmas.Bool.Decides.{nat_tests}
 use Rattle.std.proofs.lemmas.Grind.{common_steps}
 use Rattle.std.proofs.lemmas.List.{take-append-drop}
 use Rattle.std.proofs.lemmas.Str.{length-encode, len_utf8_bounds}
+use Rattle.rsp_spec.proofs.Truths.{equal_from}
 use Rattle.rsp_nquads.specs.Parts.{Reader, sign, spelled, enclosed, iri, string, longest_front, longest_up_to}
 use Rattle.rsp_nquads.specs.Grammar.{Rule, Piece, plain, short, long, named, written, IsEnclosed, IsIri, IsString}
 use Rattle.rsp_nquads.proofs.Fronts.{take_front}
@@ -17,9 +18,6 @@ use Rattle.rsp_nquads.proofs.EscapeLaws.{iri_spells, string_spells}
 pub record Reads {A : Type 0} (reader : Reader A) (rule : Rule A) : Type 0 where
   pub sound : (text rest : List ℕ) (v : A) → reader text ≡ Some (v, rest) → (part : List ℕ) × ((text ≡ part ++ rest) × rule part rest v)
   pub full : (part rest : List ℕ) (v : A) → rule part rest v → reader (part ++ rest) ≡ Some (v, rest)
-
-pub equal_from : (c d : ℕ) → (c == d) ≡ true → c ≡ d
-equal_from c d h = grind (arith, nat_tests)
 
 same_sign : (c : ℕ) → (c == c) ≡ true
 same_sign c = grind (arith, nat_tests)

@@ -1,11 +1,12 @@
 -- What a line says, by the grammar: the answers of `statement_of` and the relation `Says` agree.
-use Rattle.std.proofs.Common.{◌≡◌, ℕ, Bool, true, false, true≢false, cond, List, [], ◌∷◌, ◌++◌, length, take, refl, sym, ap, subst, ◌∙◌, Option, Some, None, Result, Ok, Err, codes, if◌then◌else◌, IsUtf8}
+use Rattle.std.proofs.Common.{◌≡◌, ℕ, Bool, true, false, cond, List, [], ◌∷◌, ◌++◌, length, take, refl, sym, ap, subst, ◌∙◌, Option, Some, None, Result, Ok, Err, codes, if◌then◌else◌, IsUtf8}
 use Rattle.std.specs.Prelude.{◌&&◌, ◌==◌, ◌⊎◌}
 use mathlib.Core.Logic.{inl, inr}
 use Rattle.std.specs.List.{prefix_len, find, cons_option}
 use Rattle.std.specs.Option.{option_map, option_map_or}
 use Rattle.std.specs.Str.{is_utf8}
 use Rattle.std.proofs.lemmas.Str.{is_utf8-from_IsUtf8, IsUtf8-from_is_utf8}
+use Rattle.rsp_spec.proofs.Truths.{and_left, and_right, equal_from}
 use Rattle.rsp_terms.specs.declared.term.Term.{Term}
 use Rattle.rsp_terms.specs.declared.term.Term.TheVariants.{Iri, Blank, Literal, Tagged}
 use Rattle.rsp_terms.specs.declared.statement.Quad.{Quad}
@@ -18,7 +19,7 @@ use Rattle.rsp_nquads.specs.Grammar.{Stands, IsIriTerm, IsNode, IsObject, IsGrap
 use Rattle.rsp_nquads.specs.Statements.{Answer, nothing, statement, bad_statement, relative_iri, part_of, optional_part, is_end, ends, closes, onward, parts_of, is_relative, quad_of, column, first_relative, answer, statement_of}
 use Rattle.rsp_nquads.specs.Results.{IsAnswer, IsByGrammar, SaysNeither}
 use Rattle.rsp_nquads.proofs.Pieces.{all_run}
-use Rattle.rsp_nquads.proofs.RuleLaws.{sign_found, sign_finds, equal_from}
+use Rattle.rsp_nquads.proofs.RuleLaws.{sign_found, sign_finds}
 use Rattle.rsp_nquads.proofs.TermLaws.{blank_first, behind_onto, blanks_split, StartsWell, stands_sound, stands_full, stands_behind, IsFree, iri_term_reads, iri_term_starts, node_reads, node_starts, object_sound, object_full, object_starts}
 
 -- ---- one part
@@ -54,14 +55,6 @@ part_finds reader text rest term is = rw is refl
 
 abbrev is_comment : List ℕ → Type 0
 is_comment comment = (comment ≡ []) ⊎ ((characters : List ℕ) × (comment ≡ codes "#" ++ characters) × IsUtf8 characters)
-
-and_left : (a b : Bool) → (a && b) ≡ true → a ≡ true
-and_left true b h = refl
-and_left false b h = h
-
-and_right : (a b : Bool) → (a && b) ≡ true → b ≡ true
-and_right true b h = h
-and_right false b h = absurd (true≢false (sym h))
 
 comment_found : (text : List ℕ) → is_end text ≡ true → is_comment text
 unfolding is_end

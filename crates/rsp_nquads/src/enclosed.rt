@@ -1,5 +1,5 @@
 // IRIs and strings: characters and escapes between two signs.
-ghost use Rattle.std.specs.Prelude.{◌≡◌, ◌≤◌, ◌+◌, MatchOption, Some, None, IfOk, length, suc, true, false};
+ghost use Rattle.std.specs.Prelude.{◌≡◌, ◌≤◌, MatchOption, Some, None, IfOk, length, suc, true, false};
 ghost use Rattle.std.specs.List.{take_while, prefix_len};
 ghost use Rattle.std.specs.Str.{is_utf8};
 ghost use Rattle.std.specs.String.{string_bytes};

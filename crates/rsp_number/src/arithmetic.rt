@@ -1,6 +1,6 @@
 //! The four operations: the exact value, cut toward zero where it is a decimal.
 
-ghost use Rattle.std.specs.Prelude.{◌≡◌, ◌≤◌, ◌<◌, ◌*◌, ◌^◌, false, option_map};
+ghost use Rattle.std.specs.Prelude.{◌≡◌, ◌<◌, ◌*◌, false};
 ghost use Rattle.rsp_number.specs.Decimals.{fit};
 ghost use Rattle.rsp_number.specs.Numbers.{value_of, plus, opposite, times, inverse, is_zero, sum, difference, product, quotient};
 

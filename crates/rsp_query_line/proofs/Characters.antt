@@ -1,6 +1,6 @@
 -- Brackets and ASCII.
-use Rattle.std.proofs.Common.{◌≡◌, ℕ, zero, suc, ◌+◌, ◌-◌, cond, drop, ◌<◌, ◌≤◌, Bool, true, false, true≢false, List, [], ◌∷◌, ◌++◌, length, get_or, take, refl, sym, arith}
-use Rattle.std.specs.Prelude.{◌≢◌, ◌&&◌, not, nat_eq, nat_lt}
+use Rattle.std.proofs.Common.{◌≡◌, ℕ, suc, ◌+◌, ◌-◌, cond, drop, ◌<◌, ◌≤◌, Bool, true, false, List, [], ◌∷◌, ◌++◌, length, get_or, take, refl, sym, arith}
+use Rattle.std.specs.Prelude.{◌≢◌, not, nat_eq, nat_lt}
 use Rattle.std.specs.Char.{is_ascii_alphanumeric}
 use Rattle.std.specs.List.{list_all, onto_first, position_or_len, slice_split}
 use Rattle.std.proofs.lemmas.Grind.{common_steps}
@@ -8,6 +8,8 @@ use Rattle.std.proofs.lemmas.List.Splits.{slice_split_first}
 use Rattle.std.specs.Str.{IsAscii}
 use Rattle.std.specs.Cmp.Lexicographic.{pointwise}
 use Rattle.std.proofs.lemmas.Bool.Decides.{nat_tests}
+use Rattle.std.proofs.Math.Bool.{and-true}
+use Rattle.rsp_spec.proofs.Truths.{all_ascii}
 use Rattle.rsp_query_line.specs.QueryLine.{inner_of, same}
 
 -- ---- fields
@@ -33,13 +35,9 @@ cut_at p xs n is within other =
 equal_self : (n : ℕ) → nat_eq n n ≡ true
 equal_self n = grind (arith, nat_tests)
 
-and_true : (a : Bool) → (a && true) ≡ a
-and_true true = refl
-and_true false = refl
-
 ends_so : (d : ℕ) (ds : List ℕ)
     → pointwise nat_eq (d ∷ ds) (take (length ds) (d ∷ ds) ++ (62 ∷ [])) ≡ nat_eq (get_or (d ∷ ds) (length ds) 0) 62
-ends_so d [] = and_true (nat_eq d 62)
+ends_so d [] = and-true (nat_eq d 62)
 ends_so d (e ∷ es) = rw (equal_self d) (ends_so e es)
 
 pub bracketed : (field : List ℕ) → 2 ≤ length field → get_or field 0 0 ≡ 60
@@ -53,19 +51,6 @@ bracketed (c ∷ d ∷ ds) long first =
     rw (last, cut, begins) (sym (ends_so d ds))
 
 -- ---- ASCII
-
-and_left : (a b : Bool) → (a && b) ≡ true → a ≡ true
-and_left true b h = refl
-and_left false b h = h
-
-and_right : (a b : Bool) → (a && b) ≡ true → b ≡ true
-and_right true b h = h
-and_right false b h = absurd (true≢false (sym h))
-
-all_ascii : (p : ℕ → Bool) → ((c : ℕ) → p c ≡ true → c < 128) → (xs : List ℕ) → list_all p xs ≡ true → IsAscii xs
-all_ascii p below [] h i = omega arith
-all_ascii p below (x ∷ xs) h zero = below x (and_left (p x) (list_all p xs) h)
-all_ascii p below (x ∷ xs) h (suc i) = all_ascii p below xs (and_right (p x) (list_all p xs) h) i
 
 below_128 : (c : ℕ) → nat_lt c 128 ≡ true → c < 128
 below_128 c h = grind (arith, nat_tests)

@@ -1,7 +1,8 @@
 -- Each variable of a query line has its place among the variables, and over no facts its tree has few rows.
-use Rattle.std.proofs.Common.{◌≡◌, ℕ, ◌+◌, ◌<◌, Bool, true, false, true≢false, not, ◌||◌, ◌&&◌, cond, List, [], ◌∷◌, ◌++◌, length, map, fold, refl, sym, subst, arith}
+use Rattle.std.proofs.Common.{◌≡◌, ℕ, ◌+◌, ◌<◌, Bool, true, false, true≢false, not, ◌||◌, cond, List, [], ◌∷◌, ◌++◌, length, map, fold, refl, sym, subst, arith}
 use Rattle.std.specs.List.{AllByRecursion, list_all, flat_map, position_or_len}
 use Rattle.std.specs.Cmp.Lexicographic.{bytes_decides}
+use Rattle.rsp_spec.proofs.Truths.{and_left, and_right}
 use Rattle.rsp_algebra.specs.declared.tree.Place.{Place}
 use Rattle.rsp_algebra.specs.declared.tree.Place.TheVariants.{Window}
 use Rattle.rsp_algebra.specs.declared.tree.Translated.{Translated}
@@ -131,14 +132,6 @@ pub patterns_fit : (place : Place) (patterns : List Written)
 patterns_fit place patterns =
     joined_fits (length (variables_of patterns)) place (map (triple_pattern_of (variables_of patterns)) patterns)
     (each_below (variables_of patterns) patterns (there_all [] (flat_map pattern_names patterns)))
-
-and_left : (a b : Bool) → (a && b) ≡ true → a ≡ true
-and_left true b h = refl
-and_left false b h = h
-
-and_right : (a b : Bool) → (a && b) ≡ true → b ≡ true
-and_right true b h = h
-and_right false b h = absurd (true≢false (sym h))
 
 from_all : (names more : List (List ℕ)) → list_all (is_among names) more ≡ true → AreAmong names more
 from_all names [] h = tt

@@ -1,19 +1,16 @@
 -- Texts read character by character.
-use Rattle.std.proofs.Common.{◌≡◌, ◌≢◌, ℕ, ◌==◌, ◌<◌, Bool, true, false, not, ◌&&◌, List, [], ◌∷◌, ◌++◌, length, get_or, IsUtf8, chars, refl, sym, ap, ◌∙◌, arith}
+use Rattle.std.proofs.Common.{◌≡◌, ◌≢◌, ℕ, ◌==◌, ◌<◌, Bool, true, false, not, ◌&&◌, List, [], ◌∷◌, ◌++◌, length, get_or, IsUtf8, chars, refl, sym, ap, ◌∙◌}
 use Rattle.std.proofs.lemmas.Str.{chars-nil, chars_past_char}
-use Rattle.std.proofs.lemmas.Bool.Decides.{nat_tests}
 use Rattle.std.proofs.lemmas.List.{nil_from_length}
 use Rattle.std.specs.Char.{encode_utf8, is_ascii_alphabetic, is_ascii_alphanumeric}
 use Rattle.std.proofs.lemmas.Grind.{get_or_default_zero}
 use Rattle.std.specs.List.{list_all, slice_split, All}
 use Rattle.std.proofs.lemmas.List.Splits.{slice_split_none, slice_split_at}
+use Rattle.rsp_spec.proofs.Truths.{differs}
 use Rattle.rsp_terms.specs.Characters.{is_scheme_character, goes_on_to_colon, is_absolute, is_label_start, is_label_character, is_label_text, last_of, is_run_of, are_subtags, is_tag_text}
 
 pub chars_of_empty : (bytes : List ℕ) → length bytes ≡ 0 → chars bytes ≡ []
 chars_of_empty bytes none = ap chars (nil_from_length bytes none) ∙ chars-nil
-
-differs : (c d : ℕ) → c ≢ d → (c == d) ≡ false
-differs c d other = grind (arith, nat_tests)
 
 -- what is left of a label, where this character stands last before it
 abbrev pub ends_label : ℕ → List ℕ → Bool

@@ -1,5 +1,5 @@
 // How terms are printed.
-ghost use Rattle.std.specs.Prelude.{◌≡◌, ◌++◌, ◌∷◌, [], codes, OnOk, OnErr};
+ghost use Rattle.std.specs.Prelude.{◌≡◌, ◌++◌, codes, OnOk, OnErr};
 ghost use Rattle.std.specs.Fmt.{decimal};
 ghost use Rattle.rsp_terms.specs.Terms.{printed, iri_text, string_text, escaped, escaped_byte, datatype_text, IsNumbered};
 

@@ -1,5 +1,5 @@
 // Spans, in milliseconds.
-ghost use Rattle.std.specs.Prelude.{◌≡◌, ◌+◌, ◌-◌, ◌^◌, ◌<◌, ◌≤◌, ◌*◌, ◌&&◌, ◌||◌, not, ◌==◌, min, Some, None, if◌then◌else◌, length, drop, nat_le, nat_eq, IsTrue, IfSome};
+ghost use Rattle.std.specs.Prelude.{◌≡◌, ◌+◌, ◌-◌, ◌^◌, ◌<◌, ◌*◌, ◌&&◌, ◌||◌, ◌==◌, min, Some, None, if◌then◌else◌, length, IsTrue};
 ghost use Rattle.std.specs.Char.{is_ascii_digit};
 ghost use Rattle.std.specs.List.{list_all};
 ghost use Rattle.std.specs.Str.Parse.{digits_value};

@@ -1,6 +1,7 @@
-use Rattle.rsp_eval.proofs.Counting.{one_row_less}
+use Rattle.rsp_multiset.proofs.Counting.{first_less}
+use Rattle.rsp_eval.specs.Keys.{same_row}
 use Rattle.rsp_eval.proofs.changing.take_rows.Goals as goal
 
 pub loop-row-preserved : goal.loop-row-preserved
 loop-row-preserved c =
-    λ q. one_row_less _ _ _ _ _ _ _ q c.in-Some.ensures.steps.0 (c.in_ok-alter.ensures.ok q) (c.loop-row.invariant q)
+    λ q. first_less same_row _ _ _ _ _ _ _ q c.in-Some.ensures.steps.0 (c.in_ok-alter.ensures.ok q) (c.loop-row.invariant q)
