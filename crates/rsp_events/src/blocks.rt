@@ -1,5 +1,5 @@
 // The reader of a log's blocks.
-ghost use Rattle.std.specs.Prelude.{◌≡◌, ◌+◌, ◌++◌, ◌∷◌, ◌↔◌, ◌≤◌, ◌==◌, [], ℕ, List, true, if◌then◌else◌, length, IfOk, OnOk, OnErr, IsErr, option_to_list};
+ghost use Rattle.std.specs.Prelude.{◌≡◌, ◌+◌, ◌++◌, ◌∷◌, ◌↔◌, ◌≤◌, ◌==◌, [], ℕ, List, true, false, Ok, None, if◌then◌else◌, length, IfOk, OnOk, OnErr, IsErr, option_to_list};
 ghost use Rattle.rsp_events.specs.declared.event.Block.{Block};
 ghost use Rattle.rsp_events.specs.declared.begun.BegunLine.TheVariants as line;
 ghost use Rattle.rsp_events.specs.declared.begun.BegunBlock.TheVariants as begun;
@@ -97,7 +97,7 @@ impl Blocks {
     }
 
     /// The block that the end of the text ends, where there is one: its `@end` is missing, or the line feed behind it.
-    /// Fails as `feed` does. Each later call fails.
+    /// Fails as `feed` does, but not where neither a line nor a block has begun. Each later call fails.
     pub fn finish(&mut self) -> Result<Option<Block>, AllocError>
         ensures document { self.new.document ≡ self.old.document }
         ensures given { IfOk result (λ last. (before : List ℕ) → HasRead self.old before
@@ -105,6 +105,7 @@ impl Blocks {
         ensures timed { IfOk result (λ last. AllTimed (option_to_list last)) }
         ensures prefix { (before more : List ℕ) → (rest : List Block)
             × (blocks self.old.document (before ++ more) ≡ whole self.old.document before ++ rest) }
+        ensures empty { self.old.spent ≡ false → self.old.line ≡ line.Kept [] → self.old.block ≡ begun.Between → result ≡ Ok None }
         ensures spent { self.new.spent ≡ true }
         ensures dead { self.old.spent ≡ true → IsErr result }
     {
@@ -118,6 +119,7 @@ impl Blocks {
 
     fn last_block(&mut self) -> Result<Option<Block>, AllocError>
         ensures document { self.new.document ≡ self.old.document }
+        ensures empty { self.old.line ≡ line.Kept [] → self.old.block ≡ begun.Between → result ≡ Ok None }
         ensures ends { IfOk result (λ last. (before : List ℕ) → HasRead self.old before
             → blocks self.old.document before ≡ whole self.old.document before ++ option_to_list last) }
         ensures timed { IfOk result (λ last. AllTimed (option_to_list last)) }
@@ -211,6 +213,7 @@ impl Blocks {
     // the block that has begun, if one has
     fn close_begun(&mut self) -> Result<Option<Block>, AllocError>
         ensures document { self.new.document ≡ self.old.document }
+        ensures empty { self.old.block ≡ begun.Between → result ≡ Ok None }
         ensures timed { IfOk result (λ last. AllTimed (option_to_list last)) }
         ensures ends { IfOk result (λ last. (group : List Line) → begun_block_of group ≡ self.old.block
             → option_to_list last ≡ numbered_from self.old.document self.old.number (begun_groups group)) }
