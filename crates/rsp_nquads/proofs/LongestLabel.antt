@@ -1,6 +1,6 @@
 -- Labels of blank nodes: the machine answers whether characters are one, and the pass finds the longest, in bytes.
 use Rattle.std.proofs.Common.{◌≡◌, ℕ, zero, suc, ◌+◌, ◌<◌, ◌≤◌, Bool, true, false, true≢false, List, [], ◌∷◌, ◌++◌, length, take, refl, sym, ap, ◌∙◌, arith, if◌then◌else◌, Some, None, IsUtf8, chars, length-append}
-use Rattle.std.specs.Prelude.{◌&&◌, ◌==◌, ◌≢◌, not}
+use Rattle.std.specs.Prelude.{◌&&◌, ◌==◌, not}
 use Rattle.std.specs.Char.{encode_utf8, len_utf8}
 use Rattle.std.specs.List.{list_all}
 use Rattle.std.specs.Str.{encode_utf8_all}
