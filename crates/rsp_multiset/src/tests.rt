@@ -1,4 +1,4 @@
-ghost use Rattle.std.specs.Prelude.{◌≡◌, ◌∷◌, [], IfOk};
+ghost use Rattle.std.specs.Prelude.{◌≡◌, ◌∷◌, [], true, false, pos, IfOk};
 
 use super::*;
 use std::alloc::{AllocError, Global};
@@ -134,5 +134,89 @@ fn rows_are_merged(rt: HostRuntime) -> Result<(), Fail> {
     assert!(rt; !both.compatible(&row(alloc, Some(3), None)?));
     assert!(rt; both.share()? == both);
     assert_eq!(rt; both.into_cells().as_slice(), [Some(1), Some(2)].as_slice());
+    Ok(())
+}
+
+// ---- What the contracts alone say of small cases: a body that gives up would prove something else.
+
+fn two_of_five(alloc: Global) -> Result<i64, AllocError>
+    ensures { IfOk result (λ count. count ≡ pos 2) }
+{
+    let mut changes = Changes::new(alloc);
+    changes.alter(5u64, 2)?;
+    Ok(changes.count(&5).value())
+}
+
+fn none_of_six(alloc: Global) -> Result<i64, AllocError>
+    ensures { IfOk result (λ count. count ≡ pos 0) }
+{
+    let mut changes = Changes::new(alloc);
+    changes.alter(5u64, 2)?;
+    Ok(changes.count(&6).value())
+}
+
+fn a_change_is_popped(alloc: Global) -> Result<bool, AllocError>
+    ensures { IfOk result (λ found. found ≡ true) }
+{
+    let mut changes = Changes::new(alloc);
+    changes.alter(5u64, 2)?;
+    if changes.count(&5).is_zero() {
+        return Ok(true);
+    }
+    Ok(changes.pop().is_some())
+}
+
+fn three_rows(alloc: Global) -> Result<u64, AllocError>
+    ensures { IfOk result (λ count. pos count ≡ pos 3) }
+{
+    let mut bag = Bag::new(alloc);
+    bag.alter(row(alloc, Some(1), None)?, Count::new(3)?)?;
+    Ok(bag.count(&row(alloc, Some(1), None)?))
+}
+
+fn apart_fit(alloc: Global) -> Result<bool, AllocError>
+    ensures { IfOk result (λ fit. fit ≡ true) }
+{
+    Ok(row(alloc, Some(1), None)?.compatible(&row(alloc, None, Some(2))?))
+}
+
+fn two_values_fit(alloc: Global) -> Result<bool, AllocError>
+    ensures { IfOk result (λ fit. fit ≡ false) }
+{
+    Ok(row(alloc, Some(1), None)?.compatible(&row(alloc, Some(4), None)?))
+}
+
+fn two_values_share(alloc: Global) -> Result<bool, AllocError>
+    ensures { IfOk result (λ share. share ≡ true) }
+{
+    Ok(row(alloc, Some(1), None)?.shares(&row(alloc, Some(4), None)?))
+}
+
+fn apart_share(alloc: Global) -> Result<bool, AllocError>
+    ensures { IfOk result (λ share. share ≡ false) }
+{
+    Ok(row(alloc, Some(1), None)?.shares(&row(alloc, None, Some(2))?))
+}
+
+fn zero_is_unbound(alloc: Global) -> Result<bool, AllocError>
+    ensures { IfOk result (λ same. same ≡ false) }
+{
+    Ok(row(alloc, Some(0), None)? == row(alloc, None, None)?)
+}
+
+fn same_rows(alloc: Global) -> Result<bool, AllocError>
+    ensures { IfOk result (λ same. same ≡ true) }
+{
+    Ok(row(alloc, Some(1), None)? == row(alloc, Some(1), None)?)
+}
+
+#[test]
+fn small_cases_are_decided(rt: HostRuntime) -> Result<(), Fail> {
+    let alloc = rt.alloc();
+    assert_eq!(rt; (two_of_five(alloc)?, none_of_six(alloc)?), (2, 0));
+    assert_eq!(rt; three_rows(alloc)?, 3);
+    assert!(rt; a_change_is_popped(alloc)? && same_rows(alloc)? && !zero_is_unbound(alloc)?);
+    assert!(rt; apart_fit(alloc)? && !two_values_fit(alloc)?);
+    assert!(rt; two_values_share(alloc)? && !apart_share(alloc)?);
     Ok(())
 }
