@@ -7,8 +7,6 @@
 
 mod listing;
 mod order;
-#[cfg(test)]
-mod tests;
 mod text;
 
 pub use listing::rows_of;

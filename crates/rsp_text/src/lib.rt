@@ -14,6 +14,3 @@ pub use cursor::Cursor;
 pub use digits::read_u64;
 pub use instants::instant;
 pub use spans::span;
-
-#[cfg(test)]
-mod tests;
