@@ -5,7 +5,7 @@ use Rattle.rsp_number.specs.Decimals.{largest, Scaled}
 use Rattle.rsp_number.specs.Tallies.{Tally, IsWithin}
 use Rattle.rsp_number.specs.Totals.{units, nothing, taken, given}
 use Rattle.rsp_number.specs.declared.number.Number.TheVariants.{Decimal}
-use Rattle.rsp_number.proofs.tests.totals.Goals as goal
+use Rattle.rsp_tests.proofs.numbers.totals.Goals as goal
 
 one-left : (s t u : Tally) (d e : Scaled) → s ≡ nothing → t ≡ taken s (Decimal d) 1 → u ≡ taken t (Decimal e) 1
     → unsigned_abs (units (Decimal e)) ≤ largest * 10 ^ 18 → IsWithin (u.sum -ℤ (units (Decimal d) *ℤ pos 1)) (u.integers - 0 + (u.decimals - 1))

@@ -1,4 +1,4 @@
-use Rattle.rsp_steps.proofs.counter.tests.counts_over_brand.Given as goal
+use Rattle.rsp_tests.proofs.steps.counts_over_brand.Given as goal
 
 -- the ledger is the one that the blank stands for
 abbrev pub ghosts-two_ticks : goal.ghosts-two_ticks

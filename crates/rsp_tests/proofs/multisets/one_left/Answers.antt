@@ -2,7 +2,7 @@ use Rattle.std.proofs.Common.{◌+ℤ◌, ◌≤ℤ◌, pos, negsuc, Bool, true,
 use Rattle.std.proofs.lemmas.Int.{ints}
 use Rattle.rsp_multiset.specs.Rows.{row_eq}
 use Rattle.rsp_multiset.specs.Weights.{weight, only}
-use Rattle.rsp_multiset.proofs.tests.one_left.Goals as goal
+use Rattle.rsp_tests.proofs.multisets.one_left.Goals as goal
 
 left : (b : Bool) → pos 0 ≤ℤ ((pos 0 +ℤ only b (pos 3)) +ℤ (pos 0 +ℤ only b (negsuc 1)))
 left true = omega (arith, ints)
