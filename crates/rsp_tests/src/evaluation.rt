@@ -2,8 +2,8 @@ ghost use Rattle.std.specs.Prelude.{◌≡◌, ◌<◌, IfOk, []};
 ghost use Rattle.rsp_algebra.specs.Nodes.{IsPlaced};
 ghost use Rattle.rsp_algebra.specs.Changing.{MayChange};
 
-use rsp_eval::{Plain, evaluate};
 use rsp_algebra::{Answer, Place, Slot, Translated, Tree, Turn};
+use rsp_eval::{Plain, evaluate};
 use rsp_multiset::Changes;
 use rsp_steps::Steps;
 use rsp_terms::{Fact, Listed, Spot, Term, Text, Triple};

@@ -1,5 +1,5 @@
 // Rows, bags and changes: worked cases, and small ones that the contracts alone decide.
-ghost use Rattle.std.specs.Prelude.{◌≡◌, ◌∷◌, ◌×◌, [], true, false, pos, neg_ℤ, None, Some, IfOk};
+ghost use Rattle.std.specs.Prelude.{◌≡◌, ◌∷◌, [], true, false, pos, neg_ℤ, None, Some, IfOk};
 
 use rsp_multiset::{Bag, Cell, Changes, Count, Row, apply, negative, positive};
 use std::alloc::{AllocError, Global};
@@ -65,7 +65,11 @@ fn three_rows(bag: &mut Bag<u64>, one: Row<u64>, other: &Row<u64>) -> Result<u64
     Ok(bag.count(other))
 }
 
-fn two_that_come(alloc: Global, changes: &Changes<Row<u64>>, row: &Row<u64>) -> Result<u64, AllocError>
+fn two_that_come(
+    alloc: Global,
+    changes: &Changes<Row<u64>>,
+    row: &Row<u64>,
+) -> Result<u64, AllocError>
     requires changes { changes.now ≡ (Some 1 ∷ [], pos 2) ∷ (Some 3 ∷ [], neg_ℤ (pos 4)) ∷ [] }
     requires row { row.now ≡ Some 1 ∷ [] }
     ensures { IfOk result (λ count. pos count ≡ pos 2) }
@@ -73,7 +77,11 @@ fn two_that_come(alloc: Global, changes: &Changes<Row<u64>>, row: &Row<u64>) -> 
     Ok(positive(alloc, changes)?.count(row))
 }
 
-fn four_that_go(alloc: Global, changes: &Changes<Row<u64>>, row: &Row<u64>) -> Result<u64, AllocError>
+fn four_that_go(
+    alloc: Global,
+    changes: &Changes<Row<u64>>,
+    row: &Row<u64>,
+) -> Result<u64, AllocError>
     requires changes { changes.now ≡ (Some 1 ∷ [], pos 2) ∷ (Some 3 ∷ [], neg_ℤ (pos 4)) ∷ [] }
     requires row { row.now ≡ Some 3 ∷ [] }
     ensures { IfOk result (λ count. pos count ≡ pos 4) }

@@ -2,8 +2,8 @@
 //! integer, one with a point a decimal, and the empty text stands for none.
 
 use rsp_number::{
-    DecimalNumber, IntegerNumber, Number, Reading, Total, abs, add, ceil, compare, decimal, div, floor, integer, mul,
-    neg, round, sub,
+    DecimalNumber, IntegerNumber, Number, Reading, Total, abs, add, ceil, compare, decimal, div,
+    floor, integer, mul, neg, round, sub,
 };
 use std::cmp::Ordering;
 use std::test::Fail;

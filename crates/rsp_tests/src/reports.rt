@@ -1,5 +1,5 @@
-use rsp_streams_out::{ordered, overfull_text, report_text, row_text, rows_of};
 use rsp_multiset::{Bag, Row};
+use rsp_streams_out::{ordered, overfull_text, report_text, row_text, rows_of};
 use rsp_terms::{Listed, Term, Text};
 use std::alloc::{AllocError, Global};
 use std::test::Fail;

@@ -1,5 +1,7 @@
-use rsp_terms::{Fact, Listed, Quad, Spot, Term, Text, Triple, XSD_STRING, is_iri, is_label, is_tag, print};
 use rsp_multiset::Cell;
+use rsp_terms::{
+    Fact, Listed, Quad, Spot, Term, Text, Triple, XSD_STRING, is_iri, is_label, is_tag, print,
+};
 use std::alloc::{AllocError, Global};
 use std::cmp::Ordering;
 use std::collections::HashSet;

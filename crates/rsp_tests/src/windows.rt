@@ -78,12 +78,7 @@ fn reports_the_earliest_of_overlapping_windows(rt: HostRuntime) -> Result<(), Fa
 #[test]
 fn reports_none_between_windows_that_stand_apart(rt: HostRuntime) -> Result<(), Fail> {
     let window = Window::new(2, 5, 0).ok_or("no window")?;
-    for (t, wanted) in [
-        (2, Some((0, 2))),
-        (3, None),
-        (5, None),
-        (6, Some((5, 7))),
-    ] {
+    for (t, wanted) in [(2, Some((0, 2))), (3, None), (5, None), (6, Some((5, 7)))] {
         assert_eq!(rt; span(&window, t), wanted);
     }
     Ok(())
