@@ -9,5 +9,5 @@ use std::cmp::Ordering;
 pub fn compare(left: &str, right: &str) -> Ordering
     ensures { result ≡ compared left.now right.now }
 {
-    left.cmp(right)
+    left.chars().cmp(right.chars())
 }
