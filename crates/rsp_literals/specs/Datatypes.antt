@@ -8,8 +8,8 @@ use Rattle.rsp_literals.specs.declared.datatypes.Datatype.{Datatype}
 use Rattle.rsp_literals.specs.declared.datatypes.Datatype.TheVariants.{Whole, Decimal, Double, Float, Boolean, String, LangString, Other}
 
 -- the datatypes that are known, by their IRIs
-abbrev pub known : List (List ℕ × Datatype)
-known =
+abbrev pub datatypes : List (List ℕ × Datatype)
+datatypes =
     (codes "http://www.w3.org/2001/XMLSchema#string", String)
     ∷ (codes "http://www.w3.org/2001/XMLSchema#integer", Whole Integer)
     ∷ (codes "http://www.w3.org/2001/XMLSchema#decimal", Decimal)
@@ -36,7 +36,7 @@ type_in [] iri = Other
 type_in (entry ∷ entries) iri = if bytes_eq iri entry.0 then entry.1 else type_in entries iri
 
 abbrev pub datatype_of : List ℕ → Datatype
-datatype_of iri = type_in known iri
+datatype_of iri = type_in datatypes iri
 
 -- the least and the greatest number of a type, where it has one
 abbrev pub least_of : WholeType → Option ℤ
