@@ -33,7 +33,6 @@ pub other_front : (tag range : List ℕ) → (map to_ascii_lowercase (take (leng
 other_front tag range differs =
     lacks_begin (map to_ascii_lowercase tag) (map to_ascii_lowercase range ++ (45 ∷ []))
     (λ rest is. differs
-      (sym (take-map to_ascii_lowercase (length range) tag)
-      ∙ ap (take (length range)) is
-      ∙ take_mapped to_ascii_lowercase range (45 ∷ []) rest))
-
+    (sym (take-map to_ascii_lowercase (length range) tag)
+    ∙ ap (take (length range)) is
+    ∙ take_mapped to_ascii_lowercase range (45 ∷ []) rest))
