@@ -2,14 +2,9 @@ ghost use Rattle.std.specs.Prelude.{◌≡◌, ◌<◌, IfOk, []};
 ghost use Rattle.rsp_algebra.specs.Nodes.{IsPlaced};
 ghost use Rattle.rsp_algebra.specs.Changing.{MayChange};
 
-<<<<<<< HEAD:crates/rsp_tests/src/evaluation.rt
-use rsp_algebra::{Answer, Place, Slot, Translated, Tree, Turn};
-use rsp_eval::{Plain, evaluate};
-=======
-use super::*;
 use rsp_algebra::{Answer, Place, Translated, Tree, Turn};
+use rsp_eval::{Plain, evaluate};
 use rsp_expr::Slot;
->>>>>>> 2b08ec269f8da0eb59f050bc59027e8ac1b8e76b:crates/rsp_eval/src/tests.rt
 use rsp_multiset::Changes;
 use rsp_steps::Steps;
 use rsp_terms::{Fact, Listed, Spot, Term, Text, Triple};
