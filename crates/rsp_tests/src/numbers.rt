@@ -237,67 +237,91 @@ fn numbers_of_one_kind(rt: HostRuntime) -> Result<(), Fail> {
     Ok(())
 }
 
-#[test]
-fn readings_of_integers(rt: HostRuntime) {
-    for text in [
-        "", "+", "-", "1.", ".5", "+-1", "1-", " 1", "1 ", "1e0", "0x1", "\u{661}",
-    ] {
-        assert_eq!(rt; integer(text.as_bytes()), Reading::NotForm, "{text}");
+// what a text reads as: not of the form, of the form with no number that holds it, or a number
+const INTEGERS: [(&str, Option<Option<i64>>); 20] = [
+    ("", None),
+    ("+", None),
+    ("-", None),
+    ("1.", None),
+    (".5", None),
+    ("+-1", None),
+    ("1-", None),
+    (" 1", None),
+    ("1 ", None),
+    ("1e0", None),
+    ("0x1", None),
+    ("\u{661}", None),
+    ("9223372036854775808", Some(None)),
+    ("-9223372036854775808", Some(None)),
+    ("+00010000000000000000000", Some(None)),
+    (
+        "-0009223372036854775807",
+        Some(Some(-9_223_372_036_854_775_807)),
+    ),
+    ("9223372036854775807", Some(Some(9_223_372_036_854_775_807))),
+    ("+42", Some(Some(42))),
+    ("-0", Some(Some(0))),
+    ("0000000000000000000000000000000000000000", Some(Some(0))),
+];
+
+fn integer_of(text: &str) -> Option<Option<i64>> {
+    match integer(text.as_bytes()) {
+        Reading::NotForm => None,
+        Reading::Beyond => Some(None),
+        Reading::Value(number) => Some(Some(number.value())),
     }
-    for text in [
-        "9223372036854775808",
-        "-9223372036854775808",
-        "+00010000000000000000000",
-    ] {
-        assert_eq!(rt; integer(text.as_bytes()), Reading::Beyond, "{text}");
-    }
-    assert_eq!(rt;
-        value_of(integer(b"-0009223372036854775807")),
-        Some(-9_223_372_036_854_775_807)
-    );
-    assert_eq!(rt; value_of(integer(b"+42")), Some(42));
-    assert_eq!(rt; value_of(integer(b"-0")), Some(0));
-    assert_eq!(rt; value_of(integer(&[b'0'; 400])), Some(0));
 }
 
-fn value_of(reading: Reading<IntegerNumber>) -> Option<i64> {
-    match reading {
-        Reading::Value(number) => Some(number.value()),
-        _ => None,
+#[test]
+fn readings_of_integers(rt: HostRuntime) {
+    for (text, wanted) in &INTEGERS {
+        assert_eq!(rt; integer_of(text), *wanted, "{text}");
+    }
+}
+
+// coefficient and scale
+const DECIMALS: [(&str, Option<Option<(i64, u32)>>); 24] = [
+    ("", None),
+    (".", None),
+    ("+.", None),
+    ("-", None),
+    ("1..2", None),
+    ("1.2.", None),
+    ("1-.5", None),
+    (" .5", None),
+    ("1.5 ", None),
+    ("1e0", None),
+    ("-.+5", None),
+    ("1,5", None),
+    ("INF", None),
+    ("9223372036854775808", Some(None)),
+    ("0.0000000000000000001", Some(None)),
+    ("922337203685477580.71", Some(None)),
+    ("-9223372036854775807.5", Some(None)),
+    ("1.", Some(Some((1, 0)))),
+    (".5", Some(Some((5, 1)))),
+    ("-012.340", Some(Some((-1234, 2)))),
+    ("+100", Some(Some((100, 0)))),
+    ("-0.00", Some(Some((0, 0)))),
+    ("-0.000000000000000001", Some(Some((-1, 18)))),
+    (
+        "9.223372036854775807000000000000000000000",
+        Some(Some((9_223_372_036_854_775_807, 18))),
+    ),
+];
+
+fn decimal_of(text: &str) -> Option<Option<(i64, u32)>> {
+    match decimal(text.as_bytes()) {
+        Reading::NotForm => None,
+        Reading::Beyond => Some(None),
+        Reading::Value(number) => Some(Some((number.coefficient(), number.scale()))),
     }
 }
 
 #[test]
 fn readings_of_decimals(rt: HostRuntime) {
-    for text in [
-        "", ".", "+.", "-", "1..2", "1.2.", "1-.5", " .5", "1.5 ", "1e0", "-.+5", "1,5", "INF",
-    ] {
-        assert_eq!(rt; decimal(text.as_bytes()), Reading::NotForm, "{text}");
-    }
-    for text in [
-        "9223372036854775808",
-        "0.0000000000000000001",
-        "922337203685477580.71",
-        "-9223372036854775807.5",
-    ] {
-        assert_eq!(rt; decimal(text.as_bytes()), Reading::Beyond, "{text}");
-    }
-    assert_eq!(rt; parts_of(decimal(b"1.")), Some((1, 0)));
-    assert_eq!(rt; parts_of(decimal(b".5")), Some((5, 1)));
-    assert_eq!(rt; parts_of(decimal(b"-012.340")), Some((-1234, 2)));
-    assert_eq!(rt; parts_of(decimal(b"+100")), Some((100, 0)));
-    assert_eq!(rt; parts_of(decimal(b"-0.00")), Some((0, 0)));
-    assert_eq!(rt; parts_of(decimal(b"-0.000000000000000001")), Some((-1, 18)));
-    assert_eq!(rt;
-        parts_of(decimal(b"9.223372036854775807000000000000000000000")),
-        Some((9_223_372_036_854_775_807, 18))
-    );
-}
-
-fn parts_of(reading: Reading<DecimalNumber>) -> Option<(i64, u32)> {
-    match reading {
-        Reading::Value(number) => Some((number.coefficient(), number.scale())),
-        _ => None,
+    for (text, wanted) in &DECIMALS {
+        assert_eq!(rt; decimal_of(text), *wanted, "{text}");
     }
 }
 
