@@ -2,24 +2,25 @@
 ghost use Rattle.std.specs.Prelude.{◌≡◌, ◌≤◌, MatchOption, Some, None, length};
 ghost use Rattle.std.specs.Char.{is_ascii_alphabetic, is_ascii_digit};
 ghost use Rattle.std.specs.List.{prefix_len};
+ghost use Rattle.rsp_nquads.specs.Grammar.{is_blank, behind_blanks};
 ghost use Rattle.rsp_nquads.specs.Parts as part;
 
 /// The text behind the blanks at its front.
 pub(crate) fn behind_blanks(text: &[u8]) -> &[u8]
-    ensures { result.now ≡ part.behind_blanks text.now }
+    ensures { result.now ≡ behind_blanks text.now }
 {
     &text[blanks(text)..]
 }
 
 fn blanks(text: &[u8]) -> usize
-    ensures value { result ≡ prefix_len part.is_blank text.now }
+    ensures value { result ≡ prefix_len is_blank text.now }
     ensures bound { result ≤ length text.now }
 {
     text.iter().take_while(|c| is_blank(**c)).count()
 }
 
 fn is_blank(c: u8) -> bool
-    ensures { result ≡ part.is_blank c }
+    ensures { result ≡ is_blank c }
 {
     c == b' ' || c == b'\t'
 }

@@ -1,10 +1,12 @@
 // Statements: the parts of a line, and what it says.
-ghost use Rattle.std.specs.Prelude.{◌≡◌, MatchOption, MatchResult, Some, None, Ok, Err, IfOk, true, false, length};
+ghost use Rattle.std.specs.Prelude.{◌≡◌, ℕ, List, MatchOption, MatchResult, Some, None, Ok, Err, IfOk, true, false, length};
 ghost use Rattle.std.specs.Option.{option_map};
 ghost use Rattle.rsp_terms.specs.Characters.{is_absolute, goes_on_to_colon, is_scheme_character};
+ghost use Rattle.rsp_nquads.specs.Grammar.{is_relative};
 ghost use Rattle.rsp_nquads.specs.Parts as part;
 ghost use Rattle.rsp_nquads.specs.Statements as lines;
-ghost use Rattle.rsp_nquads.specs.Results.{reader, IsAnswer, IsByGrammar, Halts};
+ghost use Rattle.rsp_nquads.specs.Results.{reader, Halts};
+ghost use Rattle.rsp_nquads.specs.Answers.{IsAnswer, IsByGrammar, IsTied};
 
 use crate::LineFault;
 use crate::signs::{behind_blanks, is_letter, sign};
@@ -60,6 +62,8 @@ impl From<AllocError> for Halt {
 pub fn statement(alloc: Global, document: u32, line: &[u8]) -> Result<Option<Quad>, LineFault>
     ensures answer { IsAnswer result (lines.statement_of document line.now) }
     ensures grammar { IsByGrammar document line.now result }
+    // the grammar says the same of every line, read or not
+    ensures every_line { (number : ℕ) (text : List ℕ) → IsTied number text (lines.statement_of number text) }
 {
     said(alloc, document, line)
 }
@@ -166,7 +170,7 @@ fn relative_part(parts: &Parts) -> Option<usize>
 }
 
 fn is_relative(term: &Term) -> bool
-    ensures { result ≡ lines.is_relative term.now }
+    ensures { result ≡ is_relative term.now }
 {
     match term {
         Term::Iri(name) => !is_absolute(name.as_str().as_bytes()),

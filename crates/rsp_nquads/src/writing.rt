@@ -1,7 +1,8 @@
 // Quads as lines.
 ghost use Rattle.std.specs.Prelude.{◌≡◌, ℕ, List, ◌++◌, ◌∷◌, [], OnOk, OnErr};
 ghost use Rattle.rsp_terms.specs.Terms.{printed};
-ghost use Rattle.rsp_nquads.specs.Statements.{statement_of, statement};
+ghost use Rattle.rsp_nquads.specs.Answers.{statement};
+ghost use Rattle.rsp_nquads.specs.Statements.{statement_of};
 ghost use Rattle.rsp_nquads.specs.Writing.{line_of, graph_text, HasNoBlank};
 
 use rsp_terms::{Quad, Term, print};
