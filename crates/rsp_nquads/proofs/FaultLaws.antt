@@ -7,7 +7,8 @@ use Rattle.std.specs.Option.{option_map, option_map_or}
 use Rattle.rsp_terms.specs.declared.term.Term.{Term}
 use Rattle.rsp_nquads.specs.declared.statements.Part.{Part}
 use Rattle.rsp_nquads.specs.declared.statements.Parts.{Parts}
-use Rattle.rsp_nquads.specs.Grammar.{Rule, is_blank, behind_blanks, Stands, IsIriTerm, IsNode, IsObject, IsDot, IsEnd, StandsNowhere, IsLongestPart, Fault, FaultHere, FaultIn, FaultAtEnd, FaultFromDot, FaultFromGraph, FaultFromObject, FaultFromPredicate, FaultFromSubject, IsAtColumn}
+use Rattle.rsp_text.specs.Fronts.{is_blank, behind_blanks}
+use Rattle.rsp_nquads.specs.Grammar.{Rule, Stands, IsIriTerm, IsNode, IsObject, IsDot, IsEnd, StandsNowhere, IsLongestPart, Fault, FaultHere, FaultIn, FaultAtEnd, FaultFromDot, FaultFromGraph, FaultFromObject, FaultFromPredicate, FaultFromSubject, IsAtColumn}
 use Rattle.rsp_nquads.specs.Parts.{PartReader, sign, iri_term, node, object}
 use Rattle.rsp_nquads.specs.Statements.{part_of, optional_part, is_end, ends, closes, onward, parts_of, column}
 use Rattle.rsp_nquads.proofs.RuleLaws.{Reads}

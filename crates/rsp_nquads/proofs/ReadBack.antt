@@ -13,7 +13,7 @@ use Rattle.rsp_spec.proofs.Truths.{equal_from}
 use Rattle.rsp_terms.specs.declared.term.Term.{Term}
 use Rattle.rsp_terms.specs.declared.term.Term.TheVariants.{Iri, Blank, Literal, Tagged}
 use Rattle.rsp_terms.specs.declared.statement.Quad.{Quad}
-use Rattle.rsp_terms.specs.Terms.{xsd_string, escaped_byte, escaped, iri_text, string_text, printed}
+use Rattle.rsp_terms.specs.Terms.{xsd_string, escaped_byte, escaped_text, iri_text, string_text, printed}
 use Rattle.rsp_terms.specs.Characters.{is_iri_character, is_tag_text}
 use Rattle.rsp_nquads.specs.Grammar.{Piece, plain, short, long, named, piece_text, StandsFor, IsIriPiece, IsStringPiece, IsPieceOf, IsEnclosed, IsIri, IsTag, IsDatatype, IsQualified, IsLiteral, IsIriTerm, IsNode, IsObject, IsGraph, Stands, Says, Rule, is_scalar}
 use Rattle.rsp_nquads.specs.Scans.{accepts, next_of_tag, tag_machine}
@@ -111,39 +111,39 @@ high_byte b high =
     let f : (b == 13) ≡ false = grind (arith, nat_tests) in
     rw (a, c, d, e, f) refl
 
-escaped-append : (xs ys : List ℕ) → escaped (xs ++ ys) ≡ escaped xs ++ escaped ys
-escaped-append [] ys = refl
-escaped-append (x ∷ xs) ys =
-    ap (λ zs. escaped_byte x ++ zs) (escaped-append xs ys) ∙ sym (append_assoc (escaped_byte x) (escaped xs) (escaped ys))
+escaped_text-append : (xs ys : List ℕ) → escaped_text (xs ++ ys) ≡ escaped_text xs ++ escaped_text ys
+escaped_text-append [] ys = refl
+escaped_text-append (x ∷ xs) ys =
+    ap (λ zs. escaped_byte x ++ zs) (escaped_text-append xs ys) ∙ sym (append_assoc (escaped_byte x) (escaped_text xs) (escaped_text ys))
 
 abbrev AreHigh : List ℕ → Bool
 AreHigh bytes = list_all (λ b. not (nat_lt b 128)) bytes
 
-high_escaped : (bytes : List ℕ) → AreHigh bytes ≡ true → escaped bytes ≡ bytes
+high_escaped : (bytes : List ℕ) → AreHigh bytes ≡ true → escaped_text bytes ≡ bytes
 high_escaped [] h = refl
 high_escaped (b ∷ bs) h = by (nat_lt b 128) refl h (λ more. high_escaped bs more)
   where
-    by : (low : Bool) → nat_lt b 128 ≡ low → (not low && AreHigh bs) ≡ true → (AreHigh bs ≡ true → escaped bs ≡ bs) → escaped (b ∷ bs) ≡ b ∷ bs
+    by : (low : Bool) → nat_lt b 128 ≡ low → (not low && AreHigh bs) ≡ true → (AreHigh bs ≡ true → escaped_text bs ≡ bs) → escaped_text (b ∷ bs) ≡ b ∷ bs
     by true is all more = absurd (true≢false (sym all))
     by false is all more = let high : 128 ≤ b = grind (arith, nat_tests) in rw (high_byte b high, more all) refl
 
 wide : (c : ℕ) → 128 ≤ c → not (nat_lt c 128) ≡ true
 wide c high = let is : nat_lt c 128 ≡ false = grind (arith, nat_tests) in rw is refl
 
-escaped_character : (d : ℕ) → escaped (encode_utf8 d) ≡ (if nat_lt d 128 then escaped_byte d else encode_utf8 d)
+escaped_character : (d : ℕ) → escaped_text (encode_utf8 d) ≡ (if nat_lt d 128 then escaped_byte d else encode_utf8 d)
 escaped_character d = by (nat_lt d 128) refl
   where
-    by : (low : Bool) → nat_lt d 128 ≡ low → escaped (encode_utf8 d) ≡ (if low then escaped_byte d else encode_utf8 d)
+    by : (low : Bool) → nat_lt d 128 ≡ low → escaped_text (encode_utf8 d) ≡ (if low then escaped_byte d else encode_utf8 d)
     by true is = let low : d < 128 = grind (arith, nat_tests) in rw (encode_ascii d low) (append-nil (escaped_byte d))
     by false is = let high : 128 ≤ d = grind (arith, nat_tests) in high_escaped (encode_utf8 d) (wide_bytes (λ b. not (nat_lt b 128)) wide d high)
 
 abbrev pieces_of : List ℕ → List (Piece × ℕ)
 pieces_of ds = map (λ d. (piece_of d, d)) ds
 
-escaped_texts : (ds : List ℕ) → escaped (encode_utf8_all ds) ≡ texts (pieces_of ds)
+escaped_texts : (ds : List ℕ) → escaped_text (encode_utf8_all ds) ≡ texts (pieces_of ds)
 escaped_texts [] = refl
 escaped_texts (d ∷ ds) =
-    escaped-append (encode_utf8 d) (encode_utf8_all ds)
+    escaped_text-append (encode_utf8 d) (encode_utf8_all ds)
     ∙ rw (escaped_character d, ← (escapes d).text, escaped_texts ds) refl
 
 values_of : (ds : List ℕ) → values (pieces_of ds) ≡ encode_utf8_all ds
@@ -166,7 +166,7 @@ string_written part lexical e =
     record {
       pieces = pieces_of (map (λ x. x.1) e.pieces);
       each = string_pieces (map (λ x. x.1) e.pieces) (string_characters e.pieces e.each);
-      part_is = ap (λ ys. 34 ∷ (ys ++ (34 ∷ []))) (ap escaped e.value_is ∙ escaped_texts (map (λ x. x.1) e.pieces));
+      part_is = ap (λ ys. 34 ∷ (ys ++ (34 ∷ []))) (ap escaped_text e.value_is ∙ escaped_texts (map (λ x. x.1) e.pieces));
       value_is = e.value_is ∙ sym (values_of (map (λ x. x.1) e.pieces));
     }
 

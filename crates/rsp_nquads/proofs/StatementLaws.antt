@@ -13,7 +13,8 @@ use Rattle.rsp_terms.specs.declared.statement.Quad.{Quad}
 use Rattle.rsp_nquads.specs.declared.statements.Part.{Part}
 use Rattle.rsp_nquads.specs.declared.statements.Parts.{Parts}
 use Rattle.rsp_nquads.specs.Parts.{PartReader, sign, enclosed, iri_term, label, tag, datatype, node, object}
-use Rattle.rsp_nquads.specs.Grammar.{is_blank, behind_blanks, Stands, IsIriTerm, IsNode, IsObject, IsGraph, IsEnd, IsDot, IsStatement, is_relative, terms_of, terms_in, Says, SaysNothing}
+use Rattle.rsp_text.specs.Fronts.{is_blank, behind_blanks}
+use Rattle.rsp_nquads.specs.Grammar.{Stands, IsIriTerm, IsNode, IsObject, IsGraph, IsEnd, IsDot, IsStatement, is_relative, terms_of, terms_in, Says, SaysNothing}
 use Rattle.rsp_nquads.specs.Statements.{part_of, optional_part, is_end, ends, closes, onward, parts_of, quad_of, column, first_relative, judged, answer, statement_of}
 use Rattle.rsp_nquads.specs.Answers.{Answer, nothing, statement, bad_statement, relative_iri}
 use Rattle.rsp_nquads.proofs.Pieces.{all_run}

@@ -9,7 +9,8 @@ use Rattle.rsp_terms.specs.declared.term.Term.{Term}
 use Rattle.rsp_terms.specs.declared.term.Term.TheVariants.{Iri, Blank, Literal, Tagged}
 use Rattle.rsp_terms.specs.Terms.{xsd_string}
 use Rattle.rsp_nquads.specs.Parts.{PartReader, told, sign, enclosed, iri, string, label, tag, datatype, literal_of, literal, iri_term, blank, node, object}
-use Rattle.rsp_nquads.specs.Grammar.{Rule, Stands, IsIri, IsString, IsLabel, IsTag, IsDatatype, IsQualified, IsLiteral, IsIriTerm, IsNode, IsObject, is_blank, behind_blanks}
+use Rattle.rsp_text.specs.Fronts.{is_blank, behind_blanks}
+use Rattle.rsp_nquads.specs.Grammar.{Rule, Stands, IsIri, IsString, IsLabel, IsTag, IsDatatype, IsQualified, IsLiteral, IsIriTerm, IsNode, IsObject}
 use Rattle.rsp_nquads.proofs.Pieces.{both_of, all_run}
 use Rattle.rsp_nquads.proofs.RuleLaws.{Reads, sign_found, sign_finds, iri_reads, string_reads}
 use Rattle.rsp_nquads.proofs.NameLaws.{tag_reads, label_reads}

@@ -6,7 +6,8 @@ use Rattle.rsp_terms.specs.declared.term.Term.{Term}
 use Rattle.rsp_terms.specs.declared.statement.Quad.{Quad}
 use Rattle.rsp_nquads.specs.declared.fault.LineFault.{LineFault}
 use Rattle.rsp_nquads.specs.declared.fault.LineFault.TheVariants.{BadStatement, RelativeIri, OutOfMemory}
-use Rattle.rsp_nquads.specs.Grammar.{behind_blanks, Stands, IsIriTerm, IsNode, IsObject, IsStatement, Says, SaysNothing, terms_in, IsAtColumn, IsFirstFault, IsFirstRelative}
+use Rattle.rsp_text.specs.Fronts.{behind_blanks}
+use Rattle.rsp_nquads.specs.Grammar.{Stands, IsIriTerm, IsNode, IsObject, IsStatement, Says, SaysNothing, terms_in, IsAtColumn, IsFirstFault, IsFirstRelative}
 use Rattle.rsp_nquads.specs.Answers.{Answer, nothing, statement, bad_statement, relative_iri, IsTied, IsAnswer, IsByGrammar, SaysNeither}
 use Rattle.rsp_nquads.specs.Statements.{is_end, parts_of, column, answer, statement_of}
 use Rattle.rsp_nquads.proofs.StatementLaws.{Reading, blank, fault, whole, reading, holds_relative, judged_by, answer_at, nothing_at, statement_answer, statement_same, end_finds, says_from, says_to, nothing_from, nothing_to}

@@ -2,13 +2,14 @@
 -- where each other line has its first fault.
 --
 -- A part is made of characters: nowhere does it hold bytes that aren't UTF-8.
-use Rattle.std.specs.Prelude.{◌≡◌, ℕ, ◌+◌, ◌≤◌, Bool, true, false, not, ◌&&◌, ◌||◌, ◌==◌, nat_lt, ◌⊎◌, ⊤, List, [], ◌∷◌, ◌++◌, map, length, drop, codes, if◌then◌else◌, Option, None, Some}
+use Rattle.std.specs.Prelude.{◌≡◌, ℕ, ◌+◌, ◌≤◌, Bool, true, false, not, ◌&&◌, ◌||◌, ◌==◌, nat_lt, ◌⊎◌, ⊤, List, [], ◌∷◌, ◌++◌, map, length, codes, if◌then◌else◌, Option, None, Some}
 use Rattle.std.specs.Char.{encode_utf8, is_ascii_hexdigit}
 use Rattle.std.specs.Int.{is_in_range}
-use Rattle.std.specs.List.{list_all, list_any, find, concat, cons_option, prefix_len, AllByRecursion}
+use Rattle.std.specs.List.{list_all, list_any, find, concat, cons_option, AllByRecursion}
 use Rattle.std.specs.Option.{option_map}
 use Rattle.std.specs.Str.{all_scalars, encode_utf8_all, byte, IsUtf8}
 use Rattle.std.specs.Str.Parse.{digits_value}
+use Rattle.rsp_text.specs.Fronts.{is_blank, behind_blanks}
 use Rattle.rsp_terms.specs.declared.term.Term.{Term}
 use Rattle.rsp_terms.specs.declared.term.Term.TheVariants.{Iri, Blank, Literal, Tagged}
 use Rattle.rsp_terms.specs.declared.statement.Quad.{Quad}
@@ -111,13 +112,6 @@ pub record IsTag (part rest language : List ℕ) : Type 0 where
   pub is_tag : is_tag_text language ≡ true
   pub part_is : part ≡ codes "@" ++ language
   pub longest : (more others : List ℕ) → rest ≡ more ++ others → is_tag_text (language ++ more) ≡ true → more ≡ []
-
--- space and tab
-abbrev pub is_blank : ℕ → Bool
-is_blank c = (c == byte " ") || (c == byte "\t")
-
-abbrev pub behind_blanks : List ℕ → List ℕ
-behind_blanks text = drop (prefix_len is_blank text) text
 
 -- the rule's part stands in a text, behind blanks and before the rest
 pub record Stands {A : Type 0} (rule : Rule A) (text rest : List ℕ) (value : A) : Type 0 where

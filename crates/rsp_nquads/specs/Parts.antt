@@ -14,7 +14,8 @@ use Rattle.rsp_terms.specs.declared.term.Term.{Term}
 use Rattle.rsp_terms.specs.declared.term.Term.TheVariants.{Iri, Blank, Literal, Tagged}
 use Rattle.rsp_terms.specs.Terms.{xsd_string}
 use Rattle.rsp_terms.specs.Characters.{is_iri_character, is_label_text, is_tag_text}
-use Rattle.rsp_nquads.specs.Grammar.{is_scalar, is_string_character, named_character, behind_blanks}
+use Rattle.rsp_text.specs.Fronts.{behind_blanks}
+use Rattle.rsp_nquads.specs.Grammar.{is_scalar, is_string_character, named_character}
 
 -- what reads a part of value A
 abbrev pub PartReader : Type 0 → Type 0

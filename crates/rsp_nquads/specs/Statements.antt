@@ -10,7 +10,8 @@ use Rattle.rsp_terms.specs.declared.statement.Quad.{Quad}
 use Rattle.rsp_nquads.specs.declared.statements.Part.{Part}
 use Rattle.rsp_nquads.specs.declared.statements.Parts.{Parts}
 use Rattle.rsp_nquads.specs.Parts.{PartReader, sign, iri_term, node, object}
-use Rattle.rsp_nquads.specs.Grammar.{behind_blanks, is_relative}
+use Rattle.rsp_text.specs.Fronts.{behind_blanks}
+use Rattle.rsp_nquads.specs.Grammar.{is_relative}
 use Rattle.rsp_nquads.specs.Answers.{Answer, nothing, statement, bad_statement, relative_iri}
 
 -- The wanted part behind blanks: a term, and how many bytes of the line are left from its first one on. Where it doesn't

@@ -4,8 +4,8 @@ ghost use Rattle.rsp_nquads.specs.Grammar.{IsAbsoluteIri};
 ghost use Rattle.rsp_nquads.specs.Fields.{absolute_iri};
 
 use crate::enclosed::iri;
-use crate::statements::is_absolute;
 use rsp_terms::Text;
+use rsp_terms::characters::is_absolute;
 use std::alloc::{AllocError, Global};
 
 /// The IRI of a field that is an IRIREF (RDF 1.1 N-Quads, section 4) and nothing else, with its escapes replaced; None
@@ -30,7 +30,7 @@ fn whole_iri(alloc: Global, field: &[u8]) -> Result<Option<Text>, AllocError>
     if !behind.is_empty() {
         return Ok(None);
     }
-    if !is_absolute(name.as_str().as_bytes()) {
+    if !is_absolute(name.as_str()) {
         return Ok(None);
     }
     Ok(Some(name))
