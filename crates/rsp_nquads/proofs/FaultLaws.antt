@@ -1,19 +1,17 @@
 -- The first fault of a line, by the grammar: what is left where reading halts.
-use Rattle.std.proofs.Common.{◌≡◌, ℕ, suc, ◌+◌, ◌-◌, ◌≤◌, Bool, true, false, true≢false, List, [], ◌∷◌, ◌++◌, length, take, refl, sym, ap, subst, ◌∙◌, arith, append_assoc, length-append, Option, Some, None, Result, Ok, Err, if◌then◌else◌}
-use Rattle.std.specs.Prelude.{◌⊎◌, ⊤}
+use Rattle.std.proofs.Common.{◌≡◌, ℕ, Bool, true, false, true≢false, List, [], ◌∷◌, ◌++◌, length, take, refl, sym, ap, subst, ◌∙◌, arith, append_assoc, length-append, Option, Some, None, Result, Ok, Err, if◌then◌else◌}
 use mathlib.Core.Logic.{inl, inr}
 use Rattle.std.specs.List.{prefix_len}
-use Rattle.std.specs.Option.{option_map, option_map_or}
+use Rattle.std.specs.Option.{option_map_or}
 use Rattle.rsp_terms.specs.declared.term.Term.{Term}
 use Rattle.rsp_nquads.specs.declared.statements.Part.{Part}
-use Rattle.rsp_nquads.specs.declared.statements.Parts.{Parts}
 use Rattle.rsp_text.specs.Fronts.{is_blank, behind_blanks}
-use Rattle.rsp_nquads.specs.Grammar.{Rule, Stands, IsIriTerm, IsNode, IsObject, IsDot, IsEnd, StandsNowhere, IsLongestPart, Fault, FaultHere, FaultIn, FaultAtEnd, FaultFromDot, FaultFromGraph, FaultFromObject, FaultFromPredicate, FaultFromSubject, IsAtColumn}
+use Rattle.rsp_nquads.specs.Grammar.{Rule, Stands, IsIriTerm, IsNode, IsObject, IsDot, StandsNowhere, IsLongestPart, Fault, FaultHere, FaultIn, FaultAtEnd, FaultFromDot, FaultFromGraph, FaultFromObject, FaultFromPredicate, FaultFromSubject, IsAtColumn}
 use Rattle.rsp_nquads.specs.Parts.{PartReader, sign, iri_term, node, object}
 use Rattle.rsp_nquads.specs.Statements.{part_of, optional_part, is_end, ends, closes, onward, parts_of, column}
 use Rattle.rsp_nquads.proofs.RuleLaws.{Reads}
 use Rattle.rsp_nquads.proofs.TermLaws.{blanks_split, behind_onto, StartsWell, stands_sound, stands_full, node_reads, node_starts, object_less, object_starts, iri_term_reads, iri_term_starts}
-use Rattle.rsp_nquads.proofs.StatementLaws.{at_place, dot_stands, dot_behind, end_found, end_finds, object_stands, graph_read, given, predicate_step, object_step, graph_step, last_step}
+use Rattle.rsp_nquads.proofs.StatementLaws.{at_place, dot_stands, dot_behind, end_found, end_finds, object_stands, graph_read, predicate_step, object_step, graph_step, last_step}
 
 abbrev term_of : Term → List ℕ → Option (Term × List ℕ)
 term_of term rest = Some (term, rest)

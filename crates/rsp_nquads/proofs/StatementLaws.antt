@@ -16,7 +16,7 @@ use Rattle.rsp_nquads.specs.Parts.{PartReader, sign, enclosed, iri_term, label, 
 use Rattle.rsp_text.specs.Fronts.{is_blank, behind_blanks}
 use Rattle.rsp_nquads.specs.Grammar.{Stands, IsIriTerm, IsNode, IsObject, IsGraph, IsEnd, IsDot, IsStatement, is_relative, terms_of, terms_in, Says, SaysNothing}
 use Rattle.rsp_nquads.specs.Statements.{part_of, optional_part, is_end, ends, closes, onward, parts_of, quad_of, column, first_relative, judged, answer, statement_of}
-use Rattle.rsp_nquads.specs.Answers.{Answer, nothing, statement, bad_statement, relative_iri}
+use Rattle.rsp_nquads.specs.Answers.{Answer, nothing, statement, relative_iri}
 use Rattle.rsp_nquads.proofs.Pieces.{all_run}
 use Rattle.rsp_nquads.proofs.RuleLaws.{sign_found, sign_finds}
 use Rattle.rsp_nquads.proofs.TermLaws.{blank_first, behind_onto, blanks_split, StartsWell, stands_sound, stands_full, stands_behind, IsFree, iri_term_reads, iri_term_starts, node_reads, node_starts, object_sound, object_full, object_starts}

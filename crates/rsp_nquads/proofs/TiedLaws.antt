@@ -7,10 +7,10 @@ use Rattle.rsp_terms.specs.declared.statement.Quad.{Quad}
 use Rattle.rsp_nquads.specs.declared.fault.LineFault.{LineFault}
 use Rattle.rsp_nquads.specs.declared.fault.LineFault.TheVariants.{BadStatement, RelativeIri, OutOfMemory}
 use Rattle.rsp_text.specs.Fronts.{behind_blanks}
-use Rattle.rsp_nquads.specs.Grammar.{Stands, IsIriTerm, IsNode, IsObject, IsStatement, Says, SaysNothing, terms_in, IsAtColumn, IsFirstFault, IsFirstRelative}
+use Rattle.rsp_nquads.specs.Grammar.{IsIriTerm, IsNode, IsObject, IsStatement, terms_in, IsAtColumn, IsFirstFault, IsFirstRelative}
 use Rattle.rsp_nquads.specs.Answers.{Answer, nothing, statement, bad_statement, relative_iri, IsTied, IsAnswer, IsByGrammar, SaysNeither}
-use Rattle.rsp_nquads.specs.Statements.{is_end, parts_of, column, answer, statement_of}
-use Rattle.rsp_nquads.proofs.StatementLaws.{Reading, blank, fault, whole, reading, holds_relative, judged_by, answer_at, nothing_at, statement_answer, statement_same, end_finds, says_from, says_to, nothing_from, nothing_to}
+use Rattle.rsp_nquads.specs.Statements.{is_end, column, answer, statement_of}
+use Rattle.rsp_nquads.proofs.StatementLaws.{Reading, blank, fault, whole, reading, holds_relative, judged_by, answer_at, nothing_at, statement_answer, statement_same, says_from, says_to, nothing_from, nothing_to}
 use Rattle.rsp_nquads.proofs.FaultLaws.{EndsWith, ends_behind, halts, faults, subject_within, column_at, column_of}
 
 bad_same : (m n : ℕ) → bad_statement m ≡ bad_statement n → m ≡ n
