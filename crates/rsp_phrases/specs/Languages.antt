@@ -123,6 +123,24 @@ at_most p (suc n) = mapped listed (optional (both p (at_most p n)))
 abbrev pub many : {T A : Type 0} → Language T A → Language T (List A)
 many p = any_depth (at_most p)
 
+-- ---- it, once or more, with a sign between and maybe one at the end: p (d p)* d?
+
+abbrev pub follows : {A : Type 0} → Option (Option (A × List A)) → List A
+follows None = []
+follows (Some None) = []
+follows (Some (Some x)) = x.0 ∷ x.1
+
+-- behind the first: (d (p ..)?)? for at most so many more
+unfoldable pub follows_at_most : {T A B : Type 0} → Language T B → Language T A → ℕ → Language T (List A)
+follows_at_most d p zero = nothing []
+follows_at_most d p (suc n) = mapped follows (optional (second_of d (optional (both p (follows_at_most d p n)))))
+
+abbrev pub follows_on : {T A B : Type 0} → Language T B → Language T A → Language T (List A)
+follows_on d p = any_depth (follows_at_most d p)
+
+abbrev pub dotted : {T A B : Type 0} → Language T B → Language T A → Language T (List A)
+dotted d p = mapped (λ (v : _ × _). v.0 ∷ v.1) (both p (follows_on d p))
+
 -- ---- any number of tokens, each with a value of its own
 
 -- the value isn't among these
