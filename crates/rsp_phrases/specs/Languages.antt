@@ -1,5 +1,5 @@
 -- Definitions: languages of tokens, and the combinators that a grammar's rules are written with.
-use Rattle.std.specs.Prelude.{◌≡◌, ℕ, zero, suc, Bool, ⊤, ◌⊎◌, List, [], ◌∷◌, ◌++◌, ◌==◌, cond, Option, None, Some, IsSome}
+use Rattle.std.specs.Prelude.{◌≡◌, ℕ, zero, suc, Bool, ⊤, ◌⊎◌, List, [], ◌∷◌, ◌++◌, ◌==◌, map, cond, Option, None, Some, IsSome}
 use Rattle.std.specs.List.{list_any}
 
 -- A rule. `full`: these tokens are an expansion of it, with this value. `front`: some leftmost expansion of it passes
@@ -88,6 +88,11 @@ either p q = record { full = λ ts v. p.full ts v ⊎ q.full ts v; front = λ ts
 
 abbrev pub optional : {T A : Type 0} → Language T A → Language T (Option A)
 optional p = either (mapped Some p) (nothing None)
+
+-- ---- a rule on tokens that are read as others
+
+abbrev pub seen : {T A : Type 0} → (T → T) → Language T A → Language T A
+seen f p = record { full = λ ts v. p.full (map f ts) v; front = λ ts. p.front (map f ts) }
 
 -- ---- a rule within itself, to any depth
 

@@ -4,4 +4,4 @@
 
 mod said;
 
-pub use said::{Keyword, place};
+pub use said::{Keyword, Kind, Said, Symbol};
