@@ -15,4 +15,4 @@ mod tree;
 
 pub use answer::{Answer, Turn};
 pub use building::basic_pattern;
-pub use tree::{Place, Slot, Translated, Tree, TriplePattern};
+pub use tree::{Place, Translated, Tree, TriplePattern};

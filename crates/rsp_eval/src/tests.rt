@@ -3,7 +3,8 @@ ghost use Rattle.rsp_algebra.specs.Nodes.{IsPlaced};
 ghost use Rattle.rsp_algebra.specs.Changing.{MayChange};
 
 use super::*;
-use rsp_algebra::{Answer, Place, Slot, Translated, Tree, Turn};
+use rsp_algebra::{Answer, Place, Translated, Tree, Turn};
+use rsp_expr::Slot;
 use rsp_multiset::Changes;
 use rsp_steps::Steps;
 use rsp_terms::{Fact, Listed, Spot, Term, Text, Triple};
