@@ -90,7 +90,7 @@ unfoldable pub follows_at_most_read : {T A B : Type 0} → (T → ℕ) → List 
 follows_at_most_read kind marks kinds d r zero = nothing_read []
 follows_at_most_read kind marks kinds d r (suc n) =
     mapped_read follows (optional_read kind marks (second_read d (optional_read kind kinds
-        (both_read r (follows_at_most_read kind marks kinds d r n)))))
+    (both_read r (follows_at_most_read kind marks kinds d r n)))))
 
 abbrev pub follows_on_read : {T A B : Type 0} → (T → ℕ) → List ℕ → List ℕ → Reader T B → Reader T A → Reader T (List A)
 follows_on_read kind marks kinds d r ts = follows_at_most_read kind marks kinds d r (length ts) ts
