@@ -1,14 +1,14 @@
 -- A rule at any depth is read at the depth of the text's length.
-use Rattle.std.proofs.Common.{◌≡◌, ℕ, zero, suc, ◌+◌, ◌≤◌, ◌<◌, Bool, true, false, List, [], ◌∷◌, ◌++◌, length, refl, sym, ap, ◌∙◌, subst, arith, append_assoc, length-append, inl, inr, None, Ok, Err}
-use Rattle.rsp_phrases.specs.Languages.{Language, has, any_depth, nested, within_itself, at_most, many, listed}
+use Rattle.std.proofs.Common.{◌≡◌, ℕ, zero, suc, ◌+◌, ◌≤◌, ◌<◌, Bool, true, false, List, [], ◌∷◌, ◌++◌, length, refl, sym, ap, ◌∙◌, subst, arith, append_assoc, length-append, inl, inr, None, Ok, Err, ◌&&◌, ◌||◌, not}
+use Rattle.rsp_phrases.specs.Languages.{Language, has, any_depth, nested, within_itself, at_most, many, listed, second_of, follows, follows_at_most, follows_on, dotted}
 use Rattle.rsp_phrases.specs.Exact.{CannotGoOn, Reads}
-use Rattle.rsp_phrases.specs.Readers.{Reading, Reader, nested_read, within_itself_read, at_most_read, many_read}
+use Rattle.rsp_phrases.specs.Readers.{Reading, Reader, nested_read, within_itself_read, at_most_read, many_read, second_read, follows_at_most_read, follows_on_read, dotted_read}
 use Rattle.rsp_phrases.proofs.Cuts.{length_cons, left_le}
-use Rattle.rsp_phrases.proofs.Membership.{apart, covered_by, covered_self, covered_nil, has_append, has_left, has_right}
+use Rattle.rsp_phrases.proofs.Membership.{apart, covered_by, covered_self, covered_nil, has_append, has_left, has_right, apart_none, where_so}
 use Rattle.rsp_phrases.proofs.Good.{Good, good_never, good_nothing, good_mapped, listed_as, loosened}
 use Rattle.rsp_phrases.proofs.TiedLaws.{good_tied}
 use Rattle.rsp_phrases.proofs.EitherLaws.{good_optional}
-use Rattle.rsp_phrases.proofs.Under.{Under, under_less, under_never, under_behind, under_mapped, under_optional}
+use Rattle.rsp_phrases.proofs.Under.{Under, under_less, under_never, under_behind, under_mapped, under_optional, under_tied, under_same}
 
 module _ {T A : Type 0} (kind : T → ℕ) (p : ℕ → Language T A) (r : ℕ → Reader T A) (begin go : List ℕ) (empty : Bool)
     (h : (d : ℕ) → Good kind (p d) (r d) begin go empty false)
@@ -141,6 +141,71 @@ pub good_many : {T A : Type 0} {kind : T → ℕ} {p : Language T A} {r : Reader
     → Good kind (many p) (many_read kind bp r) bp (gp ++ bp) true true
 unfolding at_most
 good_many h a = good_any (at_most_good h a) (at_most_under h a) (λ x is. inl (inl (h.first refl x is)))
+
+-- ---- it, with a sign between and maybe one at the end
+
+good_second_of : {T A B : Type 0} {kind : T → ℕ} {p : Language T A} {r : Reader T A} {q : Language T B} {s : Reader T B}
+    {bp gp bq gq : List ℕ} {ep xp eq xq : Bool}
+    → Good kind p r bp gp ep xp → Good kind q s bq gq eq xq → apart bq gp ≡ true
+    → Good kind (second_of p q) (second_read r s) (bp ++ where_so ep bq) (gq ++ where_so eq gp) (ep && eq) (xp && (not ep || xq))
+good_second_of h k a = good_mapped (λ (v : _ × _). v.1) (good_tied h (λ v. k) a)
+
+module _ {T A B : Type 0} (kind : T → ℕ) (d : Language T B) (c : Reader T B) (p : Language T A) (r : Reader T A) (bd bp gp : List ℕ)
+    (hd : Good kind d c bd [] false true) (hp : Good kind p r bp gp false true)
+    (apart_so : apart bd gp ≡ true) where
+  follows_good : (n : ℕ) → Good kind (follows_at_most d p n) (follows_at_most_read kind bd bp c r n) bd ((gp ++ bp) ++ bd) true false
+  unfolding follows_at_most follows_at_most_read
+  follows_good zero = loosened bd ((gp ++ bp) ++ bd) (good_nothing kind []) refl refl
+  follows_good (suc n) =
+      let in_all = λ (k : ℕ) (is : has (gp ++ bp) k ≡ true). has_left (gp ++ bp) bd k is in
+      let part = listed_as bp ((gp ++ bp) ++ bd) (good_tied hp (λ v. follows_good n) apart_so) (covered_nil bp)
+      (covered_by bp (bp ++ []) (λ k is. has_left bp [] k is))
+      (covered_by (((gp ++ bp) ++ bd) ++ gp) ((gp ++ bp) ++ bd) (λ k is.
+      elim (has_append ((gp ++ bp) ++ bd) gp k is) [ inl b ↦ b | inr b ↦ in_all k (has_left gp bp k b) ])) in
+      let maybe = listed_as bp ((gp ++ bp) ++ bd) (good_optional part) (covered_nil bp)
+      (covered_by bp (bp ++ []) (λ k is. has_left bp [] k is))
+      (covered_by (((gp ++ bp) ++ bd) ++ bp) ((gp ++ bp) ++ bd) (λ k is.
+      elim (has_append ((gp ++ bp) ++ bd) bp k is) [ inl b ↦ b | inr b ↦ in_all k (has_right gp bp k b) ])) in
+      let more = listed_as bd ((gp ++ bp) ++ bd) (good_second_of hd maybe (apart_none bp)) (covered_nil bd)
+      (covered_by bd (bd ++ []) (λ k is. has_left bd [] k is))
+      (covered_nil ((gp ++ bp) ++ bd)) in
+      loosened bd ((gp ++ bp) ++ bd) (good_mapped follows (good_optional more)) (covered_nil bd)
+      (covered_by (((gp ++ bp) ++ bd) ++ bd) ((gp ++ bp) ++ bd) (λ k is.
+      elim (has_append ((gp ++ bp) ++ bd) bd k is) [ inl b ↦ b | inr b ↦ has_right (gp ++ bp) bd k b ]))
+
+  nil_follows : (n : ℕ) → (follows_at_most d p n).full [] []
+  unfolding follows_at_most
+  nil_follows zero = (refl, refl)
+  nil_follows (suc n) = record { source = None; spelled = inr (refl, refl); is = refl }
+
+  follows_under : (m e : ℕ) → m ≤ e → Under (m + 1) (follows_at_most d p m) (follows_at_most d p e)
+  unfolding follows_at_most
+  follows_under zero e le = under_less (let l : zero + 1 ≤ 1 = omega arith in l) record {
+    full_up = λ ts v f. subst (λ us. (follows_at_most d p e).full us v) (sym f.0) (subst (λ w. (follows_at_most d p e).full [] w) (sym f.1) (nil_follows e));
+    front_up = λ ts f. subst (follows_at_most d p e).front (sym f) (follows_good e).begun;
+    full_down = λ ts v l f.
+        let is = no_tokens ts l in
+        (is, (follows_good e).unique [] v [] (subst (λ us. (follows_at_most d p e).full us v) is f) (nil_follows e));
+    front_down = λ ts l f. no_tokens ts l;
+  }
+  follows_under (suc m) zero le = let no : ⊥ = omega (arith, le) in absurd no
+  follows_under (suc m) (suc e) le =
+      under_less (let l : suc m + 1 ≤ (m + 1) + 1 = omega arith in l)
+      (under_mapped follows (under_optional (under_mapped (λ (v : _ × _). v.1) (under_behind (hd.void refl) (λ w.
+      under_optional (under_tied (under_same (m + 1) p) (λ v. follows_under m e (omega (arith, le)))))))))
+
+  follows_first : (x : T) → has bd (kind x) ≡ true → (follows_at_most d p 1).front (x ∷ [])
+  unfolding follows_at_most
+  follows_first x is = inl (inl (hd.first refl x is))
+
+  good_follows_at : Good kind (follows_on d p) (follows_on_read kind bd bp c r) bd ((gp ++ bp) ++ bd) true true
+  good_follows_at = good_any follows_good follows_under follows_first
+
+pub good_dotted : {T A B : Type 0} {kind : T → ℕ} {d : Language T B} {c : Reader T B} {p : Language T A} {r : Reader T A} {bd bp gp : List ℕ}
+    → Good kind d c bd [] false true → Good kind p r bp gp false true → apart bd gp ≡ true
+    → Good kind (dotted d p) (dotted_read kind bd bp c r) (bp ++ []) (((gp ++ bp) ++ bd) ++ gp) false true
+good_dotted {kind = kind} {d = d} {c = c} {p = p} {r = r} {bd = bd} {bp = bp} {gp = gp} hd hp a =
+    good_mapped (λ (v : _ × _). v.0 ∷ v.1) (good_tied hp (λ v. good_follows_at kind d c p r bd bp gp hd hp a) a)
 
 -- ---- a rule within itself
 

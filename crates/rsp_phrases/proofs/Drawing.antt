@@ -1,6 +1,6 @@
 -- Rules that say the same, and the law that draws a common first part out of two alternatives.
-use Rattle.std.proofs.Common.{ℕ, Bool, List, [], ◌∷◌, ◌++◌, refl, sym, ap, ◌∙◌, append_assoc, inl, inr, Ok, Err}
-use Rattle.rsp_phrases.specs.Languages.{Language, mapped, both, second_of, either}
+use Rattle.std.proofs.Common.{ℕ, Bool, List, [], ◌∷◌, ◌++◌, refl, sym, ap, ◌∙◌, append_assoc, inl, inr, Ok, Err, Some, None, subst}
+use Rattle.rsp_phrases.specs.Languages.{Language, mapped, both, second_of, either, optional}
 use Rattle.rsp_phrases.specs.Exact.{Reads}
 use Rattle.rsp_phrases.specs.Readers.{Reading, Reader}
 use Rattle.rsp_phrases.proofs.Good.{Good}
@@ -237,3 +237,54 @@ drawn_before f g o a q q' s t =
     (same_either
     (same_then (same_either (same_here (mapped f (both o s))) (regrouped f a q s)) (spread f o (second_of a q) s))
     (regrouped g a q' t))
+
+-- maybe one part, then what closes it
+pub closing : {T A B : Type 0} (p : Language T A) (d : Language T B) → p.front []
+    → Same (either (mapped (λ w. (None, w)) d) (mapped (λ (v : A × B). (Some v.0, v.1)) (both p d))) (both (optional p) d)
+closing p d p_begun = record {
+  full_to = λ ts v k. elim k [
+    | inl g ↦ subst (λ w. (both (optional p) d).full ts w) (sym g.is)
+        record { left = []; right = ts; whole = refl; first = inr (refl, refl); second = g.spelled }
+    | inr g ↦ subst (λ w. (both (optional p) d).full ts w) (sym g.is)
+        record {
+          left = g.spelled.left;
+          right = g.spelled.right;
+          whole = g.spelled.whole;
+          first = inl record { source = g.source.0; spelled = g.spelled.first; is = refl };
+          second = g.spelled.second;
+        }
+  ];
+  full_from = λ ts v g. elim g.first [
+    | inl h ↦ inr record {
+      source = (h.source, v.1);
+      is = ap (λ o. (o, v.1)) h.is;
+      spelled = record { left = g.left; right = g.right; whole = g.whole; first = h.spelled; second = g.second };
+    }
+    | inr h ↦ inl record {
+      source = v.1;
+      is = ap (λ o. (o, v.1)) h.1;
+      spelled = subst (λ us. d.full us v.1) (sym (g.whole ∙ ap (λ us. us ++ g.right) h.0)) g.second;
+    }
+  ];
+  front_to = λ ts k. elim k [
+    | inl g ↦ inr record { value = None; left = []; right = ts; whole = refl; first = inr (refl, refl); second = g }
+    | inr g ↦ elim g [
+      | inl h ↦ inl (inl h)
+      | inr h ↦ inr record {
+        value = Some h.value;
+        left = h.left;
+        right = h.right;
+        whole = h.whole;
+        first = inl record { source = h.value; spelled = h.first; is = refl };
+        second = h.second;
+      }
+    ]
+  ];
+  front_from = λ ts k. elim k [
+    | inl g ↦ elim g [ inl h ↦ inr (inl h) | inr h ↦ inr (inl (subst p.front (sym h) p_begun)) ]
+    | inr g ↦ elim g.first [
+      | inl h ↦ inr (inr record { value = h.source; left = g.left; right = g.right; whole = g.whole; first = h.spelled; second = g.second })
+      | inr h ↦ inl (subst d.front (sym (g.whole ∙ ap (λ us. us ++ g.right) h.0)) g.second)
+    ]
+  ];
+}

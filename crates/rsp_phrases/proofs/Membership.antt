@@ -81,3 +81,7 @@ covered_self ks = covered_by ks ks (λ k is. is)
 
 pub covered_nil : (ks : List ℕ) → covered (ks ++ []) ks ≡ true
 covered_nil ks = covered_by (ks ++ []) ks (λ k is. subst (λ ls. has ls k ≡ true) (append-nil ks) is)
+
+pub apart_none : (ks : List ℕ) → apart ks [] ≡ true
+apart_none [] = refl
+apart_none (k ∷ ks) = apart_none ks

@@ -1,5 +1,5 @@
 -- Definitions: languages of tokens, and the combinators that a grammar's rules are written with.
-use Rattle.std.specs.Prelude.{◌≡◌, ℕ, zero, suc, Bool, ⊤, ◌⊎◌, List, [], ◌∷◌, ◌++◌, ◌==◌, cond, Option, None, Some, IsSome}
+use Rattle.std.specs.Prelude.{◌≡◌, ℕ, zero, suc, Bool, ⊤, ◌⊎◌, List, [], ◌∷◌, ◌++◌, ◌==◌, map, cond, Option, None, Some, IsSome}
 use Rattle.std.specs.List.{list_any}
 
 -- A rule. `full`: these tokens are an expansion of it, with this value. `front`: some leftmost expansion of it passes
@@ -89,6 +89,11 @@ either p q = record { full = λ ts v. p.full ts v ⊎ q.full ts v; front = λ ts
 abbrev pub optional : {T A : Type 0} → Language T A → Language T (Option A)
 optional p = either (mapped Some p) (nothing None)
 
+-- ---- a rule on tokens that are read as others
+
+abbrev pub seen : {T A : Type 0} → (T → T) → Language T A → Language T A
+seen f p = record { full = λ ts v. p.full (map f ts) v; front = λ ts. p.front (map f ts) }
+
 -- ---- a rule within itself, to any depth
 
 pub record AtDepth {T A : Type 0} (p : ℕ → Language T A) (ts : List T) (v : A) : Type 0 where
@@ -122,6 +127,24 @@ at_most p (suc n) = mapped listed (optional (both p (at_most p n)))
 
 abbrev pub many : {T A : Type 0} → Language T A → Language T (List A)
 many p = any_depth (at_most p)
+
+-- ---- it, once or more, with a sign between and maybe one at the end: p (d p)* d?
+
+abbrev pub follows : {A : Type 0} → Option (Option (A × List A)) → List A
+follows None = []
+follows (Some None) = []
+follows (Some (Some x)) = x.0 ∷ x.1
+
+-- behind the first: (d (p ..)?)? for at most so many more
+unfoldable pub follows_at_most : {T A B : Type 0} → Language T B → Language T A → ℕ → Language T (List A)
+follows_at_most d p zero = nothing []
+follows_at_most d p (suc n) = mapped follows (optional (second_of d (optional (both p (follows_at_most d p n)))))
+
+abbrev pub follows_on : {T A B : Type 0} → Language T B → Language T A → Language T (List A)
+follows_on d p = any_depth (follows_at_most d p)
+
+abbrev pub dotted : {T A B : Type 0} → Language T B → Language T A → Language T (List A)
+dotted d p = mapped (λ (v : _ × _). v.0 ∷ v.1) (both p (follows_on d p))
 
 -- ---- any number of tokens, each with a value of its own
 

@@ -1,7 +1,7 @@
 -- Words of the way: functions on rows of tokens of the same shape as the rules, which the code is proved against.
 use Rattle.std.specs.Prelude.{ℕ, zero, suc, Bool, false, List, [], ◌∷◌, length, cond, Option, None, Some, Result, Ok, Err}
 use Rattle.std.specs.List.{list_any}
-use Rattle.rsp_phrases.specs.Languages.{has, listed}
+use Rattle.rsp_phrases.specs.Languages.{has, listed, follows}
 
 -- a value and the tokens behind it, or how many tokens are left from the first wrong one
 abbrev pub Reading : Type 0 → Type 0 → Type 0
@@ -85,6 +85,23 @@ at_most_read kind kinds r (suc n) =
 
 abbrev pub many_read : {T A : Type 0} → (T → ℕ) → List ℕ → Reader T A → Reader T (List A)
 many_read kind kinds r ts = at_most_read kind kinds r (length ts) ts
+
+unfoldable pub follows_at_most_read : {T A B : Type 0} → (T → ℕ) → List ℕ → List ℕ → Reader T B → Reader T A → ℕ → Reader T (List A)
+follows_at_most_read kind marks kinds d r zero = nothing_read []
+follows_at_most_read kind marks kinds d r (suc n) =
+    mapped_read follows (optional_read kind marks (second_read d (optional_read kind kinds
+    (both_read r (follows_at_most_read kind marks kinds d r n)))))
+
+abbrev pub follows_on_read : {T A B : Type 0} → (T → ℕ) → List ℕ → List ℕ → Reader T B → Reader T A → Reader T (List A)
+follows_on_read kind marks kinds d r ts = follows_at_most_read kind marks kinds d r (length ts) ts
+
+abbrev pub dotted_read : {T A B : Type 0} → (T → ℕ) → List ℕ → List ℕ → Reader T B → Reader T A → Reader T (List A)
+dotted_read kind marks kinds d r = mapped_read (λ (v : _ × _). v.0 ∷ v.1) (both_read r (follows_on_read kind marks kinds d r))
+
+-- maybe one part, then a closing sign, whose kinds are tested
+abbrev pub closed_read : {T A B : Type 0} → (T → ℕ) → List ℕ → Reader T B → Reader T A → Reader T (Option A × B)
+closed_read kind marks d r =
+    either_read kind marks (mapped_read (λ w. (None, w)) d) (mapped_read (λ (v : _ × _). (Some v.0, v.1)) (both_read r d))
 
 abbrev pub before : {T A : Type 0} → A → Reading T (List A) → Reading T (List A)
 before v (Ok x) = Ok (v ∷ x.0, x.1)
