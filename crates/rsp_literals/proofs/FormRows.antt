@@ -90,7 +90,8 @@ no_point = refl
 
 -- ---- literals
 
-pub number_of_an_integer : number_of (Literal (codes "-7") (codes "http://www.w3.org/2001/XMLSchema#integer")) ≡ Some (number.Integer (neg_ℤ (pos 7)))
+pub number_of_an_integer : number_of (Literal (codes "-7") (codes "http://www.w3.org/2001/XMLSchema#integer"))
+    ≡ Some (number.Integer (neg_ℤ (pos 7)))
 number_of_an_integer = refl
 
 pub number_of_a_decimal : number_of (Literal (codes "+01.50") (codes "http://www.w3.org/2001/XMLSchema#decimal"))

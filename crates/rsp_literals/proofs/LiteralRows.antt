@@ -32,19 +32,23 @@ zero_has_no_sign = refl
 
 -- ---- boolean values
 
-pub boolean_by_a_digit : boolean_value (Literal (codes "1") (codes "http://www.w3.org/2001/XMLSchema#boolean")) ≡ Some true
+pub boolean_by_a_digit : boolean_value (Literal (codes "1") (codes "http://www.w3.org/2001/XMLSchema#boolean"))
+    ≡ Some true
 boolean_by_a_digit = refl
 
-pub boolean_without_the_form : boolean_value (Literal (codes "yes") (codes "http://www.w3.org/2001/XMLSchema#boolean")) ≡ Some false
+pub boolean_without_the_form : boolean_value (Literal (codes "yes")
+    (codes "http://www.w3.org/2001/XMLSchema#boolean")) ≡ Some false
 boolean_without_the_form = refl
 
-pub no_boolean_without_the_form : boolean_of (Literal (codes "TRUE") (codes "http://www.w3.org/2001/XMLSchema#boolean")) ≡ None
+pub no_boolean_without_the_form : boolean_of (Literal (codes "TRUE")
+    (codes "http://www.w3.org/2001/XMLSchema#boolean")) ≡ None
 no_boolean_without_the_form = refl
 
 pub empty_string : boolean_value (Literal [] (codes "http://www.w3.org/2001/XMLSchema#string")) ≡ Some false
 empty_string = refl
 
-pub text_of_false_is_filled : boolean_value (Literal (codes "false") (codes "http://www.w3.org/2001/XMLSchema#string")) ≡ Some true
+pub text_of_false_is_filled : boolean_value (Literal (codes "false")
+    (codes "http://www.w3.org/2001/XMLSchema#string")) ≡ Some true
 text_of_false_is_filled = refl
 
 pub empty_text_with_a_tag : boolean_value (Tagged [] (codes "en")) ≡ Some false
@@ -53,22 +57,27 @@ empty_text_with_a_tag = refl
 pub text_with_a_tag : boolean_value (Tagged (codes "a") (codes "en")) ≡ Some true
 text_with_a_tag = refl
 
-pub lang_string_without_a_tag : boolean_value (Literal (codes "a") (codes "http://www.w3.org/1999/02/22-rdf-syntax-ns#langString")) ≡ None
+pub lang_string_without_a_tag : boolean_value
+    (Literal (codes "a") (codes "http://www.w3.org/1999/02/22-rdf-syntax-ns#langString")) ≡ None
 lang_string_without_a_tag = refl
 
-pub decimal_of_zero : boolean_value (Literal (codes "-0.00") (codes "http://www.w3.org/2001/XMLSchema#decimal")) ≡ Some false
+pub decimal_of_zero : boolean_value (Literal (codes "-0.00") (codes "http://www.w3.org/2001/XMLSchema#decimal"))
+    ≡ Some false
 decimal_of_zero = refl
 
 pub small_decimal : boolean_value (Literal (codes ".01") (codes "http://www.w3.org/2001/XMLSchema#decimal")) ≡ Some true
 small_decimal = refl
 
-pub byte_out_of_range : boolean_value (Literal (codes "200") (codes "http://www.w3.org/2001/XMLSchema#byte")) ≡ Some false
+pub byte_out_of_range : boolean_value (Literal (codes "200") (codes "http://www.w3.org/2001/XMLSchema#byte"))
+    ≡ Some false
 byte_out_of_range = refl
 
-pub long_that_is_beyond : boolean_value (Literal (codes "-9223372036854775808") (codes "http://www.w3.org/2001/XMLSchema#long")) ≡ None
+pub long_that_is_beyond : boolean_value (Literal (codes "-9223372036854775808")
+    (codes "http://www.w3.org/2001/XMLSchema#long")) ≡ None
 long_that_is_beyond = refl
 
-pub long_out_of_range : boolean_value (Literal (codes "-9223372036854775809") (codes "http://www.w3.org/2001/XMLSchema#long")) ≡ Some false
+pub long_out_of_range : boolean_value (Literal (codes "-9223372036854775809")
+    (codes "http://www.w3.org/2001/XMLSchema#long")) ≡ Some false
 long_out_of_range = refl
 
 pub double_has_none : boolean_value (Literal (codes "1e0") (codes "http://www.w3.org/2001/XMLSchema#double")) ≡ None

@@ -26,10 +26,12 @@ pub record Goes (next i bound : ℕ) (ds : List ℕ) (total : ℕ) : Type 0 wher
   pub digits : are_digits (drop (i + 1) ds) ≡ true
   pub value : min (number_after next (drop (i + 1) ds)) bound ≡ total
 
-pub goes : (m next i bound : ℕ) (ds : List ℕ) (total : ℕ) → i < length ds → next ≡ min (m * 10 + (get_or ds i 0 - 48)) bound
+pub goes : (m next i bound : ℕ) (ds : List ℕ) (total : ℕ) → i < length ds
+    → next ≡ min (m * 10 + (get_or ds i 0 - 48)) bound
     → are_digits (drop i ds) ≡ true → min (number_after m (drop i ds)) bound ≡ total → Goes next i bound ds total
 goes m next i bound ds total below is digits value =
-    let opened : drop i ds ≡ get_or ds i 0 ∷ drop (i + 1) ds = drop-cons ds i 0 below ∙ ap (λ k. get_or ds i 0 ∷ drop k ds) (sym (add-one i)) in
+    let opened : drop i ds ≡ get_or ds i 0 ∷ drop (i + 1) ds = drop-cons ds i 0 below
+    ∙ ap (λ k. get_or ds i 0 ∷ drop k ds) (sym (add-one i)) in
     record {
       within = rw is (omega arith);
       digits = others _ _ (sym (ap are_digits opened) ∙ digits);
