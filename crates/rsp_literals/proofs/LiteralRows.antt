@@ -1,5 +1,5 @@
 -- Worked rows: how numbers are written, and the boolean values of literals.
-use Rattle.std.specs.Prelude.{◌≡◌, ◌-◌, ◌^◌, List, ℕ, [], true, false, pos, neg_ℤ, Some, None, refl, codes}
+use Rattle.std.specs.Prelude.{◌≡◌, ◌-◌, ◌^◌, [], true, false, pos, neg_ℤ, Some, None, refl, codes}
 use Rattle.std.specs.Fmt.{digits}
 use Rattle.rsp_number.specs.declared.number.Number.TheVariants.{Integer, Decimal}
 use Rattle.rsp_terms.specs.declared.term.Term.TheVariants.{Iri, Blank, Literal, Tagged}

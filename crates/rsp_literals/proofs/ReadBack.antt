@@ -1,10 +1,9 @@
 -- What is written of a number reads as the number again.
-use Rattle.std.proofs.Common.{◌≡◌, ℕ, zero, suc, ◌+◌, ◌-◌, ◌*◌, ◌/◌, ◌%◌, ◌^◌, ◌<◌, ◌≤◌, Bool, true, false, cond, List, [], ◌∷◌, ◌++◌, length, length-append, append_assoc, Option, Some, None, Result, Ok, Err, subst, refl, sym, ap, ◌∙◌, arith, ⊎_elim}
-use Rattle.std.specs.Prelude.{◌≢◌, ◌⊎◌, ◌==◌, ◌&&◌, not, nat_le, ℤ, pos, negsuc, neg_ℤ, int_lt, unsigned_abs, IfOk, if◌then◌else◌}
+use Rattle.std.proofs.Common.{◌≡◌, ℕ, zero, suc, ◌+◌, ◌-◌, ◌*◌, ◌/◌, ◌%◌, ◌^◌, ◌<◌, ◌≤◌, Bool, true, false, cond, List, [], ◌∷◌, ◌++◌, length, length-append, Some, None, Result, Ok, Err, subst, refl, sym, ap, ◌∙◌, arith, ⊎_elim}
+use Rattle.std.specs.Prelude.{◌≢◌, ◌⊎◌, ◌==◌, ◌&&◌, not, nat_le, ℤ, pos, negsuc, unsigned_abs, IfOk, if◌then◌else◌}
 use Rattle.std.specs.Fmt.{decimal}
 use Rattle.std.proofs.lemmas.Bool.Decides.{nat_tests}
 use Rattle.std.proofs.lemmas.Fmt.{decimal_by_steps}
-use Rattle.std.proofs.lemmas.Nat.{div-add-mod'}
 use Rattle.std.proofs.lemmas.List.{append-nil}
 use Rattle.std.proofs.Math.Nat.{div-div-eq-div-mul, div-le_self, pow-suc, mul_comm}
 use Rattle.rsp_number.specs.Decimals.{largest, most_digits, held, signed, is_below_zero, Scaled, IsDecimal, shortest}
@@ -14,10 +13,9 @@ use Rattle.rsp_number.specs.declared.reading.Reading.TheVariants.{Value, NotForm
 use Rattle.rsp_number.specs.declared.number.Number.{Number}
 use Rattle.rsp_number.specs.declared.number.Number.TheVariants as number
 use Rattle.rsp_terms.specs.declared.term.Term.{Term}
-use Rattle.rsp_number.proofs.Shortest.{unsigned_abs-signed}
 use Rattle.rsp_literals.specs.declared.datatypes.WholeType.TheVariants.{Integer}
 use Rattle.rsp_literals.specs.Forms.{reading_map, value_in, whole_number, whole_reading, number_of}
-use Rattle.rsp_literals.specs.Numerals.{sign_text, last_digits, fraction_text, size_text, numeral, numeral_literal}
+use Rattle.rsp_literals.specs.Numerals.{sign_text, last_digits, fraction_text, numeral_literal}
 
 -- ---- digits
 

@@ -1,10 +1,8 @@
 -- What the search of std says of an occurrence is what stands round the first one.
-use Rattle.std.proofs.Common.{◌≡◌, ℕ, zero, suc, ◌+◌, ◌-◌, ◌<◌, ◌≤◌, Bool, true, false, true≢false, List, [], ◌∷◌, ◌++◌, length, take, drop, refl, sym, ap, ◌∙◌, arith, Option, Some, None}
-use Rattle.std.specs.Prelude.{nat_eq, MatchBool, is_some}
+use Rattle.std.proofs.Common.{◌≡◌, ℕ, zero, suc, ◌<◌, ◌≤◌, Bool, true, false, List, [], ◌∷◌, ◌++◌, length, take, drop, refl, sym, ap, ◌∙◌, arith, Some, None}
+use Rattle.std.specs.Prelude.{MatchBool, is_some}
 use Rattle.std.specs.Option.{option_map}
-use Rattle.std.specs.List.{starts_with}
-use Rattle.std.specs.Str.{bytes_eq}
-use Rattle.std.specs.Str.Pattern.{FindsText, HasTextAt, LacksTextAt, HasMatch, SplitsAroundMatch}
+use Rattle.std.specs.Str.Pattern.{FindsText, LacksTextAt, HasMatch, SplitsAroundMatch}
 use Rattle.std.specs.Cmp.Lexicographic.{bytes_decides}
 use Rattle.std.proofs.lemmas.List.{take-append-drop}
 use Rattle.rsp_strings.specs.Occurrences.{begins_with, sides}
