@@ -1,10 +1,9 @@
 -- What is written of a number reads as the number again.
-use Rattle.std.proofs.Common.{◌≡◌, ℕ, zero, suc, ◌+◌, ◌-◌, ◌*◌, ◌/◌, ◌%◌, ◌^◌, ◌<◌, ◌≤◌, Bool, true, false, cond, List, [], ◌∷◌, ◌++◌, length, length-append, append_assoc, Option, Some, None, Result, Ok, Err, subst, refl, sym, ap, ◌∙◌, arith, ⊎_elim}
-use Rattle.std.specs.Prelude.{◌≢◌, ◌⊎◌, ◌==◌, ◌&&◌, not, nat_le, ℤ, pos, negsuc, neg_ℤ, int_lt, unsigned_abs, IfOk, if◌then◌else◌}
+use Rattle.std.proofs.Common.{◌≡◌, ℕ, zero, suc, ◌+◌, ◌-◌, ◌*◌, ◌/◌, ◌%◌, ◌^◌, ◌<◌, ◌≤◌, Bool, true, false, cond, List, [], ◌∷◌, ◌++◌, length, length-append, Some, None, Result, Ok, Err, subst, refl, sym, ap, ◌∙◌, arith, ⊎_elim}
+use Rattle.std.specs.Prelude.{◌≢◌, ◌⊎◌, ◌==◌, ◌&&◌, not, nat_le, ℤ, pos, negsuc, unsigned_abs, IfOk, if◌then◌else◌}
 use Rattle.std.specs.Fmt.{decimal}
 use Rattle.std.proofs.lemmas.Bool.Decides.{nat_tests}
 use Rattle.std.proofs.lemmas.Fmt.{decimal_by_steps}
-use Rattle.std.proofs.lemmas.Nat.{div-add-mod'}
 use Rattle.std.proofs.lemmas.List.{append-nil}
 use Rattle.std.proofs.Math.Nat.{div-div-eq-div-mul, div-le_self, pow-suc, mul_comm}
 use Rattle.rsp_number.specs.Decimals.{largest, most_digits, held, signed, is_below_zero, Scaled, IsDecimal, shortest}
@@ -14,10 +13,9 @@ use Rattle.rsp_number.specs.declared.reading.Reading.TheVariants.{Value, NotForm
 use Rattle.rsp_number.specs.declared.number.Number.{Number}
 use Rattle.rsp_number.specs.declared.number.Number.TheVariants as number
 use Rattle.rsp_terms.specs.declared.term.Term.{Term}
-use Rattle.rsp_number.proofs.Shortest.{unsigned_abs-signed}
 use Rattle.rsp_literals.specs.declared.datatypes.WholeType.TheVariants.{Integer}
 use Rattle.rsp_literals.specs.Forms.{reading_map, value_in, whole_number, whole_reading, number_of}
-use Rattle.rsp_literals.specs.Numerals.{sign_text, last_digits, fraction_text, size_text, numeral, numeral_literal}
+use Rattle.rsp_literals.specs.Numerals.{sign_text, last_digits, fraction_text, numeral_literal}
 
 -- ---- digits
 
@@ -27,7 +25,8 @@ number-append n (digit ∷ rest) ys = number-append (n * 10 + (digit - 48)) rest
 
 digits-append : (xs ys : List ℕ) → are_digits xs ≡ true → are_digits ys ≡ true → are_digits (xs ++ ys) ≡ true
 digits-append [] ys first second = second
-digits-append (x ∷ xs) ys first second = both (is_digit x) (are_digits xs) (are_digits (xs ++ ys)) first (λ others. digits-append xs ys others second)
+digits-append (x ∷ xs) ys first second = both (is_digit x) (are_digits xs) (are_digits (xs ++ ys)) first
+    (λ others. digits-append xs ys others second)
   where
     both : (a b c : Bool) → (a && b) ≡ true → (b ≡ true → c ≡ true) → (a && c) ≡ true
     both true b c h f = f h
@@ -64,7 +63,8 @@ length-last_digits (suc count) n =
 last_digits-digits : (count n : ℕ) → are_digits (last_digits count n) ≡ true
 last_digits-digits zero n = refl
 last_digits-digits (suc count) n =
-    digits-append (last_digits count (n / 10)) ((48 + n % 10) ∷ []) (last_digits-digits count (n / 10)) (one_digit (n % 10) (omega arith))
+    digits-append (last_digits count (n / 10)) ((48 + n % 10) ∷ []) (last_digits-digits count (n / 10))
+    (one_digit (n % 10) (omega arith))
 
 -- behind the rest of a number they write it
 last_digits-value : (count n : ℕ) → number_after (n / 10 ^ count) (last_digits count n) ≡ n
@@ -107,7 +107,8 @@ bare body start = record {
   rest = ap unsigned start.is ∙ rw start.unsigned (sym start.is);
 }
 
-signs_by : (n : ℤ) (negative : Bool) (body : List ℕ) → is_below_zero n ≡ negative → Begins body → Signs negative body (sign_text n ++ body)
+signs_by : (n : ℤ) (negative : Bool) (body : List ℕ) → is_below_zero n ≡ negative → Begins body
+    → Signs negative body (sign_text n ++ body)
 signs_by n true body is start = rw is (record { sign = refl; rest = refl })
 signs_by n false body is start = rw is (bare body start)
 
@@ -128,20 +129,24 @@ others false b h = cc
 before-digits : (ds : List ℕ) → are_digits ds ≡ true → before_point ds ≡ ds
 before-digits [] digits = refl
 before-digits (d ∷ ds) digits =
-    rw (no_point d (are_digits ds) digits) (ap (λ xs. d ∷ xs) (before-digits ds (others (is_digit d) (are_digits ds) digits)))
+    rw (no_point d (are_digits ds) digits) (ap (λ xs. d ∷ xs)
+    (before-digits ds (others (is_digit d) (are_digits ds) digits)))
 
 behind-digits : (ds : List ℕ) → are_digits ds ≡ true → behind_point ds ≡ []
 behind-digits [] digits = refl
-behind-digits (d ∷ ds) digits = rw (no_point d (are_digits ds) digits) (behind-digits ds (others (is_digit d) (are_digits ds) digits))
+behind-digits (d ∷ ds) digits = rw (no_point d (are_digits ds) digits)
+    (behind-digits ds (others (is_digit d) (are_digits ds) digits))
 
 before-parts : (ds fs : List ℕ) → are_digits ds ≡ true → before_point (ds ++ (46 ∷ fs)) ≡ ds
 before-parts [] fs digits = refl
 before-parts (d ∷ ds) fs digits =
-    rw (no_point d (are_digits ds) digits) (ap (λ xs. d ∷ xs) (before-parts ds fs (others (is_digit d) (are_digits ds) digits)))
+    rw (no_point d (are_digits ds) digits) (ap (λ xs. d ∷ xs)
+    (before-parts ds fs (others (is_digit d) (are_digits ds) digits)))
 
 behind-parts : (ds fs : List ℕ) → are_digits ds ≡ true → behind_point (ds ++ (46 ∷ fs)) ≡ fs
 behind-parts [] fs digits = refl
-behind-parts (d ∷ ds) fs digits = rw (no_point d (are_digits ds) digits) (behind-parts ds fs (others (is_digit d) (are_digits ds) digits))
+behind-parts (d ∷ ds) fs digits = rw (no_point d (are_digits ds) digits)
+    (behind-parts ds fs (others (is_digit d) (are_digits ds) digits))
 
 -- ---- integers
 
@@ -151,7 +156,8 @@ not_none n some = grind (arith, nat_tests)
 held-is : (n : ℤ) → unsigned_abs n ≤ largest → held n ≡ Some n
 held-is n fits = let within : nat_le (unsigned_abs n) largest ≡ true = grind (arith, nat_tests) in rw within refl
 
-whole_text : (n : ℤ) (text ds : List ℕ) → Writes (unsigned_abs n) ds → Signs (is_below_zero n) ds text → unsigned_abs n ≤ largest
+whole_text : (n : ℤ) (text ds : List ℕ) → Writes (unsigned_abs n) ds → Signs (is_below_zero n) ds text
+    → unsigned_abs n ≤ largest
     → whole_reading Integer text ≡ Value n
 whole_text n text ds writes signs fits =
     let is : whole_number text ≡ n =
@@ -166,12 +172,14 @@ whole_text n text ds writes signs fits =
     ∙ ap (λ z. value_or_beyond (held z)) is
     ∙ ap value_or_beyond (held-is n fits)
 
-pub integer_read_back : (n : ℤ) → unsigned_abs n ≤ largest → number_of (numeral_literal (number.Integer n)) ≡ Some (number.Integer n)
+pub integer_read_back : (n : ℤ) → unsigned_abs n ≤ largest
+    → number_of (numeral_literal (number.Integer n)) ≡ Some (number.Integer n)
 integer_read_back n fits =
     let ds = decimal (unsigned_abs n) in
     let writes = decimal_writes (unsigned_abs n) (omega arith) in
     let start : Begins ds = subst Begins (append-nil ds) (begins ds [] writes.digits writes.some) in
-    ap (λ r. value_in (Some (reading_map number.Integer r))) (whole_text n (sign_text n ++ ds) ds writes (signs n ds start) fits)
+    ap (λ r. value_in (Some (reading_map number.Integer r)))
+    (whole_text n (sign_text n ++ ds) ds writes (signs n ds start) fits)
 
 -- ---- decimals
 
@@ -179,7 +187,8 @@ pub record Parts (ds fs body : List ℕ) : Type 0 where
   pub before : before_point body ≡ ds
   pub behind : behind_point body ≡ fs
 
-parts_of : (scale size : ℕ) (ds : List ℕ) → are_digits ds ≡ true → Parts ds (last_digits scale size) (ds ++ fraction_text scale size)
+parts_of : (scale size : ℕ) (ds : List ℕ) → are_digits ds ≡ true
+    → Parts ds (last_digits scale size) (ds ++ fraction_text scale size)
 parts_of zero size ds digits = record {
   before = ap before_point (append-nil ds) ∙ before-digits ds digits;
   behind = ap behind_point (append-nil ds) ∙ behind-digits ds digits;
@@ -193,16 +202,19 @@ shortest_is : (c : ℤ) (scale : ℕ) → (scale ≡ 0) ⊎ (unsigned_abs c % 10
     → shortest (is_below_zero c) (unsigned_abs c) scale ≡ record { coefficient = c; scale = scale }
 shortest_is c zero ends = ap (λ z. let number : Scaled = record { coefficient = z; scale = 0 } in number) (signed-is c)
 shortest_is c (suc scale) ends =
-    let last : (unsigned_abs c % 10 == 0) ≡ false = ⊎_elim (λ none. absurd (omega arith)) (λ some. not_zero (unsigned_abs c % 10) some) ends in
+    let last : (unsigned_abs c % 10 == 0) ≡ false = ⊎_elim (λ none. absurd (omega arith))
+    (λ some. not_zero (unsigned_abs c % 10) some) ends in
     rw last (ap (λ z. let number : Scaled = record { coefficient = z; scale = suc scale } in number) (signed-is c))
   where
     not_zero : (n : ℕ) → n ≢ 0 → (n == 0) ≡ false
     not_zero n some = grind (arith, nat_tests)
 
-exactly_is : (d : Scaled) → IsDecimal d → exactly (is_below_zero d.coefficient) (unsigned_abs d.coefficient) d.scale ≡ Some d
+exactly_is : (d : Scaled) → IsDecimal d → exactly (is_below_zero d.coefficient) (unsigned_abs d.coefficient) d.scale
+    ≡ Some d
 exactly_is d is =
     let few : nat_le d.scale most_digits ≡ true = let within = is.scale_fits in grind (arith, nat_tests) in
-    let fits : nat_le (unsigned_abs d.coefficient) largest ≡ true = let within = is.coefficient_fits in grind (arith, nat_tests) in
+    let fits : nat_le (unsigned_abs d.coefficient) largest
+    ≡ true = let within = is.coefficient_fits in grind (arith, nat_tests) in
     ap (λ (x : Scaled). cond (nat_le x.scale most_digits && nat_le (unsigned_abs x.coefficient) largest) (Some x) None)
     (shortest_is d.coefficient d.scale is.no_trailing_zero)
     ∙ rw (few, fits) refl
@@ -228,7 +240,8 @@ parts_read d ds is writes =
     ∙ ap (λ n. value_or_beyond (exactly (is_below_zero d.coefficient) size n)) (length-last_digits d.scale size)
     ∙ ap value_or_beyond (exactly_is d is))
 
-pub decimal_read_back : (d : Scaled) → IsDecimal d → number_of (numeral_literal (number.Decimal d)) ≡ Some (number.Decimal d)
+pub decimal_read_back : (d : Scaled) → IsDecimal d
+    → number_of (numeral_literal (number.Decimal d)) ≡ Some (number.Decimal d)
 decimal_read_back d is =
     let size = unsigned_abs d.coefficient in
     let ds = decimal (size / 10 ^ d.scale) in
