@@ -16,6 +16,3 @@ pub use digits::read_u64;
 pub use fronts::{behind_blanks, is_blank, leading_digits};
 pub use instants::instant;
 pub use spans::span;
-
-#[cfg(test)]
-mod tests;
