@@ -12,6 +12,8 @@ mod evaluation;
 #[cfg(test)]
 mod multisets;
 #[cfg(test)]
+mod nquads;
+#[cfg(test)]
 mod numbers;
 #[cfg(test)]
 mod objects;
