@@ -4,3 +4,4 @@ pub mod Trees
 pub mod Building
 pub mod Grammar
 -- Words of the way
+pub mod Readings
