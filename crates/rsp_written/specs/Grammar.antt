@@ -10,7 +10,7 @@ use Rattle.std.specs.Str.Parse.{digits_value}
 use Rattle.rsp_text.specs.Instants.{instant}
 use Rattle.rsp_terms.specs.declared.term.Term.TheVariants as term
 use Rattle.rsp_terms.specs.declared.term.Term.{Term}
-use Rattle.rsp_phrases.specs.Languages.{Language, among, token, mapped, tied, both, second_of, first_of_both, either, optional, many, dotted, distinct, within_itself, seen, listed, never}
+use Rattle.rsp_phrases.specs.Languages.{Language, has, among, token, mapped, tied, both, second_of, first_of_both, either, optional, many, dotted, distinct, within_itself, seen, listed, never}
 use Rattle.rsp_written.specs.declared.said.Keyword.{Keyword}
 use Rattle.rsp_written.specs.declared.said.Keyword.TheVariants as keyword
 use Rattle.rsp_written.specs.declared.said.Symbol.{Symbol}
@@ -335,7 +335,7 @@ value_row zero = mapped (λ close. []) (sign symbol.CloseParen)
 value_row (suc n) = mapped (λ (v : Option Term × List (Option Term)). v.0 ∷ v.1) (both value (value_row n))
 
 abbrev pub name_if_variable : Said → Option (List ℕ)
-name_if_variable said = cond (number_of said.kind == number_of kind.Variable) (Some said.text) None
+name_if_variable said = cond (has (numbers (kind.Variable ∷ [])) (kind_number said)) (Some said.text) None
 
 -- no variable twice
 abbrev pub columns : Rule (List (List ℕ))

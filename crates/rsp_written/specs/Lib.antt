@@ -5,3 +5,5 @@ pub mod Building
 pub mod Grammar
 -- Words of the way
 pub mod Readings
+pub mod TripleReadings
+pub mod GroupReadings
