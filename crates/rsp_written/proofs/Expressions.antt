@@ -1,9 +1,9 @@
 -- Laws of rules: expressions.
-use Rattle.std.proofs.Common.{◌≡◌, ℕ, ◌+◌, Bool, true, false, List, [], ◌∷◌, ◌++◌, ◌&&◌, ◌||◌, not, map, refl, Option, Some, None, is_some}
-use Rattle.rsp_phrases.specs.Languages.{Language, mapped, both, second_of, first_of_both, either, optional, many, within_itself, listed, never}
-use Rattle.rsp_phrases.specs.Readers.{Reader, mapped_read, both_read, second_read, first_read, never_read}
-use Rattle.rsp_phrases.proofs.Membership.{apart, apart_none, covered_by, covered_nil, has_left, where_so}
-use Rattle.rsp_phrases.proofs.Good.{Good, good_mapped, good_never, listed_as, loosened}
+use Rattle.std.proofs.Common.{◌≡◌, ℕ, ◌+◌, true, false, List, [], ◌∷◌, ◌++◌, refl, Option, Some, None, is_some}
+use Rattle.rsp_phrases.specs.Languages.{mapped, both, optional, many, listed, never}
+use Rattle.rsp_phrases.specs.Readers.{Reader, never_read}
+use Rattle.rsp_phrases.proofs.Membership.{apart, apart_none, covered_by, covered_nil, has_left}
+use Rattle.rsp_phrases.proofs.Good.{Good, good_mapped, good_never, listed_as}
 use Rattle.rsp_phrases.proofs.EitherLaws.{good_either, good_optional}
 use Rattle.rsp_phrases.proofs.DepthLaws.{good_many, good_within_itself}
 use Rattle.rsp_phrases.proofs.Drawing.{good_same, closing}
@@ -14,10 +14,10 @@ use Rattle.rsp_written.specs.declared.said.Kind.{Kind}
 use Rattle.rsp_written.specs.declared.said.Kind.TheVariants as kind
 use Rattle.rsp_written.specs.declared.said.Said.{Said}
 use Rattle.rsp_written.specs.Trees.{Expr, variable, iri, constant, bound, count_rows}
-use Rattle.rsp_written.specs.Building.{any_row, all_row, sum_row, product_row, Relation, compared_to, one_of, related, with_sign, call_of, aggregate_of}
-use Rattle.rsp_written.specs.Grammar.{Rule, kind_number, numbers, one, word, sign, in_parens, expressions, another, unary_names, binary_names, free_names, bound_call, unary_call, binary_call, maybe_third, substring_call, if_call, free_call, call_rule, primary, unary_signs, unary, row, product_signs, product_rule, sum_signs, sum_rule, comparisons, comparison, membership, relation, and_signs, and_rule, or_signs, or_rule, expression, maybe_distinct, count_rule, folds, aggregate_rule, aggregate_expression}
+use Rattle.rsp_written.specs.Building.{any_row, all_row, sum_row, product_row, compared_to, one_of, related, with_sign, call_of, aggregate_of}
+use Rattle.rsp_written.specs.Grammar.{Rule, kind_number, numbers, one, word, sign, expressions, another, unary_names, binary_names, free_names, bound_call, unary_call, binary_call, maybe_third, substring_call, if_call, free_call, call_rule, primary, unary_signs, unary, row, product_signs, product_rule, sum_signs, sum_rule, comparisons, membership, relation, and_signs, and_rule, or_signs, or_rule, expression, maybe_distinct, count_rule, folds, aggregate_rule, aggregate_expression}
 use Rattle.rsp_written.specs.Readings.{word_kinds, sign_kinds, suffix_first, another_read, items_read, expressions_read, bound_read, unary_call_read, binary_call_read, substring_read, if_read, free_call_read, call_first, call_read, primary_read, unary_read, row_read, product_read, sum_read, comparison_read, membership_read, relation_first, relation_read, and_read, or_read, expression_read, maybe_distinct_read, count_read, aggregate_first, aggregate_read, aggregate_expression_read}
-use Rattle.rsp_written.proofs.Simple.{G, good_one, good_second_of, good_first_of, good_both, good_behind, good_in_parens, under_one, under_second, under_first, under_in_parens, good_iri, good_variable, unsigned_first, good_unsigned_literal}
+use Rattle.rsp_written.proofs.Simple.{G, good_one, good_second_of, good_both, good_behind, good_in_parens, under_second, under_in_parens, good_iri, good_variable, unsigned_first, good_unsigned_literal}
 
 -- ---- which kinds begin an expression, and by which it goes on
 
@@ -49,7 +49,6 @@ expr_go = or_signs ++ and_go
 
 module _ (q : Rule Expr) (s : Reader Said Expr) (first : List Kind) (h : G q s first expr_go false false)
     (closed : apart (numbers (sign_kinds symbol.CloseParen)) ((numbers first ++ []) ++ []) ≡ true) where
-
   good_another : Good kind_number (another q) (another_read s) (numbers (sign_kinds symbol.Comma)) (numbers expr_go ++ []) false true
   good_another = good_behind (sign_kinds symbol.Comma) h
 
@@ -66,7 +65,7 @@ module _ (q : Rule Expr) (s : Reader Said Expr) (first : List Kind) (h : G q s f
       let none = good_mapped (λ (w : Said). let v : Option (Expr × List Expr) × Said = (None, w) in v) close in
       let part = good_same (closing (both q (many (another q))) (sign symbol.CloseParen) good_items.begun) (good_either none some closed refl) in
       good_second_of (good_one (sign_kinds symbol.OpenParen)) (good_mapped (λ (v : _ × _). listed v.0) part)
-          (apart_none (numbers (sign_kinds symbol.CloseParen) ++ ((numbers first ++ []) ++ [])))
+      (apart_none (numbers (sign_kinds symbol.CloseParen) ++ ((numbers first ++ []) ++ [])))
 
   good_bound : G bound_call bound_read (word_kinds keyword.Bound) [] false true
   unfolding bound_read
@@ -80,20 +79,20 @@ module _ (q : Rule Expr) (s : Reader Said Expr) (first : List Kind) (h : G q s f
   unfolding binary_call_read
   good_binary_call =
       good_mapped (λ (v : Said × (Expr × Expr)). call_of (v.0, v.1.0 ∷ v.1.1 ∷ []))
-          (good_both (good_one binary_names) (good_in_parens (good_both h good_another refl) refl) refl)
+      (good_both (good_one binary_names) (good_in_parens (good_both h good_another refl) refl) refl)
 
   good_substring : G (substring_call q) (substring_read s) (word_kinds keyword.SubStr) [] false true
   unfolding substring_read
   good_substring =
       good_mapped (λ (v : Said × (Expr × (Expr × Option Expr))). call_of (v.0, maybe_third v.1))
-          (good_both (good_one (word_kinds keyword.SubStr))
-              (good_in_parens (good_both h (good_both good_another (good_optional good_another) refl) refl) refl) refl)
+      (good_both (good_one (word_kinds keyword.SubStr))
+      (good_in_parens (good_both h (good_both good_another (good_optional good_another) refl) refl) refl) refl)
 
   good_if : G (if_call q) (if_read s) (word_kinds keyword.If) [] false true
   unfolding if_read
   good_if =
       good_mapped (λ (v : Said × (Expr × (Expr × Expr))). call_of (v.0, v.1.0 ∷ v.1.1.0 ∷ v.1.1.1 ∷ []))
-          (good_both (good_one (word_kinds keyword.If)) (good_in_parens (good_both h (good_both good_another good_another refl) refl) refl) refl)
+      (good_both (good_one (word_kinds keyword.If)) (good_in_parens (good_both h (good_both good_another good_another refl) refl) refl) refl)
 
   good_free_call : G (free_call q) (free_call_read s) free_names [] false true
   unfolding free_call_read
@@ -103,13 +102,13 @@ module _ (q : Rule Expr) (s : Reader Said Expr) (first : List Kind) (h : G q s f
   unfolding call_read
   good_call =
       good_either good_bound (good_either good_unary_call (good_either good_binary_call (good_either good_substring
-          (good_either good_if good_free_call refl refl) refl refl) refl refl) refl refl) refl refl
+      (good_either good_if good_free_call refl refl) refl refl) refl refl) refl refl) refl refl
 
   good_membership : G (membership q) (membership_read s) (word_kinds keyword.Not ++ word_kinds keyword.In) [] false true
   unfolding membership_read
   good_membership =
       good_mapped (λ (v : Option Said × List Expr). one_of (is_some v.0) v.1)
-          (good_both (good_optional (good_one (word_kinds keyword.Not))) (good_second_of (good_one (word_kinds keyword.In)) good_expressions refl) refl)
+      (good_both (good_optional (good_one (word_kinds keyword.Not))) (good_second_of (good_one (word_kinds keyword.In)) good_expressions refl) refl)
 
 -- ---- rows of signs
 
@@ -118,7 +117,7 @@ good_row : (signs : List Kind) (make : Expr × List (Said × Expr) → Expr) {p 
     → Good kind_number (row signs make p) (row_read signs make r) (bp ++ []) ((gp ++ numbers signs) ++ gp) false true
 good_row signs make {bp = bp} {gp = gp} h a =
     let part = listed_as (numbers signs) gp (good_both (good_one signs) h (apart_none bp)) (covered_nil (numbers signs))
-            (covered_by (numbers signs) (numbers signs ++ []) (λ k is. has_left (numbers signs) [] k is)) (covered_nil gp) in
+    (covered_by (numbers signs) (numbers signs ++ []) (λ k is. has_left (numbers signs) [] k is)) (covered_nil gp) in
     good_mapped make (good_both h (good_many part a) a)
 
 -- ---- the levels, without and with aggregates
@@ -128,8 +127,8 @@ good_primary_plain : (e : Rule Expr) (x : Reader Said Expr) (q : Rule Expr) (s :
 unfolding primary_read
 good_primary_plain e x q s he hq =
     good_either he (good_either (good_in_parens hq refl) (good_either (good_call q s plain_first hq refl)
-        (good_either (good_mapped iri good_iri) (good_either (good_mapped variable good_variable)
-            (good_mapped constant good_unsigned_literal) refl refl) refl refl) refl refl) refl refl) refl refl
+    (good_either (good_mapped iri good_iri) (good_either (good_mapped variable good_variable)
+    (good_mapped constant good_unsigned_literal) refl refl) refl refl) refl refl) refl refl) refl refl
 
 good_unary_plain : (e : Rule Expr) (x : Reader Said Expr) (q : Rule Expr) (s : Reader Said Expr) → G e x [] [] false true → G q s plain_first expr_go false false
     → G (unary e q) (unary_read (numbers []) x s) plain_first suffix_first false true
@@ -156,7 +155,7 @@ good_relation_plain e x q s he hq =
     let part = good_sum_plain e x q s he hq in
     let sign_and_sum = good_mapped (λ (v : Said × Expr). compared_to v.0.kind v.1) (good_both (good_one comparisons) part refl) in
     listed_as (numbers plain_first) (numbers relation_go)
-        (good_mapped related (good_both part (good_optional (good_either sign_and_sum (good_membership q s plain_first hq refl) refl refl)) refl)) refl refl refl
+    (good_mapped related (good_both part (good_optional (good_either sign_and_sum (good_membership q s plain_first hq refl) refl refl)) refl)) refl refl refl
 
 good_and_plain : (e : Rule Expr) (x : Reader Said Expr) (q : Rule Expr) (s : Reader Said Expr) → G e x [] [] false true → G q s plain_first expr_go false false
     → G (and_rule e q) (and_read (numbers []) x s) plain_first and_go false true
@@ -175,8 +174,8 @@ good_primary_wide : (e : Rule Expr) (x : Reader Said Expr) (q : Rule Expr) (s : 
 unfolding primary_read
 good_primary_wide e x q s he hq =
     good_either he (good_either (good_in_parens hq refl) (good_either (good_call q s wide_first hq refl)
-        (good_either (good_mapped iri good_iri) (good_either (good_mapped variable good_variable)
-            (good_mapped constant good_unsigned_literal) refl refl) refl refl) refl refl) refl refl) refl refl
+    (good_either (good_mapped iri good_iri) (good_either (good_mapped variable good_variable)
+    (good_mapped constant good_unsigned_literal) refl refl) refl refl) refl refl) refl refl) refl refl
 
 good_unary_wide : (e : Rule Expr) (x : Reader Said Expr) (q : Rule Expr) (s : Reader Said Expr) → G e x aggregate_first [] false true → G q s wide_first expr_go false false
     → G (unary e q) (unary_read (numbers aggregate_first) x s) wide_first suffix_first false true
@@ -203,7 +202,7 @@ good_relation_wide e x q s he hq =
     let part = good_sum_wide e x q s he hq in
     let sign_and_sum = good_mapped (λ (v : Said × Expr). compared_to v.0.kind v.1) (good_both (good_one comparisons) part refl) in
     listed_as (numbers wide_first) (numbers relation_go)
-        (good_mapped related (good_both part (good_optional (good_either sign_and_sum (good_membership q s wide_first hq refl) refl refl)) refl)) refl refl refl
+    (good_mapped related (good_both part (good_optional (good_either sign_and_sum (good_membership q s wide_first hq refl) refl refl)) refl)) refl refl refl
 
 good_and_wide : (e : Rule Expr) (x : Reader Said Expr) (q : Rule Expr) (s : Reader Said Expr) → G e x aggregate_first [] false true → G q s wide_first expr_go false false
     → G (and_rule e q) (and_read (numbers aggregate_first) x s) wide_first and_go false true
@@ -222,8 +221,8 @@ good_or_wide e x q s he hq =
 under_expressions : {n : ℕ} {q q' : Rule Expr} → Under n q q' → Under (n + 1) (expressions q) (expressions q')
 under_expressions {n = n} h =
     under_second (sign_kinds symbol.OpenParen) (under_mapped (λ (v : _ × _). listed v.0)
-        (under_tied (under_optional (under_tied h (λ v. under_many (under_mapped (λ (w : _ × _). w.1)
-            (under_tied (under_same n (sign symbol.Comma)) (λ w. h)))))) (λ v. under_same n (sign symbol.CloseParen))))
+    (under_tied (under_optional (under_tied h (λ v. under_many (under_mapped (λ (w : _ × _). w.1)
+    (under_tied (under_same n (sign symbol.Comma)) (λ w. h)))))) (λ v. under_same n (sign symbol.CloseParen))))
 
 under_another : {n : ℕ} {q q' : Rule Expr} → Under n q q' → Under n (another q) (another q')
 under_another {n = n} h = under_mapped (λ (v : _ × _). v.1) (under_tied (under_same n (sign symbol.Comma)) (λ v. h))
@@ -235,14 +234,14 @@ under_named {n = n} f names h = under_mapped f (under_tied (under_same n (one na
 pub under_call : {n : ℕ} {q q' : Rule Expr} → Under n q q' → Under (n + 1) (call_rule q) (call_rule q')
 under_call {n = n} h =
     under_either (under_same (n + 1) bound_call)
-        (under_either (under_named (λ (v : Said × Expr). call_of (v.0, v.1 ∷ [])) unary_names (under_in_parens h))
-        (under_either (under_named (λ (v : Said × (Expr × Expr)). call_of (v.0, v.1.0 ∷ v.1.1 ∷ [])) binary_names
-            (under_in_parens (under_tied h (λ v. under_another h))))
-        (under_either (under_named (λ (v : Said × (Expr × (Expr × Option Expr))). call_of (v.0, maybe_third v.1)) (word_kinds keyword.SubStr)
-            (under_in_parens (under_tied h (λ v. under_tied (under_another h) (λ w. under_optional (under_another h))))))
-        (under_either (under_named (λ (v : Said × (Expr × (Expr × Expr))). call_of (v.0, v.1.0 ∷ v.1.1.0 ∷ v.1.1.1 ∷ [])) (word_kinds keyword.If)
-            (under_in_parens (under_tied h (λ v. under_tied (under_another h) (λ w. under_another h)))))
-        (under_named call_of free_names (under_expressions h))))))
+    (under_either (under_named (λ (v : Said × Expr). call_of (v.0, v.1 ∷ [])) unary_names (under_in_parens h))
+    (under_either (under_named (λ (v : Said × (Expr × Expr)). call_of (v.0, v.1.0 ∷ v.1.1 ∷ [])) binary_names
+    (under_in_parens (under_tied h (λ v. under_another h))))
+    (under_either (under_named (λ (v : Said × (Expr × (Expr × Option Expr))). call_of (v.0, maybe_third v.1)) (word_kinds keyword.SubStr)
+    (under_in_parens (under_tied h (λ v. under_tied (under_another h) (λ w. under_optional (under_another h))))))
+    (under_either (under_named (λ (v : Said × (Expr × (Expr × Expr))). call_of (v.0, v.1.0 ∷ v.1.1.0 ∷ v.1.1.1 ∷ [])) (word_kinds keyword.If)
+    (under_in_parens (under_tied h (λ v. under_tied (under_another h) (λ w. under_another h)))))
+    (under_named call_of free_names (under_expressions h))))))
 
 under_row : {n : ℕ} (signs : List Kind) (make : Expr × List (Said × Expr) → Expr) {p p' : Rule Expr} → Under n p p'
     → Under n (row signs make p) (row signs make p')
@@ -255,21 +254,21 @@ under_primary {n = n} e h =
 under_sum : {n : ℕ} (e : Rule Expr) {q q' : Rule Expr} → Under n q q' → Under (n + 1) (sum_rule e q) (sum_rule e q')
 under_sum {n = n} e h =
     under_row sum_signs sum_row (under_row product_signs product_row
-        (under_mapped with_sign (under_tied (under_same (n + 1) (optional (one unary_signs))) (λ v. under_primary e h))))
+    (under_mapped with_sign (under_tied (under_same (n + 1) (optional (one unary_signs))) (λ v. under_primary e h))))
 
 under_membership : {n : ℕ} {q q' : Rule Expr} → Under n q q' → Under (n + 1) (membership q) (membership q')
 under_membership {n = n} h =
     under_mapped (λ (v : Option Said × List Expr). one_of (is_some v.0) v.1)
-        (under_tied (under_same (n + 1) (optional (word keyword.Not)))
-            (λ v. under_mapped (λ (w : _ × _). w.1) (under_tied (under_same (n + 1) (word keyword.In)) (λ w. under_expressions h))))
+    (under_tied (under_same (n + 1) (optional (word keyword.Not)))
+    (λ v. under_mapped (λ (w : _ × _). w.1) (under_tied (under_same (n + 1) (word keyword.In)) (λ w. under_expressions h))))
 
 under_or : (e : Rule Expr) (n : ℕ) (q q' : Rule Expr) → Under n q q' → Under (n + 1) (or_rule e q) (or_rule e q')
 under_or e n q q' h =
     under_row or_signs any_row (under_row and_signs all_row
-        (under_mapped related (under_tied (under_sum e h)
-            (λ v. under_optional (under_either
-                (under_mapped (λ (w : Said × Expr). compared_to w.0.kind w.1) (under_tied (under_same (n + 1) (one comparisons)) (λ w. under_sum e h)))
-                (under_membership h))))))
+    (under_mapped related (under_tied (under_sum e h)
+    (λ v. under_optional (under_either
+    (under_mapped (λ (w : Said × Expr). compared_to w.0.kind w.1) (under_tied (under_same (n + 1) (one comparisons)) (λ w. under_sum e h)))
+    (under_membership h))))))
 
 -- ---- expressions
 
@@ -288,16 +287,16 @@ good_count : G count_rule count_read (word_kinds keyword.Count) [] false true
 unfolding count_read
 good_count =
     good_second_of (good_one (word_kinds keyword.Count))
-        (good_in_parens
-            (good_either (good_mapped (λ star. count_rows) (good_one (sign_kinds symbol.Star)))
-                (good_mapped (aggregate_of (kind.Word keyword.Count)) good_maybe_distinct) refl refl) refl) refl
+    (good_in_parens
+    (good_either (good_mapped (λ star. count_rows) (good_one (sign_kinds symbol.Star)))
+    (good_mapped (aggregate_of (kind.Word keyword.Count)) good_maybe_distinct) refl refl) refl) refl
 
 pub good_aggregate : G aggregate_rule aggregate_read aggregate_first [] false true
 unfolding aggregate_read
 good_aggregate =
     good_either good_count
-        (good_mapped (λ (v : Said × (Option Said × Expr)). aggregate_of v.0.kind v.1)
-            (good_both (good_one folds) (good_in_parens good_maybe_distinct refl) refl)) refl refl
+    (good_mapped (λ (v : Said × (Option Said × Expr)). aggregate_of v.0.kind v.1)
+    (good_both (good_one folds) (good_in_parens good_maybe_distinct refl) refl)) refl refl
 
 pub good_aggregate_expression : G aggregate_expression aggregate_expression_read wide_first expr_go false true
 unfolding aggregate_expression_read

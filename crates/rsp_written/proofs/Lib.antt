@@ -1,3 +1,4 @@
 pub mod Simple
 pub mod Expressions
 pub mod Triples
+pub mod Groups

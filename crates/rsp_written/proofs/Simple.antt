@@ -1,23 +1,20 @@
 -- Laws of rules: one token, brackets, literals.
-use Rattle.std.proofs.Common.{◌≡◌, ℕ, ◌+◌, Bool, true, false, List, [], ◌∷◌, ◌++◌, ◌&&◌, ◌||◌, not, refl, Option, Some, None}
-use Rattle.rsp_phrases.specs.Languages.{Language, mapped, both, second_of, first_of_both, either, optional, many}
-use Rattle.rsp_phrases.specs.Readers.{Reader, mapped_read, both_read, second_read, first_read}
+use Rattle.std.proofs.Common.{◌≡◌, ℕ, ◌+◌, Bool, true, false, List, [], ◌∷◌, ◌++◌, ◌&&◌, ◌||◌, not, refl}
+use Rattle.rsp_phrases.specs.Languages.{Language, both, second_of, first_of_both}
+use Rattle.rsp_phrases.specs.Readers.{Reader, both_read, second_read, first_read}
 use Rattle.rsp_phrases.proofs.Membership.{apart, apart_none, where_so}
-use Rattle.rsp_phrases.proofs.Good.{Good, good_among, good_mapped, listed_as, loosened}
+use Rattle.rsp_phrases.proofs.Good.{Good, good_among, good_mapped}
 use Rattle.rsp_phrases.proofs.TiedLaws.{good_tied}
 use Rattle.rsp_phrases.proofs.EitherLaws.{good_either, good_optional}
 use Rattle.rsp_phrases.proofs.Under.{Under, under_same, under_mapped, under_tied, under_behind}
-use Rattle.rsp_terms.specs.declared.term.Term.{Term}
-use Rattle.rsp_written.specs.declared.said.Keyword.{Keyword}
 use Rattle.rsp_written.specs.declared.said.Keyword.TheVariants as keyword
-use Rattle.rsp_written.specs.declared.said.Symbol.{Symbol}
 use Rattle.rsp_written.specs.declared.said.Symbol.TheVariants as symbol
 use Rattle.rsp_written.specs.declared.said.Kind.{Kind}
 use Rattle.rsp_written.specs.declared.said.Kind.TheVariants as kind
 use Rattle.rsp_written.specs.declared.said.Said.{Said}
-use Rattle.rsp_written.specs.Grammar.{Rule, kind_number, numbers, one, word, sign, text_of, in_parens, in_braces, iri_name, variable_name, suffix, string_literal, number_kinds, unsigned_number, signed_number, boolean, literal, unsigned_literal}
+use Rattle.rsp_written.specs.Grammar.{Rule, kind_number, numbers, one, sign, text_of, in_parens, iri_name, variable_name, suffix, string_literal, number_kinds, signed_number, boolean, literal, unsigned_literal}
 use Rattle.rsp_written.specs.Building.{in_language, of_datatype, string_term, number_term, signed_term, boolean_term}
-use Rattle.rsp_written.specs.Readings.{one_read, word_read, sign_read, in_parens_read, word_kinds, sign_kinds, iri_read, variable_read, suffix_first, suffix_read, string_literal_read, boolean_read, signed_first, signed_number_read, literal_read, unsigned_literal_read}
+use Rattle.rsp_written.specs.Readings.{one_read, in_parens_read, word_kinds, sign_kinds, iri_read, variable_read, suffix_first, suffix_read, string_literal_read, boolean_read, signed_first, signed_number_read, literal_read, unsigned_literal_read}
 
 -- a rule and its reader, the kinds that may begin it and by which it may go on, whether it may be empty, and whether
 -- each of those kinds really begins it
@@ -86,7 +83,7 @@ good_suffix : G suffix suffix_read suffix_first [] false true
 unfolding suffix_read
 good_suffix =
     good_either (good_mapped (λ tag. in_language tag.text) (good_one (kind.Tag ∷ [])))
-        (good_second_of (good_one (sign_kinds symbol.Carets)) (good_mapped of_datatype good_iri) refl) refl refl
+    (good_second_of (good_one (sign_kinds symbol.Carets)) (good_mapped of_datatype good_iri) refl) refl refl
 
 good_string_literal : G string_literal string_literal_read (kind.String ∷ []) suffix_first false true
 unfolding string_literal_read
@@ -96,7 +93,7 @@ good_boolean : G boolean boolean_read (kind.Word keyword.True ∷ kind.Word keyw
 unfolding boolean_read
 good_boolean =
     good_either (good_mapped (λ w. boolean_term _) (good_one (word_kinds keyword.True)))
-        (good_mapped (λ w. boolean_term _) (good_one (word_kinds keyword.False))) refl refl
+    (good_mapped (λ w. boolean_term _) (good_one (word_kinds keyword.False))) refl refl
 
 good_signed_number : G signed_number signed_number_read signed_first [] false true
 unfolding signed_number_read

@@ -6,7 +6,7 @@ use Rattle.rsp_terms.specs.Terms.{xsd_string}
 use Rattle.rsp_written.specs.declared.said.Kind.{Kind}
 use Rattle.rsp_written.specs.declared.said.Kind.TheVariants as kind
 use Rattle.rsp_written.specs.declared.said.Said.{Said}
-use Rattle.rsp_written.specs.Trees.{Expr, Exprs, Operands, any_of, all_of, compared, member, sum, product, signed, bound, call, aggregate, no_expr, expr_then, no_operand, operand_then, Way, Ways, step, inverse, sequence, choice, no_way, way_then, Verb, Node, Nodes, Properties, no_node, node_then, no_property, property_then, described, Element, Elements, Groups, no_element, element_then, no_group, group_then, triples, Item, Projection, sub_select, selected, Policy, no_policy, Window, Written}
+use Rattle.rsp_written.specs.Trees.{Expr, Exprs, Operands, any_of, all_of, compared, member, sum, product, signed, call, aggregate, no_expr, expr_then, no_operand, operand_then, Way, Ways, inverse, sequence, choice, no_way, way_then, Verb, Node, Nodes, Properties, no_node, node_then, no_property, property_then, Element, Elements, Groups, no_element, element_then, no_group, group_then, triples, Item, Projection, sub_select, selected, Policy, no_policy, Window, Written}
 
 -- ---- literals
 
@@ -166,12 +166,12 @@ policy_or_none (Some policy) = policy
 
 abbrev pub written_of : (Said × (List ℕ × Option Policy)) × ((Option Said × Projection) × (List Window × (List Element × (Option (List Item) × Option Expr)))) → Written
 written_of v = record {
-    operator = v.0.0.kind;
-    output = v.0.1.0;
-    policy = policy_or_none v.0.1.1;
-    windows = v.1.1.0;
-    select = selected (is_some v.1.0.0) v.1.0.1 (elements_in v.1.1.1.0) (keys_or_none v.1.1.1.1.0) v.1.1.1.1.1;
-  }
+  operator = v.0.0.kind;
+  output = v.0.1.0;
+  policy = policy_or_none v.0.1.1;
+  windows = v.1.1.0;
+  select = selected (is_some v.1.0.0) v.1.0.1 (elements_in v.1.1.1.0) (keys_or_none v.1.1.1.1.0) v.1.1.1.1.1;
+}
 
 -- the later one, where it is there
 abbrev pub later : {A : Type 0} → Option A → Option A → Option A

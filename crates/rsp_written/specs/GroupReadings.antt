@@ -1,7 +1,7 @@
 -- Words of the way: readings of groups, selects and the query.
-use Rattle.std.specs.Prelude.{◌≡◌, ℕ, zero, suc, ◌-◌, Bool, List, [], ◌∷◌, ◌++◌, map, length, drop, Option, None, Some, Result, Ok, Err, is_some}
+use Rattle.std.specs.Prelude.{ℕ, List, [], ◌∷◌, ◌++◌, Option, None, Some, is_some}
 use Rattle.std.specs.List.{flat_map}
-use Rattle.rsp_phrases.specs.Readers.{Reader, Reading, token_read, mapped_read, tied_read, both_read, second_read, first_read, within_itself_read, seen_read}
+use Rattle.rsp_phrases.specs.Readers.{Reader, token_read, mapped_read, tied_read, both_read, second_read, first_read, within_itself_read, seen_read}
 use Rattle.rsp_written.specs.declared.said.Keyword.TheVariants as keyword
 use Rattle.rsp_written.specs.declared.said.Symbol.TheVariants as symbol
 use Rattle.rsp_written.specs.declared.said.Kind.{Kind}
@@ -25,7 +25,7 @@ minus_rule_read s = mapped_read (λ g. minus_group (elements_in g)) (second_read
 unfoldable pub union_rule_read : Reader Said (List Element) → Reader Said Element
 union_rule_read s =
     mapped_read (λ (v : List Element × List (List Element)). union_of (groups_in (v.0 ∷ v.1)))
-        (both_read (group_of_read s) (repeated_read (word_kinds keyword.Union) (second_read (word_read keyword.Union) (group_of_read s))))
+    (both_read (group_of_read s) (repeated_read (word_kinds keyword.Union) (second_read (word_read keyword.Union) (group_of_read s))))
 
 unfoldable pub graph_name_read : Reader Said Graph
 graph_name_read = choice_read (kind.Variable ∷ []) (mapped_read graph_variable variable_read) (mapped_read graph_iri iri_read)
@@ -33,23 +33,23 @@ graph_name_read = choice_read (kind.Variable ∷ []) (mapped_read graph_variable
 unfoldable pub graph_rule_read : Reader Said (List Element) → Reader Said Element
 graph_rule_read s =
     mapped_read (λ (v : Said × (Graph × List Element)). graph_group v.1.0 v.0.at (elements_in v.1.1))
-        (both_read (word_read keyword.Graph) (both_read graph_name_read (group_of_read s)))
+    (both_read (word_read keyword.Graph) (both_read graph_name_read (group_of_read s)))
 
 unfoldable pub window_rule_read : Reader Said (List Element) → Reader Said Element
 window_rule_read s =
     mapped_read (λ (v : Said × (List ℕ × List Element)). window_group v.1.0 v.0.at (elements_in v.1.1))
-        (both_read (word_read keyword.Window) (both_read iri_read (group_of_read s)))
+    (both_read (word_read keyword.Window) (both_read iri_read (group_of_read s)))
 
 unfoldable pub exists_rule_read : Reader Said (List Element) → Reader Said Element
 exists_rule_read s =
     mapped_read (λ (v : Option Said × (Said × List Element)). exists (is_some v.0) v.1.0.at (elements_in v.1.1))
-        (both_read (maybe_read (word_kinds keyword.Not) (word_read keyword.Not)) (both_read (word_read keyword.Exists) (group_of_read s)))
+    (both_read (maybe_read (word_kinds keyword.Not) (word_read keyword.Not)) (both_read (word_read keyword.Exists) (group_of_read s)))
 
 unfoldable pub filter_rule_read : Reader Said (List Element) → Reader Said Element
 filter_rule_read s =
     second_read (word_read keyword.Filter)
-        (choice_read (sign_kinds symbol.OpenParen) (mapped_read filter (in_parens_read expression_read))
-            (choice_read call_first (mapped_read filter (call_read expression_read)) (exists_rule_read s)))
+    (choice_read (sign_kinds symbol.OpenParen) (mapped_read filter (in_parens_read expression_read))
+    (choice_read call_first (mapped_read filter (call_read expression_read)) (exists_rule_read s)))
 
 unfoldable pub as_variable_read : Reader Said Expr → Reader Said (Expr × List ℕ)
 as_variable_read r = in_parens_read (both_read r (second_read (word_read keyword.As) variable_read))
@@ -63,14 +63,14 @@ values_rule_read = second_read (word_read keyword.Values) block_read
 unfoldable pub other_read : Reader Said (List Element) → Reader Said Element
 other_read s =
     choice_read (word_kinds keyword.Optional) (optional_rule_read s) (choice_read (word_kinds keyword.Minus) (minus_rule_read s)
-        (choice_read (sign_kinds symbol.OpenBrace) (union_rule_read s) (choice_read (word_kinds keyword.Graph) (graph_rule_read s)
-            (choice_read (word_kinds keyword.Window) (window_rule_read s) (choice_read (word_kinds keyword.Filter) (filter_rule_read s)
-                (choice_read (word_kinds keyword.Bind) bind_rule_read values_rule_read))))))
+    (choice_read (sign_kinds symbol.OpenBrace) (union_rule_read s) (choice_read (word_kinds keyword.Graph) (graph_rule_read s)
+    (choice_read (word_kinds keyword.Window) (window_rule_read s) (choice_read (word_kinds keyword.Filter) (filter_rule_read s)
+    (choice_read (word_kinds keyword.Bind) bind_rule_read values_rule_read))))))
 
 abbrev pub other_first : List Kind
 other_first =
     kind.Word keyword.Optional ∷ kind.Word keyword.Minus ∷ kind.Symbol symbol.OpenBrace ∷ kind.Word keyword.Graph ∷ kind.Word keyword.Window
-        ∷ kind.Word keyword.Filter ∷ kind.Word keyword.Bind ∷ kind.Word keyword.Values ∷ []
+    ∷ kind.Word keyword.Filter ∷ kind.Word keyword.Bind ∷ kind.Word keyword.Values ∷ []
 
 abbrev pub item_first : List Kind
 item_first = kind.Variable ∷ sign_kinds symbol.OpenParen
@@ -108,12 +108,12 @@ sub_select_read s = mapped_read sub_select_of (both_read select_clause_read (bot
 unfoldable pub piece_read : Reader Said (List Element) → Reader Said (List Element)
 piece_read s =
     mapped_read (λ (v : Element × (Option Said × Option (List (Node × Properties)))). v.0 ∷ run v.1.1)
-        (both_read (other_read s) (both_read (maybe_read (sign_kinds symbol.Dot) (sign_read symbol.Dot)) (maybe_read same_first triples_read)))
+    (both_read (other_read s) (both_read (maybe_read (sign_kinds symbol.Dot) (sign_read symbol.Dot)) (maybe_read same_first triples_read)))
 
 unfoldable pub body_read : Reader Said (List Element) → Reader Said (List Element)
 body_read s =
     mapped_read (λ (v : Option (List (Node × Properties)) × List (List Element)). run v.0 ++ flat_map (λ found. found) v.1)
-        (both_read (maybe_read same_first triples_read) (repeated_read other_first (piece_read s)))
+    (both_read (maybe_read same_first triples_read) (repeated_read other_first (piece_read s)))
 
 unfoldable pub group_rule_read : Reader Said (List Element) → Reader Said (List Element)
 group_rule_read s = first_read (choice_read (word_kinds keyword.Select) (sub_select_read s) (body_read s)) (sign_read symbol.CloseBrace)
@@ -132,15 +132,15 @@ origin_read = token_read (λ said. origin_of_kind said.kind said.text)
 unfoldable pub window_size_read : Reader Said (List ℕ × (Option (List ℕ) × Option ℕ))
 window_size_read =
     second_read (sign_read symbol.OpenBracket) (first_read
-        (second_read (word_read keyword.Range) (both_read span_read
-            (both_read (maybe_read (word_kinds keyword.Step) (second_read (word_read keyword.Step) span_read))
-                (maybe_read (word_kinds keyword.Start) (second_read (word_read keyword.Start) origin_read)))))
-        (sign_read symbol.CloseBracket))
+    (second_read (word_read keyword.Range) (both_read span_read
+    (both_read (maybe_read (word_kinds keyword.Step) (second_read (word_read keyword.Step) span_read))
+    (maybe_read (word_kinds keyword.Start) (second_read (word_read keyword.Start) origin_read)))))
+    (sign_read symbol.CloseBracket))
 
 unfoldable pub window_read : Reader Said Window
 window_read =
     mapped_read window_of (both_read (word_read keyword.From) (second_read (word_read keyword.Named) (second_read (word_read keyword.Window)
-        (both_read iri_read (second_read (word_read keyword.On) (both_read iri_read window_size_read))))))
+    (both_read iri_read (second_read (word_read keyword.On) (both_read iri_read window_size_read))))))
 
 abbrev pub strategy_of : Said → Strategy
 strategy_of said = record { kind = said.kind; period = None }
@@ -151,19 +151,19 @@ every_strategy text = record { kind = kind.Word keyword.Every; period = Some tex
 unfoldable pub strategy_read : Reader Said Strategy
 strategy_read =
     choice_read plain_strategies (mapped_read strategy_of (one_read plain_strategies))
-        (mapped_read every_strategy (second_read (word_read keyword.Every) span_read))
+    (mapped_read every_strategy (second_read (word_read keyword.Every) span_read))
 
 unfoldable pub reported_read : Reader Said Policy
 reported_read =
     mapped_read (λ (v : (Strategy × List Strategy) × Said). reporting (v.0.0 ∷ v.0.1) v.1.kind)
-        (second_read (word_read keyword.Report)
-            (both_read (both_read strategy_read (repeated_read (word_kinds keyword.And) (second_read (word_read keyword.And) strategy_read)))
-                (second_read (word_read keyword.Tick) (one_read ticks))))
+    (second_read (word_read keyword.Report)
+    (both_read (both_read strategy_read (repeated_read (word_kinds keyword.And) (second_read (word_read keyword.And) strategy_read)))
+    (second_read (word_read keyword.Tick) (one_read ticks))))
 
 unfoldable pub policy_read : Reader Said Policy
 policy_read =
     choice_read (word_kinds keyword.Under) (mapped_read (λ said. profile said.kind) (second_read (word_read keyword.Under) (one_read profiles)))
-        reported_read
+    reported_read
 
 abbrev pub policy_first : List Kind
 policy_first = word_kinds keyword.Under ++ word_kinds keyword.Report
@@ -171,7 +171,7 @@ policy_first = word_kinds keyword.Under ++ word_kinds keyword.Report
 unfoldable pub registered_read : Reader Said (Said × (List ℕ × Option Policy))
 registered_read =
     second_read (word_read keyword.Register)
-        (both_read (one_read operators) (both_read iri_read (first_read (maybe_read policy_first policy_read) (word_read keyword.As))))
+    (both_read (one_read operators) (both_read iri_read (first_read (maybe_read policy_first policy_read) (word_read keyword.As))))
 
 unfoldable pub windows_read : Reader Said (List Window)
 windows_read = mapped_read (λ (v : Window × List Window). v.0 ∷ v.1) (both_read window_read (repeated_read (word_kinds keyword.From) window_read))
@@ -179,7 +179,7 @@ windows_read = mapped_read (λ (v : Window × List Window). v.0 ∷ v.1) (both_r
 unfoldable pub query_body_read : Reader Said Written
 query_body_read =
     mapped_read written_of (both_read registered_read (both_read select_clause_read (both_read windows_read
-        (both_read (second_read maybe_where_read group_read) tail_read))))
+    (both_read (second_read maybe_where_read group_read) tail_read))))
 
 unfoldable pub prefix_read : Reader Said (List ℕ × List ℕ)
 prefix_read = second_read (word_read keyword.Prefix) (both_read (token_read (λ said. prefix_of_kind said.kind said)) iri_read)
@@ -187,4 +187,4 @@ prefix_read = second_read (word_read keyword.Prefix) (both_read (token_read (λ 
 unfoldable pub query_read : Reader Said Written
 query_read =
     mapped_read (λ (v : List (List ℕ × List ℕ) × Written). v.1)
-        (tied_read (repeated_read (word_kinds keyword.Prefix) prefix_read) (λ prefixes. seen_read (resolved prefixes) query_body_read))
+    (tied_read (repeated_read (word_kinds keyword.Prefix) prefix_read) (λ prefixes. seen_read (resolved prefixes) query_body_read))

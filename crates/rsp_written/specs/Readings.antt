@@ -1,9 +1,8 @@
 -- Words of the way: for each rule the function on rows of tokens that reads it. The readers' code is proved against these.
-use Rattle.std.specs.Prelude.{◌≡◌, ℕ, zero, suc, Bool, true, false, List, [], ◌∷◌, ◌++◌, cond, map, length, Option, None, Some, Result, Ok, Err, is_some, codes}
+use Rattle.std.specs.Prelude.{ℕ, List, [], ◌∷◌, ◌++◌, Option, is_some, codes}
 use Rattle.rsp_terms.specs.declared.term.Term.{Term}
-use Rattle.rsp_terms.specs.declared.term.Term.TheVariants as term
 use Rattle.rsp_phrases.specs.Languages.{listed}
-use Rattle.rsp_phrases.specs.Readers.{Reader, Reading, among_read, token_read, mapped_read, tied_read, both_read, second_read, first_read, either_read, optional_read, many_read, dotted_read, distinct_read, within_itself_read, never_read, closed_read}
+use Rattle.rsp_phrases.specs.Readers.{Reader, among_read, mapped_read, both_read, second_read, first_read, either_read, optional_read, many_read, within_itself_read, never_read, closed_read}
 use Rattle.rsp_written.specs.declared.said.Keyword.{Keyword}
 use Rattle.rsp_written.specs.declared.said.Keyword.TheVariants as keyword
 use Rattle.rsp_written.specs.declared.said.Symbol.{Symbol}
@@ -11,7 +10,6 @@ use Rattle.rsp_written.specs.declared.said.Symbol.TheVariants as symbol
 use Rattle.rsp_written.specs.declared.said.Kind.{Kind}
 use Rattle.rsp_written.specs.declared.said.Kind.TheVariants as kind
 use Rattle.rsp_written.specs.declared.said.Said.{Said}
-use Rattle.rsp_written.specs.Kinds.{number_of}
 use Rattle.rsp_written.specs.Trees.{Expr, variable, iri, constant, bound, count_rows}
 use Rattle.rsp_written.specs.Building.{Suffix, in_language, of_datatype, string_term, number_term, signed_term, boolean_term, any_row, all_row, sum_row, product_row, Relation, compared_to, one_of, related, with_sign, call_of, aggregate_of}
 use Rattle.rsp_written.specs.Grammar.{kind_number, numbers, text_of, number_kinds, unary_names, binary_names, free_names, maybe_third, unary_signs, product_signs, sum_signs, comparisons, and_signs, or_signs, folds}
@@ -56,7 +54,7 @@ suffix_first = kind.Tag ∷ kind.Symbol symbol.Carets ∷ []
 unfoldable pub suffix_read : Reader Said Suffix
 suffix_read =
     choice_read (kind.Tag ∷ []) (mapped_read (λ tag. in_language tag.text) (one_read (kind.Tag ∷ [])))
-        (second_read (sign_read symbol.Carets) (mapped_read of_datatype iri_read))
+    (second_read (sign_read symbol.Carets) (mapped_read of_datatype iri_read))
 
 unfoldable pub string_literal_read : Reader Said Term
 string_literal_read = mapped_read string_term (both_read (one_read (kind.String ∷ [])) (maybe_read suffix_first suffix_read))
@@ -64,7 +62,7 @@ string_literal_read = mapped_read string_term (both_read (one_read (kind.String 
 unfoldable pub boolean_read : Reader Said Term
 boolean_read =
     choice_read (word_kinds keyword.True) (mapped_read (λ w. boolean_term (codes "true")) (word_read keyword.True))
-        (mapped_read (λ w. boolean_term (codes "false")) (word_read keyword.False))
+    (mapped_read (λ w. boolean_term (codes "false")) (word_read keyword.False))
 
 abbrev pub signed_first : List Kind
 signed_first = kind.Symbol symbol.Minus ∷ number_kinds
@@ -91,8 +89,8 @@ items_read s = both_read s (repeated_read (sign_kinds symbol.Comma) (another_rea
 unfoldable pub expressions_read : Reader Said Expr → Reader Said (List Expr)
 expressions_read s =
     second_read (sign_read symbol.OpenParen)
-        (mapped_read (λ (v : _ × _). listed v.0)
-            (closed_read kind_number (numbers (sign_kinds symbol.CloseParen)) (sign_read symbol.CloseParen) (items_read s)))
+    (mapped_read (λ (v : _ × _). listed v.0)
+    (closed_read kind_number (numbers (sign_kinds symbol.CloseParen)) (sign_read symbol.CloseParen) (items_read s)))
 
 unfoldable pub bound_read : Reader Said Expr
 bound_read = mapped_read bound (second_read (word_read keyword.Bound) (in_parens_read variable_read))
@@ -103,18 +101,18 @@ unary_call_read s = mapped_read (λ (v : _ × _). call_of (v.0, v.1 ∷ [])) (bo
 unfoldable pub binary_call_read : Reader Said Expr → Reader Said Expr
 binary_call_read s =
     mapped_read (λ (v : Said × (Expr × Expr)). call_of (v.0, v.1.0 ∷ v.1.1 ∷ []))
-        (both_read (one_read binary_names) (in_parens_read (both_read s (another_read s))))
+    (both_read (one_read binary_names) (in_parens_read (both_read s (another_read s))))
 
 unfoldable pub substring_read : Reader Said Expr → Reader Said Expr
 substring_read s =
     mapped_read (λ (v : Said × (Expr × (Expr × Option Expr))). call_of (v.0, maybe_third v.1))
-        (both_read (word_read keyword.SubStr)
-            (in_parens_read (both_read s (both_read (another_read s) (maybe_read (sign_kinds symbol.Comma) (another_read s))))))
+    (both_read (word_read keyword.SubStr)
+    (in_parens_read (both_read s (both_read (another_read s) (maybe_read (sign_kinds symbol.Comma) (another_read s))))))
 
 unfoldable pub if_read : Reader Said Expr → Reader Said Expr
 if_read s =
     mapped_read (λ (v : Said × (Expr × (Expr × Expr))). call_of (v.0, v.1.0 ∷ v.1.1.0 ∷ v.1.1.1 ∷ []))
-        (both_read (word_read keyword.If) (in_parens_read (both_read s (both_read (another_read s) (another_read s)))))
+    (both_read (word_read keyword.If) (in_parens_read (both_read s (both_read (another_read s) (another_read s)))))
 
 unfoldable pub free_call_read : Reader Said Expr → Reader Said Expr
 free_call_read s = mapped_read call_of (both_read (one_read free_names) (expressions_read s))
@@ -125,14 +123,14 @@ call_first = word_kinds keyword.Bound ++ (unary_names ++ (binary_names ++ (word_
 unfoldable pub call_read : Reader Said Expr → Reader Said Expr
 call_read s =
     choice_read (word_kinds keyword.Bound) bound_read (choice_read unary_names (unary_call_read s) (choice_read binary_names (binary_call_read s)
-        (choice_read (word_kinds keyword.SubStr) (substring_read s) (choice_read (word_kinds keyword.If) (if_read s) (free_call_read s)))))
+    (choice_read (word_kinds keyword.SubStr) (substring_read s) (choice_read (word_kinds keyword.If) (if_read s) (free_call_read s)))))
 
 -- `ks`, `x`: the kinds that begin what else may be a Primary, and its reader
 unfoldable pub primary_read : List ℕ → Reader Said Expr → Reader Said Expr → Reader Said Expr
 primary_read ks x s =
     either_read kind_number ks x (choice_read (sign_kinds symbol.OpenParen) (in_parens_read s) (choice_read call_first (call_read s)
-        (choice_read (kind.Iri ∷ []) (mapped_read iri iri_read) (choice_read (kind.Variable ∷ []) (mapped_read variable variable_read)
-            (mapped_read constant unsigned_literal_read)))))
+    (choice_read (kind.Iri ∷ []) (mapped_read iri iri_read) (choice_read (kind.Variable ∷ []) (mapped_read variable variable_read)
+    (mapped_read constant unsigned_literal_read)))))
 
 unfoldable pub unary_read : List ℕ → Reader Said Expr → Reader Said Expr → Reader Said Expr
 unary_read ks x s = mapped_read with_sign (both_read (maybe_read unary_signs (one_read unary_signs)) (primary_read ks x s))
@@ -152,7 +150,7 @@ comparison_read ks x s = mapped_read (λ (v : Said × Expr). compared_to v.0.kin
 unfoldable pub membership_read : Reader Said Expr → Reader Said Relation
 membership_read s =
     mapped_read (λ (v : Option Said × List Expr). one_of (is_some v.0) v.1)
-        (both_read (maybe_read (word_kinds keyword.Not) (word_read keyword.Not)) (second_read (word_read keyword.In) (expressions_read s)))
+    (both_read (maybe_read (word_kinds keyword.Not) (word_read keyword.Not)) (second_read (word_read keyword.In) (expressions_read s)))
 
 abbrev pub relation_first : List Kind
 relation_first = comparisons ++ (word_kinds keyword.Not ++ word_kinds keyword.In)
@@ -160,7 +158,7 @@ relation_first = comparisons ++ (word_kinds keyword.Not ++ word_kinds keyword.In
 unfoldable pub relation_read : List ℕ → Reader Said Expr → Reader Said Expr → Reader Said Expr
 relation_read ks x s =
     mapped_read related (both_read (sum_read ks x s)
-        (maybe_read relation_first (choice_read comparisons (comparison_read ks x s) (membership_read s))))
+    (maybe_read relation_first (choice_read comparisons (comparison_read ks x s) (membership_read s))))
 
 unfoldable pub and_read : List ℕ → Reader Said Expr → Reader Said Expr → Reader Said Expr
 and_read ks x s = row_read and_signs all_row (relation_read ks x s)
@@ -177,8 +175,8 @@ maybe_distinct_read = both_read (maybe_read (word_kinds keyword.Distinct) (word_
 unfoldable pub count_read : Reader Said Expr
 count_read =
     second_read (word_read keyword.Count) (in_parens_read
-        (choice_read (sign_kinds symbol.Star) (mapped_read (λ star. count_rows) (sign_read symbol.Star))
-            (mapped_read (aggregate_of (kind.Word keyword.Count)) maybe_distinct_read)))
+    (choice_read (sign_kinds symbol.Star) (mapped_read (λ star. count_rows) (sign_read symbol.Star))
+    (mapped_read (aggregate_of (kind.Word keyword.Count)) maybe_distinct_read)))
 
 abbrev pub aggregate_first : List Kind
 aggregate_first = word_kinds keyword.Count ++ folds
@@ -186,7 +184,7 @@ aggregate_first = word_kinds keyword.Count ++ folds
 unfoldable pub aggregate_read : Reader Said Expr
 aggregate_read =
     choice_read (word_kinds keyword.Count) count_read
-        (mapped_read (λ (v : Said × (Option Said × Expr)). aggregate_of v.0.kind v.1) (both_read (one_read folds) (in_parens_read maybe_distinct_read)))
+    (mapped_read (λ (v : Said × (Option Said × Expr)). aggregate_of v.0.kind v.1) (both_read (one_read folds) (in_parens_read maybe_distinct_read)))
 
 unfoldable pub aggregate_expression_read : Reader Said Expr
 aggregate_expression_read = within_itself_read (or_read (numbers aggregate_first) aggregate_read)
