@@ -13,10 +13,14 @@ use Rattle.rsp_written.specs.declared.said.Symbol.TheVariants as symbol
 use Rattle.rsp_written.specs.declared.said.Kind.{Kind}
 use Rattle.rsp_written.specs.declared.said.Kind.TheVariants as kind
 use Rattle.rsp_written.specs.declared.said.Said.{Said}
+use Rattle.rsp_written.specs.declared.said.Arity.{Arity}
+use Rattle.rsp_written.specs.declared.said.Arity.TheVariants as arity
+use Rattle.rsp_written.specs.Kinds.{arity_of}
+use Rattle.rsp_phrases.proofs.TiedLaws.{good_tied}
 use Rattle.rsp_written.specs.Trees.{Expr, variable, iri, constant, bound, count_rows}
-use Rattle.rsp_written.specs.Building.{any_row, all_row, sum_row, product_row, compared_to, one_of, related, with_sign, call_of, aggregate_of}
-use Rattle.rsp_written.specs.Grammar.{Rule, kind_number, numbers, one, word, sign, expressions, another, unary_names, binary_names, free_names, bound_call, unary_call, binary_call, maybe_third, substring_call, if_call, free_call, call_rule, primary, unary_signs, unary, row, product_signs, product_rule, sum_signs, sum_rule, comparisons, membership, relation, and_signs, and_rule, or_signs, or_rule, expression, maybe_distinct, count_rule, folds, aggregate_rule, aggregate_expression}
-use Rattle.rsp_written.specs.Readings.{word_kinds, sign_kinds, suffix_first, another_read, items_read, expressions_read, bound_read, unary_call_read, binary_call_read, substring_read, if_read, free_call_read, call_first, call_read, primary_read, unary_read, row_read, product_read, sum_read, comparison_read, membership_read, relation_first, relation_read, and_read, or_read, expression_read, maybe_distinct_read, count_read, aggregate_first, aggregate_read, aggregate_expression_read}
+use Rattle.rsp_written.specs.Building.{any_row, all_row, sum_row, product_row, compared_to, one_of, related, with_sign, call_of, aggregate_of, signed_part}
+use Rattle.rsp_written.specs.Grammar.{Rule, kind_number, numbers, one, word, sign, expressions, another, bound_call, maybe_third, call_rule, primary, unary_signs, unary, row, product_signs, product_rule, sum_signs, sum_rule, comparisons, membership, relation, and_signs, and_rule, or_signs, or_rule, expression, maybe_distinct, count_rule, folds, aggregate_rule, aggregate_expression, arguments, call_names, function_call}
+use Rattle.rsp_written.specs.Readings.{word_kinds, sign_kinds, suffix_first, another_read, items_read, expressions_read, bound_read, call_first, call_read, primary_read, unary_read, row_read, product_read, sum_read, comparison_read, membership_read, relation_first, relation_read, and_read, or_read, expression_read, maybe_distinct_read, count_read, aggregate_first, aggregate_read, aggregate_expression_read, arguments_read, function_read}
 use Rattle.rsp_written.proofs.Simple.{G, good_one, good_second_of, good_both, good_behind, good_in_parens, under_second, under_in_parens, good_iri, good_variable, unsigned_first, good_unsigned_literal}
 
 -- ---- which kinds begin an expression, and by which it goes on
@@ -71,38 +75,24 @@ module _ (q : Rule Expr) (s : Reader Said Expr) (first : List Kind) (h : G q s f
   unfolding bound_read
   good_bound = good_mapped bound (good_second_of (good_one (word_kinds keyword.Bound)) (good_in_parens good_variable refl) refl)
 
-  good_unary_call : G (unary_call q) (unary_call_read s) unary_names [] false true
-  unfolding unary_call_read
-  good_unary_call = good_mapped (λ (v : Said × Expr). call_of (v.0, v.1 ∷ [])) (good_both (good_one unary_names) (good_in_parens h refl) refl)
+  good_arguments : (a : Arity) → G (arguments a q) (arguments_read a s) (sign_kinds symbol.OpenParen) [] false true
+  unfolding arguments_read
+  good_arguments arity.One = good_mapped (λ e. e ∷ []) (good_in_parens h refl)
+  good_arguments arity.Two = good_mapped (λ (v : Expr × Expr). v.0 ∷ v.1 ∷ []) (good_in_parens (good_both h good_another refl) refl)
+  good_arguments arity.Three =
+      good_mapped (λ (v : Expr × (Expr × Expr)). v.0 ∷ v.1.0 ∷ v.1.1 ∷ [])
+          (good_in_parens (good_both h (good_both good_another good_another refl) refl) refl)
+  good_arguments arity.TwoOrThree =
+      good_mapped maybe_third (good_in_parens (good_both h (good_both good_another (good_optional good_another) refl) refl) refl)
+  good_arguments arity.Any = good_expressions
 
-  good_binary_call : G (binary_call q) (binary_call_read s) binary_names [] false true
-  unfolding binary_call_read
-  good_binary_call =
-      good_mapped (λ (v : Said × (Expr × Expr)). call_of (v.0, v.1.0 ∷ v.1.1 ∷ []))
-      (good_both (good_one binary_names) (good_in_parens (good_both h good_another refl) refl) refl)
-
-  good_substring : G (substring_call q) (substring_read s) (word_kinds keyword.SubStr) [] false true
-  unfolding substring_read
-  good_substring =
-      good_mapped (λ (v : Said × (Expr × (Expr × Option Expr))). call_of (v.0, maybe_third v.1))
-      (good_both (good_one (word_kinds keyword.SubStr))
-      (good_in_parens (good_both h (good_both good_another (good_optional good_another) refl) refl) refl) refl)
-
-  good_if : G (if_call q) (if_read s) (word_kinds keyword.If) [] false true
-  unfolding if_read
-  good_if =
-      good_mapped (λ (v : Said × (Expr × (Expr × Expr))). call_of (v.0, v.1.0 ∷ v.1.1.0 ∷ v.1.1.1 ∷ []))
-      (good_both (good_one (word_kinds keyword.If)) (good_in_parens (good_both h (good_both good_another good_another refl) refl) refl) refl)
-
-  good_free_call : G (free_call q) (free_call_read s) free_names [] false true
-  unfolding free_call_read
-  good_free_call = good_mapped call_of (good_both (good_one free_names) good_expressions refl)
+  good_function : G (function_call q) (function_read s) call_names [] false true
+  unfolding function_read
+  good_function = good_mapped call_of (good_tied (good_one call_names) (λ name. good_arguments (arity_of name.kind)) refl)
 
   pub good_call : G (call_rule q) (call_read s) call_first [] false true
   unfolding call_read
-  good_call =
-      good_either good_bound (good_either good_unary_call (good_either good_binary_call (good_either good_substring
-      (good_either good_if good_free_call refl refl) refl refl) refl refl) refl refl) refl refl
+  good_call = good_either good_bound good_function refl refl
 
   good_membership : G (membership q) (membership_read s) (word_kinds keyword.Not ++ word_kinds keyword.In) [] false true
   unfolding membership_read
@@ -112,11 +102,11 @@ module _ (q : Rule Expr) (s : Reader Said Expr) (first : List Kind) (h : G q s f
 
 -- ---- rows of signs
 
-good_row : (signs : List Kind) (make : Expr × List (Said × Expr) → Expr) {p : Rule Expr} {r : Reader Said Expr} {bp gp : List ℕ}
+good_row : (signs : List Kind) (make : Expr × List (Kind × Expr) → Expr) {p : Rule Expr} {r : Reader Said Expr} {bp gp : List ℕ}
     → Good kind_number p r bp gp false true → apart (numbers signs) gp ≡ true
     → Good kind_number (row signs make p) (row_read signs make r) (bp ++ []) ((gp ++ numbers signs) ++ gp) false true
 good_row signs make {bp = bp} {gp = gp} h a =
-    let part = listed_as (numbers signs) gp (good_both (good_one signs) h (apart_none bp)) (covered_nil (numbers signs))
+    let part = listed_as (numbers signs) gp (good_mapped signed_part (good_both (good_one signs) h (apart_none bp))) (covered_nil (numbers signs))
     (covered_by (numbers signs) (numbers signs ++ []) (λ k is. has_left (numbers signs) [] k is)) (covered_nil gp) in
     good_mapped make (good_both h (good_many part a) a)
 
@@ -227,25 +217,25 @@ under_expressions {n = n} h =
 under_another : {n : ℕ} {q q' : Rule Expr} → Under n q q' → Under n (another q) (another q')
 under_another {n = n} h = under_mapped (λ (v : _ × _). v.1) (under_tied (under_same n (sign symbol.Comma)) (λ v. h))
 
-under_named : {A B : Type 0} {n : ℕ} (f : Said × A → B) (names : List Kind) {p p' : Rule A} → Under n p p'
-    → Under n (mapped f (both (one names) p)) (mapped f (both (one names) p'))
-under_named {n = n} f names h = under_mapped f (under_tied (under_same n (one names)) (λ v. h))
+under_arguments : {n : ℕ} {q q' : Rule Expr} (a : Arity) → Under n q q' → Under (n + 1) (arguments a q) (arguments a q')
+under_arguments arity.One h = under_mapped (λ e. e ∷ []) (under_in_parens h)
+under_arguments arity.Two h = under_mapped (λ (v : Expr × Expr). v.0 ∷ v.1 ∷ []) (under_in_parens (under_tied h (λ v. under_another h)))
+under_arguments arity.Three h =
+    under_mapped (λ (v : Expr × (Expr × Expr)). v.0 ∷ v.1.0 ∷ v.1.1 ∷ [])
+        (under_in_parens (under_tied h (λ v. under_tied (under_another h) (λ w. under_another h))))
+under_arguments arity.TwoOrThree h =
+    under_mapped maybe_third (under_in_parens (under_tied h (λ v. under_tied (under_another h) (λ w. under_optional (under_another h)))))
+under_arguments arity.Any h = under_expressions h
 
 pub under_call : {n : ℕ} {q q' : Rule Expr} → Under n q q' → Under (n + 1) (call_rule q) (call_rule q')
 under_call {n = n} h =
     under_either (under_same (n + 1) bound_call)
-    (under_either (under_named (λ (v : Said × Expr). call_of (v.0, v.1 ∷ [])) unary_names (under_in_parens h))
-    (under_either (under_named (λ (v : Said × (Expr × Expr)). call_of (v.0, v.1.0 ∷ v.1.1 ∷ [])) binary_names
-    (under_in_parens (under_tied h (λ v. under_another h))))
-    (under_either (under_named (λ (v : Said × (Expr × (Expr × Option Expr))). call_of (v.0, maybe_third v.1)) (word_kinds keyword.SubStr)
-    (under_in_parens (under_tied h (λ v. under_tied (under_another h) (λ w. under_optional (under_another h))))))
-    (under_either (under_named (λ (v : Said × (Expr × (Expr × Expr))). call_of (v.0, v.1.0 ∷ v.1.1.0 ∷ v.1.1.1 ∷ [])) (word_kinds keyword.If)
-    (under_in_parens (under_tied h (λ v. under_tied (under_another h) (λ w. under_another h)))))
-    (under_named call_of free_names (under_expressions h))))))
+        (under_mapped call_of (under_tied (under_same (n + 1) (one call_names)) (λ name. under_arguments (arity_of name.kind) h)))
 
-under_row : {n : ℕ} (signs : List Kind) (make : Expr × List (Said × Expr) → Expr) {p p' : Rule Expr} → Under n p p'
+under_row : {n : ℕ} (signs : List Kind) (make : Expr × List (Kind × Expr) → Expr) {p p' : Rule Expr} → Under n p p'
     → Under n (row signs make p) (row signs make p')
-under_row {n = n} signs make h = under_mapped make (under_tied h (λ v. under_many (under_tied (under_same n (one signs)) (λ w. h))))
+under_row {n = n} signs make h =
+    under_mapped make (under_tied h (λ v. under_many (under_mapped signed_part (under_tied (under_same n (one signs)) (λ w. h)))))
 
 under_primary : {n : ℕ} (e : Rule Expr) {q q' : Rule Expr} → Under n q q' → Under (n + 1) (primary e q) (primary e q')
 under_primary {n = n} e h =

@@ -44,23 +44,31 @@ abbrev pub exprs_in : List Expr → Exprs
 exprs_in [] = no_expr
 exprs_in (e ∷ more) = expr_then e (exprs_in more)
 
-abbrev pub operands_in : List (Said × Expr) → Operands
+abbrev pub operands_in : List (Kind × Expr) → Operands
 operands_in [] = no_operand
-operands_in (x ∷ more) = operand_then x.0.kind x.1 (operands_in more)
+operands_in (x ∷ more) = operand_then x.0 x.1 (operands_in more)
 
-abbrev pub any_row : Expr × List (Said × Expr) → Expr
+-- a sign and what stands behind it
+abbrev pub signed_part : Said × Expr → Kind × Expr
+signed_part v = (v.0.kind, v.1)
+
+abbrev pub parts_of : List (Kind × Expr) → List Expr
+parts_of [] = []
+parts_of (x ∷ more) = x.1 ∷ parts_of more
+
+abbrev pub any_row : Expr × List (Kind × Expr) → Expr
 any_row (e, []) = e
-any_row (e, x ∷ more) = any_of (exprs_in (e ∷ map (λ y. y.1) (x ∷ more)))
+any_row (e, x ∷ more) = any_of (exprs_in (e ∷ x.1 ∷ parts_of more))
 
-abbrev pub all_row : Expr × List (Said × Expr) → Expr
+abbrev pub all_row : Expr × List (Kind × Expr) → Expr
 all_row (e, []) = e
-all_row (e, x ∷ more) = all_of (exprs_in (e ∷ map (λ y. y.1) (x ∷ more)))
+all_row (e, x ∷ more) = all_of (exprs_in (e ∷ x.1 ∷ parts_of more))
 
-abbrev pub sum_row : Expr × List (Said × Expr) → Expr
+abbrev pub sum_row : Expr × List (Kind × Expr) → Expr
 sum_row (e, []) = e
 sum_row (e, x ∷ more) = sum e (operands_in (x ∷ more))
 
-abbrev pub product_row : Expr × List (Said × Expr) → Expr
+abbrev pub product_row : Expr × List (Kind × Expr) → Expr
 product_row (e, []) = e
 product_row (e, x ∷ more) = product e (operands_in (x ∷ more))
 

@@ -18,9 +18,11 @@ use Rattle.rsp_written.specs.declared.said.Symbol.TheVariants as symbol
 use Rattle.rsp_written.specs.declared.said.Kind.{Kind}
 use Rattle.rsp_written.specs.declared.said.Kind.TheVariants as kind
 use Rattle.rsp_written.specs.declared.said.Said.{Said}
-use Rattle.rsp_written.specs.Kinds.{number_of}
+use Rattle.rsp_written.specs.declared.said.Arity.{Arity}
+use Rattle.rsp_written.specs.declared.said.Arity.TheVariants as arity
+use Rattle.rsp_written.specs.Kinds.{number_of, arity_of}
 use Rattle.rsp_written.specs.Trees.{Expr, variable, iri, constant, bound, count_rows, Way, step, Verb, named, along, Node, variable_node, iri_node, constant_node, label_node, blank_node, described, Properties, Item, shown, computed, Projection, every_name, these, Graph, graph_variable, graph_iri, Element, optional_group, minus_group, union_of, graph_group, window_group, filter, exists, bind, values, Strategy, Policy, profile, reporting, Window, Written}
-use Rattle.rsp_written.specs.Building.{Suffix, in_language, of_datatype, string_term, number_term, signed_term, boolean_term, any_row, all_row, sum_row, product_row, Relation, compared_to, one_of, related, with_sign, call_of, aggregate_of, sequence_row, choice_row, turned, rdf_type, property_list, some_properties, elements_in, groups_in, run, sub_select_of, written_of, later, is_nil}
+use Rattle.rsp_written.specs.Building.{Suffix, in_language, of_datatype, string_term, number_term, signed_term, boolean_term, signed_part, any_row, all_row, sum_row, product_row, Relation, compared_to, one_of, related, with_sign, call_of, aggregate_of, sequence_row, choice_row, turned, rdf_type, property_list, some_properties, elements_in, groups_in, run, sub_select_of, written_of, later, is_nil}
 
 abbrev pub Rule : Type 0 → Type 1
 Rule A = Language Said A
@@ -97,54 +99,37 @@ expressions inner =
     (both (optional (both inner (many (second_of (sign symbol.Comma) inner)))) (sign symbol.CloseParen)))
 
 -- Call ::= a name, '(' arguments separated by ',' ')'                                                [121] BuiltInCall
--- (each name with its numbers of arguments)
-abbrev pub unary_names : List Kind
-unary_names = map kind.Word
-    (keyword.IsIri ∷ keyword.IsUri ∷ keyword.IsBlank ∷ keyword.IsLiteral ∷ keyword.IsNumeric ∷ keyword.Str ∷ keyword.Lang ∷ keyword.Datatype
-    ∷ keyword.Iri ∷ keyword.Uri ∷ keyword.StrLen ∷ keyword.Abs ∷ keyword.Ceil ∷ keyword.Floor ∷ keyword.Round ∷ [])
-
-abbrev pub binary_names : List Kind
-binary_names = map kind.Word
-    (keyword.SameTerm ∷ keyword.StrDt ∷ keyword.StrLang ∷ keyword.Contains ∷ keyword.StrStarts ∷ keyword.StrEnds ∷ keyword.StrBefore
-    ∷ keyword.StrAfter ∷ keyword.LangMatches ∷ [])
-
-abbrev pub free_names : List Kind
-free_names = map kind.Word (keyword.Coalesce ∷ keyword.Concat ∷ [])
-
-abbrev pub bound_call : Rule Expr
-bound_call = mapped bound (second_of (word keyword.Bound) (in_parens variable_name))
-
+-- (each name with its numbers of arguments; BOUND has a variable)
 abbrev pub another : Rule Expr → Rule Expr
 another inner = second_of (sign symbol.Comma) inner
-
-abbrev pub unary_call : Rule Expr → Rule Expr
-unary_call inner = mapped (λ (v : _ × _). call_of (v.0, v.1 ∷ [])) (both (one unary_names) (in_parens inner))
-
-abbrev pub binary_call : Rule Expr → Rule Expr
-binary_call inner =
-    mapped (λ (v : Said × (Expr × Expr)). call_of (v.0, v.1.0 ∷ v.1.1 ∷ []))
-    (both (one binary_names) (in_parens (both inner (another inner))))
 
 abbrev pub maybe_third : Expr × (Expr × Option Expr) → List Expr
 maybe_third (a, (b, None)) = a ∷ b ∷ []
 maybe_third (a, (b, Some c)) = a ∷ b ∷ c ∷ []
 
-abbrev pub substring_call : Rule Expr → Rule Expr
-substring_call inner =
-    mapped (λ (v : Said × (Expr × (Expr × Option Expr))). call_of (v.0, maybe_third v.1))
-    (both (word keyword.SubStr) (in_parens (both inner (both (another inner) (optional (another inner))))))
+abbrev pub arguments : Arity → Rule Expr → Rule (List Expr)
+arguments arity.One inner = mapped (λ e. e ∷ []) (in_parens inner)
+arguments arity.Two inner = mapped (λ (v : Expr × Expr). v.0 ∷ v.1 ∷ []) (in_parens (both inner (another inner)))
+arguments arity.Three inner =
+    mapped (λ (v : Expr × (Expr × Expr)). v.0 ∷ v.1.0 ∷ v.1.1 ∷ []) (in_parens (both inner (both (another inner) (another inner))))
+arguments arity.TwoOrThree inner = mapped maybe_third (in_parens (both inner (both (another inner) (optional (another inner)))))
+arguments arity.Any inner = expressions inner
 
-abbrev pub if_call : Rule Expr → Rule Expr
-if_call inner =
-    mapped (λ (v : Said × (Expr × (Expr × Expr))). call_of (v.0, v.1.0 ∷ v.1.1.0 ∷ v.1.1.1 ∷ []))
-    (both (word keyword.If) (in_parens (both inner (both (another inner) (another inner)))))
+abbrev pub call_names : List Kind
+call_names = map kind.Word
+    (keyword.If ∷ keyword.Coalesce ∷ keyword.SameTerm ∷ keyword.IsIri ∷ keyword.IsUri ∷ keyword.IsBlank ∷ keyword.IsLiteral ∷ keyword.IsNumeric
+        ∷ keyword.Str ∷ keyword.Lang ∷ keyword.Datatype ∷ keyword.Iri ∷ keyword.Uri ∷ keyword.StrDt ∷ keyword.StrLang ∷ keyword.StrLen
+        ∷ keyword.SubStr ∷ keyword.Contains ∷ keyword.StrStarts ∷ keyword.StrEnds ∷ keyword.StrBefore ∷ keyword.StrAfter ∷ keyword.Concat
+        ∷ keyword.LangMatches ∷ keyword.Abs ∷ keyword.Ceil ∷ keyword.Floor ∷ keyword.Round ∷ [])
 
-abbrev pub free_call : Rule Expr → Rule Expr
-free_call inner = mapped call_of (both (one free_names) (expressions inner))
+abbrev pub bound_call : Rule Expr
+bound_call = mapped bound (second_of (word keyword.Bound) (in_parens variable_name))
+
+abbrev pub function_call : Rule Expr → Rule Expr
+function_call inner = mapped call_of (tied (one call_names) (λ name. arguments (arity_of name.kind) inner))
 
 abbrev pub call_rule : Rule Expr → Rule Expr
-call_rule inner =
-    either bound_call (either (unary_call inner) (either (binary_call inner) (either (substring_call inner) (either (if_call inner) (free_call inner)))))
+call_rule inner = either bound_call (function_call inner)
 
 -- Primary ::= '(' Expr ')' | Call | Iri | Variable | unsigned Literal                          [119] PrimaryExpression
 abbrev pub primary : Rule Expr → Rule Expr → Rule Expr
@@ -160,8 +145,8 @@ abbrev pub unary : Rule Expr → Rule Expr → Rule Expr
 unary extra inner = mapped with_sign (both (optional (one unary_signs)) (primary extra inner))
 
 -- parts with signs between
-abbrev pub row : List Kind → (Expr × List (Said × Expr) → Expr) → Rule Expr → Rule Expr
-row signs make part = mapped make (both part (many (both (one signs) part)))
+abbrev pub row : List Kind → (Expr × List (Kind × Expr) → Expr) → Rule Expr → Rule Expr
+row signs make part = mapped make (both part (many (mapped signed_part (both (one signs) part))))
 
 -- Product ::= Unary (('*' | '/') Unary)*                                                [117] MultiplicativeExpression
 abbrev pub product_signs : List Kind

@@ -1,8 +1,8 @@
 -- Words of the way: for each rule the function on rows of tokens that reads it. The readers' code is proved against these.
-use Rattle.std.specs.Prelude.{ℕ, List, [], ◌∷◌, ◌++◌, Option, is_some, codes}
+use Rattle.std.specs.Prelude.{ℕ, List, [], ◌∷◌, ◌++◌, Option, is_some, codes, true, false, Bool}
 use Rattle.rsp_terms.specs.declared.term.Term.{Term}
 use Rattle.rsp_phrases.specs.Languages.{listed}
-use Rattle.rsp_phrases.specs.Readers.{Reader, among_read, mapped_read, both_read, second_read, first_read, either_read, optional_read, many_read, within_itself_read, never_read, closed_read}
+use Rattle.rsp_phrases.specs.Readers.{Reader, among_read, mapped_read, tied_read, both_read, second_read, first_read, either_read, optional_read, many_read, within_itself_read, never_read, closed_read, nested_read}
 use Rattle.rsp_written.specs.declared.said.Keyword.{Keyword}
 use Rattle.rsp_written.specs.declared.said.Keyword.TheVariants as keyword
 use Rattle.rsp_written.specs.declared.said.Symbol.{Symbol}
@@ -10,9 +10,12 @@ use Rattle.rsp_written.specs.declared.said.Symbol.TheVariants as symbol
 use Rattle.rsp_written.specs.declared.said.Kind.{Kind}
 use Rattle.rsp_written.specs.declared.said.Kind.TheVariants as kind
 use Rattle.rsp_written.specs.declared.said.Said.{Said}
+use Rattle.rsp_written.specs.declared.said.Arity.{Arity}
+use Rattle.rsp_written.specs.declared.said.Arity.TheVariants as arity
+use Rattle.rsp_written.specs.Kinds.{arity_of}
 use Rattle.rsp_written.specs.Trees.{Expr, variable, iri, constant, bound, count_rows}
-use Rattle.rsp_written.specs.Building.{Suffix, in_language, of_datatype, string_term, number_term, signed_term, boolean_term, any_row, all_row, sum_row, product_row, Relation, compared_to, one_of, related, with_sign, call_of, aggregate_of}
-use Rattle.rsp_written.specs.Grammar.{kind_number, numbers, text_of, number_kinds, unary_names, binary_names, free_names, maybe_third, unary_signs, product_signs, sum_signs, comparisons, and_signs, or_signs, folds}
+use Rattle.rsp_written.specs.Building.{Suffix, in_language, of_datatype, string_term, number_term, signed_term, boolean_term, signed_part, any_row, all_row, sum_row, product_row, Relation, compared_to, one_of, related, with_sign, call_of, aggregate_of}
+use Rattle.rsp_written.specs.Grammar.{kind_number, numbers, text_of, number_kinds, maybe_third, call_names, unary_signs, product_signs, sum_signs, comparisons, and_signs, or_signs, folds}
 
 abbrev pub one_read : List Kind → Reader Said Said
 one_read kinds = among_read kind_number (numbers kinds)
@@ -95,35 +98,24 @@ expressions_read s =
 unfoldable pub bound_read : Reader Said Expr
 bound_read = mapped_read bound (second_read (word_read keyword.Bound) (in_parens_read variable_read))
 
-unfoldable pub unary_call_read : Reader Said Expr → Reader Said Expr
-unary_call_read s = mapped_read (λ (v : _ × _). call_of (v.0, v.1 ∷ [])) (both_read (one_read unary_names) (in_parens_read s))
+unfoldable pub arguments_read : Arity → Reader Said Expr → Reader Said (List Expr)
+arguments_read arity.One s = mapped_read (λ e. e ∷ []) (in_parens_read s)
+arguments_read arity.Two s = mapped_read (λ (v : Expr × Expr). v.0 ∷ v.1 ∷ []) (in_parens_read (both_read s (another_read s)))
+arguments_read arity.Three s =
+    mapped_read (λ (v : Expr × (Expr × Expr)). v.0 ∷ v.1.0 ∷ v.1.1 ∷ [])
+        (in_parens_read (both_read s (both_read (another_read s) (another_read s))))
+arguments_read arity.TwoOrThree s =
+    mapped_read maybe_third (in_parens_read (both_read s (both_read (another_read s) (maybe_read (sign_kinds symbol.Comma) (another_read s)))))
+arguments_read arity.Any s = expressions_read s
 
-unfoldable pub binary_call_read : Reader Said Expr → Reader Said Expr
-binary_call_read s =
-    mapped_read (λ (v : Said × (Expr × Expr)). call_of (v.0, v.1.0 ∷ v.1.1 ∷ []))
-    (both_read (one_read binary_names) (in_parens_read (both_read s (another_read s))))
-
-unfoldable pub substring_read : Reader Said Expr → Reader Said Expr
-substring_read s =
-    mapped_read (λ (v : Said × (Expr × (Expr × Option Expr))). call_of (v.0, maybe_third v.1))
-    (both_read (word_read keyword.SubStr)
-    (in_parens_read (both_read s (both_read (another_read s) (maybe_read (sign_kinds symbol.Comma) (another_read s))))))
-
-unfoldable pub if_read : Reader Said Expr → Reader Said Expr
-if_read s =
-    mapped_read (λ (v : Said × (Expr × (Expr × Expr))). call_of (v.0, v.1.0 ∷ v.1.1.0 ∷ v.1.1.1 ∷ []))
-    (both_read (word_read keyword.If) (in_parens_read (both_read s (both_read (another_read s) (another_read s)))))
-
-unfoldable pub free_call_read : Reader Said Expr → Reader Said Expr
-free_call_read s = mapped_read call_of (both_read (one_read free_names) (expressions_read s))
+unfoldable pub function_read : Reader Said Expr → Reader Said Expr
+function_read s = mapped_read call_of (tied_read (one_read call_names) (λ name. arguments_read (arity_of name.kind) s))
 
 abbrev pub call_first : List Kind
-call_first = word_kinds keyword.Bound ++ (unary_names ++ (binary_names ++ (word_kinds keyword.SubStr ++ (word_kinds keyword.If ++ free_names))))
+call_first = word_kinds keyword.Bound ++ call_names
 
 unfoldable pub call_read : Reader Said Expr → Reader Said Expr
-call_read s =
-    choice_read (word_kinds keyword.Bound) bound_read (choice_read unary_names (unary_call_read s) (choice_read binary_names (binary_call_read s)
-    (choice_read (word_kinds keyword.SubStr) (substring_read s) (choice_read (word_kinds keyword.If) (if_read s) (free_call_read s)))))
+call_read s = choice_read (word_kinds keyword.Bound) bound_read (function_read s)
 
 -- `ks`, `x`: the kinds that begin what else may be a Primary, and its reader
 unfoldable pub primary_read : List ℕ → Reader Said Expr → Reader Said Expr → Reader Said Expr
@@ -135,8 +127,11 @@ primary_read ks x s =
 unfoldable pub unary_read : List ℕ → Reader Said Expr → Reader Said Expr → Reader Said Expr
 unary_read ks x s = mapped_read with_sign (both_read (maybe_read unary_signs (one_read unary_signs)) (primary_read ks x s))
 
-abbrev pub row_read : List Kind → (Expr × List (Said × Expr) → Expr) → Reader Said Expr → Reader Said Expr
-row_read signs make r = mapped_read make (both_read r (repeated_read signs (both_read (one_read signs) r)))
+abbrev pub operands_read : List Kind → Reader Said Expr → Reader Said (List (Kind × Expr))
+operands_read signs r = repeated_read signs (mapped_read signed_part (both_read (one_read signs) r))
+
+abbrev pub row_read : List Kind → (Expr × List (Kind × Expr) → Expr) → Reader Said Expr → Reader Said Expr
+row_read signs make r = mapped_read make (both_read r (operands_read signs r))
 
 unfoldable pub product_read : List ℕ → Reader Said Expr → Reader Said Expr → Reader Said Expr
 product_read ks x s = row_read product_signs product_row (unary_read ks x s)
@@ -188,3 +183,17 @@ aggregate_read =
 
 unfoldable pub aggregate_expression_read : Reader Said Expr
 aggregate_expression_read = within_itself_read (or_read (numbers aggregate_first) aggregate_read)
+
+-- ---- by whether aggregates may stand
+
+abbrev pub extra_first : Bool → List Kind
+extra_first true = aggregate_first
+extra_first false = []
+
+abbrev pub extra_read : Bool → Reader Said Expr
+extra_read true = aggregate_read
+extra_read false = never_read
+
+-- an expression that holds itself at most so deep
+abbrev pub deep_read : Bool → ℕ → Reader Said Expr
+deep_read wide depth = nested_read (or_read (numbers (extra_first wide)) (extra_read wide)) depth

@@ -4,4 +4,4 @@
 
 mod said;
 
-pub use said::{Keyword, Kind, Said, Symbol};
+pub use said::{Arity, Keyword, Kind, Said, Symbol};
