@@ -2,6 +2,10 @@
 //! numbers and each row of signs as one list.
 #![tactic(auto)]
 
+mod expression;
+mod reading;
 mod said;
 
+pub use expression::{Expression, Operand};
+pub use reading::{Halt, first_is, first_is_among, iri, one, sign, variable, word};
 pub use said::{Arity, Keyword, Kind, Said, Symbol};
