@@ -13,7 +13,9 @@ use Rattle.rsp_written.specs.declared.said.Kind.{Kind}
 use Rattle.rsp_written.specs.declared.said.Kind.TheVariants as kind
 use Rattle.rsp_written.specs.declared.said.Said.{Said}
 use Rattle.rsp_written.specs.Grammar.{Rule, kind_number, numbers, one, sign, text_of, in_parens, iri_name, variable_name, suffix, string_literal, number_kinds, signed_number, boolean, literal, unsigned_literal}
-use Rattle.rsp_written.specs.Building.{in_language, of_datatype, string_term, number_term, signed_term, boolean_term}
+use Rattle.rsp_written.specs.Building.{string_term, number_term, signed_term, boolean_term}
+use Rattle.rsp_written.specs.declared.literals.Suffix.{Suffix}
+use Rattle.rsp_written.specs.declared.literals.Suffix.TheVariants.{InLanguage, OfDatatype}
 use Rattle.rsp_written.specs.Readings.{one_read, in_parens_read, word_kinds, sign_kinds, iri_read, variable_read, suffix_first, suffix_read, string_literal_read, boolean_read, signed_first, signed_number_read, literal_read, unsigned_literal_read}
 
 -- a rule and its reader, the kinds that may begin it and by which it may go on, whether it may be empty, and whether
@@ -82,8 +84,8 @@ good_variable = good_mapped text_of (good_one (kind.Variable ∷ []))
 good_suffix : G suffix suffix_read suffix_first [] false true
 unfolding suffix_read
 good_suffix =
-    good_either (good_mapped (λ tag. in_language tag.text) (good_one (kind.Tag ∷ [])))
-    (good_second_of (good_one (sign_kinds symbol.Carets)) (good_mapped of_datatype good_iri) refl) refl refl
+    good_either (good_mapped (λ tag. InLanguage tag.text) (good_one (kind.Tag ∷ [])))
+    (good_second_of (good_one (sign_kinds symbol.Carets)) (good_mapped OfDatatype good_iri) refl) refl refl
 
 good_string_literal : G string_literal string_literal_read (kind.String ∷ []) suffix_first false true
 unfolding string_literal_read

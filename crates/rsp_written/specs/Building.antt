@@ -6,6 +6,8 @@ use Rattle.rsp_terms.specs.Terms.{xsd_string}
 use Rattle.rsp_written.specs.declared.said.Kind.{Kind}
 use Rattle.rsp_written.specs.declared.said.Kind.TheVariants as kind
 use Rattle.rsp_written.specs.declared.said.Said.{Said}
+use Rattle.rsp_written.specs.declared.literals.Suffix.{Suffix}
+use Rattle.rsp_written.specs.declared.literals.Suffix.TheVariants.{InLanguage, OfDatatype}
 use Rattle.rsp_written.specs.Trees.{Expr, Exprs, Operands, any_of, all_of, compared, member, sum, product, signed, call, aggregate, no_expr, expr_then, no_operand, operand_then, Way, Ways, inverse, sequence, choice, no_way, way_then, Verb, Node, Nodes, Properties, no_node, node_then, no_property, property_then, Element, Elements, Groups, no_element, element_then, no_group, group_then, triples, Item, Projection, sub_select, selected, Policy, no_policy, Window, Written}
 
 -- ---- literals
@@ -13,14 +15,14 @@ use Rattle.rsp_written.specs.Trees.{Expr, Exprs, Operands, any_of, all_of, compa
 abbrev pub xsd : List ℕ → List ℕ
 xsd name = codes "http://www.w3.org/2001/XMLSchema#" ++ name
 
-pub data Suffix : Type 0 where
-  in_language : List ℕ → Suffix
-  of_datatype : List ℕ → Suffix
+-- a string with its tag or datatype
+abbrev pub suffixed : List ℕ → Option Suffix → Term
+suffixed text None = term.Literal text xsd_string
+suffixed text (Some (InLanguage tag)) = term.Tagged text tag
+suffixed text (Some (OfDatatype datatype)) = term.Literal text datatype
 
 abbrev pub string_term : Said × Option Suffix → Term
-string_term (said, None) = term.Literal said.text xsd_string
-string_term (said, Some (in_language tag)) = term.Tagged said.text tag
-string_term (said, Some (of_datatype datatype)) = term.Literal said.text datatype
+string_term v = suffixed v.0.text v.1
 
 abbrev pub number_type : Kind → List ℕ
 number_type kind.Integer = xsd (codes "integer")
@@ -31,9 +33,12 @@ abbrev pub number_term : Said → Term
 number_term said = term.Literal said.text (number_type said.kind)
 
 -- with the sign in the lexical form
+abbrev pub negative_term : Said → Term
+negative_term said = term.Literal (45 ∷ said.text) (number_type said.kind)
+
 abbrev pub signed_term : Option Said × Said → Term
 signed_term (None, said) = number_term said
-signed_term (Some minus, said) = term.Literal (45 ∷ said.text) (number_type said.kind)
+signed_term (Some minus, said) = negative_term said
 
 abbrev pub boolean_term : List ℕ → Term
 boolean_term lexical = term.Literal lexical (xsd (codes "boolean"))

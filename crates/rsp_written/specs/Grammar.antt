@@ -22,7 +22,9 @@ use Rattle.rsp_written.specs.declared.said.Arity.{Arity}
 use Rattle.rsp_written.specs.declared.said.Arity.TheVariants as arity
 use Rattle.rsp_written.specs.Kinds.{number_of, arity_of}
 use Rattle.rsp_written.specs.Trees.{Expr, variable, iri, constant, bound, count_rows, Way, step, Verb, named, along, Node, variable_node, iri_node, constant_node, label_node, blank_node, described, Properties, Item, shown, computed, Projection, every_name, these, Graph, graph_variable, graph_iri, Element, optional_group, minus_group, union_of, graph_group, window_group, filter, exists, bind, values, Strategy, Policy, profile, reporting, Window, Written}
-use Rattle.rsp_written.specs.Building.{Suffix, in_language, of_datatype, string_term, number_term, signed_term, boolean_term, signed_part, any_row, all_row, sum_row, product_row, Relation, compared_to, one_of, related, with_sign, call_of, aggregate_of, sequence_row, choice_row, turned, rdf_type, property_list, some_properties, elements_in, groups_in, run, sub_select_of, written_of, later, is_nil}
+use Rattle.rsp_written.specs.Building.{string_term, number_term, signed_term, boolean_term, signed_part, any_row, all_row, sum_row, product_row, Relation, compared_to, one_of, related, with_sign, call_of, aggregate_of, sequence_row, choice_row, turned, rdf_type, property_list, some_properties, elements_in, groups_in, run, sub_select_of, written_of, later, is_nil}
+use Rattle.rsp_written.specs.declared.literals.Suffix.{Suffix}
+use Rattle.rsp_written.specs.declared.literals.Suffix.TheVariants.{InLanguage, OfDatatype}
 
 abbrev pub Rule : Type 0 → Type 1
 Rule A = Language Said A
@@ -63,8 +65,8 @@ variable_name = mapped text_of (one (kind.Variable ∷ []))
 -- (without '+'; white space may stand behind '-')
 abbrev pub suffix : Rule Suffix
 suffix =
-    either (mapped (λ tag. in_language tag.text) (one (kind.Tag ∷ [])))
-    (second_of (sign symbol.Carets) (mapped of_datatype iri_name))
+    either (mapped (λ tag. InLanguage tag.text) (one (kind.Tag ∷ [])))
+    (second_of (sign symbol.Carets) (mapped OfDatatype iri_name))
 
 abbrev pub string_literal : Rule Term
 string_literal = mapped string_term (both (one (kind.String ∷ [])) (optional suffix))

@@ -14,7 +14,9 @@ use Rattle.rsp_written.specs.declared.said.Arity.{Arity}
 use Rattle.rsp_written.specs.declared.said.Arity.TheVariants as arity
 use Rattle.rsp_written.specs.Kinds.{arity_of}
 use Rattle.rsp_written.specs.Trees.{Expr, variable, iri, constant, bound, count_rows}
-use Rattle.rsp_written.specs.Building.{Suffix, in_language, of_datatype, string_term, number_term, signed_term, boolean_term, signed_part, any_row, all_row, sum_row, product_row, Relation, compared_to, one_of, related, with_sign, call_of, aggregate_of}
+use Rattle.rsp_written.specs.Building.{string_term, number_term, signed_term, boolean_term, signed_part, any_row, all_row, sum_row, product_row, Relation, compared_to, one_of, related, with_sign, call_of, aggregate_of}
+use Rattle.rsp_written.specs.declared.literals.Suffix.{Suffix}
+use Rattle.rsp_written.specs.declared.literals.Suffix.TheVariants.{InLanguage, OfDatatype}
 use Rattle.rsp_written.specs.Grammar.{kind_number, numbers, text_of, number_kinds, maybe_third, call_names, unary_signs, product_signs, sum_signs, comparisons, and_signs, or_signs, folds}
 
 abbrev pub one_read : List Kind → Reader Said Said
@@ -56,8 +58,8 @@ suffix_first = kind.Tag ∷ kind.Symbol symbol.Carets ∷ []
 
 unfoldable pub suffix_read : Reader Said Suffix
 suffix_read =
-    choice_read (kind.Tag ∷ []) (mapped_read (λ tag. in_language tag.text) (one_read (kind.Tag ∷ [])))
-    (second_read (sign_read symbol.Carets) (mapped_read of_datatype iri_read))
+    choice_read (kind.Tag ∷ []) (mapped_read (λ tag. InLanguage tag.text) (one_read (kind.Tag ∷ [])))
+    (second_read (sign_read symbol.Carets) (mapped_read OfDatatype iri_read))
 
 unfoldable pub string_literal_read : Reader Said Term
 string_literal_read = mapped_read string_term (both_read (one_read (kind.String ∷ [])) (maybe_read suffix_first suffix_read))
@@ -70,6 +72,9 @@ boolean_read =
 abbrev pub signed_first : List Kind
 signed_first = kind.Symbol symbol.Minus ∷ number_kinds
 
+abbrev pub unsigned_number_read : Reader Said Term
+unsigned_number_read = mapped_read number_term (one_read number_kinds)
+
 unfoldable pub signed_number_read : Reader Said Term
 signed_number_read = mapped_read signed_term (both_read (maybe_read (sign_kinds symbol.Minus) (sign_read symbol.Minus)) (one_read number_kinds))
 
@@ -78,7 +83,7 @@ literal_read = choice_read (kind.String ∷ []) string_literal_read (choice_read
 
 unfoldable pub unsigned_literal_read : Reader Said Term
 unsigned_literal_read =
-    choice_read (kind.String ∷ []) string_literal_read (choice_read number_kinds (mapped_read number_term (one_read number_kinds)) boolean_read)
+    choice_read (kind.String ∷ []) string_literal_read (choice_read number_kinds unsigned_number_read boolean_read)
 
 -- ---- expressions
 
