@@ -1,5 +1,5 @@
 use Rattle.rsp_tests.proofs.steps.counts_over_brand.Given as goal
 
 -- the ledger is the one that the blank stands for
-abbrev pub ghosts-two_ticks-steps : goal.ghosts-two_ticks-steps
-ghosts-two_ticks-steps a = record { name = a.blank.name; parts = a.blank.parts }
+abbrev pub ghosts-two_ticks : goal.ghosts-two_ticks
+ghosts-two_ticks a = record { name = a.blank.name; parts = a.blank.parts }
