@@ -1,0 +1,7 @@
+//! Tokens of queries.
+#![tactic(auto)]
+
+mod names;
+mod numbers;
+mod quoted;
+mod symbols;
