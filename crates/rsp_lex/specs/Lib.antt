@@ -3,3 +3,6 @@ pub mod Quoted
 pub mod Names
 pub mod Numbers
 pub mod Symbols
+pub mod Kinds
+pub mod Tokens
+pub mod Results

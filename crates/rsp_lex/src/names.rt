@@ -113,8 +113,16 @@ pub(crate) fn word_step(state: WordState, c: char) -> Option<WordState>
     ensures { result ≡ words.word_step state c }
 {
     match state {
-        WordState::Start => if is_letter(c) { Some(WordState::Inside) } else { None },
-        WordState::Inside => if is_word_character(c) { Some(WordState::Inside) } else { None },
+        WordState::Start => if is_letter(c) {
+            Some(WordState::Inside)
+        } else {
+            None
+        },
+        WordState::Inside => if is_word_character(c) {
+            Some(WordState::Inside)
+        } else {
+            None
+        },
     }
 }
 
@@ -131,13 +139,25 @@ pub(crate) fn variable_step(state: VariableState, c: char) -> Option<VariableSta
 {
     match state {
         VariableState::Start => {
-            if c == '?' || c == '$' { Some(VariableState::Sign) } else { None }
+            if c == '?' || c == '$' {
+                Some(VariableState::Sign)
+            } else {
+                None
+            }
         }
         VariableState::Sign => {
-            if starts_name(c) || is_digit(c) { Some(VariableState::Inside) } else { None }
+            if starts_name(c) || is_digit(c) {
+                Some(VariableState::Inside)
+            } else {
+                None
+            }
         }
         VariableState::Inside => {
-            if continues_name(c) && c != '-' { Some(VariableState::Inside) } else { None }
+            if continues_name(c) && c != '-' {
+                Some(VariableState::Inside)
+            } else {
+                None
+            }
         }
     }
 }
@@ -154,10 +174,22 @@ pub(crate) fn label_step(state: LabelState, c: char) -> Option<LabelState>
     ensures { result ≡ words.label_step state c }
 {
     match state {
-        LabelState::Start => if c == '_' { Some(LabelState::Underscore) } else { None },
-        LabelState::Underscore => if c == ':' { Some(LabelState::Begun) } else { None },
+        LabelState::Start => if c == '_' {
+            Some(LabelState::Underscore)
+        } else {
+            None
+        },
+        LabelState::Underscore => if c == ':' {
+            Some(LabelState::Begun)
+        } else {
+            None
+        },
         LabelState::Begun => {
-            if starts_name(c) || is_digit(c) { Some(LabelState::Inside) } else { None }
+            if starts_name(c) || is_digit(c) {
+                Some(LabelState::Inside)
+            } else {
+                None
+            }
         }
         LabelState::Inside => label_inside(c),
         LabelState::Dot => label_inside(c),
@@ -170,7 +202,11 @@ fn label_inside(c: char) -> Option<LabelState>
     if c == '.' {
         return Some(LabelState::Dot);
     }
-    if continues_name(c) { Some(LabelState::Inside) } else { None }
+    if continues_name(c) {
+        Some(LabelState::Inside)
+    } else {
+        None
+    }
 }
 
 /// Whether a label may end in this state.
@@ -187,20 +223,36 @@ pub(crate) fn prefixed_step(state: PrefixedState, c: char) -> Option<PrefixedSta
     match state {
         PrefixedState::Start => prefix_start(c),
         PrefixedState::Prefix => {
-            if c == ':' { Some(PrefixedState::Colon) } else { prefix_inside(c) }
+            if c == ':' {
+                Some(PrefixedState::Colon)
+            } else {
+                prefix_inside(c)
+            }
         }
         PrefixedState::PrefixDot => prefix_inside(c),
         PrefixedState::Colon => local_start(c),
         PrefixedState::Local => local_inside(c),
         PrefixedState::LocalDot => local_inside(c),
         PrefixedState::Percent => {
-            if is_hexadecimal(c) { Some(PrefixedState::PercentDigit) } else { None }
+            if is_hexadecimal(c) {
+                Some(PrefixedState::PercentDigit)
+            } else {
+                None
+            }
         }
         PrefixedState::PercentDigit => {
-            if is_hexadecimal(c) { Some(PrefixedState::Local) } else { None }
+            if is_hexadecimal(c) {
+                Some(PrefixedState::Local)
+            } else {
+                None
+            }
         }
         PrefixedState::Backslash => {
-            if is_escaped(c) { Some(PrefixedState::Local) } else { None }
+            if is_escaped(c) {
+                Some(PrefixedState::Local)
+            } else {
+                None
+            }
         }
     }
 }
@@ -211,7 +263,11 @@ fn prefix_start(c: char) -> Option<PrefixedState>
     if c == ':' {
         return Some(PrefixedState::Colon);
     }
-    if is_base(c) { Some(PrefixedState::Prefix) } else { None }
+    if is_base(c) {
+        Some(PrefixedState::Prefix)
+    } else {
+        None
+    }
 }
 
 fn prefix_inside(c: char) -> Option<PrefixedState>
@@ -220,7 +276,11 @@ fn prefix_inside(c: char) -> Option<PrefixedState>
     if c == '.' {
         return Some(PrefixedState::PrefixDot);
     }
-    if continues_name(c) { Some(PrefixedState::Prefix) } else { None }
+    if continues_name(c) {
+        Some(PrefixedState::Prefix)
+    } else {
+        None
+    }
 }
 
 fn local_start(c: char) -> Option<PrefixedState>
@@ -258,7 +318,28 @@ fn escape_start(c: char) -> Option<PrefixedState>
 fn is_escaped(c: char) -> bool
     ensures { result ≡ words.is_escaped c }
 {
-    matches!(c, '_' | '~' | '.' | '-' | '!' | '$' | '&' | '\'' | '(' | ')' | '*' | '+' | ',' | ';' | '=' | '/' | '?' | '#' | '@' | '%')
+    matches!(
+        c,
+        '_' | '~'
+            | '.'
+            | '-'
+            | '!'
+            | '$'
+            | '&'
+            | '\''
+            | '('
+            | ')'
+            | '*'
+            | '+'
+            | ','
+            | ';'
+            | '='
+            | '/'
+            | '?'
+            | '#'
+            | '@'
+            | '%'
+    )
 }
 
 /// Whether a prefixed name may end in this state.
@@ -274,19 +355,35 @@ pub(crate) fn tag_step(state: TagState, c: char) -> Option<TagState>
 {
     match state {
         TagState::Start => if c == '@' { Some(TagState::At) } else { None },
-        TagState::At => if is_letter(c) { Some(TagState::First) } else { None },
+        TagState::At => if is_letter(c) {
+            Some(TagState::First)
+        } else {
+            None
+        },
         TagState::First => {
             if c == '-' {
                 return Some(TagState::Hyphen);
             }
-            if is_letter(c) { Some(TagState::First) } else { None }
+            if is_letter(c) {
+                Some(TagState::First)
+            } else {
+                None
+            }
         }
-        TagState::Hyphen => if is_letter_or_digit(c) { Some(TagState::Further) } else { None },
+        TagState::Hyphen => if is_letter_or_digit(c) {
+            Some(TagState::Further)
+        } else {
+            None
+        },
         TagState::Further => {
             if c == '-' {
                 return Some(TagState::Hyphen);
             }
-            if is_letter_or_digit(c) { Some(TagState::Further) } else { None }
+            if is_letter_or_digit(c) {
+                Some(TagState::Further)
+            } else {
+                None
+            }
         }
     }
 }

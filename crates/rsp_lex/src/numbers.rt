@@ -74,7 +74,11 @@ fn is_digit(c: char) -> bool
 pub(crate) fn integer_step(c: char) -> Option<IntegerState>
     ensures { result ≡ words.integer_step c }
 {
-    if is_digit(c) { Some(IntegerState::Inside) } else { None }
+    if is_digit(c) {
+        Some(IntegerState::Inside)
+    } else {
+        None
+    }
 }
 
 /// Whether an integer may end in this state.
@@ -91,8 +95,16 @@ pub(crate) fn decimal_step(state: DecimalState, c: char) -> Option<DecimalState>
     match state {
         DecimalState::Start => decimal_whole(c),
         DecimalState::Whole => decimal_whole(c),
-        DecimalState::Point => if is_digit(c) { Some(DecimalState::Fraction) } else { None },
-        DecimalState::Fraction => if is_digit(c) { Some(DecimalState::Fraction) } else { None },
+        DecimalState::Point => if is_digit(c) {
+            Some(DecimalState::Fraction)
+        } else {
+            None
+        },
+        DecimalState::Fraction => if is_digit(c) {
+            Some(DecimalState::Fraction)
+        } else {
+            None
+        },
     }
 }
 
@@ -102,7 +114,11 @@ fn decimal_whole(c: char) -> Option<DecimalState>
     if c == '.' {
         return Some(DecimalState::Point);
     }
-    if is_digit(c) { Some(DecimalState::Whole) } else { None }
+    if is_digit(c) {
+        Some(DecimalState::Whole)
+    } else {
+        None
+    }
 }
 
 /// Whether a decimal may end in this state.
@@ -120,11 +136,23 @@ pub(crate) fn double_step(state: DoubleState, c: char) -> Option<DoubleState>
         DoubleState::Start => double_start(c),
         DoubleState::Whole => double_whole(c),
         DoubleState::Point => double_fraction(c),
-        DoubleState::FirstPoint => if is_digit(c) { Some(DoubleState::Fraction) } else { None },
+        DoubleState::FirstPoint => if is_digit(c) {
+            Some(DoubleState::Fraction)
+        } else {
+            None
+        },
         DoubleState::Fraction => double_fraction(c),
         DoubleState::Letter => double_exponent(c),
-        DoubleState::Sign => if is_digit(c) { Some(DoubleState::Exponent) } else { None },
-        DoubleState::Exponent => if is_digit(c) { Some(DoubleState::Exponent) } else { None },
+        DoubleState::Sign => if is_digit(c) {
+            Some(DoubleState::Exponent)
+        } else {
+            None
+        },
+        DoubleState::Exponent => if is_digit(c) {
+            Some(DoubleState::Exponent)
+        } else {
+            None
+        },
     }
 }
 
@@ -134,7 +162,11 @@ fn double_start(c: char) -> Option<DoubleState>
     if c == '.' {
         return Some(DoubleState::FirstPoint);
     }
-    if is_digit(c) { Some(DoubleState::Whole) } else { None }
+    if is_digit(c) {
+        Some(DoubleState::Whole)
+    } else {
+        None
+    }
 }
 
 fn double_whole(c: char) -> Option<DoubleState>
@@ -146,7 +178,11 @@ fn double_whole(c: char) -> Option<DoubleState>
     if c == 'e' || c == 'E' {
         return Some(DoubleState::Letter);
     }
-    if is_digit(c) { Some(DoubleState::Whole) } else { None }
+    if is_digit(c) {
+        Some(DoubleState::Whole)
+    } else {
+        None
+    }
 }
 
 fn double_fraction(c: char) -> Option<DoubleState>
@@ -155,7 +191,11 @@ fn double_fraction(c: char) -> Option<DoubleState>
     if c == 'e' || c == 'E' {
         return Some(DoubleState::Letter);
     }
-    if is_digit(c) { Some(DoubleState::Fraction) } else { None }
+    if is_digit(c) {
+        Some(DoubleState::Fraction)
+    } else {
+        None
+    }
 }
 
 fn double_exponent(c: char) -> Option<DoubleState>
@@ -164,7 +204,11 @@ fn double_exponent(c: char) -> Option<DoubleState>
     if c == '+' || c == '-' {
         return Some(DoubleState::Sign);
     }
-    if is_digit(c) { Some(DoubleState::Exponent) } else { None }
+    if is_digit(c) {
+        Some(DoubleState::Exponent)
+    } else {
+        None
+    }
 }
 
 /// Whether a double may end in this state.
@@ -179,29 +223,57 @@ pub(crate) fn span_step(state: SpanState, c: char) -> Option<SpanState>
     ensures { result ≡ words.span_step state c }
 {
     match state {
-        SpanState::Start => if c == 'P' { Some(SpanState::Begun) } else { None },
+        SpanState::Start => if c == 'P' {
+            Some(SpanState::Begun)
+        } else {
+            None
+        },
         SpanState::Begun => {
             if c == 'T' {
                 return Some(SpanState::Time);
             }
-            if is_digit(c) { Some(SpanState::DayDigits) } else { None }
+            if is_digit(c) {
+                Some(SpanState::DayDigits)
+            } else {
+                None
+            }
         }
         SpanState::DayDigits => {
             if c == 'D' {
                 return Some(SpanState::Days);
             }
-            if is_digit(c) { Some(SpanState::DayDigits) } else { None }
+            if is_digit(c) {
+                Some(SpanState::DayDigits)
+            } else {
+                None
+            }
         }
-        SpanState::Days => if c == 'T' { Some(SpanState::Time) } else { None },
-        SpanState::Time => if is_digit(c) { Some(SpanState::Digits(Part::None)) } else { None },
+        SpanState::Days => if c == 'T' {
+            Some(SpanState::Time)
+        } else {
+            None
+        },
+        SpanState::Time => if is_digit(c) {
+            Some(SpanState::Digits(Part::None))
+        } else {
+            None
+        },
         SpanState::Digits(part) => span_digits(part, c),
         SpanState::Behind(part) => span_behind(part, c),
-        SpanState::Point => if is_digit(c) { Some(SpanState::Fraction) } else { None },
+        SpanState::Point => if is_digit(c) {
+            Some(SpanState::Fraction)
+        } else {
+            None
+        },
         SpanState::Fraction => {
             if c == 'S' {
                 return Some(SpanState::Behind(Part::Seconds));
             }
-            if is_digit(c) { Some(SpanState::Fraction) } else { None }
+            if is_digit(c) {
+                Some(SpanState::Fraction)
+            } else {
+                None
+            }
         }
     }
 }
@@ -232,7 +304,11 @@ fn span_behind(part: Part, c: char) -> Option<SpanState>
 {
     match part {
         Part::Seconds => None,
-        _ => if is_digit(c) { Some(SpanState::Digits(part)) } else { None },
+        _ => if is_digit(c) {
+            Some(SpanState::Digits(part))
+        } else {
+            None
+        },
     }
 }
 

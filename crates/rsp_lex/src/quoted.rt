@@ -104,7 +104,11 @@ pub(crate) fn iri_step(state: IriState, c: char) -> Option<IriState>
     ensures { result ≡ words.iri_step state c }
 {
     match state {
-        IriState::Start => if c == '<' { Some(IriState::Inside) } else { None },
+        IriState::Start => if c == '<' {
+            Some(IriState::Inside)
+        } else {
+            None
+        },
         IriState::Inside => iri_inside(c),
         IriState::Escape(escape) => match uchar_step(escape, c) {
             None => None,
@@ -123,7 +127,11 @@ fn iri_inside(c: char) -> Option<IriState>
     if c == '\\' {
         return Some(IriState::Escape(Escape::Begun));
     }
-    if is_iri_character(c) { Some(IriState::Inside) } else { None }
+    if is_iri_character(c) {
+        Some(IriState::Inside)
+    } else {
+        None
+    }
 }
 
 fn iri_behind(escaped: Escaped) -> Option<IriState>
@@ -132,7 +140,11 @@ fn iri_behind(escaped: Escaped) -> Option<IriState>
     match escaped {
         Escaped::More(escape) => Some(IriState::Escape(escape)),
         Escaped::Whole(character) => {
-            if is_iri_character(character) { Some(IriState::Inside) } else { None }
+            if is_iri_character(character) {
+                Some(IriState::Inside)
+            } else {
+                None
+            }
         }
     }
 }
@@ -151,13 +163,25 @@ pub(crate) fn string_step(state: StringState, c: char) -> Option<StringState>
     match state {
         StringState::Start => string_start(c),
         StringState::Opened(quote) => {
-            if is_quote(quote, c) { Some(StringState::Empty(quote)) } else { short_step(quote, c) }
+            if is_quote(quote, c) {
+                Some(StringState::Empty(quote))
+            } else {
+                short_step(quote, c)
+            }
         }
         StringState::Empty(quote) => {
-            if is_quote(quote, c) { Some(StringState::Long(quote, 0)) } else { None }
+            if is_quote(quote, c) {
+                Some(StringState::Long(quote, 0))
+            } else {
+                None
+            }
         }
         StringState::Short(quote) => {
-            if is_quote(quote, c) { Some(StringState::Closed) } else { short_step(quote, c) }
+            if is_quote(quote, c) {
+                Some(StringState::Closed)
+            } else {
+                short_step(quote, c)
+            }
         }
         StringState::ShortEscape(quote, escape) => match escape_step(escape, c) {
             None => None,
@@ -207,9 +231,17 @@ fn long_step(quote: Quote, quotes: u8, c: char) -> StringState
     ensures { result ≡ words.long_step quote quotes c }
 {
     if is_quote(quote, c) {
-        return if quotes < 2 { StringState::Long(quote, quotes + 1) } else { StringState::Closed };
+        return if quotes < 2 {
+            StringState::Long(quote, quotes + 1)
+        } else {
+            StringState::Closed
+        };
     }
-    if c == '\\' { StringState::LongEscape(quote, Escape::Begun) } else { StringState::Long(quote, 0) }
+    if c == '\\' {
+        StringState::LongEscape(quote, Escape::Begun)
+    } else {
+        StringState::Long(quote, 0)
+    }
 }
 
 fn escape_step(escape: Escape, c: char) -> Option<Escaped>
@@ -217,7 +249,11 @@ fn escape_step(escape: Escape, c: char) -> Option<Escaped>
 {
     match escape {
         Escape::Begun => {
-            if is_name(c) { Some(Escaped::Whole(c)) } else { uchar_step(escape, c) }
+            if is_name(c) {
+                Some(Escaped::Whole(c))
+            } else {
+                uchar_step(escape, c)
+            }
         }
         Escape::Digits { .. } => uchar_step(escape, c),
     }

@@ -24,10 +24,26 @@ pub(crate) fn symbol_step(state: SymbolState, c: char) -> Option<SymbolState>
 {
     match state {
         SymbolState::Start => symbol_start(c),
-        SymbolState::Ampersand => if c == '&' { Some(SymbolState::Whole) } else { None },
-        SymbolState::Bar => if c == '|' { Some(SymbolState::Whole) } else { None },
-        SymbolState::Caret => if c == '^' { Some(SymbolState::Whole) } else { None },
-        SymbolState::BeforeEqual => if c == '=' { Some(SymbolState::Whole) } else { None },
+        SymbolState::Ampersand => if c == '&' {
+            Some(SymbolState::Whole)
+        } else {
+            None
+        },
+        SymbolState::Bar => if c == '|' {
+            Some(SymbolState::Whole)
+        } else {
+            None
+        },
+        SymbolState::Caret => if c == '^' {
+            Some(SymbolState::Whole)
+        } else {
+            None
+        },
+        SymbolState::BeforeEqual => if c == '=' {
+            Some(SymbolState::Whole)
+        } else {
+            None
+        },
         SymbolState::Whole => None,
     }
 }
@@ -40,19 +56,29 @@ fn symbol_start(c: char) -> Option<SymbolState>
         '|' => Some(SymbolState::Bar),
         '^' => Some(SymbolState::Caret),
         '!' | '<' | '>' => Some(SymbolState::BeforeEqual),
-        _ => if is_single(c) { Some(SymbolState::Whole) } else { None },
+        _ => if is_single(c) {
+            Some(SymbolState::Whole)
+        } else {
+            None
+        },
     }
 }
 
 fn is_single(c: char) -> bool
     ensures { result ≡ words.is_single c }
 {
-    matches!(c, '{' | '}' | '(' | ')' | '[' | ']' | '.' | ';' | ',' | '=' | '+' | '-' | '*' | '/' | '?')
+    matches!(
+        c,
+        '{' | '}' | '(' | ')' | '[' | ']' | '.' | ';' | ',' | '=' | '+' | '-' | '*' | '/' | '?'
+    )
 }
 
 /// Whether a symbol may end in this state.
 pub(crate) fn symbol_ends(state: SymbolState) -> bool
     ensures { result ≡ words.symbol_ends state }
 {
-    matches!(state, SymbolState::Bar | SymbolState::Caret | SymbolState::BeforeEqual | SymbolState::Whole)
+    matches!(
+        state,
+        SymbolState::Bar | SymbolState::Caret | SymbolState::BeforeEqual | SymbolState::Whole
+    )
 }

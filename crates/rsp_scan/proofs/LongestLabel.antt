@@ -76,10 +76,6 @@ module _ (labels : Labels) where
   pub label_read : (text : List ℕ) (end read : ℕ) → length text ≡ 0 → best end read (further_bytes labels (chars text)) ≡ end
   label_read text end read none = rw (nil_from_length text none, chars-nil, none_read) refl
 
-  pub end_within : (ends : Bool) (read end len : ℕ) → end ≤ read → (if ends then read + len else end) ≤ read + len
-  end_within true read end len within = omega arith
-  end_within false read end len within = omega arith
-
   -- ---- the first character
 
   dot_begins_none : starts_label labels 0x2E ≡ false

@@ -67,3 +67,7 @@ module _ {S : Type 0} (m : Machine S) (s : S) (text rest : List ℕ) (c : ℕ) (
 
   pub bytes_stop : m.step s c ≡ None → best end read (scanned_bytes m s (chars text)) ≡ end
   bytes_stop is = rw (chars_past_char text rest c whole parts, step_none m s c (chars rest) is) refl
+
+pub end_within : (ends : Bool) (read end len : ℕ) → end ≤ read → (if ends then read + len else end) ≤ read + len
+end_within true read end len within = omega arith
+end_within false read end len within = omega arith
