@@ -1,8 +1,8 @@
-use Rattle.std.proofs.Common.{◌∙◌, ◌≡◌, ◌+◌, sym, ap, arith, length, length-append, IsUtf8}
+use Rattle.std.proofs.Common.{◌∙◌, sym, ap, arith, length, length-append}
 use Rattle.std.specs.Char.{encode_utf8}
 use Rattle.std.specs.Str.Iter.{chars_rest}
 use Rattle.std.proofs.lemmas.Str.{IsUtf8-past_char}
-use Rattle.rsp_lex.proofs.GapLaws.{gap_at, gap_is, gap_goes, gap_stops, gap_read}
+use Rattle.rsp_lex.proofs.GapLaws.{gap_is, gap_goes, gap_stops, gap_read}
 use Rattle.rsp_lex.proofs.lexing.gap_len.Goals as goal
 
 pub returns-in_default-clause-value : goal.returns-in_default-clause-value

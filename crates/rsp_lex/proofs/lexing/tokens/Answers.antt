@@ -1,5 +1,4 @@
-use Rattle.std.proofs.Common.{rules, ◌≡◌, ◌≢◌, ◌+◌, ◌-◌, ◌∙◌, length, suc, sym, ap, arith, Ok, Err, ℕ, List}
-use Rattle.rsp_lex.specs.declared.token.Token.{Token}
+use Rattle.std.proofs.Common.{rules, ◌≡◌, ◌≢◌, ◌+◌, ◌-◌, ◌∙◌, length, suc, sym, ap, arith, Ok, Err}
 use Rattle.rsp_lex.specs.Tokens as words
 use Rattle.rsp_lex.proofs.TokenLaws.{tokens_end, tokens_stop, tokens_go, tokens_past}
 use Rattle.rsp_lex.proofs.lexing.tokens.Goals as goal
@@ -26,10 +25,11 @@ loop-preserved c =
     let some : length c.behind_gap-gap.result.1.now ≢ 0 = search rules in
     let rest = c.behind_gap-gap.ensures.rest in
     let there : (words.token_at c.behind_gap-gap.result.1.now).len ≢ 0 = rw c.first_token.ensures.token at c.if-front-eq0.false in
-    let go = tokens_go c.loop.tokens.items _ _ c.loop.at c.loop.rest.now _ more c.loop.invariant.1 (rw rest at some) (rw rest at there) in
-    (search rules,
-    rw (c.in_ok-tokens.ensures, c.first_token.ensures.rest, c.first_token.ensures.token, c.behind_gap-gap.ensures.rest, c.behind_gap-gap.ensures.gap) go,
-    omega (arith, c.loop.invariant.2, c.behind_gap-gap.ensures.bound, c.first_token.ensures.bound))
+    let go = tokens_go c.loop.tokens.items _ _ c.loop.at c.loop.rest.now _ more c.loop.invariant.1 (rw rest at some) (rw rest at there) in (
+      search rules,
+      rw (c.in_ok-tokens.ensures, c.first_token.ensures.rest, c.first_token.ensures.token, c.behind_gap-gap.ensures.rest, c.behind_gap-gap.ensures.gap) go,
+      omega (arith, c.loop.invariant.2, c.behind_gap-gap.ensures.bound, c.first_token.ensures.bound),
+    )
 
 pub returns : goal.returns
 returns c =

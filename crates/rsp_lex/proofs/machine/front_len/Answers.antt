@@ -1,6 +1,4 @@
-use Rattle.std.proofs.Common.{◌∙◌, sym, ap, chars}
-use Rattle.rsp_scan.specs.Scans.{scanned_bytes}
-use Rattle.rsp_lex.specs.Kinds.{token_machine}
+use Rattle.std.proofs.Common.{sym}
 use Rattle.rsp_lex.proofs.KindLaws.{front_is}
 use Rattle.rsp_lex.proofs.machine.front_len.Goals as goal
 
