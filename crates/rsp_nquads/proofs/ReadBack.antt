@@ -15,11 +15,12 @@ use Rattle.rsp_terms.specs.declared.term.Term.TheVariants.{Iri, Blank, Literal, 
 use Rattle.rsp_terms.specs.declared.statement.Quad.{Quad}
 use Rattle.rsp_terms.specs.Terms.{xsd_string, escaped_byte, escaped_text, iri_text, string_text, printed}
 use Rattle.rsp_terms.specs.Characters.{is_iri_character, is_tag_text}
+use Rattle.rsp_scan.specs.Fronts.{accepts}
 use Rattle.rsp_scan.specs.declared.enclosed.Quote.TheVariants.{Double}
 use Rattle.rsp_scan.specs.Enclosed.{Piece, plain, short, long, named, piece_text, StandsFor, IsIriPiece, IsStringPiece, IsPieceOf, IsEnclosed, IsIri, Rule, is_scalar}
 use Rattle.rsp_scan.specs.Names.{IsTag}
 use Rattle.rsp_nquads.specs.Grammar.{IsDatatype, IsQualified, IsLiteral, IsIriTerm, IsNode, IsObject, IsGraph, Stands, Says}
-use Rattle.rsp_scan.specs.Scans.{accepts, next_of_tag, tag_machine}
+use Rattle.rsp_scan.specs.Scans.{next_of_tag, tag_machine}
 use Rattle.rsp_nquads.specs.Statements.{statement_of}
 use Rattle.rsp_nquads.specs.Answers.{statement}
 use Rattle.rsp_nquads.specs.Writing.{line_of, graph_text, IsNotBlank, IsNotBlankIn, HasNoBlank}

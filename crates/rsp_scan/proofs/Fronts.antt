@@ -9,8 +9,8 @@ use Rattle.std.proofs.lemmas.Grind.{common_steps}
 use Rattle.std.proofs.lemmas.Str.{chars-encodes, encodes-append, IsCharBoundary-at_seam, IsUtf8-from_ascii, IsUtf8-nil}
 use Rattle.std.proofs.Math.Nat.{pow-le-pow_right}
 use Rattle.rsp_spec.proofs.Truths.{and_left, and_right}
-use Rattle.rsp_scan.specs.Readers.{longest_front, longest_up_to}
-use Rattle.rsp_scan.specs.Scans.{accepts, scan, next_of_tag, tag_machine}
+use Rattle.rsp_scan.specs.Fronts.{accepts, longest_front, longest_up_to}
+use Rattle.rsp_scan.specs.Scans.{scan, next_of_tag, tag_machine}
 use Rattle.rsp_scan.proofs.Longest.{scan_is}
 
 pub scalars-drop : (n : ℕ) (cs : List ℕ) → all_scalars cs ≡ true → all_scalars (drop n cs) ≡ true
@@ -50,6 +50,12 @@ front_at n cs text scalars is =
       boundary = boundary;
       is = ap (take (length (encode_utf8_all (take n cs)))) both ∙ take_front (encode_utf8_all (take n cs)) (encode_utf8_all (drop n cs));
     }
+
+pub front_n : (n : ℕ) (text : List ℕ) → IsUtf8 text → IsFront (encode_utf8_all (take n (chars text))) text
+front_n n text whole =
+    let cs = whole.0 in
+    let is : chars text ≡ cs = ap chars (sym whole.1.1) ∙ chars-encodes cs whole.1.0 in
+    rw is (front_at n cs text whole.1.0 whole.1.1)
 
 pub front_of : (test : List ℕ → Bool) (text : List ℕ) → IsUtf8 text → IsFront (encode_utf8_all (longest_front test (chars text))) text
 front_of test text whole =

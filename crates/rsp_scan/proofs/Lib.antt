@@ -7,4 +7,5 @@ pub mod LongestTag
 pub mod NameLaws
 pub mod Pieces
 pub mod RuleLaws
+pub mod ScannedBytes
 pub mod Spelling

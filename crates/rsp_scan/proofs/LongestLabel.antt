@@ -1,21 +1,21 @@
 -- Labels of blank nodes: the machine answers whether characters are one, and the pass finds the longest, in bytes.
-use Rattle.std.proofs.Common.{◌≡◌, ℕ, zero, suc, ◌+◌, ◌<◌, ◌≤◌, Bool, true, false, true≢false, List, [], ◌∷◌, ◌++◌, length, take, refl, sym, ap, ◌∙◌, arith, if◌then◌else◌, Some, None, IsUtf8, chars, length-append}
+use Rattle.std.proofs.Common.{◌≡◌, ℕ, suc, ◌+◌, ◌≤◌, Bool, true, false, true≢false, List, [], ◌∷◌, ◌++◌, length, take, refl, sym, ap, ◌∙◌, if◌then◌else◌, Some, None, IsUtf8, chars}
 use Rattle.std.specs.Prelude.{◌&&◌, ◌==◌, not}
 use Rattle.std.specs.Char.{encode_utf8, len_utf8}
 use Rattle.std.specs.List.{list_all}
 use Rattle.std.specs.Str.{encode_utf8_all}
-use Rattle.std.proofs.lemmas.Bool.Decides.{nat_tests}
 use Rattle.std.proofs.lemmas.List.{nil_from_length}
-use Rattle.std.proofs.lemmas.Str.{chars-nil, chars_past_char, length-encode, len_utf8_bounds}
+use Rattle.std.proofs.lemmas.Str.{chars-nil, chars_past_char}
 use Rattle.rsp_spec.proofs.Truths.{differs}
 use Rattle.rsp_terms.specs.Characters.{last_of}
 use Rattle.rsp_scan.specs.declared.labels.Labels.{Labels}
 use Rattle.rsp_scan.specs.declared.labels.Labels.TheVariants.{NQuads, Sparql}
 use Rattle.rsp_scan.specs.Names.{is_label, starts_label, continues_label}
-use Rattle.rsp_scan.specs.Readers.{longest_front}
-use Rattle.rsp_scan.specs.Scans.{accepts, lengthened, scan, further_bytes, label_machine}
+use Rattle.rsp_scan.specs.Fronts.{accepts, longest_front}
+use Rattle.rsp_scan.specs.Scans.{lengthened, scan, further_bytes, label_machine}
 use Rattle.rsp_scan.proofs.Longest.{longest_scanned, scan_is}
 use Rattle.rsp_scan.proofs.Best.{best}
+use Rattle.rsp_scan.proofs.ScannedBytes.{first_bytes, best_bytes}
 
 module _ (labels : Labels) where
   behind_first : (last : ℕ) (cs : List ℕ)
@@ -46,36 +46,6 @@ module _ (labels : Labels) where
 
   -- ---- in bytes
 
-  abbrev bytes : ℕ → List ℕ → ℕ
-  bytes n cs = length (encode_utf8_all (take n cs))
-
-  first_bytes : (n c : ℕ) (cs : List ℕ) → bytes (suc n) (c ∷ cs) ≡ len_utf8 c + bytes n cs
-  first_bytes n c cs = length-append (encode_utf8 c) (encode_utf8_all (take n cs)) ∙ ap (λ k. k + bytes n cs) (length-encode c)
-
-  some_bytes : (n c : ℕ) (cs : List ℕ) → 0 < bytes (suc n) (c ∷ cs)
-  some_bytes n c cs = let is = first_bytes n c cs in let some = (len_utf8_bounds c).0 in omega arith
-
-  zero_bytes : (n : ℕ) → n ≡ 0 → (n == 0) ≡ true
-  zero_bytes n is = grind (arith, nat_tests)
-
-  not_zero : (n : ℕ) → 0 < n → (n == 0) ≡ false
-  not_zero n some = grind (arith, nat_tests)
-
-  best_bytes : (ends : Bool) (n c : ℕ) (cs : List ℕ) (end read : ℕ) → n ≤ length cs
-      → best end read (bytes (lengthened ends n) (c ∷ cs)) ≡ best (if ends then read + len_utf8 c else end) (read + len_utf8 c) (bytes n cs)
-  best_bytes true zero c cs end read within =
-      let test = not_zero (bytes 1 (c ∷ cs)) (some_bytes 0 c cs) in
-      let all = first_bytes 0 c cs in
-      rw test (omega arith)
-  best_bytes false zero c cs end read within = refl
-  best_bytes ends (suc n) c [] end read within = absurd (omega arith)
-  best_bytes ends (suc n) c (d ∷ ds) end read within =
-      let zero_not : (suc n == 0) ≡ false = not_zero (suc n) (omega arith) in
-      let more = not_zero (bytes (suc n) (d ∷ ds)) (some_bytes n d ds) in
-      let most = not_zero (bytes (suc (suc n)) (c ∷ d ∷ ds)) (some_bytes (suc n) c (d ∷ ds)) in
-      let all = first_bytes (suc n) c (d ∷ ds) in
-      rw (zero_not, more, most) (omega arith)
-
   scanned : (c : ℕ) (cs : List ℕ) → (continues_label labels) c ≡ true
       → scan (label_machine labels) (Some 0) (c ∷ cs) ≡ lengthened (not (c == 0x2E)) (scan (label_machine labels) (Some 0) cs)
   unfolding scan
@@ -104,10 +74,6 @@ module _ (labels : Labels) where
 
   pub label_read : (text : List ℕ) (end read : ℕ) → length text ≡ 0 → best end read (further_bytes labels (chars text)) ≡ end
   label_read text end read none = rw (nil_from_length text none, chars-nil, none_read) refl
-
-  pub end_within : (ends : Bool) (read end len : ℕ) → end ≤ read → (if ends then read + len else end) ≤ read + len
-  end_within true read end len within = omega arith
-  end_within false read end len within = omega arith
 
   -- ---- the first character
 

@@ -11,8 +11,9 @@ use Rattle.std.proofs.lemmas.Str.{is_utf8-from_IsUtf8, IsUtf8-from_is_utf8, IsUt
 use Rattle.std.proofs.lemmas.Bool.{and_from}
 use Rattle.rsp_spec.proofs.Truths.{and_left, and_right, equal_from, differs}
 use Rattle.rsp_terms.specs.Characters.{is_tag_text}
+use Rattle.rsp_scan.specs.Fronts.{longest_front, longest_up_to}
 use Rattle.rsp_scan.specs.declared.labels.Labels.{Labels}
-use Rattle.rsp_scan.specs.Readers.{sign, label, longest_label, longest_front, longest_up_to, some_of, behind, tag}
+use Rattle.rsp_scan.specs.Readers.{sign, label, longest_label, some_of, behind, tag}
 use Rattle.rsp_scan.specs.Names.{is_label, IsLabel, IsTag}
 use Rattle.rsp_scan.proofs.Fronts.{take_front, drop_front, scalars-take, scalars-drop, parted}
 use Rattle.rsp_scan.proofs.Pieces.{both_of, pair_same}

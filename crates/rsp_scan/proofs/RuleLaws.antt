@@ -8,7 +8,8 @@ use Rattle.std.proofs.lemmas.Grind.{common_steps}
 use Rattle.std.proofs.lemmas.List.{take-append-drop}
 use Rattle.std.proofs.lemmas.Str.{length-encode, len_utf8_bounds}
 use Rattle.rsp_spec.proofs.Truths.{equal_from}
-use Rattle.rsp_scan.specs.Readers.{PartReader, sign, spelled, enclosed, iri, string, longest_front, longest_up_to}
+use Rattle.rsp_scan.specs.Fronts.{longest_front, longest_up_to}
+use Rattle.rsp_scan.specs.Readers.{PartReader, sign, spelled, enclosed, iri, string}
 use Rattle.rsp_scan.specs.declared.enclosed.Quote.{Quote}
 use Rattle.rsp_scan.specs.declared.enclosed.Quote.TheVariants.{Double, Single}
 use Rattle.rsp_scan.specs.Enclosed.{Rule, Piece, plain, short, long, named, piece_text, IsEnclosed, IsIri, IsString, quote_sign, is_string_character}

@@ -1,5 +1,6 @@
 -- Definitions
 pub mod Enclosed
+pub mod Fronts
 pub mod Names
 -- Words of the way
 pub mod Readers

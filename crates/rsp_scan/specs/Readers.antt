@@ -15,19 +15,11 @@ use Rattle.rsp_scan.specs.declared.enclosed.Quote.{Quote}
 use Rattle.rsp_scan.specs.declared.labels.Labels.{Labels}
 use Rattle.rsp_scan.specs.Enclosed.{is_scalar, quote_sign, is_string_character, named_character}
 use Rattle.rsp_scan.specs.Names.{is_label}
+use Rattle.rsp_scan.specs.Fronts.{longest_front}
 
 -- what reads a part of value A
 abbrev pub PartReader : Type 0 → Type 0
 PartReader A = List ℕ → Option (A × List ℕ)
-
--- the length of the longest front, of at most so many items, that passes a test
-abbrev pub longest_up_to : ℕ → (List ℕ → Bool) → List ℕ → ℕ
-longest_up_to zero test items = 0
-longest_up_to (suc n) test items = if test (take (suc n) items) then suc n else longest_up_to n test items
-
--- the longest front that passes a test, and nothing where none does
-abbrev pub longest_front : (List ℕ → Bool) → List ℕ → List ℕ
-longest_front test items = take (longest_up_to (length items) test items) items
 
 -- the text behind a front of it
 abbrev pub behind : List ℕ → List ℕ → List ℕ

@@ -4,16 +4,8 @@ use Rattle.std.specs.Char.{is_ascii_alphabetic, is_ascii_digit}
 use Rattle.std.specs.Option.{option_map_or}
 use Rattle.std.specs.Str.{byte, encode_utf8_all}
 use Rattle.rsp_scan.specs.declared.labels.Labels.{Labels}
+use Rattle.rsp_scan.specs.Fronts.{Machine}
 use Rattle.rsp_scan.specs.Names.{starts_label, continues_label}
-
-pub record Machine (S : Type 0) : Type 0 where
-  pub step : S → ℕ → Option S
-  pub ends : S → Bool
-
--- whether the items are read to their end, and may end there
-abbrev pub accepts : {S : Type 0} → Machine S → S → List ℕ → Bool
-accepts m s [] = m.ends s
-accepts m s (c ∷ cs) = option_map_or (λ t. accepts m t cs) (m.step s c) false
 
 -- of one item and so many behind it, where it alone may end or not
 abbrev pub lengthened : Bool → ℕ → ℕ
@@ -23,6 +15,10 @@ lengthened ends n = if (n == 0) && not ends then 0 else suc n
 unfoldable pub scan : {S : Type 0} → Machine S → S → List ℕ → ℕ
 scan m s [] = 0
 scan m s (c ∷ cs) = option_map_or (λ t. lengthened (m.ends t) (scan m t cs)) (m.step s c) 0
+
+-- the bytes of that front
+abbrev pub scanned_bytes : {S : Type 0} → Machine S → S → List ℕ → ℕ
+scanned_bytes m s cs = length (encode_utf8_all (take (scan m s cs) cs))
 
 -- a label's state is the character read last
 abbrev pub next_of_label : Labels → Option ℕ → ℕ → Option (Option ℕ)

@@ -4,6 +4,7 @@ ghost use Rattle.std.specs.Str.{chars, encode_utf8_all, IsUtf8};
 ghost use Rattle.std.specs.Str.Lossy.{utf8_valid_len};
 ghost use Rattle.rsp_terms.specs.Characters.{is_tag_text};
 ghost use Rattle.rsp_scan.specs.Names.{is_label, starts_label, continues_label};
+ghost use Rattle.rsp_scan.specs.Fronts.{longest_front};
 ghost use Rattle.rsp_scan.specs.Readers as part;
 ghost use Rattle.rsp_scan.specs.Scans.{further_bytes, next_of_tag, scan, tag_machine};
 
@@ -87,7 +88,7 @@ fn valid_front(text: &[u8]) -> &str
 }
 
 fn longest_label(labels: Labels, text: &str) -> &str
-    ensures value { result.now ≡ encode_utf8_all (part.longest_front (is_label labels) (chars text.now)) }
+    ensures value { result.now ≡ encode_utf8_all (longest_front (is_label labels) (chars text.now)) }
     ensures bound { length result.now ≤ length text.now }
 {
     &text[..label_len(labels, text)]
@@ -95,7 +96,7 @@ fn longest_label(labels: Labels, text: &str) -> &str
 
 // how many bytes the longest label at the front has
 fn label_len(labels: Labels, text: &str) -> usize
-    ensures { result ≡ length (encode_utf8_all (part.longest_front (is_label labels) (chars text.now))) }
+    ensures { result ≡ length (encode_utf8_all (longest_front (is_label labels) (chars text.now))) }
 {
     let mut characters = text.chars();
     match characters.next() {
@@ -146,7 +147,7 @@ pub fn tag<'a>(alloc: Global, text: &'a [u8]) -> Result<Option<(Text, &'a [u8])>
 }
 
 fn longest_tag(text: &[u8]) -> &[u8]
-    ensures value { result.now ≡ part.longest_front is_tag_text text.now }
+    ensures value { result.now ≡ longest_front is_tag_text text.now }
     ensures bound { length result.now ≤ length text.now }
     ensures utf8 { IsUtf8 result.now }
 {

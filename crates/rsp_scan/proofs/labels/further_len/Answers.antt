@@ -2,7 +2,8 @@ use Rattle.std.proofs.Common.{◌∙◌, sym, ap, arith, length, length-append}
 use Rattle.std.specs.Char.{encode_utf8}
 use Rattle.std.specs.Str.Iter.{chars_rest}
 use Rattle.std.proofs.lemmas.Str.{IsUtf8-past_char}
-use Rattle.rsp_scan.proofs.LongestLabel.{label_goes, label_stops, label_read, end_within}
+use Rattle.rsp_scan.proofs.LongestLabel.{label_goes, label_stops, label_read}
+use Rattle.rsp_scan.proofs.ScannedBytes.{end_within}
 use Rattle.rsp_scan.proofs.labels.further_len.Goals as goal
 
 pub returns-then-not-continues-clause-value : goal.returns-then-not-continues-clause-value
@@ -24,7 +25,7 @@ loop-character-preserved c =
           rw (c.furthest-end.ensures, c.len_utf8-read.ensures.value)
           (sym (label_goes c.args.labels _ _ c.in-Some.character held.whole parts c.loop-character.end c.loop-character.read passes) ∙ held.best);
       read = omega (arith, held.read, longer, len);
-      within = rw c.furthest-end.ensures (end_within c.args.labels _ _ _ _ held.within);
+      within = rw c.furthest-end.ensures (end_within _ _ _ _ held.within);
     }
 
 pub returns-clause-value : goal.returns-clause-value

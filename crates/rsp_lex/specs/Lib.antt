@@ -1,0 +1,8 @@
+-- Definitions
+pub mod Quoted
+pub mod Names
+pub mod Numbers
+pub mod Symbols
+pub mod Kinds
+pub mod Tokens
+pub mod Results

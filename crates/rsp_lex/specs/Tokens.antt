@@ -1,0 +1,66 @@
+-- Definitions: the tokens of a text: at each place behind white space and comments the longest, and of equally long ones the
+-- kind that stands first. Places count bytes.
+use Rattle.std.specs.Prelude.{ℕ, zero, suc, ◌+◌, Bool, true, false, not, ◌||◌, ◌==◌, nat_lt, if◌then◌else◌, Option, None, Some, List, [], ◌∷◌, length, take, drop, Result, Ok, Err}
+use Rattle.std.specs.Option.{option_map_or}
+use Rattle.std.specs.Str.{byte, chars, encode_utf8_all}
+use Rattle.rsp_lex.specs.declared.token.Token.{Token}
+use Rattle.rsp_lex.specs.declared.token.TokenKind.{TokenKind}
+use Rattle.rsp_lex.specs.declared.token.TokenKind.TheVariants as kind
+use Rattle.rsp_lex.specs.declared.lexing.Front.{Front}
+use Rattle.rsp_lex.specs.Kinds.{front_bytes}
+
+-- ---- white space and comments: a comment is `#` to the end of the line
+
+abbrev pub is_white : ℕ → Bool
+is_white c = c == byte " " || (c == byte "\t" || (c == byte "\n" || c == byte "\r"))
+
+-- whether a comment goes on behind the character; nothing where the gap ends before it
+abbrev pub gap_step : Bool → ℕ → Option Bool
+gap_step true c = Some (not (c == byte "\n"))
+gap_step false c = if is_white c then Some false else (if c == byte "#" then Some true else None)
+
+abbrev pub gap_count : Bool → List ℕ → ℕ
+gap_count comment [] = 0
+gap_count comment (c ∷ cs) = option_map_or (λ next. suc (gap_count next cs)) (gap_step comment c) 0
+
+unfoldable pub gap_bytes : List ℕ → ℕ
+gap_bytes text = length (encode_utf8_all (take (gap_count false (chars text)) (chars text)))
+
+-- ---- the longest token at the front of a text
+
+abbrev pub longer : Front → TokenKind → List ℕ → Front
+longer best kind text =
+    if nat_lt best.len (front_bytes kind text) then record { kind = kind; len = front_bytes kind text } else best
+
+abbrev pub longest_among : Front → List TokenKind → List ℕ → Front
+longest_among best [] text = best
+longest_among best (kind ∷ kinds) text = longest_among (longer best kind text) kinds text
+
+abbrev pub further_kinds : List TokenKind
+further_kinds =
+    kind.Prefixed ∷ kind.Label ∷ kind.Variable ∷ kind.Span ∷ kind.Word ∷ kind.Tag ∷ kind.Double ∷ kind.Decimal ∷ kind.Integer
+    ∷ kind.String ∷ kind.Symbol ∷ []
+
+unfoldable pub token_at : List ℕ → Front
+token_at text = longest_among (record { kind = kind.Iri; len = front_bytes kind.Iri text }) further_kinds text
+
+-- ---- all tokens, or the place where none begins
+
+abbrev pub before : Token → Result (List Token) ℕ → Result (List Token) ℕ
+before token (Ok tokens) = Ok (token ∷ tokens)
+before token (Err at) = Err at
+
+-- `most` bounds the number of tokens; a text has no more than bytes
+unfoldable pub tokens_from : ℕ → ℕ → List ℕ → Result (List Token) ℕ
+tokens_from zero place text = Err place
+tokens_from (suc most) place text =
+    let start = place + gap_bytes text in
+    let behind = drop (gap_bytes text) text in
+    let front = token_at behind in
+    if length behind == 0 then Ok []
+    else (if front.len == 0 then Err start
+    else before (record { kind = front.kind; start = start; end = start + front.len })
+    (tokens_from most (start + front.len) (drop front.len behind)))
+
+abbrev pub tokens : List ℕ → Result (List Token) ℕ
+tokens text = tokens_from (length text + 1) 0 text

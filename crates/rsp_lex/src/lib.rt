@@ -1,0 +1,18 @@
+//! The tokens of a query's text (SPARQL 1.1, section 19.8, and spans of time).
+//!
+//! `tokens` gives at each place behind white space and comments the longest token, of equally long ones that whose kind
+//! stands first in [`TokenKind`], or else the first place at which none begins. A kind is a test of a whole text, by an
+//! automaton on code points; places count bytes.
+//! Above: the readers of queries. Below: what N-Quads and SPARQL write alike, and characters.
+#![tactic(auto)]
+
+mod lexing;
+mod machine;
+mod names;
+mod numbers;
+mod quoted;
+mod symbols;
+mod token;
+
+pub use lexing::tokens;
+pub use token::{LexFault, Token, TokenKind};

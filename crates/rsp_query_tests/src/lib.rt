@@ -1,0 +1,8 @@
+//! Tests of the parts of queries by tables of cases: tokens.
+//!
+//! The values were taken from the standards and worked out by hand, and not from the program. Nothing stands on this
+//! crate.
+#![tactic(auto)]
+
+#[cfg(test)]
+mod tokens;
