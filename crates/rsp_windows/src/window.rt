@@ -1,4 +1,4 @@
-//! One query's windows, by their width, their distance and their first opening.
+// One query's windows, by their width, their distance and their first opening.
 
 ghost use Rattle.std.specs.Prelude.{◌≡◌, ℕ, ◌+◌, ◌*◌, ◌^◌, ◌<◌, ◌≤◌, ◌↔◌, IfSome, IsSome};
 ghost use Rattle.rsp_spec.specs.Windows.{IsActive, IsAtMost, IsLastNeeded, IsNeeded, IsNextClosing, IsShape, Shape, active, closes_at, closing, opening};
