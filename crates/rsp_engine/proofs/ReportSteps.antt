@@ -23,7 +23,7 @@ struck_fewer true test left = filtered test left
 struck_fewer false test left = omega arith
 
 -- the step of a moment, by its live query
-step_of : World → Moment → List Moment → Option Query → Option ReportStep
+abbrev step_of : World → Moment → List Moment → Option Query → Option ReportStep
 step_of world moment left query =
     option_map_or
     (λ query.

@@ -59,7 +59,7 @@ fn evaluate_anew(
 }
 
 impl Answer for Plain {
-    ghost use Rattle.std.specs.Prelude.{◌≡◌, ◌+◌, ◌≤◌, is_none, not, IfOk, List};
+    ghost use Rattle.std.specs.Prelude.{◌≡◌, ◌+◌, ◌≤◌, false, is_none, not, IfOk, List};
     ghost use Rattle.rsp_terms.specs.declared.statement.Fact.{Fact};
     ghost use Rattle.rsp_algebra.specs.Nodes.{node_of};
     ghost use Rattle.rsp_algebra.specs.Work.{work};
