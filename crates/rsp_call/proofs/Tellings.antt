@@ -23,7 +23,9 @@ use Rattle.rsp_engine.proofs.ReportSteps.{reports_step, world_step}
 use Rattle.rsp_call.specs.declared.stop.Stop.{Stop}
 use Rattle.rsp_call.specs.declared.refusing.Place.{Place}
 use Rattle.rsp_call.specs.Output.{a_report, answer_step, is_refusal, outcome_text, text_of, text_of_report}
-use Rattle.rsp_call.specs.Refusals.{Reason, of_event, refusal_line}
+use Rattle.std.specs.Fmt.{decimal}
+use Rattle.std.specs.Prelude.{codes}
+use Rattle.rsp_call.specs.Refusals.{Reason, details, kind, of_event, place_text, refusal_line}
 use Rattle.rsp_call.specs.Runs.{event_refused, event_text, event_world, reports_text}
 use Rattle.rsp_call.specs.Sinks.{SinkSeen, Wrote, WrotePart}
 use Rattle.rsp_call.specs.Stops.{IsLineOf, Stops}
@@ -135,14 +137,14 @@ no_refusal (report ∷ reports) = no_refusal reports
 
 -- an accepted event says its reports
 pub accepted_text : (world : World) (place : Place) (event : Event) (after : World) → accept world event ≡ Ok after → event_text world place event ≡ reports_text (reports after (moments world event after))
-accepted_text world place event after is = ap (λ answer. text_of (answer_step world place event answer).said) is ∙ reports_said _
+accepted_text world place event after is = ap (λ answer. text_of (answer_step world place event answer).said) is ∙ reports_said (reports after (moments world event after))
 
 pub accepted_stands : (world : World) (place : Place) (event : Event) (after : World) (engine : State) → accept world event ≡ Ok after → Stands engine (world_behind after (moments world event after)) []
     → (false ≡ event_refused world place event) × Stands engine (event_world world place event) []
 accepted_stands world place event after engine is stands = (
-      sym (ap (λ answer. list_any is_refusal (answer_step world place event answer).said) is ∙ no_refusal _),
-      rw (ap (λ answer. (answer_step world place event answer).after) is) stands,
-    )
+  sym (ap (λ answer. list_any is_refusal (answer_step world place event answer).said) is ∙ no_refusal (reports after (moments world event after))),
+  rw (ap (λ answer. (answer_step world place event answer).after) is) stands,
+)
 
 -- a refused event says its refusal
 pub refused_text : (old new : State) (event : Event) (why : Refused) (place : Place) (world : World) → Refuses old event why new → Stands old world []
@@ -161,9 +163,9 @@ refused_stands old new event why place world refuses some stands = by (refusal_o
     by : (o : Option Refusal) → Answers old event why o new → is_some (option_map of_event o) ≡ true → (true ≡ event_refused world place event) × Stands new (event_world world place event) []
     by None answers some = cc
     by (Some refusal) answers some = (
-          sym (ap (λ answer. list_any is_refusal (answer_step world place event answer).said) (answers.refused world stands)),
-          rw (ap (λ answer. (answer_step world place event answer).after) (answers.refused world stands), answers.unchanged) stands,
-        )
+      sym (ap (λ answer. list_any is_refusal (answer_step world place event answer).said) (answers.refused world stands)),
+      rw (ap (λ answer. (answer_step world place event answer).after) (answers.refused world stands), answers.unchanged) stands,
+    )
 
 -- the engine stays idle
 pub refused_idle : (old new : State) (event : Event) (why : Refused) → Refuses old event why new → is_some (option_map of_event (refusal_of why)) ≡ true → IsTrue (is_idle old) → IsTrue (is_idle new)
@@ -183,3 +185,13 @@ line_given place (Some reason) line text is same = same ∙ sym (let made : line
 pub line_names : (place : Place) (reason : Option Reason) (line : List ℕ) → Some line ≡ option_map (refusal_line place) reason → is_some reason ≡ true
 line_names place None line is = cc
 line_names place (Some reason) line is = refl
+
+-- the line of a kind and details that are the reason's
+pub line_is : (place : Place) (reason : Option Reason) (number : ℕ) (name spot detail line : List ℕ) → Some (number, name) ≡ option_map kind reason → spot ≡ place_text place → ((r : Reason) → reason ≡ Some r → detail ≡ details r)
+    → line ≡ codes "# refused " ++ (spot ++ (codes " " ++ (decimal number ++ (codes " " ++ (name ++ (detail ++ (10 ∷ []))))))) → Some line ≡ option_map (refusal_line place) reason
+line_is place None number name spot detail line kind_is spot_is detail_is is = cc
+line_is place (Some reason) number name spot detail line kind_is spot_is detail_is is =
+    let pair : (number, name) ≡ kind reason = cc in
+    let number_is : number ≡ (kind reason).0 = ap (λ (k : ℕ × List ℕ). k.0) pair in
+    let name_is : name ≡ (kind reason).1 = ap (λ (k : ℕ × List ℕ). k.1) pair in
+    ap Some (is ∙ rw (spot_is, detail_is reason refl, number_is, name_is) refl)

@@ -95,10 +95,10 @@ lt_more (Some room) m n less = omega arith
 
 part_behind : (a b c : SinkSeen) (x y : List ℕ) → Wrote a b x → AppendsPart b.taken c.taken y → AppendsPart a.taken c.taken (x ++ y)
 part_behind a b c x y first done = (
-      x ++ done.0,
-      appended_more a.taken b.taken c.taken x done.0 first.appended done.1,
-      (done.2.0, ap (λ text. x ++ text) done.2.1 ∙ sym (append_assoc x done.0 done.2.0)),
-    )
+  x ++ done.0,
+  appended_more a.taken b.taken c.taken x done.0 first.appended done.1,
+  (done.2.0, ap (λ text. x ++ text) done.2.1 ∙ sym (append_assoc x done.0 done.2.0)),
+)
 
 -- a part of a text is a part of the text with more behind it
 part_of_more : (before now : Option (List ℕ)) (x y : List ℕ) → AppendsPart before now x → AppendsPart before now (x ++ y)

@@ -6,7 +6,6 @@ pub mod Sinks
 pub mod Words
 pub mod Statuses
 pub mod Answers
-
 -- Words of the way
 pub mod Runs
 pub mod Stops

@@ -139,7 +139,14 @@ fn take_blocks<K: Sink, L: Ledger>(
 {
     let mut refused = false;
     for block in blocks.into_vec() {
-        match take_content(alloc, engine, Place::Block(block.number), block.content, out, steps) {
+        match take_content(
+            alloc,
+            engine,
+            Place::Block(block.number),
+            block.content,
+            out,
+            steps,
+        ) {
             Ok(this) => refused = either(refused, this),
             Err(stop) => return Err(stop),
         }

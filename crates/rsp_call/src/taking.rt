@@ -62,10 +62,10 @@ fn take_event<K: Sink, L: Ledger>(
         → (refused ≡ event_refused world place event) × Stands engine.new (event_world world place event) []) }
 {
     match engine.offer(event) {
-        Ok(()) => {
-            tell_reports(alloc, engine, out, steps)?;
-            Ok(false)
-        }
+        Ok(()) => match tell_reports(alloc, engine, out, steps) {
+            Ok(()) => Ok(false),
+            Err(stop) => Err(stop),
+        },
         Err(why) => refuse(alloc, place, Answered::Event(why), out),
     }
 }

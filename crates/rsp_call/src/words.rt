@@ -3,7 +3,7 @@ ghost use Rattle.std.specs.Prelude.{◌≡◌, IfOk, List, ℕ, drop, map, strin
 ghost use Rattle.std.specs.Vec.Iter.{into_iter_items};
 ghost use Rattle.rsp_call.specs.Words.{mode_of};
 
-use rsp_terms::Text;
+use rsp_terms::{Listed, Text};
 use std::alloc::{AllocError, Global};
 use std::vec::IntoIter;
 
@@ -28,12 +28,18 @@ pub(crate) fn mode_of(words: &[Text]) -> Option<Mode>
 }
 
 /// The words of a command line, behind the program's name.
-pub fn words_behind_name(alloc: Global, line: IntoIter<String>) -> Result<Vec<Text>, AllocError>
-    ensures { IfOk result (λ words. words.items ≡ map string_bytes (drop 1 (into_iter_items line))) }
+pub fn words_behind_name(alloc: Global, line: IntoIter<String>) -> Result<Listed<Text>, AllocError>
+    ensures { IfOk result (λ words. words ≡ map string_bytes (drop 1 (into_iter_items line))) }
 {
     let mut line = line;
     let _name = line.next();
-    let mut words = Vec::new(alloc);
+    words_of(alloc, line)
+}
+
+fn words_of(alloc: Global, line: IntoIter<String>) -> Result<Listed<Text>, AllocError>
+    ensures { IfOk result (λ words. words ≡ map string_bytes (into_iter_items line)) }
+{
+    let mut words = Listed::new(alloc);
     for word in line {
         words.push(Text::new(alloc, word.as_str())?)?;
     }

@@ -57,8 +57,8 @@ enough_reports (suc n) zero world [] low high = refl
 enough_reports (suc n) zero world (moment ∷ left) low high = absurd (omega (arith, high))
 enough_reports (suc n) (suc m) world left low high =
     elim (next_step world left) as (λ o. next_step world left ≡ o
-        → option_map_or (λ (step : ReportStep). step.report ∷ reports_within n step.after step.left) o []
-        ≡ option_map_or (λ (step : ReportStep). step.report ∷ reports_within m step.after step.left) o []) [
+    → option_map_or (λ (step : ReportStep). step.report ∷ reports_within n step.after step.left) o []
+    ≡ option_map_or (λ (step : ReportStep). step.report ∷ reports_within m step.after step.left) o []) [
       | None ↦ λ is. refl
       | (Some step) ↦ λ is.
           let less = fewer world left step is in
@@ -73,8 +73,8 @@ enough_world (suc n) zero world [] low high = refl
 enough_world (suc n) zero world (moment ∷ left) low high = absurd (omega (arith, high))
 enough_world (suc n) (suc m) world left low high =
     elim (next_step world left) as (λ o. next_step world left ≡ o
-        → option_map_or (λ (step : ReportStep). world_within n step.after step.left) o world
-        ≡ option_map_or (λ (step : ReportStep). world_within m step.after step.left) o world) [
+    → option_map_or (λ (step : ReportStep). world_within n step.after step.left) o world
+    ≡ option_map_or (λ (step : ReportStep). world_within m step.after step.left) o world) [
       | None ↦ λ is. refl
       | (Some step) ↦ λ is.
           let less = fewer world left step is in

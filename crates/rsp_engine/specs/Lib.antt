@@ -8,7 +8,6 @@ pub mod Accept
 pub mod Reports
 pub mod Kept
 pub mod Offers
-
 -- Words of the way
 pub mod Stands
 pub mod Inside

@@ -19,8 +19,7 @@ mod seeing;
 mod walking;
 
 pub use engine::Engine;
-pub use refused::{EngineFault, Refused};
-pub use report::{Outcome, Report};
-
 use item::Item;
 use live_query::LiveQuery;
+pub use refused::{EngineFault, Refused};
+pub use report::{Outcome, Report};

@@ -4,7 +4,6 @@ pub mod Directives
 pub mod Contents
 pub mod Blocks
 pub mod Instants
-
 -- Words of the way
 pub mod Begun
 pub mod Reader

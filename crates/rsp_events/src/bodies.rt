@@ -113,7 +113,10 @@ fn take_triple(
 // ---- query text
 
 /// The lines as one text, each with a line feed behind it, or the place of the first line that isn't UTF-8.
-pub(crate) fn text_of(alloc: Global, lines: &[Listed<u8>]) -> Result<Result<Text, usize>, AllocError>
+pub(crate) fn text_of(
+    alloc: Global,
+    lines: &[Listed<u8>],
+) -> Result<Result<Text, usize>, AllocError>
     ensures { IfOk result (λ read. IsRead form.is_bad_text lines.now (flat_map form.with_line_feed lines.now) read) }
 {
     let mut text = String::new(alloc);

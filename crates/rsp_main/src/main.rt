@@ -11,7 +11,7 @@ ghost use Rattle.rsp_call.specs.Statuses.{code_of};
 use rsp_call::{Status, rsp, words_behind_name};
 use rsp_io::{StdSink, StdSource, SteadyShelf};
 use rsp_steps::Steps;
-use rsp_terms::Text;
+use rsp_terms::{Listed, Text};
 use std::alloc::{AllocError, Global};
 use std::marker::Brand;
 use std::process::ExitCode;
@@ -53,10 +53,10 @@ fn run<R: Input + Print + Env + AllocGlobal, L: Ledger>(rt: &R, blank: Blank) ->
 }
 
 // The command line's words without the program's name. Words that can't be read, as where one isn't text, are none.
-fn words_of<R: Env + AllocGlobal>(rt: &R) -> Result<Vec<Text>, AllocError> {
+fn words_of<R: Env + AllocGlobal>(rt: &R) -> Result<Listed<Text>, AllocError> {
     match env::args(rt) {
         Ok(line) => words_behind_name(rt.alloc(), line),
         Err(error) if error.kind() == io::ErrorKind::OutOfMemory => Err(AllocError),
-        Err(_) => Ok(Vec::new(rt.alloc())),
+        Err(_) => Ok(Listed::new(rt.alloc())),
     }
 }

@@ -78,11 +78,7 @@ fn write_next<L: Ledger>(
 }
 
 // what the engine answers to the events, each with at most four reports, and that it is then idle and not broken
-fn answers<L: Ledger>(
-    alloc: Global,
-    events: &[&str],
-    blank: Blank,
-) -> Result<Vec<u8>, Fail>
+fn answers<L: Ledger>(alloc: Global, events: &[&str], blank: Blank) -> Result<Vec<u8>, Fail>
     requires name { blank.name ≡ L.name }
     requires parts { blank.parts ≡ L.parts }
     requires some { 0 < blank.parts }

@@ -1,5 +1,5 @@
 use Rattle.std.proofs.Common.{◌∙◌}
-use Rattle.rsp_call.proofs.Taking.{taking_none, taking_more, next_timed, took_all, took_stops, none_to_come}
+use Rattle.rsp_call.proofs.Takings.{taking_none, taking_more, next_timed, took_all, took_stops, none_to_come}
 use Rattle.rsp_call.proofs.session.take_blocks.Goals as goal
 
 pub loop-block-init : goal.loop-block-init

@@ -1,6 +1,6 @@
 use Rattle.std.specs.Vec.Iter.{into_iter_items}
 use Rattle.rsp_call.specs.Sinks.{sink_seen}
-use Rattle.rsp_call.proofs.Taking.{Taking}
+use Rattle.rsp_call.proofs.Takings.{Taking}
 use Rattle.rsp_call.proofs.session.take_blocks.Given as goal
 
 abbrev pub invariant-loop-block : goal.invariant-loop-block

@@ -1,4 +1,4 @@
-use Rattle.std.proofs.Common.{◌+◌, ◌≡◌, ◌≤◌, length, sym, take, true≢false}
+use Rattle.std.proofs.Common.{◌+◌, ◌≡◌, ◌≤◌, length, rules, sym, take, true≢false}
 use Rattle.rsp_call.specs.Answers.{most_bytes}
 use Rattle.rsp_call.proofs.Going.{first_many, first_none, going_nothing, going_on, log_ended, read_failed, too_long, work_stopped}
 use Rattle.rsp_call.proofs.top.read_log.Goals as goal
@@ -10,7 +10,8 @@ pub reads-preserved : goal.reads-preserved
 reads-preserved g c =
     let within : c.reads.taken + c.in-Ok.read ≤ most_bytes = c.if-taken-gt-MOST_BYTES.false in
     let took = rw (← c.split_at.ensures.front) at c.in-Ok.ensures.bytes.0 in
-    let many = rw (← c.split_at.ensures.front) at (first_many c.read.new.buf c.in-Ok.read c.in-Ok.ensures.bound) in
+    let low : c.in-Ok.read ≤ length c.read.new.buf = search rules in
+    let many = rw (← c.split_at.ensures.front) at (first_many c.read.new.buf c.in-Ok.read low) in
     going_on _ _ _ _ _ _ _ _ _ _ _ _ _ _ _
     c.reads.invariant
     many
@@ -27,41 +28,49 @@ returns-in-Ok-eq0 g c =
     let none = first_none c.read.new.buf c.in-Ok-eq0.field-0 c.in-Ok-eq0.field-0-test in
     let read = c.in-Ok-eq0.ensures.bytes in
     let given = rw c.in-Ok-eq0.field-0-test at c.in-Ok-eq0.ensures.given in
-    rw
-    c.status_of.ensures
-    (log_ended _ _ _ _ _ _ _ _ _ _ c.finish.result
-    c.reads.invariant
-    (rw none at read.0)
-    (read.1 c.in-Ok-eq0.field-0-test)
-    given
-    c.in-Ok-eq0.ensures.cause.1
-    c.finish.ensures)
+    record {
+      log = rw
+          c.status_of.ensures
+          (log_ended _ _ _ _ _ _ _ _ _ _ c.finish.result
+          c.reads.invariant
+          (rw none at read.0)
+          (read.1 c.in-Ok-eq0.field-0-test)
+          given
+          c.in-Ok-eq0.ensures.cause.1
+          c.finish.ensures.closes);
+    }
 
 pub returns-then-taken-gt-MOST_BYTES : goal.returns-then-taken-gt-MOST_BYTES
 returns-then-taken-gt-MOST_BYTES g c =
-    too_long c.requires.prefix _ _ _ _ _ _ _ _ _ c.in-Ok.read (take c.in-Ok.read c.read.new.buf) c.reads.invariant
-    (first_many c.read.new.buf c.in-Ok.read c.in-Ok.ensures.bound)
-    c.in-Ok.ensures.bytes.0
-    c.in-Ok.ensures.given
-    c.in-Ok.ensures.cause.1
-    c.if-taken-gt-MOST_BYTES.true
+    let low : c.in-Ok.read ≤ length c.read.new.buf = search rules in
+    record {
+      log = too_long c.requires.prefix _ _ _ _ _ _ _ _ _ c.in-Ok.read (take c.in-Ok.read c.read.new.buf) c.reads.invariant
+          (first_many c.read.new.buf c.in-Ok.read low)
+          c.in-Ok.ensures.bytes.0
+          c.in-Ok.ensures.given
+          c.in-Ok.ensures.cause.1
+          c.if-taken-gt-MOST_BYTES.true;
+    }
 
 pub returns-in-Err-work : goal.returns-in-Err-work
 returns-in-Err-work g c =
     let within : c.reads.taken + c.in-Ok.read ≤ most_bytes = c.if-taken-gt-MOST_BYTES.false in
     let took = rw (← c.split_at.ensures.front) at c.in-Ok.ensures.bytes.0 in
-    let many = rw (← c.split_at.ensures.front) at (first_many c.read.new.buf c.in-Ok.read c.in-Ok.ensures.bound) in
-    rw
-    c.status_of-in-Err-work.ensures
-    (work_stopped _ _ _ _ _ _ _ _ _ _ _ _ c.in-Err-work.stop
-    c.reads.invariant
-    many
-    took
-    c.in-Ok.ensures.given
-    c.in-Ok.ensures.cause.1
-    within
-    c.in-Err-work.ensures.err)
+    let low : c.in-Ok.read ≤ length c.read.new.buf = search rules in
+    let many = rw (← c.split_at.ensures.front) at (first_many c.read.new.buf c.in-Ok.read low) in
+    record {
+      log = rw
+          c.status_of-in-Err-work.ensures
+          (work_stopped _ _ _ _ _ _ _ _ _ _ _ _ c.in-Err-work.stop
+          c.reads.invariant
+          many
+          took
+          c.in-Ok.ensures.given
+          c.in-Ok.ensures.cause.1
+          within
+          c.in-Err-work.ensures.err);
+    }
 
 pub returns-in-Err : goal.returns-in-Err
 returns-in-Err g c =
-    read_failed _ _ _ _ _ _ _ _ _ c.reads.invariant c.in-Err.ensures.bytes c.in-Err.ensures.given c.in-Err.ensures.cause.1 (λ sure. true≢false (sym (c.in-Err.ensures.sure sure)))
+    record { log = read_failed _ _ _ _ _ _ _ _ _ c.reads.invariant c.in-Err.ensures.bytes c.in-Err.ensures.given c.in-Err.ensures.cause.1 (λ sure. true≢false (sym (c.in-Err.ensures.sure sure))) }

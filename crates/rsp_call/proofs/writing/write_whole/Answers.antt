@@ -13,4 +13,4 @@ pieces-preserved g c =
 
 pub returns-in-Err : goal.returns-in-Err
 returns-in-Err g c =
-    write_failed _ _ _ _ _ c.pieces.invariant c.pieces-test.true c.in-Err.ensures.bytes c.in-Err.ensures.failing c.in-Err.ensures.cause.1
+    record { text = write_failed _ _ _ _ _ c.pieces.invariant c.pieces-test.true c.in-Err.ensures.bytes c.in-Err.ensures.failing c.in-Err.ensures.cause.1 }
