@@ -9,10 +9,8 @@
 
 mod answer;
 mod building;
-#[cfg(test)]
-mod tests;
 mod tree;
 
 pub use answer::{Answer, Turn};
 pub use building::basic_pattern;
-pub use tree::{Place, Slot, Translated, Tree, TriplePattern};
+pub use tree::{Place, Translated, Tree, TriplePattern};

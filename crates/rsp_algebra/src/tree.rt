@@ -2,27 +2,9 @@
 ghost use Rattle.std.specs.Prelude.{◌≡◌, IfOk};
 ghost use Rattle.rsp_algebra.specs.Nodes.{node_of};
 
-use rsp_terms::{Listed, Term};
+use rsp_expr::Slot;
+use rsp_terms::Listed;
 use std::alloc::{AllocError, Global};
-
-/// A part of a triple pattern: a variable by its number, or a term.
-#[derive(Drop)]
-pub enum Slot {
-    Variable(usize),
-    Constant(Term),
-}
-
-impl Slot {
-    /// An equal slot. Fails only where memory is refused.
-    pub fn share(&self) -> Result<Slot, AllocError>
-        ensures { IfOk result (λ other. other ≡ self.now) }
-    {
-        match self {
-            Slot::Variable(variable) => Ok(Slot::Variable(*variable)),
-            Slot::Constant(term) => Ok(Slot::Constant(term.share()?)),
-        }
-    }
-}
 
 /// The graph in which a pattern is matched: that of one of the query's windows, by its index.
 #[derive(Clone, Copy)]

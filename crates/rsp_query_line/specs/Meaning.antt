@@ -1,10 +1,10 @@
--- The algebra tree of a query line (SPARQL 1.1 Query, section 18.2): the projection of the join of its patterns.
+-- Definitions: the algebra tree of a query line (SPARQL 1.1 Query, section 18.2): the projection of the join of its patterns.
 use Rattle.std.specs.Prelude.{ℕ, List, length, map}
 use Rattle.std.specs.List.{position_or_len}
 use Rattle.rsp_terms.specs.declared.term.Term.TheVariants.{Iri}
 use Rattle.rsp_algebra.specs.declared.tree.TriplePattern.{TriplePattern}
-use Rattle.rsp_algebra.specs.declared.tree.Slot.{Slot}
-use Rattle.rsp_algebra.specs.declared.tree.Slot.TheVariants as slot
+use Rattle.rsp_expr.specs.declared.slot.Slot.{Slot}
+use Rattle.rsp_expr.specs.declared.slot.Slot.TheVariants as slot
 use Rattle.rsp_algebra.specs.declared.tree.Place.TheVariants.{Window}
 use Rattle.rsp_algebra.specs.Nodes.{Node, project, left_deep}
 use Rattle.rsp_query_line.specs.declared.written.Part.{Part}

@@ -7,7 +7,8 @@ ghost use Rattle.rsp_query_line.specs.Meaning.{node_of_line, place_of, shown_of,
 
 use crate::names::variables_of;
 use crate::{Line, Part, Written};
-use rsp_algebra::{Place, Slot, Translated, Tree, TriplePattern, basic_pattern};
+use rsp_algebra::{Place, Translated, Tree, TriplePattern, basic_pattern};
+use rsp_expr::Slot;
 use rsp_terms::{Listed, Term, Text};
 use std::alloc::{AllocError, Global};
 

@@ -1,12 +1,35 @@
-//! Tests of the layers by their public calls, as tables of cases: what no contract says.
+//! The tests of the layers: tables of cases whose answers come from outside, each public call once with ample memory,
+//! each generic one at a concrete type, and small cases that the contracts alone decide.
 //!
-//! A module stands here for each layer that needs some. A layer's crate has none, since a crate with tests is proved
-//! twice.
+//! They stand here and in no layer, since a crate that has tests is proved twice. Whole runs of the program are rows of
+//! `tests/rows`. Nothing stands above.
 #![tactic(auto)]
 
+#[cfg(test)]
+mod answers;
 #[cfg(test)]
 mod call;
 #[cfg(test)]
 mod engine;
 #[cfg(test)]
+mod evaluation;
+#[cfg(test)]
 mod events;
+#[cfg(test)]
+mod multisets;
+#[cfg(test)]
+mod numbers;
+#[cfg(test)]
+mod objects;
+#[cfg(test)]
+mod query_lines;
+#[cfg(test)]
+mod reports;
+#[cfg(test)]
+mod steps;
+#[cfg(test)]
+mod terms;
+#[cfg(test)]
+mod times;
+#[cfg(test)]
+mod windows;

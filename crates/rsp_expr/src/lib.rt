@@ -1,0 +1,16 @@
+//! Expressions of queries (SPARQL 1.1 Query, section 17): what stands in FILTER, BIND, HAVING and behind SELECT, the
+//! slots of triple patterns, and aggregates.
+//!
+//! Contracts see an [`Expression`] by its formula, a plain tree of the specs. Above: the grammar and the algebra. Below:
+//! terms and rows.
+#![tactic(auto)]
+
+mod aggregate;
+mod expression;
+mod function;
+mod slot;
+
+pub use aggregate::{Aggregate, Kind};
+pub use expression::Expression;
+pub use function::{Function, Sign};
+pub use slot::Slot;
