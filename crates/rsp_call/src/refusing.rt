@@ -33,7 +33,8 @@ pub(crate) fn refuse<K: Sink>(
 ) -> Result<bool, Stop>
     ensures text { (text : List ℕ) → IsLineOf place (reason_of answered) text
         → Ends
-        (sink_seen (K.taken out.old) (K.room out.old) (K.faults out.old)) (sink_seen (K.taken out.new) (K.room out.new) (K.faults out.new))
+        (sink_seen (K.taken out.old) (K.room out.old) (K.faults out.old))
+        (sink_seen (K.taken out.new) (K.room out.new) (K.faults out.new))
         text result }
     ensures refused { IfOk result (λ refused. (refused ≡ true) × (is_some (reason_of answered) ≡ true)) }
 {

@@ -39,7 +39,8 @@ impl Session {
     pub fn new(alloc: Global) -> Session
         ensures at { IsAt result.blocks result.engine result.refused [] }
         ensures idle { IsTrue (is_idle result.engine) }
-        ensures prefix { (bytes more : List ℕ) → (rest : List Block) × (log_blocks (bytes ++ more) ≡ log_whole_blocks bytes ++ rest) }
+        ensures prefix { (bytes more : List ℕ) → (rest : List Block)
+            × (log_blocks (bytes ++ more) ≡ log_whole_blocks bytes ++ rest) }
     {
         Session {
             alloc,
@@ -61,11 +62,13 @@ impl Session {
         ensures ok { OnOk result ((bytes : List ℕ) → IsAt self.old.blocks self.old.engine self.old.refused bytes
             → IsAt self.new.blocks self.new.engine self.new.refused (bytes ++ piece.now)
             × Adds
-            (sink_seen (K.taken out.old) (K.room out.old) (K.faults out.old)) (sink_seen (K.taken out.new) (K.room out.new) (K.faults out.new))
+            (sink_seen (K.taken out.old) (K.room out.old) (K.faults out.old))
+            (sink_seen (K.taken out.new) (K.room out.new) (K.faults out.new))
             bytes piece.now) }
         ensures err { IfErr result (λ why. (bytes more : List ℕ) → IsAt self.old.blocks self.old.engine self.old.refused bytes
             → Breaks
-            (sink_seen (K.taken out.old) (K.room out.old) (K.faults out.old)) (sink_seen (K.taken out.new) (K.room out.new) (K.faults out.new))
+            (sink_seen (K.taken out.old) (K.room out.old) (K.faults out.old))
+            (sink_seen (K.taken out.new) (K.room out.new) (K.faults out.new))
             bytes (piece.now ++ more) why) }
     {
         match self.blocks.feed(piece) {
@@ -90,7 +93,8 @@ impl Session {
         requires { IsTrue (is_idle self.old.engine) }
         ensures closes { (bytes : List ℕ) → IsAt self.old.blocks self.old.engine self.old.refused bytes
             → Closes
-            (sink_seen (K.taken out.old) (K.room out.old) (K.faults out.old)) (sink_seen (K.taken out.new) (K.room out.new) (K.faults out.new))
+            (sink_seen (K.taken out.old) (K.room out.old) (K.faults out.old))
+            (sink_seen (K.taken out.new) (K.room out.new) (K.faults out.new))
             bytes result }
     {
         match self.blocks.finish() {
@@ -132,7 +136,8 @@ fn take_blocks<K: Sink, L: Ledger>(
     ensures idle { OnOk result (IsTrue (is_idle engine.new)) }
     ensures text { (world : World) → Stands engine.old world []
         → Ends
-        (sink_seen (K.taken out.old) (K.room out.old) (K.faults out.old)) (sink_seen (K.taken out.new) (K.room out.new) (K.faults out.new))
+        (sink_seen (K.taken out.old) (K.room out.old) (K.faults out.old))
+        (sink_seen (K.taken out.new) (K.room out.new) (K.faults out.new))
         (text_from world blocks) result }
     ensures stands { IfOk result (λ refused. (world : World) → Stands engine.old world []
         → (refused ≡ refused_from world blocks) × Stands engine.new (world_from world blocks) []) }

@@ -32,7 +32,8 @@ pub(crate) fn take_content<K: Sink, L: Ledger>(
     ensures idle { OnOk result (IsTrue (is_idle engine.new)) }
     ensures text { (world : World) → Stands engine.old world []
         → Ends
-        (sink_seen (K.taken out.old) (K.room out.old) (K.faults out.old)) (sink_seen (K.taken out.new) (K.room out.new) (K.faults out.new))
+        (sink_seen (K.taken out.old) (K.room out.old) (K.faults out.old))
+        (sink_seen (K.taken out.new) (K.room out.new) (K.faults out.new))
         (content_text world place content) result }
     ensures stands { IfOk result (λ refused. (world : World) → Stands engine.old world []
         → (refused ≡ content_refused world place content) × Stands engine.new (content_world world place content) []) }
@@ -56,7 +57,8 @@ fn take_event<K: Sink, L: Ledger>(
     ensures idle { OnOk result (IsTrue (is_idle engine.new)) }
     ensures text { (world : World) → Stands engine.old world []
         → Ends
-        (sink_seen (K.taken out.old) (K.room out.old) (K.faults out.old)) (sink_seen (K.taken out.new) (K.room out.new) (K.faults out.new))
+        (sink_seen (K.taken out.old) (K.room out.old) (K.faults out.old))
+        (sink_seen (K.taken out.new) (K.room out.new) (K.faults out.new))
         (event_text world place event) result }
     ensures stands { IfOk result (λ refused. (world : World) → Stands engine.old world []
         → (refused ≡ event_refused world place event) × Stands engine.new (event_world world place event) []) }

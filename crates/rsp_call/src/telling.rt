@@ -29,9 +29,11 @@ pub(crate) fn tell_reports<K: Sink, L: Ledger>(
     ensures idle { OnOk result (IsTrue (is_idle engine.new)) }
     ensures text { (world : World) (left : List Moment) → Stands engine.old world left
         → Ends
-        (sink_seen (K.taken out.old) (K.room out.old) (K.faults out.old)) (sink_seen (K.taken out.new) (K.room out.new) (K.faults out.new))
+        (sink_seen (K.taken out.old) (K.room out.old) (K.faults out.old))
+        (sink_seen (K.taken out.new) (K.room out.new) (K.faults out.new))
         (reports_text (reports world left)) result }
-    ensures stands { OnOk result ((world : World) (left : List Moment) → Stands engine.old world left → Stands engine.new (world_behind world left) []) }
+    ensures stands { OnOk result ((world : World) (left : List Moment) → Stands engine.old world left
+        → Stands engine.new (world_behind world left) []) }
 {
     'reports: loop {
         match engine.next_report(steps) {
@@ -47,7 +49,8 @@ pub(crate) fn tell_reports<K: Sink, L: Ledger>(
 
 fn tell<K: Sink>(alloc: Global, report: &Report, out: &mut K) -> Result<(), Stop>
     ensures text { Ends
-        (sink_seen (K.taken out.old) (K.room out.old) (K.faults out.old)) (sink_seen (K.taken out.new) (K.room out.new) (K.faults out.new))
+        (sink_seen (K.taken out.old) (K.room out.old) (K.faults out.old))
+        (sink_seen (K.taken out.new) (K.room out.new) (K.faults out.new))
         (text_of_report report.now) result }
 {
     match text_of(alloc, report) {

@@ -44,7 +44,8 @@ pub fn rsp<S: Source, H: Shelf, K: Sink, L: Ledger>(
     ensures answer { Answers (mode_of words.now)
         (source_seen (S.left input.old) (S.given input.old) (S.faults input.old) (S.sure input.old))
         (source_seen (S.left input.new) (S.given input.new) (S.faults input.new) (S.sure input.new))
-        (sink_seen (K.taken out.old) (K.room out.old) (K.faults out.old)) (sink_seen (K.taken out.new) (K.room out.new) (K.faults out.new)) result }
+        (sink_seen (K.taken out.old) (K.room out.old) (K.faults out.old))
+        (sink_seen (K.taken out.new) (K.room out.new) (K.faults out.new)) result }
     ensures unread { mode_of words.now ≡ None → input.new ≡ input.old }
     ensures shelf { shelf.new ≡ shelf.old }
 {
@@ -58,7 +59,8 @@ pub fn rsp<S: Source, H: Shelf, K: Sink, L: Ledger>(
 // Writes the usage line.
 fn usage<K: Sink>(out: &mut K) -> Status
     ensures { AnswersUsage
-        (sink_seen (K.taken out.old) (K.room out.old) (K.faults out.old)) (sink_seen (K.taken out.new) (K.room out.new) (K.faults out.new))
+        (sink_seen (K.taken out.old) (K.room out.old) (K.faults out.old))
+        (sink_seen (K.taken out.new) (K.room out.new) (K.faults out.new))
         result }
 {
     match write_whole(out, USAGE.as_bytes()) {
@@ -76,7 +78,8 @@ fn events<S: Source, K: Sink, L: Ledger>(
 ) -> Status
     ensures log { AnswersLog (source_seen (S.left input.old) (S.given input.old) (S.faults input.old) (S.sure input.old))
         (source_seen (S.left input.new) (S.given input.new) (S.faults input.new) (S.sure input.new))
-        (sink_seen (K.taken out.old) (K.room out.old) (K.faults out.old)) (sink_seen (K.taken out.new) (K.room out.new) (K.faults out.new)) result }
+        (sink_seen (K.taken out.old) (K.room out.old) (K.faults out.old))
+        (sink_seen (K.taken out.new) (K.room out.new) (K.faults out.new)) result }
 {
     let mut session = Session::new(alloc);
     read_log(&mut session, input, out, steps)
@@ -91,10 +94,12 @@ fn read_log<S: Source, K: Sink, L: Ledger>(
 ) -> Status
     requires at { IsAt session.old.blocks session.old.engine session.old.refused [] }
     requires idle { IsTrue (is_idle session.old.engine) }
-    requires prefix { (bytes more : List ℕ) → (rest : List Block) × (log_blocks (bytes ++ more) ≡ log_whole_blocks bytes ++ rest) }
+    requires prefix { (bytes more : List ℕ) → (rest : List Block)
+        × (log_blocks (bytes ++ more) ≡ log_whole_blocks bytes ++ rest) }
     ensures log { AnswersLog (source_seen (S.left input.old) (S.given input.old) (S.faults input.old) (S.sure input.old))
         (source_seen (S.left input.new) (S.given input.new) (S.faults input.new) (S.sure input.new))
-        (sink_seen (K.taken out.old) (K.room out.old) (K.faults out.old)) (sink_seen (K.taken out.new) (K.room out.new) (K.faults out.new)) result }
+        (sink_seen (K.taken out.old) (K.room out.old) (K.faults out.old))
+        (sink_seen (K.taken out.new) (K.room out.new) (K.faults out.new)) result }
 {
     let mut buffer = [0u8; READ_BYTES];
     let mut taken = 0;

@@ -10,10 +10,12 @@ use rsp_io::{Failed, Sink};
 pub(crate) fn write_whole<K: Sink>(out: &mut K, text: &[u8]) -> Result<(), Failed>
     ensures text { MatchResult result
         (λ _. Wrote
-        (sink_seen (K.taken out.old) (K.room out.old) (K.faults out.old)) (sink_seen (K.taken out.new) (K.room out.new) (K.faults out.new))
+        (sink_seen (K.taken out.old) (K.room out.old) (K.faults out.old))
+        (sink_seen (K.taken out.new) (K.room out.new) (K.faults out.new))
         text.now)
         (λ _. WriteFailed
-        (sink_seen (K.taken out.old) (K.room out.old) (K.faults out.old)) (sink_seen (K.taken out.new) (K.room out.new) (K.faults out.new))
+        (sink_seen (K.taken out.old) (K.room out.old) (K.faults out.old))
+        (sink_seen (K.taken out.new) (K.room out.new) (K.faults out.new))
         text.now) }
 {
     let mut written = 0;
@@ -29,7 +31,8 @@ pub(crate) fn write_whole<K: Sink>(out: &mut K, text: &[u8]) -> Result<(), Faile
 /// Writes a text of a log's work, whole. Stops where a write fails.
 pub(crate) fn write_all<K: Sink>(out: &mut K, text: &[u8]) -> Result<(), Stop>
     ensures text { Ends
-        (sink_seen (K.taken out.old) (K.room out.old) (K.faults out.old)) (sink_seen (K.taken out.new) (K.room out.new) (K.faults out.new))
+        (sink_seen (K.taken out.old) (K.room out.old) (K.faults out.old))
+        (sink_seen (K.taken out.new) (K.room out.new) (K.faults out.new))
         text.now result }
 {
     match write_whole(out, text) {

@@ -17,7 +17,8 @@ pub(crate) fn shown_rows(
     solutions: &Bag<Term>,
     shown: &[usize],
 ) -> Result<Listed<Row<Term>>, AllocError>
-    ensures { IfOk result (λ rows. (wanted : _) → ((q : _) → weight (row_eq term_eq) solutions.now q ≡ times (row_eq term_eq) wanted q)
+    ensures { IfOk result (λ rows. (wanted : _)
+        → ((q : _) → weight (row_eq term_eq) solutions.now q ≡ times (row_eq term_eq) wanted q)
         → AreRows rows (in_order (map (cells_at shown.now) wanted))) }
 {
     let rows = rows_of(alloc, solutions)?;

@@ -61,7 +61,8 @@ pub(crate) fn report_at<A: Answer, L: Ledger>(
     ensures query { IfOk result (λ report. report.query ≡ live.old.name) }
     ensures at { IfOk result (λ report. report.at ≡ at) }
     ensures variables { IfOk result (λ report. report.variables ≡ live.old.line.shown) }
-    ensures reported { IfOk result (λ report. IsReported A.node A.width A.facts A.spent (live_of live.old) items.now at live.new report.outcome) }
+    ensures reported { IfOk result (λ report.
+        IsReported A.node A.width A.facts A.spent (live_of live.old) items.now at live.new report.outcome) }
 {
     let query = live.name.share()?;
     let variables = shared(alloc, live.line.shown.as_slice())?;
@@ -88,7 +89,8 @@ fn rows_of<A: Answer>(alloc: Global, live: &LiveQuery<A>) -> Result<Outcome, All
     requires { A.spent live.now.answer ≡ false }
     ensures { IfOk result (λ outcome. (facts : List Fact)
         → ((q : _) → times fact_eq (A.facts live.now.answer) q ≡ times fact_eq facts q)
-        → IsOutcome outcome (outcomes.Rows (in_order (map (cells_at live.now.shown) (eval (A.width live.now.answer) (A.node live.now.answer) facts))))) }
+        → IsOutcome outcome (outcomes.Rows (in_order (map (cells_at live.now.shown)
+        (eval (A.width live.now.answer) (A.node live.now.answer) facts))))) }
 {
     let solutions = live.answer.solutions()?;
     Ok(Outcome::Rows(shown_rows(alloc, &solutions, live.shown.as_slice())?))

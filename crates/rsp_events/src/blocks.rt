@@ -60,7 +60,8 @@ impl Blocks {
     pub fn new(alloc: Global, document: u32) -> Blocks
         ensures read { HasRead result [] }
         ensures document { result.document ≡ document }
-        ensures prefix { (before more : List ℕ) → (rest : List Block) × (blocks document (before ++ more) ≡ whole_blocks document before ++ rest) }
+        ensures prefix { (before more : List ℕ) → (rest : List Block)
+            × (blocks document (before ++ more) ≡ whole_blocks document before ++ rest) }
     {
         Blocks {
             document,
@@ -106,8 +107,8 @@ impl Blocks {
         ensures timed { IfOk result (λ last. AllTimed (option_to_list last)) }
         ensures prefix { (before more : List ℕ) → (rest : List Block)
             × (blocks self.old.document (before ++ more) ≡ whole_blocks self.old.document before ++ rest) }
-        ensures empty { (before : List ℕ) → HasRead self.old before → begun_line before ≡ [] → begun_group (ended_lines before) ≡ []
-            → result ≡ Ok None }
+        ensures empty { (before : List ℕ) → HasRead self.old before → begun_line before ≡ []
+            → begun_group (ended_lines before) ≡ [] → result ≡ Ok None }
         ensures spent { self.new.spent ≡ true }
         ensures dead { self.old.spent ≡ true → IsErr result }
     {
@@ -335,7 +336,8 @@ fn ends_body(line: &HeldLine) -> bool
 
 fn content_of(alloc: Global, document: u32, block: BegunBlock) -> Result<Content, AllocError>
     ensures timed { IfOk result IsTimed }
-    ensures value { IfOk result (λ content. (group : List Line) → begun_block_of group ≡ block → content ≡ content_of document group) }
+    ensures value { IfOk result (λ content. (group : List Line) → begun_block_of group ≡ block
+        → content ≡ content_of document group) }
 {
     match block {
         BegunBlock::Within(first, texts, _) => {

@@ -39,7 +39,8 @@ pub(crate) fn quads_of(
     document: u32,
     lines: &[Listed<u8>],
 ) -> Result<Result<Listed<Quad>, usize>, AllocError>
-    ensures { IfOk result (λ read. IsRead (form.is_bad_quad document) lines.now (flat_map (form.quad_on document) lines.now) read) }
+    ensures { IfOk result (λ read.
+        IsRead (form.is_bad_quad document) lines.now (flat_map (form.quad_on document) lines.now) read) }
 {
     let mut quads = Listed::new(alloc);
     for (place, line) in lines.iter().enumerate() {
@@ -77,7 +78,8 @@ pub(crate) fn graph_of(
     document: u32,
     lines: &[Listed<u8>],
 ) -> Result<Result<Listed<Triple>, usize>, AllocError>
-    ensures { IfOk result (λ read. IsRead (form.is_bad_triple document) lines.now (flat_map (form.triple_on document) lines.now) read) }
+    ensures { IfOk result (λ read.
+        IsRead (form.is_bad_triple document) lines.now (flat_map (form.triple_on document) lines.now) read) }
 {
     let mut graph = Listed::new(alloc);
     for (place, line) in lines.iter().enumerate() {

@@ -28,7 +28,8 @@ pub(crate) fn has_fields(text: &[u8]) -> bool
 
 /// The field of a text that has one and no other.
 pub(crate) fn only_field(text: &[u8]) -> Option<&[u8]>
-    ensures { MatchOption result (form.only_field (form.fields text.now) ≡ None) (λ field. form.only_field (form.fields text.now) ≡ Some field.now) }
+    ensures { MatchOption result (form.only_field (form.fields text.now) ≡ None)
+        (λ field. form.only_field (form.fields text.now) ≡ Some field.now) }
 {
     let (field, behind) = next_field(text)?;
     match next_field(behind) {
