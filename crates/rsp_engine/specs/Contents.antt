@@ -2,7 +2,7 @@
 use Rattle.std.specs.Prelude.{ℕ, ◌+◌, Bool, false, ◌&&◌, nat_lt, nat_le, if◌then◌else◌, List, [], ◌∷◌, ◌++◌, drop, filter, fold, map, bytes_eq}
 use Rattle.std.specs.List.{list_any, flat_map}
 use Rattle.std.specs.Option.{option_map_or}
-use Rattle.rsp_spec.specs.Windows.{opening, active}
+use Rattle.rsp_spec.specs.Windows.{opening, active_window}
 use Rattle.rsp_terms.specs.declared.statement.Triple.{Triple}
 use Rattle.rsp_terms.specs.declared.statement.Fact.{Fact}
 use Rattle.rsp_terms.specs.declared.statement.Spot.TheVariants as spot
@@ -15,7 +15,7 @@ abbrev pub in_content : StreamWindow → ℕ → Item → Bool
 in_content w t item =
     option_map_or
     (λ k. bytes_eq item.stream w.stream && (nat_lt (opening w.shape k) item.time && nat_le item.time t))
-    (active w.shape t)
+    (active_window w.shape t)
     false
 
 -- the items that the query may see: those accepted since it was registered
