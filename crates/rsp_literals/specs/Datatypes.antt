@@ -7,36 +7,47 @@ use Rattle.rsp_literals.specs.declared.datatypes.WholeType.TheVariants.{Integer,
 use Rattle.rsp_literals.specs.declared.datatypes.Datatype.{Datatype}
 use Rattle.rsp_literals.specs.declared.datatypes.Datatype.TheVariants.{Whole, Decimal, Double, Float, Boolean, String, LangString, Other}
 
--- the datatypes that are known, by their IRIs
-abbrev pub known : List (List ℕ × Datatype)
-known =
+-- the types of whole numbers, by their IRIs
+abbrev pub whole_types : List (List ℕ × WholeType)
+whole_types =
+    (codes "http://www.w3.org/2001/XMLSchema#integer", Integer)
+    ∷ (codes "http://www.w3.org/2001/XMLSchema#long", Long)
+    ∷ (codes "http://www.w3.org/2001/XMLSchema#int", Int)
+    ∷ (codes "http://www.w3.org/2001/XMLSchema#short", Short)
+    ∷ (codes "http://www.w3.org/2001/XMLSchema#byte", Byte)
+    ∷ (codes "http://www.w3.org/2001/XMLSchema#nonPositiveInteger", NonPositiveInteger)
+    ∷ (codes "http://www.w3.org/2001/XMLSchema#negativeInteger", NegativeInteger)
+    ∷ (codes "http://www.w3.org/2001/XMLSchema#nonNegativeInteger", NonNegativeInteger)
+    ∷ (codes "http://www.w3.org/2001/XMLSchema#positiveInteger", PositiveInteger)
+    ∷ (codes "http://www.w3.org/2001/XMLSchema#unsignedLong", UnsignedLong)
+    ∷ (codes "http://www.w3.org/2001/XMLSchema#unsignedInt", UnsignedInt)
+    ∷ (codes "http://www.w3.org/2001/XMLSchema#unsignedShort", UnsignedShort)
+    ∷ (codes "http://www.w3.org/2001/XMLSchema#unsignedByte", UnsignedByte)
+    ∷ []
+
+-- the others that are known
+abbrev pub other_types : List (List ℕ × Datatype)
+other_types =
     (codes "http://www.w3.org/2001/XMLSchema#string", String)
-    ∷ (codes "http://www.w3.org/2001/XMLSchema#integer", Whole Integer)
     ∷ (codes "http://www.w3.org/2001/XMLSchema#decimal", Decimal)
     ∷ (codes "http://www.w3.org/2001/XMLSchema#boolean", Boolean)
     ∷ (codes "http://www.w3.org/2001/XMLSchema#double", Double)
     ∷ (codes "http://www.w3.org/2001/XMLSchema#float", Float)
     ∷ (codes "http://www.w3.org/1999/02/22-rdf-syntax-ns#langString", LangString)
-    ∷ (codes "http://www.w3.org/2001/XMLSchema#long", Whole Long)
-    ∷ (codes "http://www.w3.org/2001/XMLSchema#int", Whole Int)
-    ∷ (codes "http://www.w3.org/2001/XMLSchema#short", Whole Short)
-    ∷ (codes "http://www.w3.org/2001/XMLSchema#byte", Whole Byte)
-    ∷ (codes "http://www.w3.org/2001/XMLSchema#nonPositiveInteger", Whole NonPositiveInteger)
-    ∷ (codes "http://www.w3.org/2001/XMLSchema#negativeInteger", Whole NegativeInteger)
-    ∷ (codes "http://www.w3.org/2001/XMLSchema#nonNegativeInteger", Whole NonNegativeInteger)
-    ∷ (codes "http://www.w3.org/2001/XMLSchema#positiveInteger", Whole PositiveInteger)
-    ∷ (codes "http://www.w3.org/2001/XMLSchema#unsignedLong", Whole UnsignedLong)
-    ∷ (codes "http://www.w3.org/2001/XMLSchema#unsignedInt", Whole UnsignedInt)
-    ∷ (codes "http://www.w3.org/2001/XMLSchema#unsignedShort", Whole UnsignedShort)
-    ∷ (codes "http://www.w3.org/2001/XMLSchema#unsignedByte", Whole UnsignedByte)
     ∷ []
 
-abbrev pub type_in : List (List ℕ × Datatype) → List ℕ → Datatype
-type_in [] iri = Other
-type_in (entry ∷ entries) iri = if bytes_eq iri entry.0 then entry.1 else type_in entries iri
+-- what stands beside the IRI
+abbrev pub type_in : {T : Type 0} → List (List ℕ × T) → List ℕ → Option T
+type_in [] iri = None
+type_in (entry ∷ entries) iri = if bytes_eq iri entry.0 then Some entry.1 else type_in entries iri
+
+abbrev pub datatype_among : Option WholeType → Option Datatype → Datatype
+datatype_among (Some whole) other = Whole whole
+datatype_among None (Some other) = other
+datatype_among None None = Other
 
 abbrev pub datatype_of : List ℕ → Datatype
-datatype_of iri = type_in known iri
+datatype_of iri = datatype_among (type_in whole_types iri) (type_in other_types iri)
 
 -- the least and the greatest number of a type, where it has one
 abbrev pub least_of : WholeType → Option ℤ

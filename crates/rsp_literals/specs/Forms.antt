@@ -24,15 +24,15 @@ has_whole_form type text = has_integer_form text && is_in_range type (whole_numb
 abbrev pub whole_reading : WholeType → List ℕ → Reading ℤ
 whole_reading type text = if has_whole_form type text then value_or_beyond (held (whole_number text)) else NotForm
 
-abbrev pub mapped : {S T : Type 0} → (S → T) → Reading S → Reading T
-mapped f (Value value) = Value (f value)
-mapped f Beyond = Beyond
-mapped f NotForm = NotForm
+abbrev pub reading_map : {S T : Type 0} → (S → T) → Reading S → Reading T
+reading_map f (Value value) = Value (f value)
+reading_map f Beyond = Beyond
+reading_map f NotForm = NotForm
 
 -- None of a type that isn't numeric
 abbrev pub numeric_reading : Datatype → List ℕ → Option (Reading Number)
-numeric_reading (Whole type) text = Some (mapped number.Integer (whole_reading type text))
-numeric_reading Decimal text = Some (mapped number.Decimal (read_decimal text))
+numeric_reading (Whole type) text = Some (reading_map number.Integer (whole_reading type text))
+numeric_reading Decimal text = Some (reading_map number.Decimal (read_decimal text))
 numeric_reading type text = None
 
 -- the number, where that is a value

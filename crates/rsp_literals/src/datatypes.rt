@@ -1,6 +1,6 @@
 // The datatypes that expressions know.
 ghost use Rattle.std.specs.Prelude.{◌≡◌};
-ghost use Rattle.rsp_literals.specs.Datatypes.{datatype_of, least_of, greatest_of};
+ghost use Rattle.rsp_literals.specs.Datatypes.{type_in, whole_types, other_types, datatype_of, least_of, greatest_of};
 
 use rsp_terms::XSD_STRING;
 
@@ -127,11 +127,48 @@ pub enum Datatype {
 pub fn datatype_of(iri: &str) -> Datatype
     ensures { result ≡ datatype_of iri.now }
 {
-    if iri == XSD_STRING {
-        return Datatype::String;
+    match whole_type(iri) {
+        Some(whole) => Datatype::Whole(whole),
+        None => match other_type(iri) {
+            Some(other) => other,
+            None => Datatype::Other,
+        },
     }
-    if iri == XSD_INTEGER {
-        return Datatype::Whole(WholeType::Integer);
+}
+
+/// The type of whole numbers that the IRI names, if it names one.
+fn whole_type(iri: &str) -> Option<WholeType>
+    ensures { result ≡ type_in whole_types iri.now }
+{
+    match iri {
+        XSD_INTEGER => Some(WholeType::Integer),
+        XSD_LONG => Some(WholeType::Long),
+        XSD_INT => Some(WholeType::Int),
+        XSD_SHORT => Some(WholeType::Short),
+        XSD_BYTE => Some(WholeType::Byte),
+        XSD_NON_POSITIVE => Some(WholeType::NonPositiveInteger),
+        XSD_NEGATIVE => Some(WholeType::NegativeInteger),
+        XSD_NON_NEGATIVE => Some(WholeType::NonNegativeInteger),
+        XSD_POSITIVE => Some(WholeType::PositiveInteger),
+        XSD_UNSIGNED_LONG => Some(WholeType::UnsignedLong),
+        XSD_UNSIGNED_INT => Some(WholeType::UnsignedInt),
+        XSD_UNSIGNED_SHORT => Some(WholeType::UnsignedShort),
+        XSD_UNSIGNED_BYTE => Some(WholeType::UnsignedByte),
+        _ => None,
     }
-    Datatype::Other
+}
+
+/// Another datatype that is known, if the IRI names one.
+fn other_type(iri: &str) -> Option<Datatype>
+    ensures { result ≡ type_in other_types iri.now }
+{
+    match iri {
+        XSD_STRING => Some(Datatype::String),
+        XSD_DECIMAL => Some(Datatype::Decimal),
+        XSD_BOOLEAN => Some(Datatype::Boolean),
+        XSD_DOUBLE => Some(Datatype::Double),
+        XSD_FLOAT => Some(Datatype::Float),
+        RDF_LANG_STRING => Some(Datatype::LangString),
+        _ => None,
+    }
 }

@@ -1,0 +1,4 @@
+pub mod Places
+pub mod Fronts
+pub mod Sides
+pub mod Tags

@@ -6,5 +6,5 @@ use Rattle.std.specs.Str.{chars}
 use Rattle.std.specs.declared.cmp.Ordering.{Ordering}
 
 -- the first character that differs decides, and else the shorter text is less
-abbrev pub compared : List ℕ → List ℕ → Ordering
-compared left right = slice_cmp nat_cmp (chars left) (chars right)
+abbrev pub code_point_order : List ℕ → List ℕ → Ordering
+code_point_order left right = slice_cmp nat_cmp (chars left) (chars right)
