@@ -33,18 +33,18 @@ abbrev pub logical_not : Option Bool → Option Bool
 logical_not part = option_map not part
 
 -- `||` and `&&` of all parts; of none they are false and true
-abbrev pub any_of : List (Option Bool) → Option Bool
-any_of [] = Some false
-any_of (part ∷ parts) = logical_or part (any_of parts)
+abbrev pub disjunction_of : List (Option Bool) → Option Bool
+disjunction_of [] = Some false
+disjunction_of (part ∷ parts) = logical_or part (disjunction_of parts)
 
-abbrev pub all_of : List (Option Bool) → Option Bool
-all_of [] = Some true
-all_of (part ∷ parts) = logical_and part (all_of parts)
+abbrev pub conjunction_of : List (Option Bool) → Option Bool
+conjunction_of [] = Some true
+conjunction_of (part ∷ parts) = logical_and part (conjunction_of parts)
 
 -- the boolean value of a value that may be an error
 abbrev pub truth_of : Option Term → Option Bool
 truth_of value = option_and_then boolean_value value
 
 -- the boolean as a value
-abbrev pub boolean : Option Bool → Option Term
-boolean truth = option_map boolean_literal truth
+abbrev pub boolean_result : Option Bool → Option Term
+boolean_result truth = option_map boolean_literal truth

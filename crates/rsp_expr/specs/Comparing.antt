@@ -1,5 +1,6 @@
 -- Definitions: the operators that compare (SPARQL 1.1 Query, sections 17.3 and 17.4.1). None is an error.
-use Rattle.std.specs.Prelude.{ℕ, Bool, true, false, not, ◌&&◌, ◌||◌, if◌then◌else◌, Option, Some, None, option_map, option_or, List, map}
+use Rattle.std.specs.Prelude.{ℕ, Bool, true, false, not, ◌&&◌, ◌||◌, if◌then◌else◌, Option, Some, None, option_map, List, map}
+use Rattle.std.specs.Option.{option_or}
 use Rattle.std.specs.Bool.{beq}
 use Rattle.std.specs.Str.{bytes_eq}
 use Rattle.std.specs.Ordering.{bool_cmp, is_eq, is_lt, is_gt, is_le, is_ge}
@@ -13,8 +14,8 @@ use Rattle.rsp_terms.specs.Same.{term_eq}
 use Rattle.rsp_literals.specs.Booleans.{boolean_of}
 use Rattle.rsp_literals.specs.Forms.{number_of}
 use Rattle.rsp_literals.specs.Strings.{string_of, is_inexact}
-use Rattle.rsp_expr.specs.Booleans.{any_of}
-use Rattle.rsp_expr.specs.Errors.{of_both}
+use Rattle.rsp_expr.specs.Booleans.{disjunction_of, logical_not}
+use Rattle.rsp_expr.specs.Errors.{value_of_both}
 use Rattle.rsp_expr.specs.declared.function.Sign.{Sign}
 use Rattle.rsp_expr.specs.declared.function.Sign.TheVariants as sign
 
@@ -31,17 +32,17 @@ comparable_of term =
     (option_or (option_map string (string_of term)) (option_map boolean (boolean_of term)))
 
 -- `=` on values; None where they are of two kinds
-abbrev pub equal_values : Comparable → Comparable → Option Bool
-equal_values (number left) (number right) = Some (is_eq (numbers.compared left right))
-equal_values (string left) (string right) = Some (bytes_eq left right)
-equal_values (boolean left) (boolean right) = Some (beq left right)
-equal_values left right = None
+abbrev pub value_equality : Comparable → Comparable → Option Bool
+value_equality (number left) (number right) = Some (is_eq (numbers.compared left right))
+value_equality (string left) (string right) = Some (bytes_eq left right)
+value_equality (boolean left) (boolean right) = Some (beq left right)
+value_equality left right = None
 
 -- `<` and the like on values: numbers by value, strings by code points, false before true; None where they are of two
 -- kinds
 abbrev pub value_order : Comparable → Comparable → Option Ordering
 value_order (number left) (number right) = Some (numbers.compared left right)
-value_order (string left) (string right) = Some (code_points.compared left right)
+value_order (string left) (string right) = Some (code_points.code_point_order left right)
 value_order (boolean left) (boolean right) = Some (bool_cmp left right)
 value_order left right = None
 
@@ -52,39 +53,40 @@ is_literal (Literal lexical datatype) = true
 is_literal (Tagged lexical language) = true
 
 -- RDFterm-equal: true of one term, an error of two literals that differ, else false
-abbrev pub equal_terms : Term → Term → Option Bool
-equal_terms left right =
+abbrev pub term_equality : Term → Term → Option Bool
+term_equality left right =
     if term_eq left right then Some true
     else if is_literal left && is_literal right then None
     else Some false
 
 -- `=`: a double or a float is an error before anything else
-abbrev pub equal : Term → Term → Option Bool
-equal left right =
+abbrev pub equality : Term → Term → Option Bool
+equality left right =
     if is_inexact left || is_inexact right then None
-    else option_or (of_both equal_values (comparable_of left) (comparable_of right)) (equal_terms left right)
+    else option_or (value_of_both value_equality (comparable_of left) (comparable_of right)) (term_equality left right)
 
 -- how `<` and the like see two terms
 abbrev pub comparison_order : Term → Term → Option Ordering
-comparison_order left right = of_both value_order (comparable_of left) (comparable_of right)
+comparison_order left right = value_of_both value_order (comparable_of left) (comparable_of right)
 
 -- the operators by their signs; a sign of arithmetic is an error
-abbrev pub compared : Sign → Term → Term → Option Bool
-compared sign.Equal left right = equal left right
-compared sign.NotEqual left right = option_map not (equal left right)
-compared sign.Less left right = option_map is_lt (comparison_order left right)
-compared sign.Greater left right = option_map is_gt (comparison_order left right)
-compared sign.LessEqual left right = option_map is_le (comparison_order left right)
-compared sign.GreaterEqual left right = option_map is_ge (comparison_order left right)
-compared sign.Add left right = None
-compared sign.Subtract left right = None
-compared sign.Multiply left right = None
-compared sign.Divide left right = None
+abbrev pub comparison : Sign → Term → Term → Option Bool
+comparison sign.Equal left right = equality left right
+comparison sign.NotEqual left right = option_map not (equality left right)
+comparison sign.Less left right = option_map is_lt (comparison_order left right)
+comparison sign.Greater left right = option_map is_gt (comparison_order left right)
+comparison sign.LessEqual left right = option_map is_le (comparison_order left right)
+comparison sign.GreaterEqual left right = option_map is_ge (comparison_order left right)
+comparison sign.Add left right = None
+comparison sign.Subtract left right = None
+comparison sign.Multiply left right = None
+comparison sign.Divide left right = None
 
 -- IN: the `||` of the `=` with each member
-abbrev pub among : Option Term → List (Option Term) → Option Bool
-among item members = any_of (map (of_both equal item) members)
+abbrev pub member_truth : Option Term → List (Option Term) → Option Bool
+member_truth item members = disjunction_of (map (value_of_both equality item) members)
 
 -- IN, and NOT IN where negated
 abbrev pub membership : Bool → Option Term → List (Option Term) → Option Bool
-membership negated item members = if negated then option_map not (among item members) else among item members
+membership negated item members =
+    if negated then logical_not (member_truth item members) else member_truth item members

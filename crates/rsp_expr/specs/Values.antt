@@ -4,9 +4,9 @@ use Rattle.std.specs.Prelude.{ℕ, Bool, true, false, Option, Some, None, is_som
 use Rattle.std.specs.Option.{option_and_then}
 use Rattle.rsp_multiset.specs.Rows.{Cells}
 use Rattle.rsp_terms.specs.declared.term.Term.{Term}
-use Rattle.rsp_expr.specs.Booleans.{any_of, all_of, logical_not, truth_of, boolean}
-use Rattle.rsp_expr.specs.Comparing.{compared, membership}
-use Rattle.rsp_expr.specs.Errors.{of_both}
+use Rattle.rsp_expr.specs.Booleans.{disjunction_of, conjunction_of, logical_not, truth_of, boolean_result}
+use Rattle.rsp_expr.specs.Comparing.{comparison, membership}
+use Rattle.rsp_expr.specs.Errors.{value_of_both}
 use Rattle.rsp_expr.specs.Formulas as formula
 use Rattle.rsp_expr.specs.Formulas.{Formula, Formulas, no_formula, formula_then}
 use Rattle.rsp_expr.specs.Functions as functions
@@ -19,16 +19,16 @@ abbrev mutual
   pub value : Formula → Cells Term → Option Term
   value (formula.variable v) row = cell row v
   value (formula.constant term) row = Some term
-  value (formula.disjunction parts) row = boolean (any_of (map truth_of (values parts row)))
-  value (formula.conjunction parts) row = boolean (all_of (map truth_of (values parts row)))
-  value (formula.negation part) row = boolean (logical_not (truth_of (value part row)))
-  value (formula.comparison sign left right) row = boolean (of_both (compared sign) (value left row) (value right row))
-  value (formula.membership negated item list) row = boolean (membership negated (value item row) (values list row))
-  value (formula.arithmetic sign left right) row = of_both (functions.arithmetic sign) (value left row) (value right row)
-  value (formula.opposite part) row = option_and_then functions.opposite (value part row)
-  value (formula.plus part) row = option_and_then functions.with_plus (value part row)
-  value (formula.bound v) row = functions.truth (is_some (cell row v))
-  value (formula.call function arguments) row = functions.called function (values arguments row)
+  value (formula.disjunction parts) row = boolean_result (disjunction_of (map truth_of (values parts row)))
+  value (formula.conjunction parts) row = boolean_result (conjunction_of (map truth_of (values parts row)))
+  value (formula.negation part) row = boolean_result (logical_not (truth_of (value part row)))
+  value (formula.comparison sign left right) row = boolean_result (value_of_both (comparison sign) (value left row) (value right row))
+  value (formula.membership negated item list) row = boolean_result (membership negated (value item row) (values list row))
+  value (formula.arithmetic sign left right) row = value_of_both (functions.arithmetic sign) (value left row) (value right row)
+  value (formula.opposite part) row = option_and_then functions.unary_minus (value part row)
+  value (formula.plus part) row = option_and_then functions.unary_plus (value part row)
+  value (formula.bound v) row = boolean_result (Some (is_some (cell row v)))
+  value (formula.call function arguments) row = functions.call_value function (values arguments row)
 
   pub values : Formulas → Cells Term → List (Option Term)
   values no_formula row = []

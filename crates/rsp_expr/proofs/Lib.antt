@@ -1,0 +1,5 @@
+pub mod BooleanRows
+pub mod ComparingRows
+pub mod FunctionRows
+pub mod OrderRows
+pub mod AggregateRows
