@@ -7,7 +7,17 @@ use Rattle.rsp_literals.specs.declared.datatypes.WholeType.TheVariants.{Integer,
 use Rattle.rsp_literals.specs.declared.datatypes.Datatype.{Datatype}
 use Rattle.rsp_literals.specs.declared.datatypes.Datatype.TheVariants.{Whole, Decimal, Double, Float, Boolean, String, LangString, Other}
 
--- the types of whole numbers, by their IRIs
+-- the types of whole numbers, by their IRIs: first those without a number below 0, then all
+abbrev pub unsigned_types : List (List ℕ × WholeType)
+unsigned_types =
+    (codes "http://www.w3.org/2001/XMLSchema#nonNegativeInteger", NonNegativeInteger)
+    ∷ (codes "http://www.w3.org/2001/XMLSchema#positiveInteger", PositiveInteger)
+    ∷ (codes "http://www.w3.org/2001/XMLSchema#unsignedLong", UnsignedLong)
+    ∷ (codes "http://www.w3.org/2001/XMLSchema#unsignedInt", UnsignedInt)
+    ∷ (codes "http://www.w3.org/2001/XMLSchema#unsignedShort", UnsignedShort)
+    ∷ (codes "http://www.w3.org/2001/XMLSchema#unsignedByte", UnsignedByte)
+    ∷ []
+
 abbrev pub whole_types : List (List ℕ × WholeType)
 whole_types =
     (codes "http://www.w3.org/2001/XMLSchema#integer", Integer)
@@ -17,13 +27,7 @@ whole_types =
     ∷ (codes "http://www.w3.org/2001/XMLSchema#byte", Byte)
     ∷ (codes "http://www.w3.org/2001/XMLSchema#nonPositiveInteger", NonPositiveInteger)
     ∷ (codes "http://www.w3.org/2001/XMLSchema#negativeInteger", NegativeInteger)
-    ∷ (codes "http://www.w3.org/2001/XMLSchema#nonNegativeInteger", NonNegativeInteger)
-    ∷ (codes "http://www.w3.org/2001/XMLSchema#positiveInteger", PositiveInteger)
-    ∷ (codes "http://www.w3.org/2001/XMLSchema#unsignedLong", UnsignedLong)
-    ∷ (codes "http://www.w3.org/2001/XMLSchema#unsignedInt", UnsignedInt)
-    ∷ (codes "http://www.w3.org/2001/XMLSchema#unsignedShort", UnsignedShort)
-    ∷ (codes "http://www.w3.org/2001/XMLSchema#unsignedByte", UnsignedByte)
-    ∷ []
+    ∷ unsigned_types
 
 -- the others that are known
 abbrev pub other_types : List (List ℕ × Datatype)

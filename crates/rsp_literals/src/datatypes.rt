@@ -1,6 +1,6 @@
 // The datatypes that expressions know.
 ghost use Rattle.std.specs.Prelude.{◌≡◌};
-ghost use Rattle.rsp_literals.specs.Datatypes.{type_in, whole_types, other_types, datatype_of, least_of, greatest_of};
+ghost use Rattle.rsp_literals.specs.Datatypes.{type_in, unsigned_types, whole_types, other_types, datatype_of, least_of, greatest_of};
 
 use rsp_terms::XSD_STRING;
 
@@ -148,6 +148,15 @@ fn whole_type(iri: &str) -> Option<WholeType>
         XSD_BYTE => Some(WholeType::Byte),
         XSD_NON_POSITIVE => Some(WholeType::NonPositiveInteger),
         XSD_NEGATIVE => Some(WholeType::NegativeInteger),
+        _ => unsigned_type(iri),
+    }
+}
+
+/// The type of whole numbers without one below 0 that the IRI names, if it names one.
+fn unsigned_type(iri: &str) -> Option<WholeType>
+    ensures { result ≡ type_in unsigned_types iri.now }
+{
+    match iri {
         XSD_NON_NEGATIVE => Some(WholeType::NonNegativeInteger),
         XSD_POSITIVE => Some(WholeType::PositiveInteger),
         XSD_UNSIGNED_LONG => Some(WholeType::UnsignedLong),

@@ -1,7 +1,7 @@
 // Strings and texts.
 ghost use Rattle.std.specs.Prelude.{◌≡◌, Some, IfOk};
 ghost use Rattle.std.specs.Option.{option_copied};
-ghost use Rattle.rsp_literals.specs.Strings.{string_of, text_of, string_literal, is_inexact};
+ghost use Rattle.rsp_literals.specs.Strings.{typed_string, string_of, text_of, string_literal, is_floating, is_inexact};
 
 use crate::datatypes::{Datatype, datatype_of};
 use rsp_terms::{Term, Text, XSD_STRING};
@@ -11,14 +11,31 @@ use std::alloc::{AllocError, Global};
 pub fn string_of(term: &Term) -> Option<&str>
     ensures { option_copied result ≡ string_of term.now }
 {
-    None
+    match term {
+        Term::Literal { lexical, datatype } => {
+            typed_string(datatype_of(datatype.as_str()), lexical.as_str())
+        }
+        _ => None,
+    }
+}
+
+fn typed_string(datatype: Datatype, text: &str) -> Option<&str>
+    ensures { option_copied result ≡ typed_string datatype text.now }
+{
+    match datatype {
+        Datatype::String => Some(text),
+        _ => None,
+    }
 }
 
 /// The text of an `xsd:string` or of a literal with a language tag; None of every other term.
 pub fn text_of(term: &Term) -> Option<&str>
     ensures { option_copied result ≡ text_of term.now }
 {
-    None
+    match term {
+        Term::Tagged { lexical, .. } => Some(lexical.as_str()),
+        _ => string_of(term),
+    }
 }
 
 /// The `xsd:string` of a text. Fails only where memory is refused.
@@ -35,5 +52,14 @@ pub fn string_term(alloc: Global, text: &str) -> Result<Term, AllocError>
 pub fn is_inexact(term: &Term) -> bool
     ensures { result ≡ is_inexact term.now }
 {
-    false
+    match term {
+        Term::Literal { datatype, .. } => is_floating(datatype_of(datatype.as_str())),
+        _ => false,
+    }
+}
+
+fn is_floating(datatype: Datatype) -> bool
+    ensures { result ≡ is_floating datatype }
+{
+    matches!(datatype, Datatype::Double | Datatype::Float)
 }
