@@ -7,3 +7,5 @@ pub mod Functions
 pub mod Values
 pub mod Order
 pub mod Aggregates
+-- Words of the way:
+pub mod Operands

@@ -6,8 +6,10 @@
 #![tactic(auto)]
 
 mod aggregate;
+mod comparing;
 mod expression;
 mod function;
+mod operand;
 mod slot;
 
 pub use aggregate::{Aggregate, Kind};
