@@ -147,5 +147,9 @@ fn signed(negative: bool, size: u128) -> i128
     requires { size ≤ 2 ^ 64 }
     ensures { result ≡ signed negative size }
 {
-    if negative { -(size as i128) } else { size as i128 }
+    if negative {
+        -(size as i128)
+    } else {
+        size as i128
+    }
 }

@@ -13,5 +13,6 @@ returns-in_default c =
       not_equal iri (codes "http://www.w3.org/2001/XMLSchema#unsignedLong") others.not-text-3,
       not_equal iri (codes "http://www.w3.org/2001/XMLSchema#unsignedInt") others.not-text-4,
       not_equal iri (codes "http://www.w3.org/2001/XMLSchema#unsignedShort") others.not-text-5,
-      not_equal iri (codes "http://www.w3.org/2001/XMLSchema#unsignedByte") others.not-text-6)
+      not_equal iri (codes "http://www.w3.org/2001/XMLSchema#unsignedByte") others.not-text-6,
+    )
     refl

@@ -15,5 +15,6 @@ returns-in_default c =
       not_equal iri (codes "http://www.w3.org/2001/XMLSchema#short") others.not-text-4,
       not_equal iri (codes "http://www.w3.org/2001/XMLSchema#byte") others.not-text-5,
       not_equal iri (codes "http://www.w3.org/2001/XMLSchema#nonPositiveInteger") others.not-text-6,
-      not_equal iri (codes "http://www.w3.org/2001/XMLSchema#negativeInteger") others.not-text-7)
+      not_equal iri (codes "http://www.w3.org/2001/XMLSchema#negativeInteger") others.not-text-7,
+    )
     refl)
