@@ -24,13 +24,13 @@ string = string_literal
 parts : (call_value function.Substr (Some (string (codes "foobar")) ∷ Some (integer (codes "4")) ∷ [])
     ∷ call_value function.Substr (Some (Tagged (codes "foobar") (codes "en")) ∷ Some (integer (codes "4")) ∷ Some (integer (codes "1")) ∷ []) ∷ [])
     ≡ Some (string (codes "bar")) ∷ Some (Tagged (codes "b") (codes "en")) ∷ []
-unfolding chars
+unfolding chars lib.Utf8.encode
 parts = refl
 
 -- a start of 0 doesn't move the end
 part_from_zero : call_value function.Substr (Some (string (codes "abc")) ∷ Some (integer (codes "0")) ∷ Some (integer (codes "2")) ∷ [])
     ≡ Some (string (codes "a"))
-unfolding chars
+unfolding chars lib.Utf8.encode
 part_from_zero = refl
 
 -- characters and not bytes: e with acute accent has two

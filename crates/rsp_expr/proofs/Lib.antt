@@ -3,3 +3,4 @@ pub mod ComparingRows
 pub mod FunctionRows
 pub mod OrderRows
 pub mod AggregateRows
+pub mod TwoTerms

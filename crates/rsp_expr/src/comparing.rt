@@ -1,7 +1,8 @@
 // The operators that compare.
-ghost use Rattle.std.specs.Prelude.{◌≡◌, None, option_map};
+ghost use Rattle.std.specs.Prelude.{◌≡◌, None, false, option_map};
 ghost use Rattle.rsp_terms.specs.Same.{term_eq};
 ghost use Rattle.rsp_expr.specs.Comparing.{comparable_of, value_equality, value_order, term_equality, equality, comparison_order, comparison};
+ghost use Rattle.rsp_expr.specs.Comparing as comparing;
 ghost use Rattle.rsp_expr.specs.Errors.{value_of_both};
 ghost use Rattle.rsp_expr.specs.Operands.{term_for, comparable_for};
 
@@ -20,25 +21,27 @@ pub(crate) enum Comparable<'a> {
     Boolean(bool),
 }
 
-fn comparable(operand: &Operand) -> Option<Comparable<'_>>
+fn value_of_operand(operand: &Operand) -> Option<Comparable<'_>>
     ensures { option_map comparable_for result ≡ comparable_of (term_for operand.now) }
 {
     match operand {
-        Operand::Term(term) => comparable_term(term),
-        Operand::Number(_) => comparable_number(operand.number()),
+        Operand::Term(term) => value_of_term(term),
+        Operand::Number(_) => numeric_value(operand.number()),
         Operand::Boolean(value) => Some(Comparable::Boolean(*value)),
         Operand::String(text) => Some(Comparable::String(text.as_str())),
     }
 }
 
-fn comparable_number(number: Option<Number>) -> Option<Comparable<'static>> {
+fn numeric_value(number: Option<Number>) -> Option<Comparable<'static>>
+    ensures { option_map comparable_for result ≡ option_map comparing.number number }
+{
     match number {
         Some(number) => Some(Comparable::Number(number)),
         None => None,
     }
 }
 
-fn comparable_term(term: &Term) -> Option<Comparable<'_>>
+fn value_of_term(term: &Term) -> Option<Comparable<'_>>
     ensures { option_map comparable_for result ≡ comparable_of term.now }
 {
     if let Some(number) = number_of(term) {
@@ -85,7 +88,7 @@ fn order_of_values(left: &Comparable, right: &Comparable) -> Option<Ordering>
 fn equality_by_value(left: &Operand, right: &Operand) -> Option<bool>
     ensures { result ≡ value_of_both value_equality (comparable_of (term_for left.now)) (comparable_of (term_for right.now)) }
 {
-    match (comparable(left), comparable(right)) {
+    match (value_of_operand(left), value_of_operand(right)) {
         (Some(left), Some(right)) => equal_values(&left, &right),
         _ => None,
     }
@@ -94,7 +97,7 @@ fn equality_by_value(left: &Operand, right: &Operand) -> Option<bool>
 fn order(left: &Operand, right: &Operand) -> Option<Ordering>
     ensures { result ≡ comparison_order (term_for left.now) (term_for right.now) }
 {
-    match (comparable(left), comparable(right)) {
+    match (value_of_operand(left), value_of_operand(right)) {
         (Some(left), Some(right)) => order_of_values(&left, &right),
         _ => None,
     }
@@ -112,18 +115,27 @@ fn equal_terms(left: &Term, right: &Term) -> Option<bool>
     Some(false)
 }
 
+// what isn't one term
+fn equality_of_two(left: &Operand, right: &Operand) -> Option<bool>
+    requires { term_eq (term_for left.now) (term_for right.now) ≡ false }
+    ensures { result ≡ term_equality (term_for left.now) (term_for right.now) }
+{
+    if left.is_literal() && right.is_literal() {
+        return None;
+    }
+    Some(false)
+}
+
 // what isn't of one kind isn't one term, unless both are terms as they stand
 fn equality_by_term(left: &Operand, right: &Operand) -> Option<bool>
     requires { value_of_both value_equality (comparable_of (term_for left.now)) (comparable_of (term_for right.now)) ≡ None }
     ensures { result ≡ term_equality (term_for left.now) (term_for right.now) }
 {
-    if let (Some(left), Some(right)) = (left.as_term(), right.as_term()) {
-        return equal_terms(left, right);
+    match (left.as_term(), right.as_term()) {
+        (Some(left), Some(right)) => equal_terms(left, right),
+        (Some(_), None) => equality_of_two(left, right),
+        (None, _) => equality_of_two(left, right),
     }
-    if left.is_literal() && right.is_literal() {
-        return None;
-    }
-    Some(false)
 }
 
 /// `=`; None is an error. Takes no memory.

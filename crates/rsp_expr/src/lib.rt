@@ -11,6 +11,7 @@ mod expression;
 mod function;
 mod operand;
 mod slot;
+mod texts;
 
 pub use aggregate::{Aggregate, Kind};
 pub use expression::Expression;

@@ -201,7 +201,7 @@ pub(crate) fn text_operand(
     tag: Option<&Text>,
     text: &str,
 ) -> Result<Operand, AllocError>
-    ensures { IfOk result (λ operand. term_for operand ≡ text_literal (option_copied tag) text.now) }
+    ensures { IfOk result (λ operand. term_for operand ≡ text_literal (option_copied tag.entry) text.now) }
 {
     let lexical = Text::new(alloc, text)?;
     match tag {
