@@ -229,13 +229,17 @@ abbrev pub if_value : List (Option Term) → Option Term
 if_value (condition ∷ first ∷ second ∷ []) = branch (truth_of condition) first second
 if_value arguments = None
 
--- the functions whose arguments may not be errors; another number of arguments is an error
+-- another number of arguments is an error
+abbrev pub value_by_number : Function → List Term → Option Term
+value_by_number name (first ∷ []) = unary_value name first
+value_by_number name (first ∷ second ∷ []) = binary_value name first second
+value_by_number name (first ∷ second ∷ third ∷ []) = ternary_value name first second third
+value_by_number name terms = None
+
+-- the functions whose arguments may not be errors
 abbrev pub function_value : Function → List Term → Option Term
 function_value function.Concat terms = concatenation terms
-function_value name (first ∷ []) = unary_value name first
-function_value name (first ∷ second ∷ []) = binary_value name first second
-function_value name (first ∷ second ∷ third ∷ []) = ternary_value name first second third
-function_value name terms = None
+function_value name terms = value_by_number name terms
 
 abbrev pub call_value : Function → List (Option Term) → Option Term
 call_value function.If arguments = if_value arguments

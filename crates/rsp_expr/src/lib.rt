@@ -9,6 +9,8 @@ mod aggregate;
 mod comparing;
 mod expression;
 mod function;
+mod functions;
+mod literals;
 mod operand;
 mod slot;
 mod texts;
