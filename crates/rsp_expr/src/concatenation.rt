@@ -1,10 +1,10 @@
 // CONCAT (SPARQL 1.1 Query, section 17.4.3.12).
-ghost use Rattle.std.specs.Prelude.{◌≡◌, IfOk, Some, map, option_map, MatchOption, List, ℕ, []};
+ghost use Rattle.std.specs.Prelude.{◌≡◌, IfOk, Some, map, option_map, [], ◌∷◌};
 ghost use Rattle.std.specs.Option.{option_copied, option_eq};
 ghost use Rattle.std.specs.List.{list_all};
 ghost use Rattle.std.specs.Str.{bytes_eq};
 ghost use Rattle.std.specs.String.{string_bytes};
-ghost use Rattle.rsp_expr.specs.Functions.{concatenation, common_tag, written_of};
+ghost use Rattle.rsp_expr.specs.Functions.{concatenation, common_tag};
 ghost use Rattle.rsp_expr.specs.Operands.{term_for, value_for, texts_onto, tag_for};
 
 use crate::operand::{Operand, text_operand};
@@ -41,24 +41,37 @@ fn joined(alloc: Global, parts: &[Operand]) -> Result<Option<String>, AllocError
 fn common_tag(parts: &[Operand]) -> Option<&Text>
     ensures { option_copied result ≡ common_tag (map tag_for (map term_for parts.now)) }
 {
-    match parts {
-        [] => None,
-        [first, others @ ..] => {
-            let tag = tag_of(first);
-            if all_have_tag(others, tag) { tag } else { None }
-        }
+    match parts.split_first() {
+        None => None,
+        Some((first, others)) => tag_of_all(first, others),
     }
 }
 
-fn all_have_tag(parts: &[Operand], tag: Option<&Text>) -> bool
-    ensures { result ≡ list_all (option_eq bytes_eq (option_copied tag.entry)) (map tag_for (map term_for parts.now)) }
+fn tag_of_all<'a>(first: &'a Operand, others: &[Operand]) -> Option<&'a Text>
+    ensures { option_copied result ≡ common_tag (tag_for (term_for first.now) ∷ map tag_for (map term_for others.now)) }
 {
-    for part in parts {
-        if !is_same_tag(tag, tag_of(part)) {
+    if all_have_tag_of(first, others) {
+        tag_of(first)
+    } else {
+        None
+    }
+}
+
+fn all_have_tag_of(first: &Operand, others: &[Operand]) -> bool
+    ensures { result ≡ list_all (option_eq bytes_eq (tag_for (term_for first.now))) (map tag_for (map term_for others.now)) }
+{
+    for other in others {
+        if !have_one_tag(first, other) {
             return false;
         }
     }
     true
+}
+
+fn have_one_tag(first: &Operand, other: &Operand) -> bool
+    ensures { result ≡ option_eq bytes_eq (tag_for (term_for first.now)) (tag_for (term_for other.now)) }
+{
+    is_same_tag(tag_of(first), tag_of(other))
 }
 
 fn is_same_tag(tag: Option<&Text>, other: Option<&Text>) -> bool

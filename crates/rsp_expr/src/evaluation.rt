@@ -1,14 +1,16 @@
 // The values of expressions.
-ghost use Rattle.std.specs.Prelude.{◌≡◌, ◌||◌, IfOk, Bool, not, is_some, map, option_map, if◌then◌else◌};
-ghost use Rattle.rsp_expr.specs.Booleans.{truth_of, boolean_result};
+ghost use Rattle.std.specs.Prelude.{◌≡◌, ◌||◌, IfOk, Bool, not, is_some, Some, None, map, option_map, if◌then◌else◌};
+ghost use Rattle.rsp_expr.specs.Booleans.{truth_of, boolean_result, logical_not};
 ghost use Rattle.rsp_expr.specs.Comparing as comparing;
-ghost use Rattle.std.specs.Option.{option_and_then, option_zip};
+ghost use Rattle.std.specs.Bool.{beq};
+ghost use Rattle.std.specs.Option.{option_and_then, option_eq};
 ghost use Rattle.rsp_expr.specs.Errors.{value_of_both, all_values, first_value};
 ghost use Rattle.rsp_expr.specs.Formulas.{formula_of};
 ghost use Rattle.rsp_expr.specs.Functions as functions;
-ghost use Rattle.rsp_expr.specs.Operands.{term_for, value_for, connective, argument_values};
+ghost use Rattle.rsp_expr.specs.Operands.{term_for, value_for, connective, undecided, argument_values};
 ghost use Rattle.rsp_expr.specs.Values.{cell, value, truth as passes};
-ghost use Rattle.rsp_expr.specs.declared.function.Function.TheVariants as function;
+ghost use Rattle.rsp_multiset.specs.Rows.{Cells};
+ghost use Rattle.rsp_terms.specs.declared.term.Term.{Term};
 
 use crate::comparing::{comparison, equality};
 use crate::concatenation::concatenation;
@@ -103,18 +105,35 @@ fn evaluate(
             Ok(boolean(truth.map(|truth| !truth)))
         }
         Expression::Compare { sign, left, right } => {
-            Ok(boolean(compared(alloc, *sign, left, right, row)?))
+            let Some(left) = evaluate(alloc, left, row)? else {
+                return Ok(None);
+            };
+            let Some(right) = evaluate(alloc, right, row)? else {
+                return Ok(None);
+            };
+            Ok(boolean(comparison(*sign, &left, &right)))
         }
         Expression::Member {
             negated,
             item,
             list,
         } => {
-            let truth = member(alloc, item, list, row)?;
-            Ok(boolean(turned(*negated, truth)))
+            if list.is_empty() {
+                return Ok(Some(Operand::Boolean(*negated)));
+            }
+            match evaluate(alloc, item, row)? {
+                None => Ok(boolean(turned(*negated, without_item(list)))),
+                Some(item) => Ok(boolean(turned(*negated, among(alloc, &item, list, row)?))),
+            }
         }
         Expression::Arithmetic { sign, left, right } => {
-            calculated(alloc, *sign, left, right, row)
+            let Some(left) = evaluate(alloc, left, row)? else {
+                return Ok(None);
+            };
+            let Some(right) = evaluate(alloc, right, row)? else {
+                return Ok(None);
+            };
+            Ok(arithmetic(*sign, &left, &right))
         }
         Expression::Negate(part) => match evaluate(alloc, part, row)? {
             None => Ok(None),
@@ -174,66 +193,7 @@ fn undecided(deciding: bool, erred: bool) -> Option<bool>
     if erred { None } else { Some(!deciding) }
 }
 
-#[cycle(evaluation)]
-fn compared(
-    alloc: Global,
-    sign: Sign,
-    left: &Expression,
-    right: &Expression,
-    row: &[Option<Term>],
-) -> Result<Option<bool>, AllocError>
-    ensures { IfOk result (λ truth. truth ≡ value_of_both (comparing.comparison sign)
-        (value (formula_of left.now) row.now) (value (formula_of right.now) row.now)) }
-{
-    let Some(left) = evaluate(alloc, left, row)? else {
-        return Ok(None);
-    };
-    let Some(right) = evaluate(alloc, right, row)? else {
-        return Ok(None);
-    };
-    Ok(comparison(sign, &left, &right))
-}
-
-#[cycle(evaluation)]
-fn calculated(
-    alloc: Global,
-    sign: Sign,
-    left: &Expression,
-    right: &Expression,
-    row: &[Option<Term>],
-) -> Result<Option<Operand>, AllocError>
-    ensures { IfOk result (λ operand. value_for operand ≡ value_of_both (functions.arithmetic sign)
-        (value (formula_of left.now) row.now) (value (formula_of right.now) row.now)) }
-{
-    let Some(left) = evaluate(alloc, left, row)? else {
-        return Ok(None);
-    };
-    let Some(right) = evaluate(alloc, right, row)? else {
-        return Ok(None);
-    };
-    Ok(arithmetic(sign, &left, &right))
-}
-
-// IN; of no members it is false, whatever the item is
-#[cycle(evaluation)]
-fn member(
-    alloc: Global,
-    item: &Expression,
-    list: &[Expression],
-    row: &[Option<Term>],
-) -> Result<Option<bool>, AllocError>
-    ensures { IfOk result (λ truth. truth ≡ comparing.member_truth
-        (value (formula_of item.now) row.now) (argument_values list.now row.now)) }
-{
-    if list.is_empty() {
-        return Ok(Some(false));
-    }
-    match evaluate(alloc, item, row)? {
-        None => Ok(None),
-        Some(item) => among(alloc, &item, list, row),
-    }
-}
-
+// IN of a value
 #[cycle(evaluation)]
 fn among(
     alloc: Global,
@@ -261,6 +221,13 @@ fn equals(item: &Operand, other: Option<Operand>) -> Option<bool>
         None => None,
         Some(other) => equality(item, &other),
     }
+}
+
+// IN of an error
+fn without_item(list: &[Expression]) -> Option<bool>
+    ensures { (row : Cells Term) → result ≡ comparing.member_truth None (argument_values list.now row) }
+{
+    if list.is_empty() { Some(false) } else { None }
 }
 
 fn turned(negated: bool, truth: Option<bool>) -> Option<bool>
@@ -304,7 +271,10 @@ fn chosen(
             Some(true) => evaluate(alloc, first, row),
             Some(false) => evaluate(alloc, second, row),
         },
-        _ => Ok(None),
+        [] => Ok(None),
+        [_] => Ok(None),
+        [_, _] => Ok(None),
+        [_, _, _, _, ..] => Ok(None),
     }
 }
 
@@ -383,6 +353,7 @@ fn applied(
             };
             ternary_value(alloc, function, first, second, third)
         }
-        _ => Ok(None),
+        [] => Ok(None),
+        [_, _, _, _, ..] => Ok(None),
     }
 }

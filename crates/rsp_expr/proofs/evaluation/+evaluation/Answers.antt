@@ -1,0 +1,8 @@
+use Rattle.rsp_expr.proofs.OtherLengths.{choice_of_many, value_of_many}
+use Rattle.rsp_expr.proofs.evaluation.+evaluation.Goals as goal
+
+pub applied-returns-in-len4-up : goal.applied-returns-in-len4-up
+applied-returns-in-len4-up t c = value_of_many c.args.function c.args.arguments.now c.args.row.now c.in-len4-up.len_at_least
+
+pub chosen-returns-in-len4-up : goal.chosen-returns-in-len4-up
+chosen-returns-in-len4-up t c = choice_of_many c.args.arguments.now c.args.row.now c.in-len4-up.len_at_least

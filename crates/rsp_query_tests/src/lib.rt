@@ -1,0 +1,10 @@
+//! Tests of the parts of queries by tables of cases: expressions.
+//!
+//! The values were taken from the standards and worked out by hand, and not from the program. Nothing stands on this
+//! crate.
+#![tactic(auto)]
+
+#[cfg(test)]
+mod expressions;
+#[cfg(test)]
+mod notation;
