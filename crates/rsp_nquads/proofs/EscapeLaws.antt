@@ -9,8 +9,8 @@ use Rattle.std.proofs.lemmas.Bool.Decides.{nat_tests}
 use Rattle.std.proofs.lemmas.List.{take-append-drop}
 use Rattle.rsp_spec.proofs.Truths.{and_left, and_right, equal_from, differs}
 use Rattle.rsp_terms.specs.Characters.{is_iri_character}
-use Rattle.rsp_nquads.specs.Parts.{code_point, uchar, echar, named_character, iri_escape, string_escape, is_scalar, is_string_character}
-use Rattle.rsp_nquads.specs.Grammar.{Piece, plain, short, long, named, written, IsNumbered, StandsFor, IsIriPiece, IsStringPiece}
+use Rattle.rsp_nquads.specs.Parts.{code_point, uchar, echar, iri_escape, string_escape}
+use Rattle.rsp_nquads.specs.Grammar.{Piece, plain, short, long, named, piece_text, IsHexadecimal, StandsFor, IsIriPiece, IsStringPiece, named_character, is_scalar, is_string_character}
 use Rattle.rsp_nquads.proofs.Fronts.{take_front, drop_front}
 use Rattle.rsp_nquads.proofs.Pieces.{IsEscape, Spells}
 
@@ -40,7 +40,7 @@ passed false c d xs ys is = absurd (cc)
 record Numbered (count : ℕ) (text rest : List ℕ) (c : ℕ) : Type 0 where
   digits : List ℕ
   text_is : text ≡ digits ++ rest
-  number : IsNumbered count digits c
+  number : IsHexadecimal count digits c
   scalar : is_scalar c ≡ true
 
 code_point_found : (count : ℕ) (text rest : List ℕ) (c : ℕ) → code_point count text ≡ found_as c rest → Numbered count text rest c
@@ -56,7 +56,7 @@ code_point_found count text rest c is =
       scalar = ap is_scalar (sym p.value) ∙ and_right (list_all is_ascii_hexdigit (take count text)) _ both;
     }
 
-code_point_finds : (count : ℕ) (digits rest : List ℕ) (c : ℕ) → IsNumbered count digits c → is_scalar c ≡ true
+code_point_finds : (count : ℕ) (digits rest : List ℕ) (c : ℕ) → IsHexadecimal count digits c → is_scalar c ≡ true
     → code_point count (digits ++ rest) ≡ found_as c rest
 code_point_finds count digits rest c number scalar =
     let front : take count (digits ++ rest) ≡ digits = ap (λ n. take n (digits ++ rest)) (sym number.0) ∙ take_front digits rest in
@@ -73,7 +73,7 @@ IsUchar _ = ⊥
 record Escaped (is_kind : Piece → Type 0) (text rest : List ℕ) (c : ℕ) : Type 0 where
   piece : Piece
   kind : is_kind piece
-  text_is : text ≡ written piece ++ rest
+  text_is : text ≡ piece_text piece ++ rest
   scalar : is_scalar c ≡ true
   stands : StandsFor piece c
 
@@ -107,7 +107,7 @@ uchar_found (a ∷ b ∷ text) rest c is = by (a == 92) (b == 117) (b == 85) ref
         }
     by true false false ha hb hc is = absurd (cc)
 
-uchar_finds : (p : Piece) (c : ℕ) (rest : List ℕ) → IsUchar p → is_scalar c ≡ true → StandsFor p c → uchar (written p ++ rest) ≡ found_as c rest
+uchar_finds : (p : Piece) (c : ℕ) (rest : List ℕ) → IsUchar p → is_scalar c ≡ true → StandsFor p c → uchar (piece_text p ++ rest) ≡ found_as c rest
 unfolding uchar
 uchar_finds (plain d) c rest kind scalar stands = absurd kind
 uchar_finds (named d) c rest kind scalar stands = absurd kind
@@ -167,19 +167,19 @@ iri_wide : (c : ℕ) → 128 ≤ c → is_iri_character c ≡ true
 iri_wide c high = grind (arith, nat_tests)
 
 iri_found : (text rest : List ℕ) (c : ℕ) → iri_escape text ≡ found_as c rest
-    → (p : Piece) × ((text ≡ written p ++ rest) × (is_scalar c ≡ true) × StandsFor p c × IsIriPiece p c)
+    → (p : Piece) × ((text ≡ piece_text p ++ rest) × (is_scalar c ≡ true) × StandsFor p c × IsIriPiece p c)
 unfolding iri_escape
 iri_found text rest c is = by (uchar text) refl is
   where
     piece_of : (x : ℕ × List ℕ) → uchar text ≡ Some x → Passed (is_iri_character x.0) x.0 c x.1 rest
-        → (p : Piece) × ((text ≡ written p ++ rest) × (is_scalar c ≡ true) × StandsFor p c × IsIriPiece p c)
+        → (p : Piece) × ((text ≡ piece_text p ++ rest) × (is_scalar c ≡ true) × StandsFor p c × IsIriPiece p c)
     piece_of x read p =
         let e = uchar_found text rest c (read ∙ rw (p.value, p.rest) refl) in
         let passes : is_iri_character c ≡ true = ap is_iri_character (sym p.value) ∙ p.test in
         kinds e.piece e.kind e.text_is e.scalar e.stands passes
       where
-        kinds : (q : Piece) → IsUchar q → text ≡ written q ++ rest → is_scalar c ≡ true → StandsFor q c → is_iri_character c ≡ true
-            → (p : Piece) × ((text ≡ written p ++ rest) × (is_scalar c ≡ true) × StandsFor p c × IsIriPiece p c)
+        kinds : (q : Piece) → IsUchar q → text ≡ piece_text q ++ rest → is_scalar c ≡ true → StandsFor q c → is_iri_character c ≡ true
+            → (p : Piece) × ((text ≡ piece_text p ++ rest) × (is_scalar c ≡ true) × StandsFor p c × IsIriPiece p c)
         kinds (plain d) kind t s st passes = absurd kind
         kinds (named d) kind t s st passes = absurd kind
         kinds (short ds) kind t s st passes = (short ds, (t, s, st, passes))
@@ -187,12 +187,12 @@ iri_found text rest c is = by (uchar text) refl is
 
     by : (o : Option (ℕ × List ℕ)) → uchar text ≡ o
         → option_and_then (λ x. if is_iri_character x.0 then Some x else None) o ≡ found_as c rest
-        → (p : Piece) × ((text ≡ written p ++ rest) × (is_scalar c ≡ true) × StandsFor p c × IsIriPiece p c)
+        → (p : Piece) × ((text ≡ piece_text p ++ rest) × (is_scalar c ≡ true) × StandsFor p c × IsIriPiece p c)
     by None read is = absurd (cc)
     by (Some x) read is = piece_of x read (passed (is_iri_character x.0) x.0 c x.1 rest is)
 
 iri_finds : (p : Piece) (c : ℕ) (rest : List ℕ) → IsEscape p → is_scalar c ≡ true → StandsFor p c → IsIriPiece p c
-    → iri_escape (written p ++ rest) ≡ found_as c rest
+    → iri_escape (piece_text p ++ rest) ≡ found_as c rest
 unfolding iri_escape
 iri_finds (plain d) c rest kind scalar stands may = absurd kind
 iri_finds (named d) c rest kind scalar stands may = absurd may
@@ -220,37 +220,37 @@ string_wide : (c : ℕ) → 128 ≤ c → is_string_character c ≡ true
 string_wide c high = grind (arith, nat_tests)
 
 string_found : (text rest : List ℕ) (c : ℕ) → string_escape text ≡ found_as c rest
-    → (p : Piece) × ((text ≡ written p ++ rest) × (is_scalar c ≡ true) × StandsFor p c × IsStringPiece p c)
+    → (p : Piece) × ((text ≡ piece_text p ++ rest) × (is_scalar c ≡ true) × StandsFor p c × IsStringPiece p c)
 unfolding string_escape
 string_found text rest c is = by (echar text) refl is
   where
-    of_name : Escaped IsNamed text rest c → (p : Piece) × ((text ≡ written p ++ rest) × (is_scalar c ≡ true) × StandsFor p c × IsStringPiece p c)
+    of_name : Escaped IsNamed text rest c → (p : Piece) × ((text ≡ piece_text p ++ rest) × (is_scalar c ≡ true) × StandsFor p c × IsStringPiece p c)
     of_name e = kinds e.piece e.kind e.text_is e.scalar e.stands
       where
-        kinds : (q : Piece) → IsNamed q → text ≡ written q ++ rest → is_scalar c ≡ true → StandsFor q c
-            → (p : Piece) × ((text ≡ written p ++ rest) × (is_scalar c ≡ true) × StandsFor p c × IsStringPiece p c)
+        kinds : (q : Piece) → IsNamed q → text ≡ piece_text q ++ rest → is_scalar c ≡ true → StandsFor q c
+            → (p : Piece) × ((text ≡ piece_text p ++ rest) × (is_scalar c ≡ true) × StandsFor p c × IsStringPiece p c)
         kinds (plain d) kind t s st = absurd kind
         kinds (short ds) kind t s st = absurd kind
         kinds (long ds) kind t s st = absurd kind
         kinds (named d) kind t s st = (named d, (t, s, st, tt))
 
-    of_number : Escaped IsUchar text rest c → (p : Piece) × ((text ≡ written p ++ rest) × (is_scalar c ≡ true) × StandsFor p c × IsStringPiece p c)
+    of_number : Escaped IsUchar text rest c → (p : Piece) × ((text ≡ piece_text p ++ rest) × (is_scalar c ≡ true) × StandsFor p c × IsStringPiece p c)
     of_number e = kinds e.piece e.kind e.text_is e.scalar e.stands
       where
-        kinds : (q : Piece) → IsUchar q → text ≡ written q ++ rest → is_scalar c ≡ true → StandsFor q c
-            → (p : Piece) × ((text ≡ written p ++ rest) × (is_scalar c ≡ true) × StandsFor p c × IsStringPiece p c)
+        kinds : (q : Piece) → IsUchar q → text ≡ piece_text q ++ rest → is_scalar c ≡ true → StandsFor q c
+            → (p : Piece) × ((text ≡ piece_text p ++ rest) × (is_scalar c ≡ true) × StandsFor p c × IsStringPiece p c)
         kinds (plain d) kind t s st = absurd kind
         kinds (named d) kind t s st = absurd kind
         kinds (short ds) kind t s st = (short ds, (t, s, st, tt))
         kinds (long ds) kind t s st = (long ds, (t, s, st, tt))
 
     by : (o : Option (ℕ × List ℕ)) → echar text ≡ o → option_or o (uchar text) ≡ found_as c rest
-        → (p : Piece) × ((text ≡ written p ++ rest) × (is_scalar c ≡ true) × StandsFor p c × IsStringPiece p c)
+        → (p : Piece) × ((text ≡ piece_text p ++ rest) × (is_scalar c ≡ true) × StandsFor p c × IsStringPiece p c)
     by None read is = of_number (uchar_found text rest c is)
     by (Some x) read is = of_name (echar_found text rest c (read ∙ is))
 
 string_finds : (p : Piece) (c : ℕ) (rest : List ℕ) → IsEscape p → is_scalar c ≡ true → StandsFor p c → IsStringPiece p c
-    → string_escape (written p ++ rest) ≡ found_as c rest
+    → string_escape (piece_text p ++ rest) ≡ found_as c rest
 unfolding string_escape echar uchar
 string_finds (plain d) c rest kind scalar stands may = absurd kind
 string_finds (named d) c rest kind scalar stands may = rw (echar_finds d c rest stands) refl

@@ -1,5 +1,7 @@
 pub mod Best
 pub mod EscapeLaws
+pub mod FaultLaws
+pub mod FieldLaws
 pub mod Fronts
 pub mod Judging
 pub mod Lines
@@ -14,3 +16,4 @@ pub mod Spelling
 pub mod StatementLaws
 pub mod StatementRows
 pub mod TermLaws
+pub mod TiedLaws

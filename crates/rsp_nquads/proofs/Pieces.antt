@@ -11,8 +11,8 @@ use Rattle.std.proofs.lemmas.Str.{is_utf8-from_IsUtf8, IsUtf8-from_is_utf8, IsUt
 use Rattle.std.proofs.Math.Bool.{and-true}
 use Rattle.std.proofs.lemmas.Bool.{and_from}
 use Rattle.rsp_spec.proofs.Truths.{and_left, and_right}
-use Rattle.rsp_nquads.specs.Parts.{Reader, behind, onto, spelled, is_scalar}
-use Rattle.rsp_nquads.specs.Grammar.{Piece, plain, short, long, named, written, StandsFor, IsPieceOf}
+use Rattle.rsp_nquads.specs.Parts.{PartReader, behind, onto, spelled}
+use Rattle.rsp_nquads.specs.Grammar.{Piece, plain, short, long, named, piece_text, StandsFor, IsPieceOf, is_scalar}
 use Rattle.rsp_nquads.proofs.Spelling.{onto_onto, none_spelled, last_spelled, more_spelled}
 
 abbrev pub both_of : List ℕ → List ℕ → Option (List ℕ × List ℕ)
@@ -107,7 +107,7 @@ no_run test x ys h = rw (take_while-cons test x ys, h) refl
 -- ---- pieces in a row
 
 abbrev pub texts : List (Piece × ℕ) → List ℕ
-texts pieces = concat (map (λ x. written x.0) pieces)
+texts pieces = concat (map (λ x. piece_text x.0) pieces)
 
 abbrev pub values : List (Piece × ℕ) → List ℕ
 values pieces = encode_utf8_all (map (λ x. x.1) pieces)
@@ -125,7 +125,7 @@ each-append may (p ∷ ps) qs hp hq = (hp.0, each-append may ps qs hp.1 hq)
 
 texts-append : (ps qs : List (Piece × ℕ)) → texts (ps ++ qs) ≡ texts ps ++ texts qs
 texts-append [] qs = refl
-texts-append (p ∷ ps) qs = ap (λ ys. written p.0 ++ ys) (texts-append ps qs) ∙ sym (append_assoc (written p.0) (texts ps) (texts qs))
+texts-append (p ∷ ps) qs = ap (λ ys. piece_text p.0 ++ ys) (texts-append ps qs) ∙ sym (append_assoc (piece_text p.0) (texts ps) (texts qs))
 
 values-append : (ps qs : List (Piece × ℕ)) → values (ps ++ qs) ≡ values ps ++ values qs
 values-append [] qs = refl
@@ -158,18 +158,18 @@ IsEscape (plain c) = ⊥
 IsEscape _ = ⊤
 
 -- how a test, a reader of escapes and the pieces that may stand go together
-pub record Spells (test : ℕ → Bool) (escape : Reader ℕ) (may : Piece → ℕ → Type 0) : Type 0 where
+pub record Spells (test : ℕ → Bool) (escape : PartReader ℕ) (may : Piece → ℕ → Type 0) : Type 0 where
   pub wide : IsWide test
   pub may_from : (c : ℕ) → test c ≡ true → may (plain c) c
   pub may_to : (c : ℕ) → may (plain c) c → test c ≡ true
   pub bar : test 92 ≡ false
   pub found : (text rest : List ℕ) (c : ℕ) → escape text ≡ Some (c, rest)
-      → (p : Piece) × ((text ≡ written p ++ rest) × (is_scalar c ≡ true) × StandsFor p c × may p c)
+      → (p : Piece) × ((text ≡ piece_text p ++ rest) × (is_scalar c ≡ true) × StandsFor p c × may p c)
   pub finds : (p : Piece) (c : ℕ) (rest : List ℕ) → IsEscape p → is_scalar c ≡ true → StandsFor p c → may p c
-      → escape (written p ++ rest) ≡ Some (c, rest)
+      → escape (piece_text p ++ rest) ≡ Some (c, rest)
   pub none : (c : ℕ) (rest : List ℕ) → c ≢ 92 → escape (c ∷ rest) ≡ None
 
-module _ (test : ℕ → Bool) (escape : Reader ℕ) (may : Piece → ℕ → Type 0) (h : Spells test escape may) where
+module _ (test : ℕ → Bool) (escape : PartReader ℕ) (may : Piece → ℕ → Type 0) (h : Spells test escape may) where
   each_plain : (cs : List ℕ) → all_scalars cs ≡ true → list_all test cs ≡ true → AllByRecursion (IsPieceOf may) (plains cs)
   each_plain [] scalars passes = tt
   each_plain (c ∷ cs) scalars passes = (
@@ -196,7 +196,7 @@ module _ (test : ℕ → Bool) (escape : Reader ℕ) (may : Piece → ℕ → Ty
       record {
         pieces = (p.0, c) ∷ [];
         each = ((p.1.1, p.1.2, p.1.3), tt);
-        text_is = p.1.0 ∙ ap (λ ys. ys ++ rest) (sym (append-nil (written p.0)));
+        text_is = p.1.0 ∙ ap (λ ys. ys ++ rest) (sym (append-nil (piece_text p.0)));
         value_is = sym (append-nil (encode_utf8 c));
       }
 
@@ -289,19 +289,19 @@ module _ (test : ℕ → Bool) (escape : Reader ℕ) (may : Piece → ℕ → Ty
       (plain_step n e (texts ps ++ (c ∷ rest)) (values ps) (c ∷ rest) each.0.0 passes (pieces_spelled n ps c rest each.1 (omega arith) fails other))
   pieces_spelled zero ((short ds, e) ∷ ps) c rest each most fails other = absurd (omega arith)
   pieces_spelled (suc n) ((short ds, e) ∷ ps) c rest each most fails other =
-      rw (append_assoc (written (short ds)) (texts ps) (c ∷ rest))
+      rw (append_assoc (piece_text (short ds)) (texts ps) (c ∷ rest))
       (escape_step (suc n) e (117 ∷ ds) (texts ps ++ (c ∷ rest)) (values ps) (c ∷ rest)
       (h.finds (short ds) e (texts ps ++ (c ∷ rest)) tt each.0.0 each.0.1 each.0.2)
       (pieces_spelled n ps c rest each.1 (omega arith) fails other))
   pieces_spelled zero ((long ds, e) ∷ ps) c rest each most fails other = absurd (omega arith)
   pieces_spelled (suc n) ((long ds, e) ∷ ps) c rest each most fails other =
-      rw (append_assoc (written (long ds)) (texts ps) (c ∷ rest))
+      rw (append_assoc (piece_text (long ds)) (texts ps) (c ∷ rest))
       (escape_step (suc n) e (85 ∷ ds) (texts ps ++ (c ∷ rest)) (values ps) (c ∷ rest)
       (h.finds (long ds) e (texts ps ++ (c ∷ rest)) tt each.0.0 each.0.1 each.0.2)
       (pieces_spelled n ps c rest each.1 (omega arith) fails other))
   pieces_spelled zero ((named d, e) ∷ ps) c rest each most fails other = absurd (omega arith)
   pieces_spelled (suc n) ((named d, e) ∷ ps) c rest each most fails other =
-      rw (append_assoc (written (named d)) (texts ps) (c ∷ rest))
+      rw (append_assoc (piece_text (named d)) (texts ps) (c ∷ rest))
       (escape_step (suc n) e (d ∷ []) (texts ps ++ (c ∷ rest)) (values ps) (c ∷ rest)
       (h.finds (named d) e (texts ps ++ (c ∷ rest)) tt each.0.0 each.0.1 each.0.2)
       (pieces_spelled n ps c rest each.1 (omega arith) fails other))

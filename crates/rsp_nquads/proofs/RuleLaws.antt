@@ -8,14 +8,14 @@ use Rattle.std.proofs.lemmas.Grind.{common_steps}
 use Rattle.std.proofs.lemmas.List.{take-append-drop}
 use Rattle.std.proofs.lemmas.Str.{length-encode, len_utf8_bounds}
 use Rattle.rsp_spec.proofs.Truths.{equal_from}
-use Rattle.rsp_nquads.specs.Parts.{Reader, sign, spelled, enclosed, iri, string, longest_front, longest_up_to}
-use Rattle.rsp_nquads.specs.Grammar.{Rule, Piece, plain, short, long, named, written, IsEnclosed, IsIri, IsString}
+use Rattle.rsp_nquads.specs.Parts.{PartReader, sign, spelled, enclosed, iri, string, longest_front, longest_up_to}
+use Rattle.rsp_nquads.specs.Grammar.{Rule, Piece, plain, short, long, named, piece_text, IsEnclosed, IsIri, IsString}
 use Rattle.rsp_nquads.proofs.Fronts.{take_front}
 use Rattle.rsp_nquads.proofs.Longest.{IsLongest, longest_is}
 use Rattle.rsp_nquads.proofs.Pieces.{Spells, texts, pieced, pieces_spelled, both_of, pair_same}
 use Rattle.rsp_nquads.proofs.EscapeLaws.{iri_spells, string_spells}
 
-pub record Reads {A : Type 0} (reader : Reader A) (rule : Rule A) : Type 0 where
+pub record Reads {A : Type 0} (reader : PartReader A) (rule : Rule A) : Type 0 where
   pub sound : (text rest : List ℕ) (v : A) → reader text ≡ Some (v, rest) → (part : List ℕ) × ((text ≡ part ++ rest) × rule part rest v)
   pub full : (part rest : List ℕ) (v : A) → rule part rest v → reader (part ++ rest) ≡ Some (v, rest)
 
@@ -46,13 +46,13 @@ pieces_within ((plain c, d) ∷ ps) =
     let some = (len_utf8_bounds c).0 in
     omega arith
 pieces_within ((short ds, d) ∷ ps) =
-    let more = pieces_within ps in let all = length-append (written (short ds)) (texts ps) in omega arith
+    let more = pieces_within ps in let all = length-append (piece_text (short ds)) (texts ps) in omega arith
 pieces_within ((long ds, d) ∷ ps) =
-    let more = pieces_within ps in let all = length-append (written (long ds)) (texts ps) in omega arith
+    let more = pieces_within ps in let all = length-append (piece_text (long ds)) (texts ps) in omega arith
 pieces_within ((named c, d) ∷ ps) =
-    let more = pieces_within ps in let all = length-append (written (named c)) (texts ps) in omega arith
+    let more = pieces_within ps in let all = length-append (piece_text (named c)) (texts ps) in omega arith
 
-module _ (opening closing : ℕ) (test : ℕ → Bool) (escape : Reader ℕ) (may : Piece → ℕ → Type 0) (h : Spells test escape may)
+module _ (opening closing : ℕ) (test : ℕ → Bool) (escape : PartReader ℕ) (may : Piece → ℕ → Type 0) (h : Spells test escape may)
     (fails : test closing ≡ false) (other : closing ≢ 92) where
   closed : (inner rest value behind_it : List ℕ) → spelled (suc (length inner)) test escape inner ≡ both_of value behind_it
       → sign closing behind_it ≡ Some rest

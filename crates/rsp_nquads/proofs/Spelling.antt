@@ -4,7 +4,7 @@ use Rattle.std.specs.Char.{encode_utf8}
 use Rattle.std.specs.List.{take_while}
 use Rattle.std.specs.Str.{is_utf8}
 use Rattle.std.proofs.lemmas.Str.{IsUtf8-from_is_utf8}
-use Rattle.rsp_nquads.specs.Parts.{Reader, behind, onto, spelled}
+use Rattle.rsp_nquads.specs.Parts.{PartReader, behind, onto, spelled}
 
 pub not_utf8 : (bs : List ℕ) → ¬ (IsUtf8 bs) → is_utf8 bs ≡ false
 not_utf8 bs wrong = by (is_utf8 bs) refl
@@ -17,7 +17,7 @@ pub onto_onto : (front more : List ℕ) (read : Option (List ℕ × List ℕ)) �
 onto_onto front more None = refl
 onto_onto front more (Some x) = ap (λ ys. Some (ys, x.1)) (sym (append_assoc front more x.0))
 
-module _ (n : ℕ) (plain : ℕ → Bool) (escape : Reader ℕ) (text : List ℕ) where
+module _ (n : ℕ) (plain : ℕ → Bool) (escape : PartReader ℕ) (text : List ℕ) where
   pub none_spelled : is_utf8 (take_while plain text) ≡ false → spelled (suc n) plain escape text ≡ None
   unfolding spelled
   none_spelled is = rw is refl
@@ -35,7 +35,7 @@ module _ (n : ℕ) (plain : ℕ → Bool) (escape : Reader ℕ) (text : List ℕ
 
 -- ---- in a loop that has spelled `now`
 
-module _ (now : List ℕ) (all : Option (List ℕ × List ℕ)) (n k : ℕ) (plain : ℕ → Bool) (escape : Reader ℕ) (text : List ℕ) where
+module _ (now : List ℕ) (all : Option (List ℕ × List ℕ)) (n k : ℕ) (plain : ℕ → Bool) (escape : PartReader ℕ) (text : List ℕ) where
   pub loop_ends : n ≡ 0 → onto now (spelled n plain escape text) ≡ all → all ≡ None
   unfolding spelled
   loop_ends none held = sym held ∙ rw none refl

@@ -1,4 +1,4 @@
--- A field that is a whole IRI.
+-- Words of the way: a field that is an IRI and nothing else.
 use Rattle.std.specs.Prelude.{ℕ, ◌&&◌, ◌==◌, if◌then◌else◌, Option, None, Some, List, length}
 use Rattle.std.specs.Option.{option_and_then}
 use Rattle.rsp_terms.specs.Characters.{is_absolute}

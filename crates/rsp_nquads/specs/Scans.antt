@@ -1,8 +1,8 @@
--- How the longest label and the longest tag are found in one pass: by a state that tells whether what was read is one.
+-- Words of the way: how the longest label and the longest tag are found in one pass: by a state that tells whether what was read is one.
 use Rattle.std.specs.Prelude.{ℕ, suc, Bool, true, false, not, ◌&&◌, ◌||◌, ◌==◌, if◌then◌else◌, Option, None, Some, List, [], ◌∷◌, length, take}
 use Rattle.std.specs.Char.{is_ascii_alphabetic, is_ascii_digit}
 use Rattle.std.specs.Option.{option_map_or}
-use Rattle.std.specs.Str.{encode_utf8_all}
+use Rattle.std.specs.Str.{byte, encode_utf8_all}
 use Rattle.rsp_terms.specs.Characters.{is_label_start, is_label_character}
 
 pub record Machine (S : Type 0) : Type 0 where
@@ -30,7 +30,7 @@ next_of_label (Some last) c = if is_label_character c then Some (Some c) else No
 
 abbrev pub ends_label : Option ℕ → Bool
 ends_label None = false
-ends_label (Some last) = not (last == 0x2E)
+ends_label (Some last) = not (last == byte ".")
 
 abbrev pub label_machine : Machine (Option ℕ)
 label_machine = record { step = next_of_label; ends = ends_label }
@@ -42,7 +42,7 @@ further_bytes cs = length (encode_utf8_all (take (scan label_machine (Some 0) cs
 -- a tag's state: within the first subtag, and whether the subtag has begun
 abbrev pub next_of_tag : Bool × Bool → ℕ → Option (Bool × Bool)
 next_of_tag s c =
-    if (c == 0x2D) && s.1
+    if (c == byte "-") && s.1
     then Some (false, false)
     else (if is_ascii_alphabetic c || (not s.0 && is_ascii_digit c) then Some (s.0, true) else None)
 

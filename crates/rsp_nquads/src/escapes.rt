@@ -3,6 +3,7 @@ ghost use Rattle.std.specs.Prelude.{◌≡◌, ◌≤◌, ◌<◌, MatchOption, 
 ghost use Rattle.std.specs.Char.{is_ascii_hexdigit};
 ghost use Rattle.std.specs.List.{list_all};
 ghost use Rattle.std.specs.Str.Parse.{digits_value};
+ghost use Rattle.rsp_nquads.specs.Grammar.{named_character};
 ghost use Rattle.rsp_nquads.specs.Parts as part;
 
 use rsp_terms::characters::is_iri_character;
@@ -43,7 +44,7 @@ fn echar(text: &[u8]) -> Option<(char, &[u8])>
 }
 
 fn named_character(name: u8) -> Option<char>
-    ensures { result ≡ part.named_character name }
+    ensures { result ≡ named_character name }
 {
     match name {
         b't' => Some('\t'),

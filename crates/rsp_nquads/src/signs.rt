@@ -1,28 +1,7 @@
-// Blanks and single signs at the front of a text, and classes of bytes.
-ghost use Rattle.std.specs.Prelude.{◌≡◌, ◌≤◌, MatchOption, Some, None, length};
+// Single signs at the front of a text, and classes of bytes.
+ghost use Rattle.std.specs.Prelude.{◌≡◌, MatchOption, Some, None};
 ghost use Rattle.std.specs.Char.{is_ascii_alphabetic, is_ascii_digit};
-ghost use Rattle.std.specs.List.{prefix_len};
 ghost use Rattle.rsp_nquads.specs.Parts as part;
-
-/// The text behind the blanks at its front.
-pub(crate) fn behind_blanks(text: &[u8]) -> &[u8]
-    ensures { result.now ≡ part.behind_blanks text.now }
-{
-    &text[blanks(text)..]
-}
-
-fn blanks(text: &[u8]) -> usize
-    ensures value { result ≡ prefix_len part.is_blank text.now }
-    ensures bound { result ≤ length text.now }
-{
-    text.iter().take_while(|c| is_blank(**c)).count()
-}
-
-fn is_blank(c: u8) -> bool
-    ensures { result ≡ part.is_blank c }
-{
-    c == b' ' || c == b'\t'
-}
 
 /// The text behind this sign, where the sign stands at the front.
 #[tactic(auto, unfolding(crate::specs::Parts::sign))]

@@ -4,8 +4,9 @@ ghost use Rattle.rsp_nquads.specs.Parts as part;
 
 use crate::enclosed::{iri, string};
 use crate::labels::{label, tag};
-use crate::signs::{behind_blanks, sign};
+use crate::signs::sign;
 use rsp_terms::{Term, Text, XSD_STRING};
+use rsp_text::behind_blanks;
 use std::alloc::{AllocError, Global};
 
 /// An IRI.

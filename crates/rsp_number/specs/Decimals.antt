@@ -1,4 +1,4 @@
--- Decimals of at most 18 digits after the point, and the decimal that a fraction of whole numbers is cut to.
+-- Definitions: decimals of at most 18 digits after the point, and the decimal that a fraction of whole numbers is cut to.
 use Rattle.std.specs.Prelude.{ℕ, zero, suc, ◌*◌, ◌/◌, ◌%◌, ◌^◌, ◌-◌, ◌≤◌, Bool, cond, nat_le, ◌==◌, ℤ, pos, neg_ℤ, unsigned_abs, int_lt, Option, Some, None, option_map, MatchOption, ◌*ℤ◌, ◌<◌, ◌≡◌, ◌≢◌, ◌⊎◌}
 
 -- the greatest size of an integer, and of a decimal's coefficient

@@ -1,4 +1,4 @@
--- Numbers as fractions of whole numbers, and what each operation on them gives.
+-- Definitions: numbers as fractions of whole numbers, and what each operation on them gives.
 use Rattle.std.specs.Prelude.{ℕ, ◌*◌, ◌^◌, Bool, cond, ◌==◌, ℤ, pos, ◌+ℤ◌, ◌-ℤ◌, ◌*ℤ◌, ◌≤ℤ◌, ◌<ℤ◌, neg_ℤ, unsigned_abs, Option, None, option_map}
 use Rattle.std.specs.Int.{int_div_euclid}
 use Rattle.std.specs.Ordering.{int_cmp}

@@ -1,4 +1,4 @@
--- The written forms of integers and decimals, as bytes, and what they read as.
+-- Definitions: the written forms of integers and decimals, as bytes, and what they read as.
 use Rattle.std.specs.Prelude.{ℕ, ◌+◌, ◌-◌, ◌*◌, Bool, true, false, cond, not, ◌&&◌, ◌||◌, nat_le, ◌==◌, ℤ, unsigned_abs, List, [], ◌∷◌, ◌++◌, length, Option, Some, None, ◌≡◌}
 use Rattle.rsp_number.specs.Decimals.{largest, most_digits, Scaled, IsDecimal, HasValue, held, signed, shortest}
 use Rattle.rsp_number.specs.declared.reading.Reading.{Reading}

@@ -1,4 +1,4 @@
--- What is taken into a total and given back, and the value of a total.
+-- Definitions: what is taken into a total and given back, and the value of a total.
 use Rattle.std.specs.Prelude.{ℕ, ◌+◌, ◌-◌, ◌^◌, cond, ◌==◌, ℤ, pos, ◌+ℤ◌, ◌-ℤ◌, ◌*ℤ◌, int_div, Option, ◌≡◌}
 use Rattle.rsp_number.specs.Numbers.{Fraction, whole, cut_to}
 use Rattle.rsp_number.specs.Tallies.{Tally}

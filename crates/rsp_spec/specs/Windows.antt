@@ -1,4 +1,4 @@
--- Time-based windows (RSP-QL, time-based window operator; SECRET, scope). All times are in milliseconds.
+-- Definitions: time-based windows (RSP-QL, time-based window operator; SECRET, scope). All times are in milliseconds.
 use Rattle.std.specs.Prelude.{◌≡◌, ℕ, ◌+◌, ◌*◌, ◌<◌, ◌≤◌, Bool, true, ◌&&◌, ◌==◌, nat_lt, nat_le, Option, None, Some, false}
 use Rattle.std.specs.List.{find, list_any, range_with_len}
 

@@ -2,15 +2,15 @@
 //!
 //! `rows_of` lists a bag's rows, each as often as it is there; `ordered` puts rows into the byte order of their texts,
 //! and these texts depend on the rows as a multiset alone; `report_text` and `overfull_text` append exactly the defined
-//! text of a report. Above: the engine orders rows, the program writes reports. Below: terms, their printing, and rows.
+//! text of a report; [`Operator`] names the stream operators. Above: the engine orders rows, the program writes reports. Below: terms, their printing, and rows.
 #![tactic(auto)]
 
 mod listing;
+mod operator;
 mod order;
-#[cfg(test)]
-mod tests;
 mod text;
 
 pub use listing::rows_of;
+pub use operator::Operator;
 pub use order::ordered;
 pub use text::{overfull_text, report_text, row_text};

@@ -1,0 +1,9 @@
+pub mod Cuts
+pub mod Membership
+pub mod Good
+pub mod TiedLaws
+pub mod EitherLaws
+pub mod Under
+pub mod DepthLaws
+pub mod Drawing
+pub mod DistinctLaws

@@ -1,0 +1,5 @@
+-- Definitions
+pub mod Languages
+pub mod Exact
+-- Words of the way
+pub mod Readers

@@ -1,0 +1,4 @@
+-- Definitions
+pub mod Paths
+pub mod Groups
+pub mod Queries

@@ -1,0 +1,19 @@
+//! A query as the algebra takes it: stream operator, policy, window clauses and the tree of its SELECT, with numbers in
+//! place of names.
+//!
+//! Contracts see an [`Element`], a [`Select`] and a [`Path`] by what they say, plain trees of the specs without the
+//! code's vectors and boxes. Above: the reader of query texts, which gives queries, and the algebra. Below: expressions,
+//! terms, windows, policies and stream operators.
+#![tactic(auto)]
+
+mod path;
+mod query;
+mod select;
+
+pub use path::Path;
+pub use query::{Query, WindowClause};
+pub use rsp_expr::{Aggregate, Expression, Function, Kind, Sign, Slot};
+pub use rsp_report::{PolicyWords, Strategy};
+pub use rsp_streams_out::Operator;
+pub use rsp_windows::Window;
+pub use select::{Element, Select, SelectItem};

@@ -1,0 +1,30 @@
+// Queries.
+use crate::Select;
+use rsp_report::PolicyWords;
+use rsp_streams_out::Operator;
+use rsp_terms::Text;
+use rsp_windows::Window;
+
+/// A registered query.
+#[derive(Drop)]
+pub struct Query {
+    pub operator: Operator,
+    /// The IRI of the output stream.
+    pub output: Text,
+    pub policy: PolicyWords,
+    pub windows: Vec<WindowClause>,
+    pub select: Select,
+    /// The name of each variable by its number, without `?`. What has no name in the text has one that no variable can
+    /// have: `_:x` for a label x, `[]` for a blank node in brackets, `()` for an aggregate.
+    pub variables: Vec<Text>,
+}
+
+/// FROM NAMED WINDOW: a window over a stream, both named by IRIs.
+#[derive(Drop)]
+pub struct WindowClause {
+    pub name: Text,
+    pub stream: Text,
+    pub window: Window,
+    /// The place of the word FROM in the text, in bytes.
+    pub at: usize,
+}

@@ -1,0 +1,6 @@
+-- Definitions
+pub mod Kinds
+pub mod Trees
+pub mod Building
+pub mod Grammar
+-- Words of the way
