@@ -4,7 +4,6 @@ use Rattle.std.specs.Fmt.{digits}
 use Rattle.rsp_number.specs.Decimals.{greatest}
 use Rattle.rsp_terms.specs.declared.term.Term.{Term}
 use Rattle.rsp_terms.specs.declared.term.Term.TheVariants.{Iri, Literal}
-use Rattle.rsp_literals.specs.Strings.{string_literal}
 use Rattle.rsp_expr.specs.Aggregates.{aggregate_of, counted_values, value_over}
 use Rattle.rsp_expr.specs.declared.aggregate.Kind.TheVariants.{Count, Sum, Avg, Min, Max}
 

@@ -1,5 +1,5 @@
 -- Texts that are joined one by one are joined as a whole.
-use Rattle.std.specs.Prelude.{◌≡◌, ℕ, Bool, true, false, Option, Some, None, is_some, unwrap_or, List, [], ◌∷◌, ◌++◌, map, refl}
+use Rattle.std.specs.Prelude.{◌≡◌, ℕ, Option, Some, None, is_some, unwrap_or, List, [], ◌∷◌, ◌++◌, map, refl}
 use Rattle.std.specs.List.{concat}
 use Rattle.std.specs.Option.{option_map, option_and_then}
 use Rattle.std.proofs.Common.{ap, sym, ◌∙◌, true≢false, append_assoc, append-nil}

@@ -1,5 +1,5 @@
 -- Lists of arguments of other lengths than a function takes.
-use Rattle.std.specs.Prelude.{◌≡◌, ◌≤◌, ◌==◌, ℕ, Bool, true, false, Option, Some, None, List, [], ◌∷◌, ◌++◌, length, map, refl}
+use Rattle.std.specs.Prelude.{◌≡◌, ◌≤◌, ◌==◌, false, Option, Some, None, List, [], ◌∷◌, length, refl}
 use Rattle.std.specs.Option.{option_map, option_and_then}
 use Rattle.std.proofs.Common.{ap, sym, true≢false, arith}
 use Rattle.rsp_multiset.specs.Rows.{Cells}
@@ -52,6 +52,14 @@ value_of_many name [] row many = absurd (omega (arith, many))
 value_of_many name (a ∷ []) row many = absurd (omega (arith, many))
 value_of_many name (a ∷ (b ∷ [])) row many = absurd (omega (arith, many))
 value_of_many name (a ∷ (b ∷ (c ∷ []))) row many = absurd (omega (arith, many))
-value_of_many name (a ∷ (b ∷ (c ∷ (d ∷ others)))) row many = 
+value_of_many name (a ∷ (b ∷ (c ∷ (d ∷ others)))) row many =
     four_values name (value (formula_of a) row) (value (formula_of b) row) (value (formula_of c) row) (value (formula_of d) row)
     (argument_values others row)
+
+-- less than three
+pub choice_of_few : (arguments : List Expression) (row : Cells Term) → length arguments ≤ 2
+    → None ≡ if_value (argument_values arguments row)
+choice_of_few [] row few = refl
+choice_of_few (a ∷ []) row few = refl
+choice_of_few (a ∷ (b ∷ [])) row few = refl
+choice_of_few (a ∷ (b ∷ (c ∷ others))) row few = absurd (omega (arith, few))

@@ -10,7 +10,7 @@ use Rattle.std.proofs.Common.{ap, sym, ◌∙◌}
 use Rattle.rsp_number.specs.Numbers.{compared}
 use Rattle.rsp_number.proofs.Comparing.{compared-total}
 use Rattle.rsp_terms.specs.declared.term.Term.{Term}
-use Rattle.rsp_terms.specs.Terms.{printed, IsNumbered}
+use Rattle.rsp_terms.specs.Terms.{printed, HasShortNumber}
 use Rattle.rsp_terms.proofs.Injective.{same_from_printed}
 use Rattle.rsp_literals.specs.Forms.{number_of}
 use Rattle.rsp_expr.specs.Order.{rank, order}
@@ -31,7 +31,7 @@ same_texts : (xs ys : List ℕ) → slice_cmp nat_cmp xs ys ≡ Equal → xs ≡
 same_texts xs ys same = (bytes_decides xs ys).0 (texts_ties xs ys ∙ ap is_eq same)
 
 -- terms of one rank whose numbers and texts are equal are one
-pub same_in_rank : {E : Type 0} (a b : Term) (found : Result Ordering E) → IsNumbered a → IsNumbered b
+pub same_in_rank : {E : Type 0} (a b : Term) (found : Result Ordering E) → HasShortNumber a → HasShortNumber b
     → IfOk found (λ o. o ≡ ordering_then (option_cmp compared (number_of a) (number_of b)) (slice_cmp nat_cmp (printed a) (printed b)))
     → IfOk found (λ o. o ≡ Equal → a ≡ b)
 same_in_rank a b (Ok found) first second is =

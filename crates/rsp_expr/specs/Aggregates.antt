@@ -1,6 +1,6 @@
 -- Definitions: aggregates (SPARQL 1.1 Query, section 18.5.1), of the list of the argument's values in the rows of a group.
 -- None is an error. How often a value stands in the list matters, and its place doesn't.
-use Rattle.std.specs.Prelude.{ℕ, pos, Bool, if◌then◌else◌, Option, Some, None, option_map, is_some, List, [], ◌∷◌, map, length}
+use Rattle.std.specs.Prelude.{pos, Bool, if◌then◌else◌, Option, Some, None, is_some, List, [], ◌∷◌, map, length}
 use Rattle.std.specs.List.{list_any, count_by, fold, reduce}
 use Rattle.std.specs.Option.{option_and_then, option_eq}
 use Rattle.std.specs.Ordering.{ord_min, ord_max}

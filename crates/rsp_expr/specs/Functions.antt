@@ -1,7 +1,6 @@
 -- Definitions: arithmetic and the functions (SPARQL 1.1 Query, sections 17.3 and 17.4), a line each. None is an error.
-use Rattle.std.specs.Prelude.{ℕ, ℤ, pos, Bool, true, false, not, ◌==◌, if◌then◌else◌, Option, Some, None, option_map, is_some, List, [], ◌∷◌, map, length, codes}
+use Rattle.std.specs.Prelude.{ℕ, ℤ, pos, Bool, true, false, not, if◌then◌else◌, Option, Some, None, option_map, is_some, List, [], ◌∷◌, map, codes}
 use Rattle.std.specs.Bool.{then_some}
-use Rattle.std.specs.Char.{is_ascii_alphabetic}
 use Rattle.std.specs.List.{concat, list_all}
 use Rattle.std.specs.Option.{option_and_then, option_eq}
 use Rattle.std.specs.Str.{bytes_eq, chars}
@@ -147,18 +146,18 @@ is_blank (Literal lexical datatype) = false
 is_blank (Tagged lexical language) = false
 
 abbrev pub unary_value : Function → Term → Option Term
-unary_value function.IsIri term = boolean_result (Some (is_iri term))                              -- 17.4.2.1
-unary_value function.IsUri term = boolean_result (Some (is_iri term))                              -- 17.4.2.1
-unary_value function.IsBlank term = boolean_result (Some (is_blank term))                          -- 17.4.2.2
-unary_value function.IsLiteral term = boolean_result (Some (is_literal term))                      -- 17.4.2.3
+unary_value function.IsIri term = boolean_result (Some (is_iri term))  -- 17.4.2.1
+unary_value function.IsUri term = boolean_result (Some (is_iri term))  -- 17.4.2.1
+unary_value function.IsBlank term = boolean_result (Some (is_blank term))  -- 17.4.2.2
+unary_value function.IsLiteral term = boolean_result (Some (is_literal term))  -- 17.4.2.3
 unary_value function.IsNumeric term = then_some (not (is_inexact term)) (boolean_literal (is_some (number_of term)))
-unary_value function.Str term = lexical_form term                                  -- 17.4.2.5
-unary_value function.Lang term = language_tag term                                     -- 17.4.2.6
-unary_value function.Datatype term = datatype_iri term                                 -- 17.4.2.7
-unary_value function.Iri term = iri_of term                                           -- 17.4.2.8
-unary_value function.Uri term = iri_of term                                           -- 17.4.2.8
+unary_value function.Str term = lexical_form term  -- 17.4.2.5
+unary_value function.Lang term = language_tag term  -- 17.4.2.6
+unary_value function.Datatype term = datatype_iri term  -- 17.4.2.7
+unary_value function.Iri term = iri_of term  -- 17.4.2.8
+unary_value function.Uri term = iri_of term  -- 17.4.2.8
 unary_value function.StrLen term = option_and_then (λ (w : Written). numeral_result (whole (pos (character_count w.text)))) (written_of term)
-unary_value function.Abs term = numeral_result (option_map absolute (number_of term))     -- 17.4.4.1
+unary_value function.Abs term = numeral_result (option_map absolute (number_of term))  -- 17.4.4.1
 unary_value function.Round term = numeral_result (option_map (rounded round_of) (number_of term))
 unary_value function.Ceil term = numeral_result (option_map (rounded ceil_of) (number_of term))
 unary_value function.Floor term = numeral_result (option_map (rounded floor_of) (number_of term))
@@ -180,13 +179,13 @@ abbrev pub part_from : Written → ℤ → Option Term
 part_from written start = Some (text_literal written.tag (substring_from written.text start))
 
 abbrev pub binary_value : Function → Term → Term → Option Term
-binary_value function.SameTerm left right = boolean_result (Some (term_eq left right))              -- 17.4.1.8
+binary_value function.SameTerm left right = boolean_result (Some (term_eq left right))  -- 17.4.1.8
 binary_value function.StrDt text type = option_and_then (λ lexical. typed_literal lexical type) (string_of text)
 binary_value function.StrLang text tag = value_of_both language_literal (string_of text) (string_of tag)
 binary_value function.Substr text start = value_of_both part_from (written_of text) (integer_of start)
-binary_value function.StrStarts text part = test_of_texts texts.begins_with text part      -- 17.4.3.6
-binary_value function.StrEnds text part = test_of_texts texts.finishes_with text part      -- 17.4.3.7
-binary_value function.Contains text part = test_of_texts texts.contains text part          -- 17.4.3.8
+binary_value function.StrStarts text part = test_of_texts texts.begins_with text part  -- 17.4.3.6
+binary_value function.StrEnds text part = test_of_texts texts.finishes_with text part  -- 17.4.3.7
+binary_value function.Contains text part = test_of_texts texts.contains text part  -- 17.4.3.8
 binary_value function.StrBefore text part = value_of_texts (λ a b. part_of a (texts.text_before a.text b.text)) text part
 binary_value function.StrAfter text part = value_of_texts (λ a b. part_of a (texts.text_after a.text b.text)) text part
 binary_value function.LangMatches tag range = value_of_both (λ a b. boolean_result (Some (is_matched_by a b))) (string_of tag) (string_of range)
@@ -243,5 +242,5 @@ function_value name terms = value_by_number name terms
 
 abbrev pub call_value : Function → List (Option Term) → Option Term
 call_value function.If arguments = if_value arguments
-call_value function.Coalesce arguments = first_value arguments                  -- 17.4.1.3
+call_value function.Coalesce arguments = first_value arguments  -- 17.4.1.3
 call_value name arguments = option_and_then (function_value name) (all_values arguments)

@@ -1,5 +1,5 @@
 -- Words of the way: what stands for a term between two steps of an evaluation.
-use Rattle.std.specs.Prelude.{ℕ, Bool, true, false, not, cond, Option, Some, None, option_map, List, [], ◌∷◌, ◌++◌, map}
+use Rattle.std.specs.Prelude.{ℕ, Bool, not, cond, Option, Some, None, option_map, List, [], ◌∷◌, ◌++◌, map}
 use Rattle.std.specs.Option.{option_copied, option_and_then}
 use Rattle.rsp_terms.specs.declared.term.Term.{Term}
 use Rattle.rsp_literals.specs.Booleans.{boolean_literal}

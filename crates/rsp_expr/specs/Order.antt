@@ -1,13 +1,12 @@
 -- Definitions: the order of terms (SPARQL 1.1 Query, section 15.1), made total. None is an unbound variable.
-use Rattle.std.specs.Prelude.{ℕ, Option, Some, None, option_map, List, if◌then◌else◌, is_some}
+use Rattle.std.specs.Prelude.{ℕ, Option, Some, None, option_map, if◌then◌else◌, is_some}
 use Rattle.std.specs.Cmp.Lexicographic.{slice_cmp}
 use Rattle.std.specs.Option.{option_and_then, option_cmp}
 use Rattle.std.specs.Ordering.{nat_cmp, on, then_cmp}
 use Rattle.std.specs.declared.cmp.Ordering.{Ordering}
 use Rattle.rsp_number.specs.Numbers.{compared}
-use Rattle.rsp_number.specs.declared.number.Number.{Number}
 use Rattle.rsp_terms.specs.declared.term.Term.{Term}
-use Rattle.rsp_terms.specs.declared.term.Term.TheVariants.{Iri, Blank, Literal, Tagged}
+use Rattle.rsp_terms.specs.declared.term.Term.TheVariants.{Iri, Blank}
 use Rattle.rsp_terms.specs.Terms.{printed}
 use Rattle.rsp_literals.specs.Forms.{number_of}
 

@@ -1,6 +1,6 @@
 -- Definitions: the value of a formula in a row (SPARQL 1.1 Query, section 17), by cases over the values of its parts, and
 -- whether a row passes a filter. None is an error; so is a variable that isn't bound.
-use Rattle.std.specs.Prelude.{ℕ, Bool, true, false, Option, Some, None, is_some, unwrap_or, List, [], ◌∷◌, map, slice_index_or}
+use Rattle.std.specs.Prelude.{ℕ, Bool, false, Option, Some, None, is_some, unwrap_or, List, [], ◌∷◌, map, slice_index_or}
 use Rattle.std.specs.Option.{option_and_then}
 use Rattle.rsp_multiset.specs.Rows.{Cells}
 use Rattle.rsp_terms.specs.declared.term.Term.{Term}

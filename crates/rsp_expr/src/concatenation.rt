@@ -12,10 +12,7 @@ use rsp_terms::Text;
 use std::alloc::{AllocError, Global};
 
 /// The texts one after another, with the tag that all have; None is an error. Fails only where memory is refused.
-pub(crate) fn concatenation(
-    alloc: Global,
-    parts: &[Operand],
-) -> Result<Option<Operand>, AllocError>
+pub(crate) fn concatenation(alloc: Global, parts: &[Operand]) -> Result<Option<Operand>, AllocError>
     ensures { IfOk result (λ value. value_for value ≡ concatenation (map term_for parts.now)) }
 {
     match joined(alloc, parts)? {

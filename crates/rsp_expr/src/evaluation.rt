@@ -40,11 +40,7 @@ pub fn value(
 
 /// Whether the row passes the expression as a filter (SPARQL 1.1 Query, section 18.6): its boolean value exists and is
 /// true. Fails only where memory is refused.
-pub fn truth(
-    alloc: Global,
-    expression: &Expression,
-    row: &Row<Term>,
-) -> Result<bool, AllocError>
+pub fn truth(alloc: Global, expression: &Expression, row: &Row<Term>) -> Result<bool, AllocError>
     ensures { IfOk result (λ passing. passing ≡ passes (formula_of expression.now) row.now) }
 {
     let operand = evaluate(alloc, expression, row.cells())?;
@@ -233,7 +229,11 @@ fn without_item(list: &[Expression]) -> Option<bool>
 fn turned(negated: bool, truth: Option<bool>) -> Option<bool>
     ensures { result ≡ (if negated then logical_not truth else truth) }
 {
-    if negated { truth.map(|truth| !truth) } else { truth }
+    if negated {
+        truth.map(|truth| !truth)
+    } else {
+        truth
+    }
 }
 
 #[cycle(evaluation)]

@@ -4,10 +4,8 @@ ghost use Rattle.rsp_expr.specs.Functions as functions;
 ghost use Rattle.rsp_expr.specs.Functions.{calculation, unary_value, binary_value, ternary_value};
 ghost use Rattle.rsp_expr.specs.Operands.{term_for, value_for};
 
-use crate::literals;
 use crate::operand::Operand;
-use crate::texts;
-use crate::{Function, Sign};
+use crate::{Function, Sign, literals, texts};
 use rsp_number::{Number, abs, add, ceil, div, floor, mul, neg, round, sub};
 use std::alloc::{AllocError, Global};
 

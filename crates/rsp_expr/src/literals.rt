@@ -21,10 +21,7 @@ pub(crate) fn is_numeric(argument: &Operand) -> Option<Operand>
 }
 
 /// STR. Fails only where memory is refused.
-pub(crate) fn lexical_form(
-    alloc: Global,
-    argument: Operand,
-) -> Result<Option<Operand>, AllocError>
+pub(crate) fn lexical_form(alloc: Global, argument: Operand) -> Result<Option<Operand>, AllocError>
     ensures { IfOk result (λ value. value_for value ≡ lexical_form (term_for argument)) }
 {
     match argument {
@@ -47,10 +44,7 @@ fn lexical_form_of(term: Term) -> Option<Operand>
 }
 
 /// LANG. Fails only where memory is refused.
-pub(crate) fn language_tag(
-    alloc: Global,
-    argument: Operand,
-) -> Result<Option<Operand>, AllocError>
+pub(crate) fn language_tag(alloc: Global, argument: Operand) -> Result<Option<Operand>, AllocError>
     ensures { IfOk result (λ value. value_for value ≡ language_tag (term_for argument)) }
 {
     match argument {
@@ -62,10 +56,7 @@ pub(crate) fn language_tag(
 }
 
 /// DATATYPE. Fails only where memory is refused.
-pub(crate) fn datatype_iri(
-    alloc: Global,
-    argument: Operand,
-) -> Result<Option<Operand>, AllocError>
+pub(crate) fn datatype_iri(alloc: Global, argument: Operand) -> Result<Option<Operand>, AllocError>
     ensures { IfOk result (λ value. value_for value ≡ datatype_iri (term_for argument)) }
 {
     match argument.into_term(alloc)? {

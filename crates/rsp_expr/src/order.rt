@@ -6,7 +6,7 @@ ghost use Rattle.std.specs.Option.{option_cmp};
 ghost use Rattle.std.specs.Ordering.{nat_cmp, ordering_then};
 ghost use Rattle.std.specs.declared.cmp.Ordering.TheVariants.{Equal};
 ghost use Rattle.rsp_number.specs.Numbers.{compared};
-ghost use Rattle.rsp_terms.specs.Terms.{printed, IsNumbered};
+ghost use Rattle.rsp_terms.specs.Terms.{printed, HasShortNumber};
 ghost use Rattle.rsp_literals.specs.Forms.{number_of as number};
 ghost use Rattle.rsp_expr.specs.Order.{order, term_order, term_rank};
 
@@ -31,11 +31,7 @@ pub fn compare_terms(alloc: Global, left: &Term, right: &Term) -> Result<Orderin
     }
 }
 
-fn compare_within_rank(
-    alloc: Global,
-    left: &Term,
-    right: &Term,
-) -> Result<Ordering, AllocError>
+fn compare_within_rank(alloc: Global, left: &Term, right: &Term) -> Result<Ordering, AllocError>
     ensures { IfOk result (λ found. found ≡ ordering_then (option_cmp compared (number left.now) (number right.now))
         (slice_cmp nat_cmp (printed left.now) (printed right.now))) }
 {
@@ -49,7 +45,7 @@ fn compare_within_rank(
 // blank nodes, IRIs, literals that have a number, other literals
 fn rank(term: &Term) -> u8
     ensures value { result ≡ term_rank term.now }
-    ensures numbered { IsNumbered term.now }
+    ensures numbered { HasShortNumber term.now }
 {
     match term {
         Term::Blank { document, .. } => {

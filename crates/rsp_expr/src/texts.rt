@@ -139,11 +139,7 @@ pub(crate) fn matches_language(tag: &Operand, range: &Operand) -> Option<Operand
 }
 
 // the part with the text's tag, and the empty string where none was found
-fn found_part(
-    alloc: Global,
-    text: Written,
-    part: Option<&str>,
-) -> Result<Operand, AllocError>
+fn found_part(alloc: Global, text: Written, part: Option<&str>) -> Result<Operand, AllocError>
     ensures { IfOk result (λ operand. term_for operand ≡ part_of (written_for text.entry) (option_copied part.entry)) }
 {
     match part {

@@ -1,6 +1,6 @@
 // Values of expressions, from the examples of SPARQL 1.1 Query, section 17, and worked out by hand.
 use crate::notation::{constant, expression};
-use rsp_expr::value;
+use rsp_expr::{Expression, truth, value};
 use rsp_multiset::Row;
 use rsp_terms::Term;
 use std::alloc::{AllocError, Global};
@@ -343,5 +343,41 @@ true|"a|IF/2 => error
 #[test]
 fn functions_on_texts(rt: HostRuntime) -> Result<(), Fail> {
     assert_eq!(rt; first_wrong(rt.alloc(), TEXTS)?, None);
+    Ok(())
+}
+
+const CONDITIONS: &str = r#"?0|1|>|?1|1|=|!?1|not|or/3
+?0|1|2|3|in/3|?0|3.5|<|and/2
+?0|1.5|*|4|-|-1|=
+"été|"é|STRSTARTS/2|@en:abc|"c|CONTAINS/2|and/2
+?0|isNumeric/1|?0|isLiteral/1|?0|2|sameTerm/2|and/3
+<a:1>|STR/1|"a:1|=|"a|STRLEN/1|1|=|and/2
+@en:a|LANG/1|"EN|LANGMATCHES/2
+?1|?0|COALESCE/2|?0|IF/2|not|?0|2|=|or/2"#;
+
+fn conditions(alloc: Global) -> Result<Vec<Expression>, Fail> {
+    let mut conditions = Vec::new(alloc);
+    for text in CONDITIONS.lines() {
+        conditions.push(expression(alloc, text)?)?;
+    }
+    Ok(conditions)
+}
+
+// Under `rt try --test --fail-alloc N` this fails for just the same N as the next, which asks for the truths: they take
+// no memory.
+#[test]
+fn conditions_are_made(rt: HostRuntime) -> Result<(), Fail> {
+    let row = row(rt.alloc())?;
+    let conditions = conditions(rt.alloc())?;
+    assert_eq!(rt; (row.cells().len(), conditions.len()), (2, 8));
+    Ok(())
+}
+
+#[test]
+fn conditions_are_true_without_memory(rt: HostRuntime) -> Result<(), Fail> {
+    let row = row(rt.alloc())?;
+    for condition in conditions(rt.alloc())? {
+        assert!(rt; truth(rt.alloc(), &condition, &row)?);
+    }
     Ok(())
 }

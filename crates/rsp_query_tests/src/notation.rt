@@ -136,7 +136,10 @@ pub fn constant(alloc: Global, word: &str) -> Result<Option<Term>, AllocError> {
         let label = Text::new(alloc, label)?;
         return Ok(Some(Term::Blank { document: 1, label }));
     }
-    if let Some(iri) = word.strip_prefix("<").and_then(|rest| rest.strip_suffix(">")) {
+    if let Some(iri) = word
+        .strip_prefix("<")
+        .and_then(|rest| rest.strip_suffix(">"))
+    {
         return Ok(Some(Term::Iri(Text::new(alloc, iri)?)));
     }
     plain(alloc, word)

@@ -1,7 +1,3 @@
-use Rattle.std.proofs.Common.{◌≡◌, ◌∙◌, ap, sym, rules}
-use Rattle.std.specs.Ordering.{ordering_then, nat_cmp}
-use Rattle.std.specs.declared.cmp.Ordering.TheVariants.{Equal}
-use Rattle.rsp_expr.specs.Order.{term_order, term_rank}
 use Rattle.rsp_expr.proofs.TermOrder.{order_total, same_in_rank}
 use Rattle.rsp_expr.proofs.order.compare_terms.Goals as goal
 
