@@ -108,7 +108,7 @@ arguments_read arity.One s = mapped_read (λ e. e ∷ []) (in_parens_read s)
 arguments_read arity.Two s = mapped_read (λ (v : Expr × Expr). v.0 ∷ v.1 ∷ []) (in_parens_read (both_read s (another_read s)))
 arguments_read arity.Three s =
     mapped_read (λ (v : Expr × (Expr × Expr)). v.0 ∷ v.1.0 ∷ v.1.1 ∷ [])
-        (in_parens_read (both_read s (both_read (another_read s) (another_read s))))
+    (in_parens_read (both_read s (both_read (another_read s) (another_read s))))
 arguments_read arity.TwoOrThree s =
     mapped_read maybe_third (in_parens_read (both_read s (both_read (another_read s) (maybe_read (sign_kinds symbol.Comma) (another_read s)))))
 arguments_read arity.Any s = expressions_read s
