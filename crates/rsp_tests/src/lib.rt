@@ -8,7 +8,13 @@
 #[cfg(test)]
 mod answers;
 #[cfg(test)]
+mod call;
+#[cfg(test)]
+mod engine;
+#[cfg(test)]
 mod evaluation;
+#[cfg(test)]
+mod events;
 #[cfg(test)]
 mod multisets;
 #[cfg(test)]
