@@ -12,7 +12,7 @@ use Rattle.rsp_terms.specs.declared.statement.Fact.{Fact}
 use Rattle.rsp_terms.specs.Same.{term_eq, term_same, fact_eq, fact_same}
 use Rattle.rsp_algebra.specs.Nodes.{Node, unit, pattern, join, project}
 use Rattle.rsp_algebra.specs.Patterns.{solution}
-use Rattle.rsp_algebra.specs.Solutions.{eval, joined, joins, projected}
+use Rattle.rsp_algebra.specs.Solutions.{eval, join_of_rows, joins, projection}
 use Rattle.rsp_algebra.specs.Overfull.{most_rows, overfull, subtrees, too_many}
 
 abbrev pub SameFacts : List Fact → List Fact → Type 0
@@ -26,22 +26,22 @@ same_sum f xs ys same = sum-same (row_decides term_same) f xs ys same
 
 -- how often q is among the joins of one row
 abbrev joined_to : Cells Term → List (Cells Term) → Cells Term → ℤ
-joined_to q rights left = times (row_eq term_eq) (filter_map (joined left) rights) q
+joined_to q rights left = times (row_eq term_eq) (filter_map (join_of_rows left) rights) q
 
 same_joined : (q left : Cells Term) (rights others : List (Cells Term)) → SameRows rights others → joined_to q rights left ≡ joined_to q others left
 same_joined q left rights others same =
     let counted = λ (row : Cells Term). only (row_eq term_eq q row) (pos 1) in
-    sum_z-filter_map counted (joined left) rights
-    ∙ (same_sum (λ right. sum_z counted (option_to_list (joined left right))) rights others same
-    ∙ sym (sum_z-filter_map counted (joined left) others))
+    sum_z-filter_map counted (join_of_rows left) rights
+    ∙ (same_sum (λ right. sum_z counted (option_to_list (join_of_rows left right))) rights others same
+    ∙ sym (sum_z-filter_map counted (join_of_rows left) others))
 
 same_joins : (lefts lefts' rights rights' : List (Cells Term)) → SameRows lefts lefts' → SameRows rights rights' → SameRows (joins lefts rights) (joins lefts' rights')
 same_joins lefts lefts' rights rights' same_left same_right q =
     let counted = λ (row : Cells Term). only (row_eq term_eq q row) (pos 1) in
-    sum_z-flat_map counted (λ left. filter_map (joined left) rights) lefts
+    sum_z-flat_map counted (λ left. filter_map (join_of_rows left) rights) lefts
     ∙ (same_sum (joined_to q rights) lefts lefts' same_left
     ∙ (sum_z-alike (joined_to q rights) (joined_to q rights') (λ left. same_joined q left rights rights' same_right) lefts'
-    ∙ sym (sum_z-flat_map counted (λ left. filter_map (joined left) rights') lefts')))
+    ∙ sym (sum_z-flat_map counted (λ left. filter_map (join_of_rows left) rights') lefts')))
 
 pub same_mapped : (f : Cells Term → Cells Term) (rows others : List (Cells Term)) → SameRows rows others → SameRows (map f rows) (map f others)
 same_mapped f rows others same q =
@@ -60,7 +60,7 @@ same_solutions width (join left right) facts others same =
     same_joins (eval width left facts) (eval width left others) (eval width right facts) (eval width right others)
     (same_solutions width left facts others same) (same_solutions width right facts others same)
 same_solutions width (project child variables) facts others same =
-    same_mapped (projected width variables) (eval width child facts) (eval width child others) (same_solutions width child facts others same)
+    same_mapped (projection width variables) (eval width child facts) (eval width child others) (same_solutions width child facts others same)
 
 any_alike : {X : Type 0} (p q : X → Bool) → ((x : X) → p x ≡ q x) → (xs : List X) → list_any p xs ≡ list_any q xs
 any_alike p q alike [] = refl

@@ -4,7 +4,7 @@ use Rattle.std.specs.List.{list_any}
 use Rattle.std.proofs.lemmas.List.{length-map}
 use Rattle.rsp_terms.specs.declared.statement.Fact.{Fact}
 use Rattle.rsp_algebra.specs.Nodes.{Node, unit, pattern, join, project}
-use Rattle.rsp_algebra.specs.Solutions.{eval, joins, projected}
+use Rattle.rsp_algebra.specs.Solutions.{eval, joins, projection}
 use Rattle.rsp_algebra.specs.Overfull.{most_rows, too_many, subtrees, overfull}
 
 or-assoc : (a b c : Bool) → (a || (b || c)) ≡ ((a || b) || c)
@@ -38,5 +38,5 @@ pub overfull-project : (width : ℕ) (child : Node) (variables : List ℕ) (fact
 overfull-project width child variables facts =
     ap
     (λ n. nat_lt most_rows n || overfull width child facts)
-    (length-map (eval width child facts) (projected width variables))
+    (length-map (eval width child facts) (projection width variables))
     ∙ or-known (too_many (eval width child facts)) (overfull width child facts) (overfull-itself width child facts)

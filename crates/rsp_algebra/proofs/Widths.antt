@@ -3,7 +3,7 @@ use Rattle.std.proofs.Common.{◌≡◌, ℕ, suc, Bool, true, false, ◌&&◌, 
 use Rattle.std.specs.Bool.{then_some}
 use Rattle.std.specs.List.{AllByRecursion, filter_map, cons_option}
 use Rattle.std.proofs.lemmas.List.FromFn.{length-map-range_with_len}
-use Rattle.rsp_multiset.specs.Rows.{Cells, compatible, merged}
+use Rattle.rsp_multiset.specs.Rows.{Cells, compatible, merge}
 use Rattle.rsp_terms.specs.declared.term.Term.{Term}
 use Rattle.rsp_terms.specs.declared.statement.Fact.{Fact}
 use Rattle.rsp_terms.specs.Same.{term_eq}
@@ -11,7 +11,7 @@ use Rattle.rsp_algebra.specs.declared.tree.Place.{Place}
 use Rattle.rsp_algebra.specs.declared.tree.TriplePattern.{TriplePattern}
 use Rattle.rsp_algebra.specs.Nodes.{Node, unit, pattern, join, project}
 use Rattle.rsp_algebra.specs.Patterns.{row_by, is_at, is_instance, binding, solution}
-use Rattle.rsp_algebra.specs.Solutions.{joined, joins, projected, eval}
+use Rattle.rsp_algebra.specs.Solutions.{join_of_rows, joins, projection, eval}
 
 -- each row has so many cells
 abbrev pub AllHave : ℕ → List (Cells Term) → Type 0
@@ -20,7 +20,7 @@ AllHave width rows = AllByRecursion (λ row. length row ≡ width) rows
 pub row_by-length : (width : ℕ) (f : ℕ → Option Term) → length (row_by width f) ≡ width
 row_by-length width f = length-map-range_with_len f 0 width
 
-pub merged-length : (left right : Cells Term) → length left ≡ length right → length (merged left right) ≡ length left
+pub merged-length : (left right : Cells Term) → length left ≡ length right → length (merge left right) ≡ length left
 merged-length [] right same = refl
 merged-length (x ∷ left) [] same =
     let never : ⊥ = omega (arith, same) in
@@ -42,21 +42,21 @@ all-append : {X : Type 0} (P : X → Type 0) (xs ys : List X) → AllByRecursion
 all-append P [] ys left right = right
 all-append P (x ∷ xs) ys left right = (left.0, all-append P xs ys left.1 right)
 
-joined-length : (width : ℕ) (left : Cells Term) (rights : List (Cells Term)) → length left ≡ width → AllHave width rights → AllHave width (filter_map (joined left) rights)
+joined-length : (width : ℕ) (left : Cells Term) (rights : List (Cells Term)) → length left ≡ width → AllHave width rights → AllHave width (filter_map (join_of_rows left) rights)
 joined-length width left [] long all = tt
 joined-length width left (right ∷ rights) long all =
     by (compatible term_eq left right) (joined-length width left rights long all.1)
   where
-    by : (b : Bool) → AllHave width (filter_map (joined left) rights) → AllHave width (cons_option (then_some b (merged left right)) (filter_map (joined left) rights))
+    by : (b : Bool) → AllHave width (filter_map (join_of_rows left) rights) → AllHave width (cons_option (then_some b (merge left right)) (filter_map (join_of_rows left) rights))
     by true rest = (merged-length left right (long ∙ sym all.0) ∙ long, rest)
     by false rest = rest
 
 joins-length : (width : ℕ) (lefts rights : List (Cells Term)) → AllHave width lefts → AllHave width rights → AllHave width (joins lefts rights)
 joins-length width [] rights left_all all = tt
 joins-length width (left ∷ lefts) rights left_all all =
-    all-append (λ row. length row ≡ width) (filter_map (joined left) rights) (joins lefts rights) (joined-length width left rights left_all.0 all) (joins-length width lefts rights left_all.1 all)
+    all-append (λ row. length row ≡ width) (filter_map (join_of_rows left) rights) (joins lefts rights) (joined-length width left rights left_all.0 all) (joins-length width lefts rights left_all.1 all)
 
-projected-length : (width : ℕ) (variables : List ℕ) (rows : List (Cells Term)) → AllHave width (map (projected width variables) rows)
+projected-length : (width : ℕ) (variables : List ℕ) (rows : List (Cells Term)) → AllHave width (map (projection width variables) rows)
 projected-length width variables [] = tt
 projected-length width variables (row ∷ rows) = (row_by-length width _, projected-length width variables rows)
 

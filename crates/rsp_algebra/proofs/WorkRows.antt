@@ -8,7 +8,7 @@ use Rattle.rsp_expr.specs.declared.slot.Slot.TheVariants.{Variable, Constant}
 use Rattle.rsp_algebra.specs.declared.tree.Place.TheVariants as place
 use Rattle.rsp_algebra.specs.declared.tree.TriplePattern.{TriplePattern}
 use Rattle.rsp_algebra.specs.Nodes.{Node, pattern, project, left_deep}
-use Rattle.rsp_algebra.specs.Work.{certain, key, join_work, work}
+use Rattle.rsp_algebra.specs.Work.{certain_variables, key, join_work, work}
 
 abbrev a : Term
 a = Iri (codes "a:1")
@@ -36,7 +36,7 @@ incoming = record { subject = Variable 0; predicate = Constant p; object = Const
 abbrev both : Node
 both = left_deep (place.Window 0) (outgoing ∷ incoming ∷ [])
 
-pub projection_forgets : certain (project both (1 ∷ 2 ∷ [])) ≡ 1 ∷ []
+pub projection_forgets : certain_variables (project both (1 ∷ 2 ∷ [])) ≡ 1 ∷ []
 projection_forgets = refl
 
 pub rows_are_matched_by_shared_variables : key (pattern (place.Window 0) outgoing) (pattern (place.Window 0) incoming) ≡ 0 ∷ []

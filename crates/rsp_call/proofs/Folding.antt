@@ -1,8 +1,13 @@
--- The fold over blocks, cut in two.
+-- The fold over blocks: one block more, and cut in two.
 use Rattle.std.proofs.Common.{◌≡◌, Bool, true, false, ◌||◌, List, [], ◌∷◌, ◌++◌, refl, sym, ◌∙◌, ap, append_assoc}
+use Rattle.std.proofs.lemmas.Grind.{flat_map-append}
+use Rattle.std.proofs.lemmas.List.Folds.{list_any-append}
+use Rattle.std.specs.List.{flat_map, list_any}
 use Rattle.rsp_events.specs.declared.event.Block.{Block}
 use Rattle.rsp_engine.specs.World.{World}
-use Rattle.rsp_call.specs.Output.{text_from, world_from, refused_from, content_text, content_world, content_refused}
+use Rattle.rsp_call.specs.declared.refusing.Place.TheVariants as place
+use Rattle.rsp_call.specs.Output.{Step, followed_by, is_refusal, run, step, text_of_saying}
+use Rattle.rsp_call.specs.Runs.{content_refused, content_text, content_world, refused_from, text_from, world_from}
 
 pub or-assoc : (a b c : Bool) → ((a || b) || c) ≡ (a || (b || c))
 or-assoc true b c = refl
@@ -12,20 +17,32 @@ pub or-false : (a : Bool) → (a || false) ≡ a
 or-false true = refl
 or-false false = refl
 
+-- ---- one block more
+
+pub text_more : (world : World) (block : Block) (more : List Block)
+    → text_from world (block ∷ more) ≡ content_text world (place.Block block.number) block.content ++ text_from (content_world world (place.Block block.number) block.content) more
+text_more world block more = flat_map-append text_of_saying (step world block).said (run (step world block).after more).said
+
+pub refused_more : (world : World) (block : Block) (more : List Block)
+    → refused_from world (block ∷ more) ≡ (content_refused world (place.Block block.number) block.content || refused_from (content_world world (place.Block block.number) block.content) more)
+refused_more world block more = list_any-append is_refusal (step world block).said (run (step world block).after more).said
+
+-- ---- cut in two
+
+run-append : (world : World) (xs ys : List Block) → run world (xs ++ ys) ≡ followed_by (run world xs) (run (run world xs).after ys)
+run-append world [] ys = refl
+run-append world (x ∷ xs) ys =
+    ap (followed_by (step world x)) (run-append (step world x).after xs ys)
+    ∙ ap (λ said. record { said = said; after = (run (run (step world x).after xs).after ys).after })
+    (sym (append_assoc (step world x).said (run (step world x).after xs).said _))
+
 pub text_from-append : (world : World) (xs ys : List Block) → text_from world (xs ++ ys) ≡ text_from world xs ++ text_from (world_from world xs) ys
-text_from-append world [] ys = refl
-text_from-append world (x ∷ xs) ys =
-    let first = content_text world x.number x.content in
-    ap (λ text. first ++ text) (text_from-append (content_world world x.content) xs ys)
-    ∙ sym (append_assoc first (text_from (content_world world x.content) xs) _)
+text_from-append world xs ys =
+    ap (λ (s : Step). flat_map text_of_saying s.said) (run-append world xs ys) ∙ flat_map-append text_of_saying (run world xs).said _
 
 pub world_from-append : (world : World) (xs ys : List Block) → world_from world (xs ++ ys) ≡ world_from (world_from world xs) ys
-world_from-append world [] ys = refl
-world_from-append world (x ∷ xs) ys = world_from-append (content_world world x.content) xs ys
+world_from-append world xs ys = ap (λ (s : Step). s.after) (run-append world xs ys)
 
 pub refused_from-append : (world : World) (xs ys : List Block) → refused_from world (xs ++ ys) ≡ (refused_from world xs || refused_from (world_from world xs) ys)
-refused_from-append world [] ys = refl
-refused_from-append world (x ∷ xs) ys =
-    let first = content_refused world x.content in
-    ap (λ some. first || some) (refused_from-append (content_world world x.content) xs ys)
-    ∙ sym (or-assoc first (refused_from (content_world world x.content) xs) _)
+refused_from-append world xs ys =
+    ap (λ (s : Step). list_any is_refusal s.said) (run-append world xs ys) ∙ list_any-append is_refusal (run world xs).said _

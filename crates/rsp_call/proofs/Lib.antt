@@ -1,6 +1,7 @@
 pub mod Writings
 pub mod Tellings
 pub mod Folding
-pub mod Taking
+pub mod Takings
 pub mod Working
 pub mod Going
+pub mod WordLists

@@ -1,5 +1,7 @@
 -- The reports of an event, written one behind another.
-use Rattle.std.proofs.Common.{◌≡◌, ℕ, suc, ◌≤◌, Err, List, [], ◌∷◌, ◌++◌, length, map, refl, sym, ◌∙◌, ap, append_assoc, arith}
+use Rattle.std.proofs.Common.{◌≡◌, ℕ, suc, Bool, true, false, IsTrue, Ok, Err, Option, Some, None, List, [], ◌∷◌, ◌++◌, length, map, refl, sym, ◌∙◌, ap, append_assoc}
+use Rattle.std.specs.List.{list_any}
+use Rattle.std.specs.Option.{is_some, option_map}
 use Rattle.std.proofs.lemmas.List.{append-nil}
 use Rattle.rsp_multiset.specs.Rows.{Cells}
 use Rattle.rsp_terms.specs.declared.term.Term.{Term}
@@ -11,15 +13,23 @@ use Rattle.rsp_engine.specs.declared.report.Outcome.TheVariants.{Rows, Overfull}
 use Rattle.rsp_events.specs.declared.event.Event.{Event}
 use Rattle.rsp_engine.specs.declared.refused.Refused.{Refused}
 use Rattle.rsp_engine.specs.World.{World}
+use Rattle.rsp_engine.specs.Refusals.{Refusal, refusal_of}
 use Rattle.rsp_engine.specs.Accept.{accept}
-use Rattle.rsp_engine.specs.Moments.{Moment}
-use Rattle.rsp_engine.specs.Reports.{AreRows, IsOutcome, IsReport, reports, worked_off}
-use Rattle.rsp_engine.specs.Stands.{State, Stands}
-use Rattle.rsp_engine.specs.Offers.{GivesFirst, GivesOf, HasNone}
+use Rattle.rsp_engine.specs.Moments.{Moment, moments}
+use Rattle.rsp_engine.specs.Reports.{AreRows, IsOutcome, IsReport, reports, world_behind}
+use Rattle.rsp_engine.specs.Stands.{State, Stands, is_idle}
+use Rattle.rsp_engine.specs.Offers.{Answers, GivesFirst, GivesOf, HasNone, Refuses}
+use Rattle.rsp_engine.proofs.ReportSteps.{reports_step, world_step}
 use Rattle.rsp_call.specs.declared.stop.Stop.{Stop}
-use Rattle.rsp_call.specs.Output.{accepted_text, event_text, outcome_text, refusal_text, reports_text, text_of_report}
-use Rattle.rsp_call.specs.Sinks.{Seen, Wrote, WrotePart, Stops}
-use Rattle.rsp_call.proofs.Writings.{wrote_more, stops_behind, stops_before_more}
+use Rattle.rsp_call.specs.declared.refusing.Place.{Place}
+use Rattle.rsp_call.specs.Output.{a_report, answer_step, is_refusal, outcome_text, text_of, text_of_report}
+use Rattle.std.specs.Fmt.{decimal}
+use Rattle.std.specs.Prelude.{codes}
+use Rattle.rsp_call.specs.Refusals.{Reason, details, kind, of_event, place_text, refusal_line}
+use Rattle.rsp_call.specs.Runs.{event_refused, event_text, event_world, reports_text}
+use Rattle.rsp_call.specs.Sinks.{SinkSeen, Wrote, WrotePart}
+use Rattle.rsp_call.specs.Stops.{IsLineOf, Stops}
+use Rattle.rsp_call.proofs.Writings.{wrote_more, wrote_part, stops_behind, stops_before_more}
 
 -- ---- a report's text depends on the texts of its rows alone
 
@@ -56,72 +66,132 @@ same_report report wanted is =
 -- ---- the reports of an event
 
 -- some reports are written, and the engine stands for the world and the moments behind them
-pub record Told (world : World) (left : List Moment) (engine : State) (before now : Seen) : Type 0 where
+pub record Told (world : World) (left : List Moment) (engine : State) (before now : SinkSeen) : Type 0 where
   pub here : World
   pub rest : List Moment
   pub done : List ℕ
   pub stands : Stands engine here rest
   pub all : reports_text (reports world left) ≡ done ++ reports_text (reports here rest)
-  pub leads : worked_off world left ≡ worked_off here rest
+  pub leads : world_behind world left ≡ world_behind here rest
   pub wrote : Wrote before now done
 
-pub record Telling (engine_before : State) (before : Seen) (faults_before : ℕ) (engine : State) (now : Seen) (faults : ℕ) : Type 0 where
-  pub told : (world : World) (left : List Moment) → Stands engine_before world left → Told world left engine before now
-  pub risen : faults_before ≤ faults
+abbrev pub Telling : State → SinkSeen → State → SinkSeen → Type 0
+Telling engine_before before engine now = (world : World) (left : List Moment) → Stands engine_before world left → Told world left engine before now
 
 -- the text that a report begins
 given_text : (world : World) (rest : List Moment) (report : Report) (new : State) → (gives : GivesOf world rest report new)
-    → reports_text (reports world rest) ≡ text_of_report report ++ reports_text (reports gives.after gives.rest)
+    → reports_text (reports world rest) ≡ text_of_report report ++ reports_text (reports gives.step.after gives.step.left)
 given_text world rest report new gives =
-    ap reports_text gives.first ∙ ap (λ text. text ++ reports_text (reports gives.after gives.rest)) (sym (same_report report gives.wanted gives.given))
+    ap reports_text (reports_step world rest gives.step gives.is_next)
+    ∙ ap (λ text. text ++ reports_text (reports gives.step.after gives.step.left)) (sym (same_report report gives.step.report gives.is_report))
 
 -- one report more
-pub told_more : (world : World) (left : List Moment) (engine after : State) (before mid now : Seen) (report : Report) → Told world left engine before mid → GivesFirst engine report after → Wrote mid now (text_of_report report) → Told world left after before now
+told_more : (world : World) (left : List Moment) (engine after : State) (before mid now : SinkSeen) (report : Report) → Told world left engine before mid → GivesFirst engine report after → Wrote mid now (text_of_report report) → Told world left after before now
 told_more world left engine after before mid now report told gives wrote =
     let first = gives.gives told.here told.rest told.stands in
     record {
-      here = first.after;
-      rest = first.rest;
+      here = first.step.after;
+      rest = first.step.left;
       done = told.done ++ text_of_report report;
       stands = first.stands;
       all =
           told.all
           ∙ (ap (λ text. told.done ++ text) (given_text told.here told.rest report after first)
-          ∙ sym (append_assoc told.done (text_of_report report) (reports_text (reports first.after first.rest))));
-      leads = told.leads ∙ first.leads;
+          ∙ sym (append_assoc told.done (text_of_report report) (reports_text (reports first.step.after first.step.left))));
+      leads = told.leads ∙ world_step told.here told.rest first.step first.is_next;
       wrote = wrote_more before mid now _ _ told.wrote wrote;
     }
 
 -- no report is left
-pub told_all : (world : World) (left : List Moment) (engine after : State) (before now : Seen) → Told world left engine before now → HasNone engine after → Wrote before now (reports_text (reports world left)) × Stands after (worked_off world left) []
+pub told_all : (world : World) (left : List Moment) (engine after : State) (before now : SinkSeen) → Told world left engine before now → HasNone engine after → Wrote before now (reports_text (reports world left)) × Stands after (world_behind world left) []
 told_all world left engine after before now told none =
     let ended : told.rest ≡ [] = none.none told.here told.rest told.stands in
     let all : reports_text (reports world left) ≡ told.done = told.all ∙ (rw ended (append-nil told.done)) in
-    let led : worked_off world left ≡ told.here = told.leads ∙ rw ended refl in
+    let led : world_behind world left ≡ told.here = told.leads ∙ rw ended refl in
     (rw all told.wrote, rw (led, none.unchanged, ← ended) told.stands)
 
 -- a report that stopped stops them all
-pub told_stops : (world : World) (left : List Moment) (engine after : State) (before mid now : Seen) (report : Report) (why : Stop) → Told world left engine before mid → GivesFirst engine report after → Stops mid now (text_of_report report) why → Stops before now (reports_text (reports world left)) why
+pub told_stops : (world : World) (left : List Moment) (engine after : State) (before mid now : SinkSeen) (report : Report) (why : Stop) → Told world left engine before mid → GivesFirst engine report after → Stops mid now (text_of_report report) why → Stops before now (reports_text (reports world left)) why
 told_stops world left engine after before mid now report why told gives stops =
     let first = gives.gives told.here told.rest told.stands in
     let all = told.all ∙ ap (λ text. told.done ++ text) (given_text told.here told.rest report after first) in
     rw all (stops_behind before mid now told.done _ why told.wrote (stops_before_more mid now _ _ why stops))
 
 -- memory was refused between two reports
-pub told_part : (world : World) (left : List Moment) (engine : State) (before now : Seen) → Told world left engine before now → WrotePart before now (reports_text (reports world left))
-told_part world left engine before now told =
-    record { part = (told.done, told.wrote.appended, (reports_text (reports told.here told.rest), told.all)) }
+pub told_part : (world : World) (left : List Moment) (engine : State) (before now : SinkSeen) → Told world left engine before now → WrotePart before now (reports_text (reports world left))
+told_part world left engine before now told = rw told.all (wrote_part before now told.done _ told.wrote)
 
-pub telling_more : (engine_before : State) (before : Seen) (faults_before : ℕ) (engine : State) (mid : Seen) (faults_mid : ℕ) (after : State) (now : Seen) (faults : ℕ) (report : Report) → Telling engine_before before faults_before engine mid faults_mid → GivesFirst engine report after → Wrote mid now (text_of_report report) → faults_mid ≤ faults → Telling engine_before before faults_before after now faults
-telling_more engine_before before faults_before engine mid faults_mid after now faults report telling gives wrote risen =
-    record {
-      told = λ world left stands. told_more world left engine after before mid now report (telling.told world left stands) gives wrote;
-      risen = omega (arith, telling.risen, risen);
-    }
+pub telling_more : (engine_before : State) (before : SinkSeen) (engine : State) (mid : SinkSeen) (after : State) (now : SinkSeen) (report : Report) → Telling engine_before before engine mid → GivesFirst engine report after → Wrote mid now (text_of_report report) → Telling engine_before before after now
+telling_more engine_before before engine mid after now report telling gives wrote =
+    λ world left stands. told_more world left engine after before mid now report (telling world left stands) gives wrote
 
--- ---- a refused event
+-- ---- what an event says
 
-pub told_refusal : (world : World) (number : ℕ) (event : Event) (before now : Seen) (why : Refused) → accept world event ≡ Err why → Wrote before now (refusal_text number why) → Wrote before now (event_text world number event)
-told_refusal world number event before now why is wrote =
-    let text : event_text world number event ≡ refusal_text number why = ap (accepted_text world number event) is in
-    rw text wrote
+reports_said : (reports : List Report) → text_of (map a_report reports) ≡ reports_text reports
+reports_said [] = refl
+reports_said (report ∷ reports) = ap (λ text. text_of_report report ++ text) (reports_said reports)
+
+no_refusal : (reports : List Report) → list_any is_refusal (map a_report reports) ≡ false
+no_refusal [] = refl
+no_refusal (report ∷ reports) = no_refusal reports
+
+-- an accepted event says its reports
+pub accepted_text : (world : World) (place : Place) (event : Event) (after : World) → accept world event ≡ Ok after → event_text world place event ≡ reports_text (reports after (moments world event after))
+accepted_text world place event after is = ap (λ answer. text_of (answer_step world place event answer).said) is ∙ reports_said (reports after (moments world event after))
+
+pub accepted_stands : (world : World) (place : Place) (event : Event) (after : World) (engine : State) → accept world event ≡ Ok after → Stands engine (world_behind after (moments world event after)) []
+    → (false ≡ event_refused world place event) × Stands engine (event_world world place event) []
+accepted_stands world place event after engine is stands = (
+  sym (ap (λ answer. list_any is_refusal (answer_step world place event answer).said) is ∙ no_refusal (reports after (moments world event after))),
+  rw (ap (λ answer. (answer_step world place event answer).after) is) stands,
+)
+
+-- a refused event says its refusal
+pub refused_text : (old new : State) (event : Event) (why : Refused) (place : Place) (world : World) → Refuses old event why new → Stands old world []
+    → IsLineOf place (option_map of_event (refusal_of why)) (event_text world place event)
+refused_text old new event why place world refuses stands = by (refusal_of why) refuses
+  where
+    by : (o : Option Refusal) → Answers old event why o new → IsLineOf place (option_map of_event o) (event_text world place event)
+    by None answers = tt
+    by (Some refusal) answers = ap (λ answer. text_of (answer_step world place event answer).said) (answers.refused world stands) ∙ append-nil _
+
+-- and leaves the world
+pub refused_stands : (old new : State) (event : Event) (why : Refused) (place : Place) (world : World) → Refuses old event why new → is_some (option_map of_event (refusal_of why)) ≡ true → Stands old world []
+    → (true ≡ event_refused world place event) × Stands new (event_world world place event) []
+refused_stands old new event why place world refuses some stands = by (refusal_of why) refuses some
+  where
+    by : (o : Option Refusal) → Answers old event why o new → is_some (option_map of_event o) ≡ true → (true ≡ event_refused world place event) × Stands new (event_world world place event) []
+    by None answers some = cc
+    by (Some refusal) answers some = (
+      sym (ap (λ answer. list_any is_refusal (answer_step world place event answer).said) (answers.refused world stands)),
+      rw (ap (λ answer. (answer_step world place event answer).after) (answers.refused world stands), answers.unchanged) stands,
+    )
+
+-- the engine stays idle
+pub refused_idle : (old new : State) (event : Event) (why : Refused) → Refuses old event why new → is_some (option_map of_event (refusal_of why)) ≡ true → IsTrue (is_idle old) → IsTrue (is_idle new)
+refused_idle old new event why refuses some idle = by (refusal_of why) refuses some
+  where
+    by : (o : Option Refusal) → Answers old event why o new → is_some (option_map of_event o) ≡ true → IsTrue (is_idle new)
+    by None answers some = cc
+    by (Some refusal) answers some = rw answers.unchanged idle
+
+-- ---- the line of a refusal
+
+-- a line that is given is that of the reason, and there is one
+pub line_given : (place : Place) (reason : Option Reason) (line text : List ℕ) → Some line ≡ option_map (refusal_line place) reason → IsLineOf place reason text → text ≡ line
+line_given place None line text is same = cc
+line_given place (Some reason) line text is same = same ∙ sym (let made : line ≡ refusal_line place reason = cc in made)
+
+pub line_names : (place : Place) (reason : Option Reason) (line : List ℕ) → Some line ≡ option_map (refusal_line place) reason → is_some reason ≡ true
+line_names place None line is = cc
+line_names place (Some reason) line is = refl
+
+-- the line of a kind and details that are the reason's
+pub line_is : (place : Place) (reason : Option Reason) (number : ℕ) (name spot detail line : List ℕ) → Some (number, name) ≡ option_map kind reason → spot ≡ place_text place → ((r : Reason) → reason ≡ Some r → detail ≡ details r)
+    → line ≡ codes "# refused " ++ (spot ++ (codes " " ++ (decimal number ++ (codes " " ++ (name ++ (detail ++ (10 ∷ []))))))) → Some line ≡ option_map (refusal_line place) reason
+line_is place None number name spot detail line kind_is spot_is detail_is is = cc
+line_is place (Some reason) number name spot detail line kind_is spot_is detail_is is =
+    let pair : (number, name) ≡ kind reason = cc in
+    let number_is : number ≡ (kind reason).0 = ap (λ (k : ℕ × List ℕ). k.0) pair in
+    let name_is : name ≡ (kind reason).1 = ap (λ (k : ℕ × List ℕ). k.1) pair in
+    ap Some (is ∙ rw (spot_is, detail_is reason refl, number_is, name_is) refl)

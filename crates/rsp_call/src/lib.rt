@@ -5,9 +5,11 @@
 //! Below: the engine, the event log, reports and io.
 #![tactic(auto)]
 
+mod refusing;
 mod session;
 mod status;
 mod stop;
+mod taking;
 mod telling;
 mod top;
 mod words;
@@ -15,3 +17,4 @@ mod writing;
 
 pub use status::Status;
 pub use top::rsp;
+pub use words::words_behind_name;

@@ -4,12 +4,15 @@ ghost use Rattle.rsp_events.specs.declared.event.Block.{Block};
 ghost use Rattle.rsp_events.specs.Instants.{AllTimed};
 ghost use Rattle.rsp_engine.specs.World.{World};
 ghost use Rattle.rsp_engine.specs.Stands.{Stands, is_idle};
-ghost use Rattle.rsp_call.specs.Output.{log_blocks, log_whole, text_from, world_from, refused_from};
-ghost use Rattle.rsp_call.specs.Sinks.{CausedBy, Ends, seen};
+ghost use Rattle.rsp_call.specs.Output.{log_blocks, log_whole_blocks};
+ghost use Rattle.rsp_call.specs.Runs.{refused_from, text_from, world_from};
+ghost use Rattle.rsp_call.specs.Sinks.{sink_seen};
+ghost use Rattle.rsp_call.specs.Stops.{Ends};
 ghost use Rattle.rsp_call.specs.Sessions.{IsAt, Adds, Breaks, Closes};
 
+use crate::refusing::Place;
 use crate::stop::Stop;
-use crate::telling::take_content;
+use crate::taking::take_content;
 use rsp_engine::Engine;
 use rsp_eval::Plain;
 use rsp_events::{Block, Blocks};
@@ -24,7 +27,7 @@ const LOG: u32 = 1;
 
 /// The reader of the log's blocks, the engine, and whether some block was refused.
 #[derive(Drop)]
-pub struct Session {
+pub(crate) struct Session {
     alloc: Global,
     blocks: Blocks,
     engine: Engine<Plain>,
@@ -36,7 +39,8 @@ impl Session {
     pub fn new(alloc: Global) -> Session
         ensures at { IsAt result.blocks result.engine result.refused [] }
         ensures idle { IsTrue (is_idle result.engine) }
-        ensures prefix { (bytes more : List ℕ) → (rest : List Block) × (log_blocks (bytes ++ more) ≡ log_whole bytes ++ rest) }
+        ensures prefix { (bytes more : List ℕ) → (rest : List Block)
+            × (log_blocks (bytes ++ more) ≡ log_whole_blocks bytes ++ rest) }
     {
         Session {
             alloc,
@@ -58,13 +62,14 @@ impl Session {
         ensures ok { OnOk result ((bytes : List ℕ) → IsAt self.old.blocks self.old.engine self.old.refused bytes
             → IsAt self.new.blocks self.new.engine self.new.refused (bytes ++ piece.now)
             × Adds
-            (seen (K.taken out.old) (K.room out.old)) (seen (K.taken out.new) (K.room out.new))
+            (sink_seen (K.taken out.old) (K.room out.old) (K.faults out.old))
+            (sink_seen (K.taken out.new) (K.room out.new) (K.faults out.new))
             bytes piece.now) }
         ensures err { IfErr result (λ why. (bytes more : List ℕ) → IsAt self.old.blocks self.old.engine self.old.refused bytes
             → Breaks
-            (seen (K.taken out.old) (K.room out.old)) (seen (K.taken out.new) (K.room out.new))
+            (sink_seen (K.taken out.old) (K.room out.old) (K.faults out.old))
+            (sink_seen (K.taken out.new) (K.room out.new) (K.faults out.new))
             bytes (piece.now ++ more) why) }
-        ensures cause { CausedBy (K.faults out.old) (K.faults out.new) result }
     {
         match self.blocks.feed(piece) {
             Ok(given) => match take_blocks(self.alloc, &mut self.engine, given, out, steps) {
@@ -88,16 +93,16 @@ impl Session {
         requires { IsTrue (is_idle self.old.engine) }
         ensures closes { (bytes : List ℕ) → IsAt self.old.blocks self.old.engine self.old.refused bytes
             → Closes
-            (seen (K.taken out.old) (K.room out.old)) (seen (K.taken out.new) (K.room out.new))
+            (sink_seen (K.taken out.old) (K.room out.old) (K.faults out.old))
+            (sink_seen (K.taken out.new) (K.room out.new) (K.faults out.new))
             bytes result }
-        ensures cause { CausedBy (K.faults out.old) (K.faults out.new) result }
     {
         match self.blocks.finish() {
             Ok(Some(block)) => {
                 match take_content(
                     self.alloc,
                     &mut self.engine,
-                    block.number,
+                    Place::Block(block.number),
                     block.content,
                     out,
                     steps,
@@ -131,15 +136,22 @@ fn take_blocks<K: Sink, L: Ledger>(
     ensures idle { OnOk result (IsTrue (is_idle engine.new)) }
     ensures text { (world : World) → Stands engine.old world []
         → Ends
-        (seen (K.taken out.old) (K.room out.old)) (seen (K.taken out.new) (K.room out.new))
+        (sink_seen (K.taken out.old) (K.room out.old) (K.faults out.old))
+        (sink_seen (K.taken out.new) (K.room out.new) (K.faults out.new))
         (text_from world blocks) result }
     ensures stands { IfOk result (λ refused. (world : World) → Stands engine.old world []
         → (refused ≡ refused_from world blocks) × Stands engine.new (world_from world blocks) []) }
-    ensures cause { CausedBy (K.faults out.old) (K.faults out.new) result }
 {
     let mut refused = false;
     for block in blocks.into_vec() {
-        match take_content(alloc, engine, block.number, block.content, out, steps) {
+        match take_content(
+            alloc,
+            engine,
+            Place::Block(block.number),
+            block.content,
+            out,
+            steps,
+        ) {
             Ok(this) => refused = either(refused, this),
             Err(stop) => return Err(stop),
         }

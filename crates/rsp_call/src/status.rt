@@ -1,4 +1,6 @@
 // How the program ends.
+ghost use Rattle.std.specs.Prelude.{◌≡◌};
+ghost use Rattle.rsp_call.specs.Statuses.{code_of};
 
 /// How a call of `rsp` ended; the program's exit status is its number, from 0 to 6.
 #[derive(Clone, Copy, PartialEq, Eq, Debug)]
@@ -17,4 +19,21 @@ pub enum Status {
     OutOfMemory,
     /// The input is longer than 2^40 bytes.
     TooLong,
+}
+
+impl Status {
+    /// The program's exit status.
+    pub fn code(self) -> u8
+        ensures { result ≡ code_of self }
+    {
+        match self {
+            Status::Done => 0,
+            Status::DoneWithRefusals => 1,
+            Status::Usage => 2,
+            Status::ReadFault => 3,
+            Status::WriteFault => 4,
+            Status::OutOfMemory => 5,
+            Status::TooLong => 6,
+        }
+    }
 }

@@ -2,7 +2,7 @@
 
 /// Why the work on a log stopped.
 #[derive(Clone, Copy)]
-pub enum Stop {
+pub(crate) enum Stop {
     /// Memory was refused.
     Memory,
     /// A write failed.

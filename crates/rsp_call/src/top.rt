@@ -1,17 +1,19 @@
 // The top call.
-ghost use Rattle.std.specs.Prelude.{◌≡◌, ◌++◌, IsTrue, true, false, List, ℕ, []};
+ghost use Rattle.std.specs.Prelude.{◌≡◌, ◌++◌, IsTrue, None, List, ℕ, []};
 ghost use Rattle.rsp_events.specs.declared.event.Block.{Block};
 ghost use Rattle.rsp_engine.specs.Stands.{is_idle};
-ghost use Rattle.rsp_call.specs.Output.{log_blocks, log_whole};
+ghost use Rattle.rsp_call.specs.Output.{log_blocks, log_whole_blocks};
 ghost use Rattle.rsp_call.specs.Sessions.{IsAt};
-ghost use Rattle.rsp_call.specs.Words.{ask_for_events};
-ghost use Rattle.rsp_call.specs.Sinks.{seen};
-ghost use Rattle.rsp_call.specs.Answers.{source_seen, AnswersLog, AnswersUsage, HasWriteCause, status_of};
+ghost use Rattle.rsp_call.specs.Words.{mode_of};
+ghost use Rattle.rsp_call.specs.Sinks.{sink_seen};
+ghost use Rattle.rsp_call.specs.Sources.{source_seen};
+ghost use Rattle.rsp_call.specs.Stops.{status_of};
+ghost use Rattle.rsp_call.specs.Answers.{Answers, AnswersLog, AnswersUsage};
 
 use crate::session::Session;
 use crate::status::Status;
 use crate::stop::Stop;
-use crate::words::are_events;
+use crate::words::{Mode, mode_of};
 use crate::writing::write_whole;
 use rsp_io::{Failed, Shelf, Sink, Source};
 use rsp_steps::Steps;
@@ -39,22 +41,28 @@ pub fn rsp<S: Source, H: Shelf, K: Sink, L: Ledger>(
     out: &mut K,
     steps: &mut Steps<L>,
 ) -> Status
-    ensures log { ask_for_events words.now ≡ true
-        → AnswersLog (source_seen (S.left input.old) (S.given input.old) (S.faults input.old) (S.sure input.old))
+    ensures answer { Answers (mode_of words.now)
+        (source_seen (S.left input.old) (S.given input.old) (S.faults input.old) (S.sure input.old))
         (source_seen (S.left input.new) (S.given input.new) (S.faults input.new) (S.sure input.new))
-        (seen (K.taken out.old) (K.room out.old)) (seen (K.taken out.new) (K.room out.new)) result }
-    ensures usage { ask_for_events words.now ≡ false
-        → AnswersUsage
-        (seen (K.taken out.old) (K.room out.old)) (seen (K.taken out.new) (K.room out.new))
-        result }
-    ensures unread { ask_for_events words.now ≡ false → input.new ≡ input.old }
+        (sink_seen (K.taken out.old) (K.room out.old) (K.faults out.old))
+        (sink_seen (K.taken out.new) (K.room out.new) (K.faults out.new)) result }
+    ensures unread { mode_of words.now ≡ None → input.new ≡ input.old }
     ensures shelf { shelf.new ≡ shelf.old }
-    ensures cause { HasWriteCause (K.faults out.old) (K.faults out.new) result }
 {
     let _ = shelf;
-    if are_events(words) {
-        return events(alloc, input, out, steps);
+    match mode_of(words) {
+        Some(Mode::Events) => events(alloc, input, out, steps),
+        None => usage(out),
     }
+}
+
+// Writes the usage line.
+fn usage<K: Sink>(out: &mut K) -> Status
+    ensures { AnswersUsage
+        (sink_seen (K.taken out.old) (K.room out.old) (K.faults out.old))
+        (sink_seen (K.taken out.new) (K.room out.new) (K.faults out.new))
+        result }
+{
     match write_whole(out, USAGE.as_bytes()) {
         Ok(()) => Status::Usage,
         Err(Failed) => Status::WriteFault,
@@ -70,8 +78,8 @@ fn events<S: Source, K: Sink, L: Ledger>(
 ) -> Status
     ensures log { AnswersLog (source_seen (S.left input.old) (S.given input.old) (S.faults input.old) (S.sure input.old))
         (source_seen (S.left input.new) (S.given input.new) (S.faults input.new) (S.sure input.new))
-        (seen (K.taken out.old) (K.room out.old)) (seen (K.taken out.new) (K.room out.new)) result }
-    ensures cause { HasWriteCause (K.faults out.old) (K.faults out.new) result }
+        (sink_seen (K.taken out.old) (K.room out.old) (K.faults out.old))
+        (sink_seen (K.taken out.new) (K.room out.new) (K.faults out.new)) result }
 {
     let mut session = Session::new(alloc);
     read_log(&mut session, input, out, steps)
@@ -86,11 +94,12 @@ fn read_log<S: Source, K: Sink, L: Ledger>(
 ) -> Status
     requires at { IsAt session.old.blocks session.old.engine session.old.refused [] }
     requires idle { IsTrue (is_idle session.old.engine) }
-    requires prefix { (bytes more : List ℕ) → (rest : List Block) × (log_blocks (bytes ++ more) ≡ log_whole bytes ++ rest) }
+    requires prefix { (bytes more : List ℕ) → (rest : List Block)
+        × (log_blocks (bytes ++ more) ≡ log_whole_blocks bytes ++ rest) }
     ensures log { AnswersLog (source_seen (S.left input.old) (S.given input.old) (S.faults input.old) (S.sure input.old))
         (source_seen (S.left input.new) (S.given input.new) (S.faults input.new) (S.sure input.new))
-        (seen (K.taken out.old) (K.room out.old)) (seen (K.taken out.new) (K.room out.new)) result }
-    ensures cause { HasWriteCause (K.faults out.old) (K.faults out.new) result }
+        (sink_seen (K.taken out.old) (K.room out.old) (K.faults out.old))
+        (sink_seen (K.taken out.new) (K.room out.new) (K.faults out.new)) result }
 {
     let mut buffer = [0u8; READ_BYTES];
     let mut taken = 0;

@@ -14,7 +14,7 @@ use Rattle.rsp_terms.specs.declared.statement.Spot.TheVariants as spot
 use Rattle.rsp_terms.specs.Same.{fact_eq, fact_same, triple_eq, triple_same}
 use Rattle.rsp_algebra.specs.Changing.{IsSet, MayChange}
 use Rattle.rsp_algebra.proofs.Sets.{times-set}
-use Rattle.rsp_engine.specs.Contents.{add_once, distinct, facts_of, in_content}
+use Rattle.rsp_engine.specs.Contents.{add_once, distinct_triples, facts_of, in_content}
 
 -- ---- a window's graph is a set
 
@@ -59,9 +59,9 @@ unfolding IsDistinct
 facts_distinct k [] distinct = tt
 facts_distinct k (t ∷ ts) distinct = (facts_apart k t ts distinct.0, facts_distinct k ts distinct.1)
 
-pub graph_is_set : (k : ℕ) (triples : List Triple) → IsSet (facts_of k (distinct triples))
+pub graph_is_set : (k : ℕ) (triples : List Triple) → IsSet (facts_of k (distinct_triples triples))
 unfolding IsDistinct
-graph_is_set k triples = facts_distinct k (distinct triples) (folded_distinct [] triples tt)
+graph_is_set k triples = facts_distinct k (distinct_triples triples) (folded_distinct [] triples tt)
 
 pub window_is_set : (stream : List ℕ) (shape : Shape) (first : ℕ) (items : List Item) (t : ℕ) → IsSet (window_facts stream shape first items t)
 window_is_set stream shape first items t =

@@ -4,6 +4,7 @@ pub mod Graphs
 pub mod FactSets
 pub mod OrderedRows
 pub mod FirstReport
+pub mod ReportSteps
 pub mod Reported
 pub mod Behind
 mod WorldRows

@@ -1,5 +1,5 @@
 -- An accepted event leads from an idle engine that stands for a world to one that stands for the next.
-use Rattle.std.proofs.Common.{◌≡◌, ℕ, ◌+◌, ◌-◌, ◌<◌, ◌≤◌, true, false, List, [], ◌∷◌, ◌++◌, length, Option, None, Some, Ok, refl, sym, ◌∙◌, subst, arith, nat_lt, nat_le, unwrap_or}
+use Rattle.std.proofs.Common.{◌≡◌, ℕ, ◌+◌, ◌-◌, ◌<◌, ◌≤◌, true, false, List, [], ◌∷◌, ◌++◌, length, Option, None, Some, Ok, refl, sym, ◌∙◌, subst, arith, nat_lt, nat_le, unwrap_or, bytes_eq}
 use Rattle.std.proofs.lemmas.List.{append-nil}
 use Rattle.std.proofs.lemmas.Bool.{le-ltb, lt-leb}
 use Rattle.std.specs.List.{flat_map, range_with_len}
@@ -12,14 +12,13 @@ use Rattle.rsp_query_line.specs.QueryLine.{query_line}
 use Rattle.rsp_terms.specs.declared.statement.Triple.{Triple}
 use Rattle.rsp_engine.specs.declared.item.Item as item
 use Rattle.rsp_engine.specs.World.{World}
-use Rattle.rsp_engine.specs.Accept.{accept, next_of, most_items, most_triples, registered}
-use Rattle.rsp_engine.specs.Moments.{moments, moments_from, moments_on, due_at}
+use Rattle.rsp_engine.specs.Accept.{accept, next_of, most_items, most_triples, query_of_line}
+use Rattle.rsp_engine.specs.Moments.{moments, moments_from, moments_on, due_moments}
 use Rattle.rsp_engine.specs.Stands.{State, Stands}
-use Rattle.rsp_engine.specs.Contents.{same}
 use Rattle.rsp_engine.specs.Passing.{Passes}
 use Rattle.rsp_engine.proofs.Walks.{none_on_items}
 
-pub same_bytes : (name : List ℕ) → same name name ≡ true
+pub same_bytes : (name : List ℕ) → bytes_eq name name ≡ true
 same_bytes name = (bytes_decides name name).1 refl
 
 -- the engine stands for the world that the event makes, and for the event's moments
@@ -71,11 +70,11 @@ item_leads old kept new stream time graph world ready small few late is passes s
     )
 
 -- from the first instant that isn't complete on no moment is left
-none_behind : (world : World) (next : Option ℕ) → option_map_or (λ from. option_map_or (λ to. flat_map (due_at world) (range_with_len from (to - from))) next []) next [] ≡ []
+none_behind : (world : World) (next : Option ℕ) → option_map_or (λ from. option_map_or (λ to. flat_map (due_moments world) (range_with_len from (to - from))) next []) next [] ≡ []
 none_behind world None = refl
 none_behind world (Some next) = let none : next - next ≡ 0 = omega arith in rw none refl
 
-none_from : (world : World) (next : Option ℕ) → option_map_or (λ to. flat_map (due_at world) (range_with_len (unwrap_or next 0) (to - unwrap_or next 0))) next [] ≡ []
+none_from : (world : World) (next : Option ℕ) → option_map_or (λ to. flat_map (due_moments world) (range_with_len (unwrap_or next 0) (to - unwrap_or next 0))) next [] ≡ []
 none_from world None = refl
 none_from world (Some next) = let none : next - next ≡ 0 = omega arith in rw none refl
 
@@ -84,7 +83,7 @@ pub register_leads : (old : State) (name text : List ℕ) (line : Line) (world :
     → Leads world (Register name text) (record old { query = Some (record { name = name; line = line; first = length old.items; seen = [] }) })
 register_leads old name text line world ready none is stands =
     let no_query : world.queries ≡ [] = rw none at stands.queries in
-    let after : World = record world { queries = world.queries ++ registered name line (length world.items) ∷ [] } in
+    let after : World = record world { queries = world.queries ++ query_of_line name line (length world.items) ∷ [] } in
     let left : moments world (Register name text) after ≡ [] = append-nil _ ∙ none_behind after world.next in
     let nothing : moments_from after (next_of world) ≡ [] = none_from after world.next in (
       after,

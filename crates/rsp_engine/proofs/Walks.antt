@@ -6,17 +6,17 @@ use Rattle.std.specs.List.{flat_map, range_with_len}
 use Rattle.rsp_spec.specs.Windows.{closes_at}
 use Rattle.rsp_engine.specs.World.{World}
 use Rattle.rsp_engine.specs.declared.item.Item.{Item}
-use Rattle.rsp_engine.specs.Due.{due_on}
-use Rattle.rsp_engine.specs.Moments.{due_at, moments_at, moments_from}
+use Rattle.rsp_engine.specs.Due.{is_due_on}
+use Rattle.rsp_engine.specs.Moments.{due_moments, moments_at, moments_from}
 use Rattle.rsp_engine.specs.Stands.{Live, query_of, closes_for, closes_in}
 
 -- where the live query's window doesn't close, nothing is due
-pub quiet : (world : World) (query : Option Live) → world.queries ≡ map query_of (option_to_list query) → (t : ℕ) → closes_for query t ≡ false → due_at world t ≡ []
+pub quiet : (world : World) (query : Option Live) → world.queries ≡ map query_of (option_to_list query) → (t : ℕ) → closes_for query t ≡ false → due_moments world t ≡ []
 quiet world None is t closed = rw is refl
 quiet world (Some live) is t closed = rw (is, closed) refl
 
 -- where it closes, its query is
-pub busy : (world : World) (live : Live) → world.queries ≡ map query_of (live ∷ []) → (t : ℕ) → closes_at live.line.shape t ≡ true → due_at world t ≡ record { at = t; query = live.name } ∷ []
+pub busy : (world : World) (live : Live) → world.queries ≡ map query_of (live ∷ []) → (t : ℕ) → closes_at live.line.shape t ≡ true → due_moments world t ≡ record { at = t; query = live.name } ∷ []
 busy world live is t closed = rw (is, closed) refl
 
 -- instants at which f gives nothing can be passed over
@@ -34,11 +34,11 @@ pub moved : (world : World) (query : Option Live) (from at to : ℕ) → world.q
 moved world query from at to is next low high none =
     let gap : to - from ≡ (at - from) + (to - at) = omega arith in
     let there : from + (at - from) ≡ at = omega arith in
-    let over = passed_over (due_at world) (at - from) from (to - at) (λ t a b. quiet world query is t (none t a (omega arith))) in
-    rw (next, gap) (over ∙ ap (λ k. flat_map (due_at world) (range_with_len k (to - at))) there)
+    let over = passed_over (due_moments world) (at - from) from (to - at) (λ t a b. quiet world query is t (none t a (omega arith))) in
+    rw (next, gap) (over ∙ ap (λ k. flat_map (due_moments world) (range_with_len k (to - at))) there)
 
 -- a query that looks at instants has no moments on items
-pub none_on_items : (world : World) (query : Option Live) → world.queries ≡ map query_of (option_to_list query) → (t : ℕ) (item : Item) → moments_at world t (λ q. due_on world q item) ≡ []
+pub none_on_items : (world : World) (query : Option Live) → world.queries ≡ map query_of (option_to_list query) → (t : ℕ) (item : Item) → moments_at world t (λ q. is_due_on world q item) ≡ []
 none_on_items world None is t item = rw is refl
 none_on_items world (Some live) is t item = rw is refl
 

@@ -10,15 +10,15 @@ use Rattle.rsp_query_line.specs.declared.line.Line.{Line}
 use Rattle.rsp_query_line.specs.declared.written.Part.TheVariants.{Variable, Constant}
 use Rattle.rsp_query_line.specs.QueryLine.{query_line, line_of, line_of_fields, before_variables}
 use Rattle.rsp_engine.specs.declared.item.Item as item
-use Rattle.rsp_engine.specs.declared.refused.Refused.TheVariants.{Late, Unbuilt}
 use Rattle.rsp_engine.specs.declared.report.Report.{Report}
 use Rattle.rsp_engine.specs.declared.report.Outcome.TheVariants.{Rows}
+use Rattle.rsp_engine.specs.Refusals.{late, unbuilt}
 use Rattle.rsp_engine.specs.World.{World, Query, Strategy, StreamWindow, empty_world, close, change, nonempty, every}
-use Rattle.rsp_engine.specs.Accept.{accept, registered}
+use Rattle.rsp_engine.specs.Accept.{accept, query_of_line}
 use Rattle.rsp_engine.specs.Contents.{content, in_content}
 use Rattle.rsp_engine.specs.Moments.{Moment, moments}
-use Rattle.rsp_engine.specs.Reports.{reports, is_overfull, after_report}
-use Rattle.rsp_engine.specs.Kept.{kept, triples_of}
+use Rattle.rsp_engine.specs.Reports.{reports, is_overfull, after_report, moments_behind}
+use Rattle.rsp_engine.specs.Kept.{kept_items, triples_of}
 
 -- ---- what the rows speak of
 
@@ -51,7 +51,7 @@ line shape =
 
 -- one query that sees the items from a number on
 abbrev query_from : ℕ → Shape → Query
-query_from first shape = registered (codes "q") (line shape) first
+query_from first shape = query_of_line (codes "q") (line shape) first
 
 abbrev query : Shape → Query
 query shape = query_from 0 shape
@@ -95,10 +95,10 @@ times_in w shape t = map (λ (i : item.Item). i.time) (content w (query shape) (
 -- it sees the items from the second on
 pub query_line_is_registered : (text : List ℕ) (line : Line) → query_line text ≡ Some line
     → accept (world (Some 4) (item_at 1 (codes "a:3") ∷ []) []) (Register (codes "q") text)
-    ≡ Ok (world (Some 4) (item_at 1 (codes "a:3") ∷ []) (registered (codes "q") line 1 ∷ []))
+    ≡ Ok (world (Some 4) (item_at 1 (codes "a:3") ∷ []) (query_of_line (codes "q") line 1 ∷ []))
 query_line_is_registered text line is = rw is refl
 
-pub other_text_is_unbuilt : accept empty_world (Register (codes "q") (codes "SELECT")) ≡ Err Unbuilt
+pub other_text_is_unbuilt : accept empty_world (Register (codes "q") (codes "SELECT")) ≡ Err unbuilt
 unfolding line_of line_of_fields before_variables
 other_text_is_unbuilt = refl
 
@@ -112,22 +112,22 @@ waiting = world (Some 4) two_items (query side_by_side ∷ [])
 abbrev ticked : World
 ticked = world (Some 11) two_items (query side_by_side ∷ [])
 
-pub second_query_is_unbuilt : (text : List ℕ) → accept ticked (Register (codes "q2") text) ≡ Err Unbuilt
+pub second_query_is_unbuilt : (text : List ℕ) → accept ticked (Register (codes "q2") text) ≡ Err unbuilt
 second_query_is_unbuilt text = refl
 
-pub cancel_is_unbuilt : accept ticked (Cancel (codes "q")) ≡ Err Unbuilt
+pub cancel_is_unbuilt : accept ticked (Cancel (codes "q")) ≡ Err unbuilt
 cancel_is_unbuilt = refl
 
-pub insert_is_unbuilt : accept ticked (Insert []) ≡ Err Unbuilt
+pub insert_is_unbuilt : accept ticked (Insert []) ≡ Err unbuilt
 insert_is_unbuilt = refl
 
-pub delete_is_unbuilt : accept ticked (Delete []) ≡ Err Unbuilt
+pub delete_is_unbuilt : accept ticked (Delete []) ≡ Err unbuilt
 delete_is_unbuilt = refl
 
-pub late_item_is_refused : accept ticked (arrives 10 (codes "a:5")) ≡ Err (Late 10 11)
+pub late_item_is_refused : accept ticked (arrives 10 (codes "a:5")) ≡ Err (late 10 11)
 late_item_is_refused = refl
 
-pub late_tick_is_refused : accept ticked (Tick 9) ≡ Err (Late 9 11)
+pub late_tick_is_refused : accept ticked (Tick 9) ≡ Err (late 9 11)
 late_tick_is_refused = refl
 
 -- an item leaves its own instant open, so a second item may have the same time
@@ -143,7 +143,7 @@ abbrev so_many : ℕ → List item.Item
 so_many n = map (λ _. item_at 4 (codes "a:1")) (range_with_len 0 n)
 
 -- of two refusals that hold, the first is given
-pub late_item_behind_a_thousand_is_unbuilt : accept (world (Some 4) (so_many 1000) []) (arrives 3 (codes "a:1")) ≡ Err Unbuilt
+pub late_item_behind_a_thousand_is_unbuilt : accept (world (Some 4) (so_many 1000) []) (arrives 3 (codes "a:1")) ≡ Err unbuilt
 late_item_behind_a_thousand_is_unbuilt = refl
 
 -- ---- which instants an event makes complete
@@ -220,21 +220,28 @@ pub overfull_report_ends_the_query : (items : List item.Item)
     → after_report (world (Some 11) items (query side_by_side ∷ [])) (query side_by_side) 10 ≡ world (Some 11) items []
 overfull_report_ends_the_query items over = rw over refl
 
+-- and its moments
+pub overfull_report_strikes_its_moments : (items : List item.Item)
+    → is_overfull (world (Some 21) items (query side_by_side ∷ [])) (query side_by_side) 10 ≡ true
+    → moments_behind (world (Some 21) items (query side_by_side ∷ [])) (query side_by_side) 10 (at 20 ∷ record { at = 20; query = codes "r" } ∷ [])
+    ≡ record { at = 20; query = codes "r" } ∷ []
+overfull_report_strikes_its_moments items over = rw over refl
+
 -- a moment of a query that is no longer live
 pub no_report_of_an_ended_query : reports (world (Some 21) two_items []) (at 10 ∷ at 20 ∷ []) ≡ []
 no_report_of_an_ended_query = refl
 
 -- ---- which items are still needed
 
-pub no_item_is_kept_behind_the_closing : kept ticked ≡ []
+pub no_item_is_kept_behind_the_closing : kept_items ticked ≡ []
 no_item_is_kept_behind_the_closing = refl
 
 -- an item of time 6 is needed until (5, 15] has closed, one of time 4 until (0, 10] has
-pub last_window_keeps_its_items : kept (world (Some 11) (item_at 4 (codes "a:1") ∷ item_at 6 (codes "a:2") ∷ []) (query overlapping ∷ []))
+pub last_window_keeps_its_items : kept_items (world (Some 11) (item_at 4 (codes "a:1") ∷ item_at 6 (codes "a:2") ∷ []) (query overlapping ∷ []))
     ≡ item_at 6 (codes "a:2") ∷ []
 last_window_keeps_its_items = refl
 
-pub unseen_item_is_not_kept : kept (world (Some 4) two_items (query_from 1 side_by_side ∷ [])) ≡ item_at 4 (codes "a:1") ∷ []
+pub unseen_item_is_not_kept : kept_items (world (Some 4) two_items (query_from 1 side_by_side ∷ [])) ≡ item_at 4 (codes "a:1") ∷ []
 unseen_item_is_not_kept = refl
 
 pub triples_are_counted_as_listed : triples_of (record { stream = codes "s:a"; time = 1; graph = triple (codes "a:1") ∷ triple (codes "a:1") ∷ [] } ∷ two_items) ≡ 4

@@ -1,14 +1,13 @@
--- Which events are accepted, and what an accepted event makes of the world.
+-- Definitions: which events are accepted, and what an accepted event makes of the world.
 use Rattle.std.specs.Prelude.{ℕ, ◌+◌, false, nat_lt, nat_le, ◌||◌, if◌then◌else◌, Some, Result, Ok, Err, List, [], ◌∷◌, ◌++◌, length, codes}
 use Rattle.std.specs.Option.{unwrap_or, option_map_or}
 use Rattle.rsp_events.specs.declared.event.Event.{Event}
 use Rattle.rsp_events.specs.declared.event.Event.TheVariants.{Register, Cancel, Item, Tick, Insert, Delete}
-use Rattle.rsp_engine.specs.declared.refused.Refused.{Refused}
-use Rattle.rsp_engine.specs.declared.refused.Refused.TheVariants.{Late, Unbuilt}
 use Rattle.rsp_engine.specs.declared.item.Item as item
 use Rattle.rsp_query_line.specs.declared.line.Line.{Line}
 use Rattle.rsp_query_line.specs.QueryLine.{query_line}
 use Rattle.rsp_query_line.specs.Meaning.{node_of_line, width_of, shown_of}
+use Rattle.rsp_engine.specs.Refusals.{Refusal, late, unbuilt}
 use Rattle.rsp_engine.specs.World.{World, Query, close}
 
 -- the first instant that isn't complete, or 0 where none is set
@@ -23,8 +22,8 @@ abbrev pub most_triples : ℕ
 most_triples = 1000
 
 -- the query of a text of the form that is built: it reports where its window closes
-abbrev pub registered : List ℕ → Line → ℕ → Query
-registered name line first =
+abbrev pub query_of_line : List ℕ → Line → ℕ → Query
+query_of_line name line first =
     record {
       name = name;
       policy = record { strategies = close ∷ []; on_items = false };
@@ -38,38 +37,38 @@ registered name line first =
     }
 
 -- a query becomes live, last in order; by now one alone can be live, and its text is a query line
-abbrev pub accept_register : World → List ℕ → List ℕ → Result World Refused
+abbrev pub accept_register : World → List ℕ → List ℕ → Result World Refusal
 accept_register world name text =
     if nat_lt 0 (length world.queries)
-    then Err Unbuilt
+    then Err unbuilt
     else
     option_map_or
-    (λ line. Ok (record world { queries = world.queries ++ registered name line (length world.items) ∷ [] }))
+    (λ line. Ok (record world { queries = world.queries ++ query_of_line name line (length world.items) ∷ [] }))
     (query_line text)
-    (Err Unbuilt)
+    (Err unbuilt)
 
 -- an item is appended, and every instant before its time is complete
-abbrev pub accept_item : World → item.Item → Result World Refused
+abbrev pub accept_item : World → item.Item → Result World Refusal
 accept_item world item =
     if nat_lt most_triples (length item.graph) || nat_le most_items (length world.items)
-    then Err Unbuilt
+    then Err unbuilt
     else
     (if nat_lt item.time (next_of world)
-    then Err (Late item.time (next_of world))
+    then Err (late item.time (next_of world))
     else Ok (record world { next = Some item.time; items = world.items ++ item ∷ [] }))
 
 -- every instant up to the tick's is complete
-abbrev pub accept_tick : World → ℕ → Result World Refused
+abbrev pub accept_tick : World → ℕ → Result World Refusal
 accept_tick world time =
     if nat_lt (time + 1) (next_of world)
-    then Err (Late time (next_of world))
+    then Err (late time (next_of world))
     else Ok (record world { next = Some (time + 1) })
 
 -- the first refusal that holds, or the new world
-abbrev pub accept : World → Event → Result World Refused
+abbrev pub accept : World → Event → Result World Refusal
 accept world (Register name text) = accept_register world name text
-accept world (Cancel name) = Err Unbuilt
+accept world (Cancel name) = Err unbuilt
 accept world (Item stream time graph) = accept_item world (record { stream = stream; time = time; graph = graph })
 accept world (Tick time) = accept_tick world time
-accept world (Insert quads) = Err Unbuilt
-accept world (Delete quads) = Err Unbuilt
+accept world (Insert quads) = Err unbuilt
+accept world (Delete quads) = Err unbuilt

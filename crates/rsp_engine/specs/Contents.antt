@@ -1,9 +1,8 @@
--- What a query sees of its windows at an instant (SECRET, content; RSP-QL, active window).
-use Rattle.std.specs.Prelude.{ℕ, ◌+◌, Bool, false, ◌&&◌, nat_lt, nat_le, nat_eq, if◌then◌else◌, List, [], ◌∷◌, ◌++◌, drop, filter, fold, map}
+-- Definitions: what a query sees of its windows at an instant (SECRET, content; RSP-QL, active window).
+use Rattle.std.specs.Prelude.{ℕ, ◌+◌, Bool, false, ◌&&◌, nat_lt, nat_le, if◌then◌else◌, List, [], ◌∷◌, ◌++◌, drop, filter, fold, map, bytes_eq}
 use Rattle.std.specs.List.{list_any, flat_map}
 use Rattle.std.specs.Option.{option_map_or}
-use Rattle.std.specs.Cmp.Lexicographic.{pointwise}
-use Rattle.rsp_spec.specs.Windows.{opening, active}
+use Rattle.rsp_spec.specs.Windows.{opening, active_window}
 use Rattle.rsp_terms.specs.declared.statement.Triple.{Triple}
 use Rattle.rsp_terms.specs.declared.statement.Fact.{Fact}
 use Rattle.rsp_terms.specs.declared.statement.Spot.TheVariants as spot
@@ -11,37 +10,33 @@ use Rattle.rsp_terms.specs.contracts.statement.TriplePartialEq.TheImpl.{ghosts a
 use Rattle.rsp_engine.specs.declared.item.Item.{Item}
 use Rattle.rsp_engine.specs.World.{World, Query, StreamWindow}
 
--- the same bytes
-abbrev pub same : List ℕ → List ℕ → Bool
-same = pointwise nat_eq
-
 -- the item is in the window's content at t: its stream is the window's, and its time lies in the active window, up to t
 abbrev pub in_content : StreamWindow → ℕ → Item → Bool
 in_content w t item =
     option_map_or
-    (λ k. same item.stream w.stream && (nat_lt (opening w.shape k) item.time && nat_le item.time t))
-    (active w.shape t)
+    (λ k. bytes_eq item.stream w.stream && (nat_lt (opening w.shape k) item.time && nat_le item.time t))
+    (active_window w.shape t)
     false
 
 -- the items that the query may see: those accepted since it was registered
-abbrev pub visible : World → Query → List Item
-visible world query = drop query.first world.items
+abbrev pub visible_items : World → Query → List Item
+visible_items world query = drop query.first world.items
 
 -- the content of one of the query's windows at t, in the order of acceptance
 abbrev pub content : World → Query → StreamWindow → ℕ → List Item
-content world query w t = filter (in_content w t) (visible world query)
+content world query w t = filter (in_content w t) (visible_items world query)
 
 -- a triple at the end, unless it is there
 abbrev pub add_once : List Triple → Triple → List Triple
 add_once seen added = if list_any (triple.eq added) seen then seen else seen ++ added ∷ []
 
 -- each triple once, at its first place
-abbrev pub distinct : List Triple → List Triple
-distinct triples = fold add_once [] triples
+abbrev pub distinct_triples : List Triple → List Triple
+distinct_triples triples = fold add_once [] triples
 
 -- the window's graph: the distinct triples of its content
 abbrev pub graph : World → Query → StreamWindow → ℕ → List Triple
-graph world query w t = distinct (flat_map (λ (item : Item). item.graph) (content world query w t))
+graph world query w t = distinct_triples (flat_map (λ (item : Item). item.graph) (content world query w t))
 
 -- the triples of the graph of window k as facts
 abbrev pub facts_of : ℕ → List Triple → List Fact

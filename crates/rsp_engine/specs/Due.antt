@@ -1,15 +1,15 @@
--- When a query reports (SECRET, report and tick).
-use Rattle.std.specs.Prelude.{ℕ, ◌-◌, ◌%◌, Bool, true, false, ◌&&◌, ◌||◌, not, ◌==◌}
+-- Definitions: when a query reports (SECRET, report and tick).
+use Rattle.std.specs.Prelude.{ℕ, ◌-◌, ◌%◌, Bool, true, false, ◌&&◌, ◌||◌, not, ◌==◌, bytes_eq}
 use Rattle.std.specs.List.{list_any, list_all}
 use Rattle.rsp_spec.specs.Windows.{closes_at}
 use Rattle.rsp_engine.specs.declared.item.Item.{Item}
 use Rattle.rsp_engine.specs.World.{World, Query, Strategy, close, change, nonempty, every}
-use Rattle.rsp_engine.specs.Contents.{same, in_content, visible}
+use Rattle.rsp_engine.specs.Contents.{in_content, visible_items}
 
 -- some content of the query at t passes the test on its items
 abbrev pub some_content : World → Query → ℕ → (Item → Bool) → Bool
 some_content world query t test =
-    list_any (λ w. list_any (λ item. in_content w t item && test item) (visible world query)) query.windows
+    list_any (λ w. list_any (λ item. in_content w t item && test item) (visible_items world query)) query.windows
 
 -- some item is in a content at t and not in it at the instant before, or the other way round
 abbrev pub content_changes : World → Query → ℕ → Bool
@@ -20,7 +20,7 @@ content_changes world query t =
     (λ item.
     (in_content w t item && not (in_content w (t - 1) item))
     || (not (in_content w t item) && in_content w (t - 1) item))
-    (visible world query))
+    (visible_items world query))
     query.windows
 
 -- the strategy holds at a complete instant
@@ -31,8 +31,8 @@ holds world query t nonempty = some_content world query t (λ _. true)
 holds world query t (every period) = t % period == 0
 
 -- a query that looks at instants is due at t
-abbrev pub due : World → Query → ℕ → Bool
-due world query t = not query.policy.on_items && list_all (holds world query t) query.policy.strategies
+abbrev pub is_due : World → Query → ℕ → Bool
+is_due world query t = not query.policy.on_items && list_all (holds world query t) query.policy.strategies
 
 -- the strategy holds on an accepted item
 abbrev pub holds_on : World → Query → Item → Strategy → Bool
@@ -42,8 +42,8 @@ holds_on world query item nonempty = some_content world query item.time (λ _. t
 holds_on world query item (every period) = false
 
 -- a query that looks at items is due on an item of one of its streams
-abbrev pub due_on : World → Query → Item → Bool
-due_on world query item =
+abbrev pub is_due_on : World → Query → Item → Bool
+is_due_on world query item =
     query.policy.on_items
-    && (list_any (λ w. same item.stream w.stream) query.windows
+    && (list_any (λ w. bytes_eq item.stream w.stream) query.windows
     && list_all (holds_on world query item) query.policy.strategies)

@@ -1,4 +1,4 @@
--- The engine's fields as its state, and what holds of them, for every kind of answer.
+-- Words of the way: the engine's fields as its state, and what holds of them, for every kind of answer.
 use Rattle.std.specs.Prelude.{◌≡◌, ℕ, Bool, false, List, codes}
 use Rattle.std.specs.Option.{ForSome, option_map}
 use Rattle.rsp_terms.specs.declared.statement.Fact.{Fact}

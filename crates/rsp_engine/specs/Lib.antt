@@ -1,11 +1,14 @@
+-- Definitions
 pub mod World
 pub mod Contents
 pub mod Due
 pub mod Moments
+pub mod Refusals
 pub mod Accept
 pub mod Reports
 pub mod Kept
-pub mod Stands
 pub mod Offers
+-- Words of the way
+pub mod Stands
 pub mod Inside
 pub mod Passing

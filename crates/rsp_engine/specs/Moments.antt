@@ -1,11 +1,11 @@
--- The moments of an event: which queries report at which instants, in order.
+-- Definitions: the moments of an event: which queries report at which instants, in order.
 use Rattle.std.specs.Prelude.{ℕ, ◌-◌, Bool, List, [], ◌++◌, filter, map}
 use Rattle.std.specs.List.{flat_map, range_with_len}
 use Rattle.std.specs.Option.{option_map_or}
 use Rattle.rsp_events.specs.declared.event.Event.{Event}
 use Rattle.rsp_events.specs.declared.event.Event.TheVariants.{Register, Cancel, Item, Tick, Insert, Delete}
 use Rattle.rsp_engine.specs.World.{World, Query}
-use Rattle.rsp_engine.specs.Due.{due, due_on}
+use Rattle.rsp_engine.specs.Due.{is_due, is_due_on}
 
 -- the query of this name reports at this instant
 pub record Moment : Type 0 where
@@ -17,13 +17,13 @@ abbrev pub moments_at : World → ℕ → (Query → Bool) → List Moment
 moments_at world t test = map (λ (query : Query). record { at = t; query = query.name }) (filter test world.queries)
 
 -- at a complete instant the queries that are due
-abbrev pub due_at : World → ℕ → List Moment
-due_at world t = moments_at world t (λ query. due world query t)
+abbrev pub due_moments : World → ℕ → List Moment
+due_moments world t = moments_at world t (λ query. is_due world query t)
 
 -- the moments of the complete instants from `from` on
 abbrev pub moments_from : World → ℕ → List Moment
 moments_from world from =
-    option_map_or (λ next. flat_map (due_at world) (range_with_len from (next - from))) world.next []
+    option_map_or (λ next. flat_map (due_moments world) (range_with_len from (next - from))) world.next []
 
 -- the moments on the item that an event is
 abbrev pub moments_on : World → Event → List Moment
@@ -31,7 +31,7 @@ moments_on world (Item stream time graph) =
     moments_at
     world
     time
-    (λ query. due_on world query (record { stream = stream; time = time; graph = graph }))
+    (λ query. is_due_on world query (record { stream = stream; time = time; graph = graph }))
 moments_on world (Register name text) = []
 moments_on world (Cancel name) = []
 moments_on world (Tick time) = []

@@ -1,16 +1,17 @@
--- What the engine's calls do, for every world and moments that the engine stands for.
+-- Definitions: what the engine's calls do, for every world and moments that the engine stands for.
 use Rattle.std.specs.Prelude.{◌≡◌, ◌<◌, true, false, Option, None, Some, Result, Ok, Err, IsOk, MatchResult, List, [], ◌∷◌, ⊤}
 use Rattle.rsp_events.specs.declared.event.Event.{Event}
 use Rattle.rsp_events.specs.declared.event.Event.TheVariants.{Register, Cancel, Item, Tick, Insert, Delete}
 use Rattle.rsp_engine.specs.declared.refused.Refused.{Refused}
-use Rattle.rsp_engine.specs.declared.refused.Refused.TheVariants.{Broken, OutOfMemory, Late, Unbuilt}
+use Rattle.rsp_engine.specs.declared.refused.Refused.TheVariants.{Broken, OutOfMemory}
 use Rattle.rsp_engine.specs.declared.refused.EngineFault.{EngineFault}
 use Rattle.rsp_engine.specs.declared.refused.EngineFault.TheVariants as fault
 use Rattle.rsp_engine.specs.declared.report.Report.{Report}
+use Rattle.rsp_engine.specs.Refusals.{Refusal, refusal_of}
 use Rattle.rsp_engine.specs.World.{World}
 use Rattle.rsp_engine.specs.Accept.{accept}
 use Rattle.rsp_engine.specs.Moments.{Moment, moments}
-use Rattle.rsp_engine.specs.Reports.{IsReport, reports, worked_off}
+use Rattle.rsp_engine.specs.Reports.{IsReport, ReportStep, next_step}
 use Rattle.rsp_engine.specs.Stands.{State, Stands, is_idle, instants_left}
 
 -- which events take memory at all: no tick does
@@ -28,11 +29,11 @@ pub record Accepts (old : State) (event : Event) (new : State) : Type 0 where
   pub ready : new.broken ≡ false
   pub stands : (world : World) → Stands old world [] → (after : World) × (accept world event ≡ Ok after) × Stands new after (moments world event after)
 
--- the event was refused as the definition refuses it, and nothing has changed
-pub record RefusesAs (old : State) (event : Event) (why : Refused) (new : State) : Type 0 where
+-- the event was refused with the refusal of the definition, and nothing has changed
+pub record RefusesAs (old : State) (event : Event) (refusal : Refusal) (new : State) : Type 0 where
   pub was_ready : old.broken ≡ false
   pub unchanged : new ≡ old
-  pub refused : (world : World) → Stands old world [] → accept world event ≡ Err why
+  pub refused : (world : World) → Stands old world [] → accept world event ≡ Err refusal
 
 -- the engine was broken, and nothing has changed
 pub record WasBroken (old new : State) : Type 0 where
@@ -55,11 +56,19 @@ pub record Breaks (old : State) (event : Event) (new : State) : Type 0 where
   pub memory : TakesMemory event
   pub may_take : (world : World) → Stands old world [] → MayTakeMemory world event
 
+-- an answer that names no refusal of the definition
+abbrev pub LacksMemory : State → Event → Refused → State → Type 0
+LacksMemory old event Broken new = WasBroken old new
+LacksMemory old event OutOfMemory new = Breaks old event new
+LacksMemory old event _ new = ⊥
+
+-- the answer names this refusal, or none
+abbrev pub Answers : State → Event → Refused → Option Refusal → State → Type 0
+Answers old event why (Some refusal) new = RefusesAs old event refusal new
+Answers old event why None new = LacksMemory old event why new
+
 abbrev pub Refuses : State → Event → Refused → State → Type 0
-Refuses old event Broken new = WasBroken old new
-Refuses old event OutOfMemory new = Breaks old event new
-Refuses old event (Late time next) new = RefusesAs old event (Late time next) new
-Refuses old event Unbuilt new = RefusesAs old event Unbuilt new
+Refuses old event why new = Answers old event why (refusal_of why) new
 
 -- what offering an event does
 abbrev pub Offers : State → Event → Result (Unit {0}) Refused → State → Type 0
@@ -72,15 +81,12 @@ pub record HasNone (old new : State) : Type 0 where
   pub unchanged : new ≡ old
   pub none : (world : World) (left : List Moment) → Stands old world left → left ≡ []
 
--- the report is the first of those that are left; behind it the engine stands for the world that it leaves
+-- the report is that of the next step; the engine then stands for the world and the moments that the step leaves
 pub record GivesOf (world : World) (left : List Moment) (report : Report) (new : State) : Type 0 where
-  pub wanted : Report
-  pub after : World
-  pub rest : List Moment
-  pub first : reports world left ≡ wanted ∷ reports after rest
-  pub leads : worked_off world left ≡ worked_off after rest
-  pub given : IsReport report wanted
-  pub stands : Stands new after rest
+  pub step : ReportStep
+  pub is_next : next_step world left ≡ Some step
+  pub is_report : IsReport report step.report
+  pub stands : Stands new step.after step.left
 
 pub record GivesFirst (old : State) (report : Report) (new : State) : Type 0 where
   pub was_ready : old.broken ≡ false

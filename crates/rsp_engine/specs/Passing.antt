@@ -1,4 +1,4 @@
--- What passing time does to an idle engine's state.
+-- Words of the way: what passing time does to an idle engine's state.
 use Rattle.std.specs.Prelude.{◌≡◌, ◌⊎◌, ℕ, Option, Bool, if◌then◌else◌, ◌+◌, ◌<◌, true, false, None, Some, codes, List, [], map, filter, drop, option_to_list}
 use Rattle.std.specs.Option.{option_map_or}
 use Rattle.rsp_engine.specs.World.{World}
@@ -7,7 +7,7 @@ use Rattle.rsp_spec.specs.Windows.{Shape, closes_at}
 use Rattle.rsp_terms.specs.declared.statement.Fact.{Fact}
 use Rattle.std.specs.List.{flat_map}
 use Rattle.rsp_engine.specs.declared.item.Item.{Item}
-use Rattle.rsp_engine.specs.Contents.{distinct, facts_of, in_content}
+use Rattle.rsp_engine.specs.Contents.{distinct_triples, facts_of, in_content}
 use Rattle.rsp_engine.specs.declared.live_query.LiveQuery.{LiveQuery}
 use Rattle.rsp_engine.specs.declared.report.Outcome.{Outcome}
 use Rattle.rsp_engine.specs.declared.report.Outcome.TheVariants as outcomes
@@ -19,7 +19,7 @@ use Rattle.rsp_algebra.specs.Overfull.{overfull}
 use Rattle.rsp_streams_out.specs.Rows.{in_order}
 use Rattle.rsp_query_line.specs.declared.line.Line.{Line}
 use Rattle.rsp_query_line.specs.QueryLine.{query_line}
-use Rattle.rsp_engine.specs.Reports.{IsOutcome, cut}
+use Rattle.rsp_engine.specs.Reports.{IsOutcome, cells_at}
 use Rattle.rsp_engine.specs.Inside.{Answers}
 use Rattle.rsp_engine.specs.Stands.{State, Live, query_of, first_instant, instants_left}
 
@@ -55,7 +55,7 @@ abbrev pub window_facts : List ℕ → Shape → ℕ → List Item → ℕ → L
 window_facts stream shape first items t =
     facts_of
     0
-    (distinct
+    (distinct_triples
     (flat_map
     (λ (i : Item). i.graph)
     (filter (in_content (record { stream = stream; shape = shape }) t) (drop first items))))
@@ -78,7 +78,7 @@ abbrev pub outcome_over : Live → List Fact → Outcome
 outcome_over live facts =
     if overfull (width_of live.line) (node_of_line live.line) facts
     then outcomes.Overfull
-    else outcomes.Rows (in_order (map (cut (shown_of live.line)) (eval (width_of live.line) (node_of_line live.line) facts)))
+    else outcomes.Rows (in_order (map (cells_at (shown_of live.line)) (eval (width_of live.line) (node_of_line live.line) facts)))
 
 -- a live query reported at t, and stands for the facts of t where it is still live
 pub record IsReported {A : Type 0} (node : A → Node) (width : A → ℕ) (facts : A → List Fact) (spent : A → Bool) (live : Live) (items : List Item) (t : ℕ) (new : LiveQuery A) (given : Outcome) : Type 0 where

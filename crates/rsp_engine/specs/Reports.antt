@@ -1,5 +1,5 @@
--- What is reported at a moment (RSP-QL, RStream), and working off the moments of an event.
-use Rattle.std.specs.Prelude.{◌≡◌, ℕ, Bool, not, if◌then◌else◌, Option, None, List, [], ◌∷◌, map, filter, slice_index_or}
+-- Definitions: what is reported at a moment (RSP-QL, RStream), and working off the moments of an event.
+use Rattle.std.specs.Prelude.{◌≡◌, ℕ, zero, suc, Bool, not, if◌then◌else◌, Option, None, Some, List, [], ◌∷◌, length, map, filter, slice_index_or, bytes_eq}
 use Rattle.std.specs.List.{find}
 use Rattle.std.specs.Option.{option_map_or}
 use Rattle.rsp_terms.specs.declared.term.Term.{Term}
@@ -13,16 +13,16 @@ use Rattle.rsp_engine.specs.declared.report.Report.{Report}
 use Rattle.rsp_engine.specs.declared.report.Outcome.{Outcome}
 use Rattle.rsp_engine.specs.declared.report.Outcome.TheVariants as outcome
 use Rattle.rsp_engine.specs.World.{World, Query}
-use Rattle.rsp_engine.specs.Contents.{same, facts}
+use Rattle.rsp_engine.specs.Contents.{facts}
 use Rattle.rsp_engine.specs.Moments.{Moment}
 
 -- the cells of a row at these places, in their order
-abbrev pub cut : List ℕ → Cells Term → Cells Term
-cut places row = map (λ place. slice_index_or row place None) places
+abbrev pub cells_at : List ℕ → Cells Term → Cells Term
+cells_at places row = map (λ place. slice_index_or row place None) places
 
 -- the solutions of a query at t, each with its shown variables alone
 abbrev pub solutions : World → Query → ℕ → List (Cells Term)
-solutions world query t = map (cut query.shown) (eval query.width query.node (facts world query t))
+solutions world query t = map (cells_at query.shown) (eval query.width query.node (facts world query t))
 
 abbrev pub is_overfull : World → Query → ℕ → Bool
 is_overfull world query t = overfull query.width query.node (facts world query t)
@@ -58,34 +58,60 @@ pub record IsReport (report wanted : Report) : Type 0 where
   pub outcome : IsOutcome report.outcome wanted.outcome
 
 -- the live query of a name
-abbrev pub live : World → List ℕ → Option Query
-live world name = find (λ query. same query.name name) world.queries
+abbrev pub live_query : World → List ℕ → Option Query
+live_query world name = find (λ query. bytes_eq query.name name) world.queries
 
 -- the query of this name with the facts of its report at t as those of its last report
-abbrev pub now_seen : World → ℕ → List ℕ → Query → Query
-now_seen world t name query = if same query.name name then record query { seen = facts world query t } else query
+abbrev pub query_after_report : World → ℕ → List ℕ → Query → Query
+query_after_report world t name query = if bytes_eq query.name name then record query { seen = facts world query t } else query
 
 -- the world after a query's report: an overfull one ends the query
 abbrev pub after_report : World → Query → ℕ → World
 after_report world query t =
     if is_overfull world query t
-    then record world { queries = filter (λ other. not (same other.name query.name)) world.queries }
-    else record world { queries = map (now_seen world t query.name) world.queries }
+    then record world { queries = filter (λ other. not (bytes_eq other.name query.name)) world.queries }
+    else record world { queries = map (query_after_report world t query.name) world.queries }
 
--- the reports of the moments that are left, in order; a moment of a query that is no longer live has none
+-- the moments that are left behind a query's report at t: an overfull one strikes those of its query
+abbrev pub moments_behind : World → Query → ℕ → List Moment → List Moment
+moments_behind world query t left =
+    if is_overfull world query t then filter (λ (moment : Moment). not (bytes_eq moment.query query.name)) left else left
+
+-- a report, the world behind it, and the moments that are then left
+pub record ReportStep : Type 0 where
+  pub report : Report
+  pub after : World
+  pub left : List Moment
+
+-- the step to the next report of the moments that are left; a moment of a query that is no longer live has none
+abbrev pub next_step : World → List Moment → Option ReportStep
+next_step world [] = None
+next_step world (moment ∷ left) =
+    option_map_or
+    (λ query.
+    Some
+    (record {
+      report = report_of world query moment.at;
+      after = after_report world query moment.at;
+      left = moments_behind world query moment.at left;
+    }))
+    (live_query world moment.query)
+    (next_step world left)
+
+-- the reports of at most n steps, in order, and the world behind them
+abbrev pub reports_within : ℕ → World → List Moment → List Report
+reports_within zero world left = []
+reports_within (suc n) world left =
+    option_map_or (λ (step : ReportStep). step.report ∷ reports_within n step.after step.left) (next_step world left) []
+
+abbrev pub world_within : ℕ → World → List Moment → World
+world_within zero world left = world
+world_within (suc n) world left =
+    option_map_or (λ (step : ReportStep). world_within n step.after step.left) (next_step world left) world
+
+-- the reports of the moments that are left, and the world once they are worked off: each step leaves fewer moments
 abbrev pub reports : World → List Moment → List Report
-reports world [] = []
-reports world (moment ∷ left) =
-    option_map_or
-    (λ query. report_of world query moment.at ∷ reports (after_report world query moment.at) left)
-    (live world moment.query)
-    (reports world left)
+reports world left = reports_within (length left) world left
 
--- the world once they are worked off
-abbrev pub worked_off : World → List Moment → World
-worked_off world [] = world
-worked_off world (moment ∷ left) =
-    option_map_or
-    (λ query. worked_off (after_report world query moment.at) left)
-    (live world moment.query)
-    (worked_off world left)
+abbrev pub world_behind : World → List Moment → World
+world_behind world left = world_within (length left) world left

@@ -1,4 +1,4 @@
--- What an engine's state is, and which world and which moments left it stands for.
+-- Words of the way: what an engine's state is, and which world and which moments left it stands for.
 use Rattle.std.specs.Prelude.{◌≡◌, ℕ, ◌+◌, ◌-◌, ◌<◌, ◌≤◌, Bool, true, false, ◌||◌, ◌==◌, Option, None, List, [], ◌∷◌, length, map, option_to_list}
 use Rattle.std.specs.Option.{option_map_or, ForSome}
 use Rattle.rsp_spec.specs.Windows.{Shape, closes_at, last_instant}
@@ -6,7 +6,7 @@ use Rattle.rsp_engine.specs.declared.item.Item.{Item}
 use Rattle.rsp_engine.specs.World.{World, Query}
 use Rattle.rsp_terms.specs.declared.statement.Fact.{Fact}
 use Rattle.rsp_query_line.specs.declared.line.Line.{Line}
-use Rattle.rsp_engine.specs.Accept.{next_of, registered}
+use Rattle.rsp_engine.specs.Accept.{next_of, query_of_line}
 use Rattle.rsp_engine.specs.Moments.{Moment, moments_from}
 
 -- what an engine keeps of a live query
@@ -27,7 +27,7 @@ pub record State : Type 0 where
 
 -- a live query of the world as the engine keeps it
 abbrev pub query_of : Live → Query
-query_of live = record (registered live.name live.line live.first) { seen = live.seen }
+query_of live = record (query_of_line live.name live.line live.first) { seen = live.seen }
 
 -- the instant of the first moment left, or the first instant that isn't complete
 abbrev pub first_instant : World → List Moment → ℕ

@@ -1,4 +1,4 @@
--- The world: what every event that was accepted has made, kept for ever. All times are in milliseconds since 1970.
+-- Definitions: the world: what every event that was accepted has made, kept for ever. All times are in milliseconds since 1970.
 use Rattle.std.specs.Prelude.{ℕ, Bool, Option, None, List, []}
 use Rattle.rsp_spec.specs.Windows.{Shape}
 use Rattle.rsp_terms.specs.declared.statement.Fact.{Fact}

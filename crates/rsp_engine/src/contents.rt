@@ -1,10 +1,10 @@
 // What a query sees of its window at an instant.
-ghost use Rattle.std.specs.Prelude.{◌≡◌, ◌≤◌, ◌&&◌, nat_lt, nat_le, IfOk, OnOk, fold, filter, drop, length};
+ghost use Rattle.std.specs.Prelude.{◌≡◌, ◌≤◌, ◌&&◌, nat_lt, nat_le, IfOk, OnOk, fold, filter, drop, length, bytes_eq};
 ghost use Rattle.std.specs.List.{flat_map};
 ghost use Rattle.rsp_spec.specs.Windows.{last_instant};
 ghost use Rattle.rsp_terms.specs.declared.statement.Spot.TheVariants as spot;
 ghost use Rattle.rsp_engine.specs.declared.item.Item as item;
-ghost use Rattle.rsp_engine.specs.Contents.{same, add_once, distinct, facts_of, in_content};
+ghost use Rattle.rsp_engine.specs.Contents.{add_once, distinct_triples, facts_of, in_content};
 ghost use Rattle.rsp_engine.specs.Passing.{window_facts};
 
 use crate::Item;
@@ -15,7 +15,7 @@ use std::alloc::{AllocError, Global};
 
 /// The facts of a window on a stream at `at`, in ms since 1970, of the items from number `first` on. Fails only where
 /// memory is refused.
-pub fn facts(
+pub(crate) fn facts(
     alloc: Global,
     stream: &Text,
     window: &Window,
@@ -67,7 +67,7 @@ fn graph(
     at: u64,
 ) -> Result<IndexSet<Triple>, AllocError>
     requires { at ≤ last_instant }
-    ensures { IfOk result (λ set. set.keys ≡ distinct (flat_map (λ (i : item.Item). i.graph)
+    ensures { IfOk result (λ set. set.keys ≡ distinct_triples (flat_map (λ (i : item.Item). i.graph)
         (filter (in_content (record { stream = stream.now; shape = window.now }) at) visible.now))) }
 {
     match window.active(at) {
@@ -84,8 +84,8 @@ fn content_graph(
     at: u64,
     visible: &[Item],
 ) -> Result<IndexSet<Triple>, AllocError>
-    ensures { IfOk result (λ set. set.keys ≡ distinct (flat_map (λ (i : item.Item). i.graph)
-        (filter (λ (i : item.Item). same i.stream stream.now && (nat_lt opening i.time && nat_le i.time at)) visible.now))) }
+    ensures { IfOk result (λ set. set.keys ≡ distinct_triples (flat_map (λ (i : item.Item). i.graph)
+        (filter (λ (i : item.Item). bytes_eq i.stream stream.now && (nat_lt opening i.time && nat_le i.time at)) visible.now))) }
 {
     let mut triples = IndexSet::new(alloc);
     add_content(&mut triples, stream, opening, at, visible)?;
@@ -101,7 +101,7 @@ fn add_content(
     visible: &[Item],
 ) -> Result<(), AllocError>
     ensures { OnOk result (triples.new.keys ≡ fold add_once triples.old.keys (flat_map (λ (i : item.Item). i.graph)
-        (filter (λ (i : item.Item). same i.stream stream.now && (nat_lt opening i.time && nat_le i.time at)) visible.now))) }
+        (filter (λ (i : item.Item). bytes_eq i.stream stream.now && (nat_lt opening i.time && nat_le i.time at)) visible.now))) }
 {
     for item in visible {
         if is_between(item, stream, opening, at) {
@@ -112,7 +112,7 @@ fn add_content(
 }
 
 fn is_between(item: &Item, stream: &Text, opening: u64, at: u64) -> bool
-    ensures { result ≡ (same item.now.stream stream.now && (nat_lt opening item.now.time && nat_le item.now.time at)) }
+    ensures { result ≡ (bytes_eq item.now.stream stream.now && (nat_lt opening item.now.time && nat_le item.now.time at)) }
 {
     item.stream == *stream && opening < item.time && item.time <= at
 }

@@ -117,9 +117,10 @@ impl<A: Answer> Engine<A> {
 
     /// Takes an event.
     ///
-    /// Refused as `Broken` exactly where memory was refused before; as `Unbuilt` or `Late` exactly where the definition
-    /// refuses the event so, which then changes nothing; as `OutOfMemory` where memory is refused, which breaks the
-    /// engine: never for a tick, and never for an event that the definition refuses.
+    /// Refused as `Broken` exactly where memory was refused before; with the definition's refusal, which changes nothing,
+    /// only where the definition refuses the event so; as `OutOfMemory` where memory is refused, which breaks the engine:
+    /// never for a tick, never for an item that the definition refuses, and for no registration while a query is live.
+    /// One that the definition refuses for its text may be answered so.
     pub fn offer(&mut self, event: Event) -> Result<(), Refused>
         requires idle { IsTrue (is_idle self.old) }
         requires instant { IsInstant event }

@@ -19,7 +19,7 @@ mod seeing;
 mod walking;
 
 pub use engine::Engine;
-pub use item::Item;
-pub use live_query::LiveQuery;
+use item::Item;
+use live_query::LiveQuery;
 pub use refused::{EngineFault, Refused};
 pub use report::{Outcome, Report};

@@ -5,7 +5,7 @@ use rsp_terms::{Fact, Listed, Text};
 /// A query that is live, by its line. It sees the items of a stream from number `first` on, counted from 0 in the order
 /// of acceptance. Its answer stands for the facts of its last report.
 #[derive(Drop)]
-pub struct LiveQuery<A> {
+pub(crate) struct LiveQuery<A> {
     pub name: Text,
     pub line: Line,
     pub stream: Text,

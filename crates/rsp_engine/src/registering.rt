@@ -12,7 +12,7 @@ use std::alloc::{AllocError, Global};
 
 /// The live query of a text, over no facts; None exactly where the text is no query line. It sees the items from number
 /// `first` on. Fails only where memory is refused.
-pub fn registered<A: Answer>(
+pub(crate) fn registered<A: Answer>(
     alloc: Global,
     name: Text,
     text: &Text,

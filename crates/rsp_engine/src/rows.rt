@@ -4,7 +4,7 @@ ghost use Rattle.rsp_terms.specs.Same.{term_eq};
 ghost use Rattle.rsp_multiset.specs.Weights.{weight, times};
 ghost use Rattle.rsp_multiset.specs.Rows.{row_eq};
 ghost use Rattle.rsp_streams_out.specs.Rows.{in_order};
-ghost use Rattle.rsp_engine.specs.Reports.{AreRows, cut};
+ghost use Rattle.rsp_engine.specs.Reports.{AreRows, cells_at};
 
 use rsp_multiset::{Bag, Row};
 use rsp_streams_out::{ordered, rows_of};
@@ -12,13 +12,14 @@ use rsp_terms::{Listed, Term};
 use std::alloc::{AllocError, Global};
 
 /// The solutions of a bag, with these places alone, in the byte order of their texts. Fails only where memory is refused.
-pub fn shown_rows(
+pub(crate) fn shown_rows(
     alloc: Global,
     solutions: &Bag<Term>,
     shown: &[usize],
 ) -> Result<Listed<Row<Term>>, AllocError>
-    ensures { IfOk result (λ rows. (wanted : _) → ((q : _) → weight (row_eq term_eq) solutions.now q ≡ times (row_eq term_eq) wanted q)
-        → AreRows rows (in_order (map (cut shown.now) wanted))) }
+    ensures { IfOk result (λ rows. (wanted : _)
+        → ((q : _) → weight (row_eq term_eq) solutions.now q ≡ times (row_eq term_eq) wanted q)
+        → AreRows rows (in_order (map (cells_at shown.now) wanted))) }
 {
     let rows = rows_of(alloc, solutions)?;
     ordered(alloc, all_cut(alloc, rows.as_slice(), shown)?)
@@ -29,7 +30,7 @@ fn all_cut(
     rows: &[Row<Term>],
     shown: &[usize],
 ) -> Result<Listed<Row<Term>>, AllocError>
-    ensures { IfOk result (λ all. all ≡ map (cut shown.now) rows.now) }
+    ensures { IfOk result (λ all. all ≡ map (cells_at shown.now) rows.now) }
 {
     let mut all = Listed::new(alloc);
     for row in rows {
@@ -40,7 +41,7 @@ fn all_cut(
 
 // the cells of a row at these places
 fn row_cut(alloc: Global, row: &Row<Term>, shown: &[usize]) -> Result<Row<Term>, AllocError>
-    ensures { IfOk result (λ shown_row. shown_row ≡ cut shown.now row.now) }
+    ensures { IfOk result (λ shown_row. shown_row ≡ cells_at shown.now row.now) }
 {
     let mut cells = Vec::new(alloc);
     for place in shown {

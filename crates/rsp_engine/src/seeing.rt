@@ -9,7 +9,7 @@ ghost use Rattle.rsp_streams_out.specs.Rows.{in_order};
 ghost use Rattle.rsp_engine.specs.declared.report.Outcome.TheVariants as outcomes;
 ghost use Rattle.rsp_engine.specs.Inside.{Answers, live_of};
 ghost use Rattle.rsp_engine.specs.Passing.{IsReported, seeing};
-ghost use Rattle.rsp_engine.specs.Reports.{IsOutcome, cut};
+ghost use Rattle.rsp_engine.specs.Reports.{IsOutcome, cells_at};
 
 use crate::contents::facts;
 use crate::rows::shown_rows;
@@ -47,7 +47,7 @@ fn outcome_at<A: Answer, L: Ledger>(
 }
 
 /// The report of a live query at `at`, with its outcome. Fails as [`outcome_at`] does.
-pub fn report_at<A: Answer, L: Ledger>(
+pub(crate) fn report_at<A: Answer, L: Ledger>(
     alloc: Global,
     live: &mut LiveQuery<A>,
     items: &[Item],
@@ -61,7 +61,8 @@ pub fn report_at<A: Answer, L: Ledger>(
     ensures query { IfOk result (λ report. report.query ≡ live.old.name) }
     ensures at { IfOk result (λ report. report.at ≡ at) }
     ensures variables { IfOk result (λ report. report.variables ≡ live.old.line.shown) }
-    ensures reported { IfOk result (λ report. IsReported A.node A.width A.facts A.spent (live_of live.old) items.now at live.new report.outcome) }
+    ensures reported { IfOk result (λ report.
+        IsReported A.node A.width A.facts A.spent (live_of live.old) items.now at live.new report.outcome) }
 {
     let query = live.name.share()?;
     let variables = shared(alloc, live.line.shown.as_slice())?;
@@ -88,7 +89,8 @@ fn rows_of<A: Answer>(alloc: Global, live: &LiveQuery<A>) -> Result<Outcome, All
     requires { A.spent live.now.answer ≡ false }
     ensures { IfOk result (λ outcome. (facts : List Fact)
         → ((q : _) → times fact_eq (A.facts live.now.answer) q ≡ times fact_eq facts q)
-        → IsOutcome outcome (outcomes.Rows (in_order (map (cut live.now.shown) (eval (A.width live.now.answer) (A.node live.now.answer) facts))))) }
+        → IsOutcome outcome (outcomes.Rows (in_order (map (cells_at live.now.shown)
+        (eval (A.width live.now.answer) (A.node live.now.answer) facts))))) }
 {
     let solutions = live.answer.solutions()?;
     Ok(Outcome::Rows(shown_rows(alloc, &solutions, live.shown.as_slice())?))

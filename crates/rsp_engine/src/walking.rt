@@ -43,7 +43,7 @@ fn first_of(window: Option<Window>, from: u64, to: u64) -> u64
 
 /// The instant of the first moment left once every instant before `to` is complete, where those before `next` are worked
 /// off and the live query, if there is one, has this window; `to` where no moment is left.
-pub fn first_moment(next: Option<u64>, window: Option<Window>, to: u64) -> u64
+pub(crate) fn first_moment(next: Option<u64>, window: Option<Window>, to: u64) -> u64
     requires order { unwrap_or next 0 ≤ to }
     requires instant { to ≤ last_instant + 1 }
     ensures low { unwrap_or next 0 ≤ result }

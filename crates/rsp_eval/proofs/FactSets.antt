@@ -36,8 +36,8 @@ comes_above facts x by (inr goes) above = absurd (above (omega (arith, ints, goe
 pub next_taken : (start before after : List Fact) (changes left rest : List (Fact × ℤ)) (x : Fact) (by : ℤ) → left ≡ (x, by) ∷ rest → IsChanged fact_eq before ((x, by) ∷ []) after
     → ((q : Fact) → times fact_eq before q +ℤ weight fact_eq left q ≡ times fact_eq start q +ℤ weight fact_eq changes q)
     → (q : Fact) → times fact_eq after q +ℤ weight fact_eq rest q ≡ times fact_eq start q +ℤ weight fact_eq changes q
-next_taken start before after changes left rest x by is changed so_far q =
+next_taken start before after changes left rest x by is changed_rows so_far q =
     let step = ap (λ l. weight fact_eq l q) is in
-    let one = changed q in
+    let one = changed_rows q in
     let known = so_far q in
     omega (arith, ints, step, one, known)

@@ -59,8 +59,11 @@ fn evaluate_anew(
 }
 
 impl Answer for Plain {
-    ghost use Rattle.std.specs.Prelude.{is_none};
+    ghost use Rattle.std.specs.Prelude.{◌≡◌, ◌+◌, ◌≤◌, false, is_none, not, IfOk, List};
+    ghost use Rattle.rsp_terms.specs.declared.statement.Fact.{Fact};
     ghost use Rattle.rsp_algebra.specs.Nodes.{node_of};
+    ghost use Rattle.rsp_algebra.specs.Work.{work};
+    ghost use Rattle.rsp_algebra.specs.Changing.{IfNet, goes_on, is_overfull};
 
     ghost node = { λ p. node_of p.tree };
 
@@ -88,8 +91,23 @@ impl Answer for Plain {
     fn change<L: Ledger>(
         &mut self,
         changes: &Changes<Fact>,
-        _steps: &mut Steps<L>,
-    ) -> Result<Turn, AllocError> {
+        steps: &mut Steps<L>,
+    ) -> Result<Turn, AllocError>
+        requires ready { is_none self.old.rows ≡ false }
+        requires allowed { MayChange self.old.facts.keys changes.now }
+        ensures node { node_of self.new.tree ≡ node_of self.old.tree }
+        ensures width { self.new.width ≡ self.old.width }
+        ensures facts { IfOk result (λ _. IsChanged fact_eq self.old.facts.keys changes.now self.new.facts.keys) }
+        ensures set { IfOk result (λ _. IsSet self.new.facts.keys) }
+        ensures overfull { IfOk result (λ turn. is_overfull turn ≡ overfull self.old.width (node_of self.old.tree) self.new.facts.keys) }
+        ensures net { IfOk result (λ turn. IfNet turn (λ net. IsChanged same_row
+            (eval self.old.width (node_of self.old.tree) self.old.facts.keys) net (eval self.old.width (node_of self.old.tree) self.new.facts.keys))) }
+        ensures spent { is_none self.new.rows ≡ not (goes_on result) }
+        ensures cost { (after : List Fact) → IsSet after → IsChanged fact_eq self.old.facts.keys changes.now after
+            → steps.new ≤ steps.old + work self.old.width (node_of self.old.tree) self.old.facts.keys after }
+        ensures steps { steps.new ≡ steps.old }
+    {
+        let _ = steps;
         let Some(before) = self.rows.take() else {
             unreachable!();
         };

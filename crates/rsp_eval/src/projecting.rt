@@ -1,7 +1,7 @@
 // Rows without bindings, and rows cut to some of their variables.
 ghost use Rattle.std.specs.Prelude.{◌≡◌, if◌then◌else◌, None, IfOk, map};
 ghost use Rattle.rsp_algebra.specs.Patterns.{row_by, cell, among};
-ghost use Rattle.rsp_algebra.specs.Solutions.{projected};
+ghost use Rattle.rsp_algebra.specs.Solutions.{projection};
 
 use rsp_multiset::Row;
 use rsp_terms::Term;
@@ -41,7 +41,7 @@ fn project_row(
     variables: &[usize],
     row: &Row<Term>,
 ) -> Result<Row<Term>, AllocError>
-    ensures { IfOk result (λ made. made ≡ projected width variables.now row.now) }
+    ensures { IfOk result (λ made. made ≡ projection width variables.now row.now) }
 {
     let mut cells = Vec::new(alloc);
     for variable in 0..width {
@@ -57,7 +57,7 @@ pub fn project_rows(
     variables: &[usize],
     rows: &[Row<Term>],
 ) -> Result<Vec<Row<Term>>, AllocError>
-    ensures { IfOk result (λ made. made.items ≡ map (projected width variables.now) rows.now) }
+    ensures { IfOk result (λ made. made.items ≡ map (projection width variables.now) rows.now) }
 {
     let mut projected_rows = Vec::new(alloc);
     for row in rows {

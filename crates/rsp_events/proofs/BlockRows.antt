@@ -17,7 +17,7 @@ use Rattle.rsp_events.specs.declared.event.Event.TheVariants.{Register, Cancel, 
 use Rattle.rsp_events.specs.declared.event.Event.TheVariants as event
 use Rattle.rsp_events.specs.declared.directives.Directive.TheVariants.{Tick}
 use Rattle.rsp_events.specs.Lines.{has_body, is_end, is_passed}
-use Rattle.rsp_events.specs.Blocks.{blocks, whole}
+use Rattle.rsp_events.specs.Blocks.{blocks, whole_blocks}
 use Rattle.rsp_events.specs.Directives.{directive_by, directive_of, is_name}
 use Rattle.rsp_events.specs.Contents.{content_of_directive, content_of_texts}
 
@@ -31,7 +31,7 @@ unfolding is_passed has_body is_end content_of_texts content_of_directive direct
 three_blocks = refl
 
 -- the tick's line has not ended
-pub one_whole : whole 7 (line (codes "@cancel q") ++ codes "@tick 2")
+pub one_whole : whole_blocks 7 (line (codes "@cancel q") ++ codes "@tick 2")
     ≡ record { number = 1; content = Event (Cancel (codes "q")) } ∷ []
 unfolding is_passed has_body is_end content_of_texts content_of_directive directive_by is_name read_u64
 one_whole = refl

@@ -1,9 +1,22 @@
 -- Lines of a body one after another: what is read so far, and where the first bad line stands.
-use Rattle.std.proofs.Common.{◌≡◌, ℕ, ◌+◌, ◌<◌, ◌≤◌, Bool, true, false, List, [], ◌++◌, length, drop, get_or, refl, ap, sym, ◌∙◌, append_assoc, append-nil, arith}
-use Rattle.std.specs.Prelude.{◌||◌, not, if◌then◌else◌}
+use Rattle.std.proofs.Common.{◌≡◌, ℕ, suc, ◌+◌, ◌<◌, ◌≤◌, Bool, true, false, cond, List, [], ◌∷◌, ◌++◌, length, drop, get_or, refl, ap, sym, ◌∙◌, append_assoc, append-nil, arith}
+use Rattle.std.specs.Prelude.{◌||◌, not, nat_lt, if◌then◌else◌}
 use Rattle.std.specs.List.{flat_map, list_any, position_or_len}
 use Rattle.std.proofs.lemmas.Grind.{common_steps}
+use Rattle.std.proofs.lemmas.Bool.Decides.{nat_tests}
 use Rattle.std.proofs.lemmas.List.{at_drop_more}
+
+shifted : (a n : ℕ) → nat_lt (1 + a) (suc n) ≡ nat_lt a n
+shifted a n = grind (arith, nat_tests)
+
+-- the first place at which a test passes is within the list exactly where it passes somewhere
+pub found_within : {A : Type 0} (p : A → Bool) (xs : List A) → nat_lt (position_or_len p xs) (length xs) ≡ list_any p xs
+found_within p [] = refl
+found_within p (x ∷ xs) =
+    elim (p x) as (λ v. nat_lt (cond (not v) (1 + position_or_len p xs) 0) (suc (length xs)) ≡ (v || list_any p xs)) [
+      | true ↦ grind (arith, nat_tests)
+      | false ↦ shifted (position_or_len p xs) (length xs) ∙ found_within p xs
+    ]
 
 pub record Went {A : Type 0} (f : List ℕ → List A) (bad : List ℕ → Bool) (lines : List (List ℕ)) (i : ℕ) (got : List A) : Type 0 where
   pub whole : got ++ flat_map f (drop i lines) ≡ flat_map f lines

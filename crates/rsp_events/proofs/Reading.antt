@@ -12,7 +12,8 @@ use Rattle.rsp_events.specs.declared.blocks.Place.{Place}
 use Rattle.rsp_events.specs.declared.blocks.Place.TheVariants.{Passed, Inside, Last}
 use Rattle.rsp_events.specs.Lines.{IsInLine, Line, log_lines, most_bytes}
 use Rattle.rsp_events.specs.Begun.{ending_of, begun_block_of, begun_line_of, held_line_of}
-use Rattle.rsp_events.specs.Blocks.{Reader, HasRead, begun_group, begun_line, blocks, content_of, ended_lines, groups, numbered_from, whole, whole_groups}
+use Rattle.rsp_events.specs.Reader.{Reader, HasRead}
+use Rattle.rsp_events.specs.Blocks.{begun_group, begun_line, blocks, content_of, ended_lines, groups, numbered_from, whole_blocks, whole_groups}
 use Rattle.rsp_events.specs.Instants.{AllTimed}
 use Rattle.rsp_events.specs.Steps.{Reads, TakesLine, begun_at, begun_groups, closed_at, place_of}
 use Rattle.rsp_events.proofs.Cutting.{begun_from, begun_from-append, begun_line_is, ended_from, ended_from-append, ended_lines_are, lines_are, unless_empty}
@@ -46,10 +47,10 @@ record Stands (old : Reader) (before : List ℕ) : Type 0 where
   pub line : old.line ≡ begun_line_of (line_at before)
   pub block : old.block ≡ begun_block_of (group_at before)
   pub lines : old.lines ≡ count_at before
-  pub blocks : whole old.document before ≡ numbered_from old.document 1 (closed_from [] (ended_from 1 [] before))
+  pub blocks : whole_blocks old.document before ≡ numbered_from old.document 1 (closed_from [] (ended_from 1 [] before))
   pub number : length (numbered_from old.document 1 (closed_from [] (ended_from 1 [] before))) + 1 ≡ old.number
 
-whole_is : (d : ℕ) (bytes : List ℕ) → whole d bytes ≡ numbered_from d 1 (closed_from [] (ended_from 1 [] bytes))
+whole_is : (d : ℕ) (bytes : List ℕ) → whole_blocks d bytes ≡ numbered_from d 1 (closed_from [] (ended_from 1 [] bytes))
 whole_is d bytes =
     ap (λ gs. numbered_from d 1 gs) (whole_groups_are (ended_lines bytes))
     ∙ ap (λ ls. numbered_from d 1 (closed_from [] ls)) (ended_lines_are bytes)
@@ -71,7 +72,7 @@ ended_more : (before piece : List ℕ)
 ended_more before piece = ended_from-append 1 [] before piece
 
 whole_more : (old : Reader) (before piece : List ℕ) → Stands old before
-    → whole old.document (before ++ piece) ≡ whole old.document before ++ numbered_from old.document old.number (closed_from (group_at before) (ended_from (1 + count_at before) (line_at before) piece))
+    → whole_blocks old.document (before ++ piece) ≡ whole_blocks old.document before ++ numbered_from old.document old.number (closed_from (group_at before) (ended_from (1 + count_at before) (line_at before) piece))
 whole_more old before piece at =
     whole_is old.document (before ++ piece)
     ∙ ap (λ ls. numbered_from old.document 1 (closed_from [] ls)) (ended_more before piece)
@@ -114,8 +115,8 @@ reads old piece new given document ready number timed takes = record {
       let at = stands old before read in
       let take = takes before at in
       let more = whole_more old before piece at in
-      let count : length (whole old.document (before ++ piece)) ≡ length (whole old.document before) + length given
-      = ap length (more ∙ ap (λ bs. whole old.document before ++ bs) (sym (take.blocks))) ∙ length-append (whole old.document before) given in
+      let count : length (whole_blocks old.document (before ++ piece)) ≡ length (whole_blocks old.document before) + length given
+      = ap length (more ∙ ap (λ bs. whole_blocks old.document before ++ bs) (sym (take.blocks))) ∙ length-append (whole_blocks old.document before) given in
       record {
         line = take.line ∙ ap begun_line_of (sym (line_more before piece));
         block = take.block ∙ ap begun_block_of (sym (group_more before piece));
@@ -125,7 +126,7 @@ reads old piece new given document ready number timed takes = record {
       };
   blocks = λ before read.
       let at = stands old before read in
-      whole_more old before piece at ∙ ap (λ bs. whole old.document before ++ bs) (sym ((takes before at).blocks));
+      whole_more old before piece at ∙ ap (λ bs. whole_blocks old.document before ++ bs) (sym ((takes before at).blocks));
   timed = timed;
 }
 
@@ -134,7 +135,7 @@ pub reads_nothing : (old : Reader) → Reads old [] old []
 reads_nothing old = record {
   document = refl;
   read = λ before read. rw (append-nil before) read;
-  blocks = λ before read. rw (append-nil before, append-nil (whole old.document before)) refl;
+  blocks = λ before read. rw (append-nil before, append-nil (whole_blocks old.document before)) refl;
   timed = tt;
 }
 
@@ -147,8 +148,8 @@ reads_then a b c p q xs ys first second = record {
   blocks = λ before read.
       rw
       (← append_assoc before p q)
-      (subst (λ d. whole d ((before ++ p) ++ q) ≡ whole d (before ++ p) ++ ys) first.document (second.blocks (before ++ p) (first.read before read))
-      ∙ (ap (λ bs. bs ++ ys) (first.blocks before read) ∙ append_assoc (whole a.document before) xs ys));
+      (subst (λ d. whole_blocks d ((before ++ p) ++ q) ≡ whole_blocks d (before ++ p) ++ ys) first.document (second.blocks (before ++ p) (first.read before read))
+      ∙ (ap (λ bs. bs ++ ys) (first.blocks before read) ∙ append_assoc (whole_blocks a.document before) xs ys));
   timed = AllTimed-append xs ys first.timed second.timed;
 }
 
@@ -226,14 +227,14 @@ groups_of_text bytes =
 
 blocks_are : (d : ℕ) (bytes : List ℕ)
     → blocks d bytes
-    ≡ whole d bytes ++ numbered_from d (length (whole d bytes) + 1) (end_groups (1 + length (ended_lines bytes)) (begun_group (ended_lines bytes)) (begun_line bytes))
+    ≡ whole_blocks d bytes ++ numbered_from d (length (whole_blocks d bytes) + 1) (end_groups (1 + length (ended_lines bytes)) (begun_group (ended_lines bytes)) (begun_line bytes))
 blocks_are d bytes =
     ap (λ gs. numbered_from d 1 gs) (groups_of_text bytes)
     ∙ numbered-append d 1 (whole_groups (ended_lines bytes)) (end_groups (1 + length (ended_lines bytes)) (begun_group (ended_lines bytes)) (begun_line bytes))
 
 -- what a call gives that ends the text
 abbrev pub Ends : Reader → List Block → Type 0
-Ends old last = (before : List ℕ) → HasRead old before → blocks old.document before ≡ whole old.document before ++ last
+Ends old last = (before : List ℕ) → HasRead old before → blocks old.document before ≡ whole_blocks old.document before ++ last
 
 abbrev pub Closes : Reader → List Block → Type 0
 Closes old last = (group : List Line) → begun_block_of group ≡ old.block
@@ -246,7 +247,7 @@ ends : (old : Reader) (last : List Block)
 ends old last each before read =
     let count : 1 + length (ended_lines before) ≡ old.lines + 1 = omega (arith, read.lines) in
     blocks_are old.document before
-    ∙ ap (λ bs. whole old.document before ++ bs)
+    ∙ ap (λ bs. whole_blocks old.document before ++ bs)
     (rw (← read.number, count) (sym (each (begun_line before) (begun_group (ended_lines before)) (sym read.line) (sym read.block))))
 
 -- no line has begun
@@ -343,20 +344,20 @@ reader_at d bytes =
       line = begun_line_of (begun_line bytes);
       block = begun_block_of (begun_group (ended_lines bytes));
       lines = length (ended_lines bytes);
-      number = length (whole d bytes) + 1;
+      number = length (whole_blocks d bytes) + 1;
       spent = false;
     }
 
-pub beginning : (d : ℕ) (before more : List ℕ) → (rest : List Block) × (blocks d (before ++ more) ≡ whole d before ++ rest)
+pub beginning : (d : ℕ) (before more : List ℕ) → (rest : List Block) × (blocks d (before ++ more) ≡ whole_blocks d before ++ rest)
 beginning d before more =
     let read : HasRead (reader_at d before) before = record { line = refl; block = refl; lines = refl; number = refl; ready = refl } in
-    let some = numbered_from d (length (whole d before) + 1) (closed_from (group_at before) (ended_from (1 + count_at before) (line_at before) more)) in
+    let some = numbered_from d (length (whole_blocks d before) + 1) (closed_from (group_at before) (ended_from (1 + count_at before) (line_at before) more)) in
     let all = before ++ more in
-    let end = numbered_from d (length (whole d all) + 1) (end_groups (1 + length (ended_lines all)) (begun_group (ended_lines all)) (begun_line all)) in (
+    let end = numbered_from d (length (whole_blocks d all) + 1) (end_groups (1 + length (ended_lines all)) (begun_group (ended_lines all)) (begun_line all)) in (
       some ++ end,
       blocks_are d (before ++ more)
           ∙ ap (λ bs. bs ++ end) (whole_more (reader_at d before) before more (stands (reader_at d before) before read))
-          ∙ append_assoc (whole d before) some end,
+          ∙ append_assoc (whole_blocks d before) some end,
     )
 
 -- ---- where a line ends

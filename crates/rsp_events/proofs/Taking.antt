@@ -8,7 +8,8 @@ use Rattle.rsp_events.specs.declared.blocks.Place.{Place}
 use Rattle.rsp_events.specs.declared.blocks.Place.TheVariants.{Passed, Inside, Last}
 use Rattle.rsp_events.specs.Lines.{Line}
 use Rattle.rsp_events.specs.Begun.{begun_block_of, held_line_of}
-use Rattle.rsp_events.specs.Blocks.{Reader, content_of}
+use Rattle.rsp_events.specs.Reader.{Reader}
+use Rattle.rsp_events.specs.Blocks.{content_of}
 use Rattle.rsp_events.specs.Instants.{IsTimed}
 use Rattle.rsp_events.specs.Steps.{TakesLine, place_of}
 

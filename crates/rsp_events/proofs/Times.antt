@@ -1,6 +1,6 @@
 -- The times of a log's events are instants.
 use Rattle.std.proofs.Common.{◌≡◌, ℕ, ◌+◌, ◌*◌, ◌≤◌, Bool, true, false, List, [], ◌∷◌, ◌++◌, length, take, drop, refl, arith}
-use Rattle.std.specs.Prelude.{⊤, nat_le, if◌then◌else◌, Option, None, Some, ℤ, pos, negsuc, ◌&&◌, ◌||◌, ◌==◌, codes, ◌+ℤ◌, ◌-ℤ◌, ◌*ℤ◌}
+use Rattle.std.specs.Prelude.{⊤, nat_le, if◌then◌else◌, Option, None, Some, ℤ, pos, negsuc, ◌&&◌, ◌||◌, ◌==◌, bytes_eq, codes, ◌+ℤ◌, ◌-ℤ◌, ◌*ℤ◌}
 use Rattle.std.specs.List.{before_first, flat_map, list_any, position_or_len}
 use Rattle.std.specs.Option.{option_and_then, option_map, option_or}
 use Rattle.std.proofs.lemmas.Bool.Decides.{nat_tests}
@@ -16,10 +16,10 @@ use Rattle.rsp_events.specs.declared.event.Content.{Content}
 use Rattle.rsp_events.specs.declared.event.Content.TheVariants as content
 use Rattle.rsp_events.specs.declared.event.Event.{Event}
 use Rattle.rsp_events.specs.declared.event.Event.TheVariants as event
-use Rattle.rsp_events.specs.Contents.{content_by, content_of_directive, is_bad_quad, is_bad_text, is_bad_triple, of_body, quad_on, triple_on, with_line_feed}
-use Rattle.rsp_events.specs.Directives.{alone, directive_by, directive_of, fields, item, item_of, name_of, named, number_of, only, time_of, timed, two}
+use Rattle.rsp_events.specs.Contents.{content_by, content_of_directive, is_bad_quad, is_bad_text, is_bad_triple, content_of_body, quad_on, triple_on, with_line_feed}
+use Rattle.rsp_events.specs.Directives.{directive_alone, directive_by, directive_of, directive_with_name, directive_with_time, fields, item_directive, item_of_fields, name_of, number_of, only_field, time_of, two_fields}
 use Rattle.rsp_events.specs.Instants.{AllTimed, IsInstant, IsTimed}
-use Rattle.rsp_events.specs.Lines.{first_field, is_end, same}
+use Rattle.rsp_events.specs.Lines.{first_field, is_end}
 
 pub AllTimed-append : (xs ys : List Block) → AllTimed xs → AllTimed ys → AllTimed (xs ++ ys)
 AllTimed-append [] ys hx hy = hy
@@ -104,7 +104,7 @@ item_on : (time : List ℕ) (o : Option (List ℕ))
 item_on time None = tt
 item_on time (Some iri) = item_at iri (time_of time) (time_within time)
 
-item_by : (o : Option (List ℕ × List ℕ)) → IsTimedDirective (option_and_then (λ x. item x.0 x.1) o)
+item_by : (o : Option (List ℕ × List ℕ)) → IsTimedDirective (option_and_then (λ x. item_directive x.0 x.1) o)
 item_by None = tt
 item_by (Some x) = item_on x.1 (absolute_iri x.0)
 
@@ -125,16 +125,16 @@ one_of false false false false false f o p q r s t ho hp hq hr hs ht = choice f 
 directive_timed : (word : List ℕ) (fields : List (List ℕ)) → IsTimedDirective (directive_by word fields)
 unfolding directive_by
 directive_timed word fields =
-    one_of (same word (codes "@register")) (same word (codes "@cancel")) (same word (codes "@item")) (same word (codes "@tick"))
-    (same word (codes "@insert")) (same word (codes "@delete"))
-    (named (λ name. directive.Register name) fields) (named (λ name. directive.Cancel name) fields) (item_of fields)
-    (timed (λ time. directive.Tick time) fields) (alone directive.Insert fields) (alone directive.Delete fields)
-    (registered (option_and_then name_of (only fields))) (cancelled (option_and_then name_of (only fields))) (item_by (two fields))
-    (ticked (option_and_then time_of (only fields)) (only_within (only fields)))
+    one_of (bytes_eq word (codes "@register")) (bytes_eq word (codes "@cancel")) (bytes_eq word (codes "@item")) (bytes_eq word (codes "@tick"))
+    (bytes_eq word (codes "@insert")) (bytes_eq word (codes "@delete"))
+    (directive_with_name (λ name. directive.Register name) fields) (directive_with_name (λ name. directive.Cancel name) fields) (item_of_fields fields)
+    (directive_with_time (λ time. directive.Tick time) fields) (directive_alone directive.Insert fields) (directive_alone directive.Delete fields)
+    (registered (option_and_then name_of (only_field fields))) (cancelled (option_and_then name_of (only_field fields))) (item_by (two_fields fields))
+    (ticked (option_and_then time_of (only_field fields)) (only_within (only_field fields)))
     (choice (length fields == 0) (Some directive.Insert) None tt tt) (choice (length fields == 0) (Some directive.Delete) None tt tt)
 
 body_timed : (first : ℕ) (body : List (List ℕ)) (bad : List ℕ → Bool) (event_of : List (List ℕ) → Event)
-    → ((lines : List (List ℕ)) → IsInstant (event_of lines)) → IsTimed (of_body first body bad event_of)
+    → ((lines : List (List ℕ)) → IsInstant (event_of lines)) → IsTimed (content_of_body first body bad event_of)
 body_timed first body bad event_of h =
     elim (list_any bad (before_first is_end body)) as (λ v.
     IsTimed (if v then content.Fault (BadBody (first + 1 + position_or_len bad (before_first is_end body)))

@@ -1,5 +1,6 @@
--- What a reader keeps of a line and of a block that have begun: their bytes, as long as they are no more than a block may
--- have.
+-- Words of the way: what a reader keeps of a line and of a block that have begun.
+--
+-- It keeps their bytes, as long as they are no more than a block may have.
 use Rattle.std.specs.Prelude.{ℕ, nat_lt, if◌then◌else◌, List, [], ◌∷◌, map, length}
 use Rattle.std.specs.Str.Lines.{strip_carriage_return}
 use Rattle.rsp_events.specs.declared.begun.Ending.{Ending}

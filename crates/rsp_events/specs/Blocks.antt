@@ -1,15 +1,12 @@
--- The blocks of a whole text.
+-- Definitions: the blocks of a whole text.
 use Rattle.std.specs.Prelude.{◌≡◌, ℕ, zero, suc, ◌+◌, Bool, true, false, ◌||◌, not, nat_lt, if◌then◌else◌, List, [], ◌∷◌, length, filter, map}
 use Rattle.std.specs.List.{list_any, flat_map}
 use Rattle.rsp_events.specs.declared.event.Content.{Content}
 use Rattle.rsp_events.specs.declared.event.Content.TheVariants.{Fault}
 use Rattle.rsp_events.specs.declared.event.BlockFault.TheVariants.{BlockTooLarge}
 use Rattle.rsp_events.specs.declared.event.Block.{Block}
-use Rattle.rsp_events.specs.declared.begun.BegunLine.{BegunLine}
-use Rattle.rsp_events.specs.declared.begun.BegunBlock.{BegunBlock}
 use Rattle.rsp_events.specs.Lines.{Line, parts, log_lines, text_of, sizes_of, most_bytes, passes, begins_body, ends_body}
 use Rattle.rsp_events.specs.Contents.{content_of_texts}
-use Rattle.rsp_events.specs.Begun.{begun_line_of, begun_block_of}
 
 -- ---- groups of lines, one for each block
 
@@ -86,25 +83,5 @@ abbrev pub blocks : ℕ → List ℕ → List Block
 blocks document bytes = numbered_from document 1 (groups (log_lines bytes))
 
 -- the blocks whose last line has ended
-abbrev pub whole : ℕ → List ℕ → List Block
-whole document bytes = numbered_from document 1 (whole_groups (ended_lines bytes))
-
--- ---- a reader of pieces
-
--- what is kept of the line that has begun and of the block that has begun, how many lines have ended, the number of
--- the next block, and whether memory was refused
-pub record Reader : Type 0 where
-  pub document : ℕ
-  pub line : BegunLine
-  pub block : BegunBlock
-  pub lines : ℕ
-  pub number : ℕ
-  pub spent : Bool
-
--- the reader has read these bytes and given their whole blocks
-pub record HasRead (reader : Reader) (bytes : List ℕ) : Type 0 where
-  pub line : reader.line ≡ begun_line_of (begun_line bytes)
-  pub block : reader.block ≡ begun_block_of (begun_group (ended_lines bytes))
-  pub lines : reader.lines ≡ length (ended_lines bytes)
-  pub number : reader.number ≡ length (whole reader.document bytes) + 1
-  pub ready : reader.spent ≡ false
+abbrev pub whole_blocks : ℕ → List ℕ → List Block
+whole_blocks document bytes = numbered_from document 1 (whole_groups (ended_lines bytes))

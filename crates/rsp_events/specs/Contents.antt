@@ -1,5 +1,5 @@
--- What the lines of a block hold: the event, or the block's first fault.
-use Rattle.std.specs.Prelude.{◌≡◌, ℕ, ◌+◌, Bool, true, false, not, if◌then◌else◌, Option, None, Some, Ok, Err, Result, List, [], ◌∷◌, ◌++◌, length}
+-- Definitions: what the lines of a block hold: the event, or the block's first fault.
+use Rattle.std.specs.Prelude.{ℕ, ◌+◌, Bool, true, false, not, if◌then◌else◌, Option, None, Some, List, [], ◌∷◌, ◌++◌, length}
 use Rattle.std.specs.List.{before_first, flat_map, list_any, position_or_len}
 use Rattle.std.specs.Option.{is_some}
 use Rattle.std.specs.Str.{is_utf8}
@@ -20,14 +20,14 @@ use Rattle.rsp_events.specs.Lines.{is_end}
 -- ---- a line of statements (RDF 1.1 N-Quads, section 2)
 
 -- the quad that a line says; a blank line and a comment say none
-abbrev pub quad_said : Answer → List Quad
-quad_said nothing = []
-quad_said (statement quad) = quad ∷ []
-quad_said (bad_statement column) = []
-quad_said (relative_iri column) = []
+abbrev pub quads_in : Answer → List Quad
+quads_in nothing = []
+quads_in (statement quad) = quad ∷ []
+quads_in (bad_statement column) = []
+quads_in (relative_iri column) = []
 
 abbrev pub quad_on : ℕ → List ℕ → List Quad
-quad_on document line = quad_said (statement_of document line)
+quad_on document line = quads_in (statement_of document line)
 
 abbrev pub is_bad : Answer → Bool
 is_bad nothing = false
@@ -39,14 +39,14 @@ abbrev pub is_bad_quad : ℕ → List ℕ → Bool
 is_bad_quad document line = is_bad (statement_of document line)
 
 -- the same of the statements of an item, which have no graph
-abbrev pub triple_said : Answer → List Triple
-triple_said nothing = []
-triple_said (statement quad) = quad.triple ∷ []
-triple_said (bad_statement column) = []
-triple_said (relative_iri column) = []
+abbrev pub triples_in : Answer → List Triple
+triples_in nothing = []
+triples_in (statement quad) = quad.triple ∷ []
+triples_in (bad_statement column) = []
+triples_in (relative_iri column) = []
 
 abbrev pub triple_on : ℕ → List ℕ → List Triple
-triple_on document line = triple_said (statement_of document line)
+triple_on document line = triples_in (statement_of document line)
 
 abbrev pub is_bad_in_item : Answer → Bool
 is_bad_in_item nothing = false
@@ -69,8 +69,8 @@ is_bad_text line = not (is_utf8 line)
 
 -- a body, from the line behind the directive's, whose number is `first`: the event that its lines before `@end` are, or
 -- the number of the first bad one; where none is bad and `@end` is missing, the number of the line that would be it
-abbrev pub of_body : ℕ → List (List ℕ) → (List ℕ → Bool) → (List (List ℕ) → Event) → Content
-of_body first body bad event_of =
+abbrev pub content_of_body : ℕ → List (List ℕ) → (List ℕ → Bool) → (List (List ℕ) → Event) → Content
+content_of_body first body bad event_of =
     let lines = before_first is_end body in
     if list_any bad lines
     then content.Fault (BadBody (first + 1 + position_or_len bad lines))
@@ -81,15 +81,15 @@ of_body first body bad event_of =
 
 unfoldable pub content_of_directive : ℕ → ℕ → Directive → List (List ℕ) → Content
 content_of_directive document first (directive.Register name) body =
-    of_body first body is_bad_text (λ lines. event.Register name (flat_map with_line_feed lines))
+    content_of_body first body is_bad_text (λ lines. event.Register name (flat_map with_line_feed lines))
 content_of_directive document first (directive.Cancel name) body = content.Event (event.Cancel name)
 content_of_directive document first (directive.Item stream time) body =
-    of_body first body (is_bad_triple document) (λ lines. event.Item stream time (flat_map (triple_on document) lines))
+    content_of_body first body (is_bad_triple document) (λ lines. event.Item stream time (flat_map (triple_on document) lines))
 content_of_directive document first (directive.Tick time) body = content.Event (event.Tick time)
 content_of_directive document first directive.Insert body =
-    of_body first body (is_bad_quad document) (λ lines. event.Insert (flat_map (quad_on document) lines))
+    content_of_body first body (is_bad_quad document) (λ lines. event.Insert (flat_map (quad_on document) lines))
 content_of_directive document first directive.Delete body =
-    of_body first body (is_bad_quad document) (λ lines. event.Delete (flat_map (quad_on document) lines))
+    content_of_body first body (is_bad_quad document) (λ lines. event.Delete (flat_map (quad_on document) lines))
 
 abbrev pub content_by : ℕ → ℕ → Option Directive → List (List ℕ) → Content
 content_by document first None body = content.Fault BadDirective
@@ -99,8 +99,3 @@ content_by document first (Some directive) body = content_of_directive document 
 unfoldable pub content_of_texts : ℕ → ℕ → List (List ℕ) → Content
 content_of_texts document first [] = content.Fault BadDirective
 content_of_texts document first (head ∷ body) = content_by document first (directive_of head) body
-
--- ---- what reading some lines answers: all is good, or the place of the first bad line
-abbrev pub IsRead : {A : Type 0} → (List ℕ → Bool) → List (List ℕ) → A → Result A ℕ → Type 0
-IsRead bad lines value (Ok read) = (list_any bad lines ≡ false) × (read ≡ value)
-IsRead bad lines value (Err place) = (list_any bad lines ≡ true) × (place ≡ position_or_len bad lines)

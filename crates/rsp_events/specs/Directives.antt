@@ -1,7 +1,7 @@
--- The directives of the event log: what the first line of a block says.
+-- Definitions: the directives of the event log: what the first line of a block says.
 --
 -- A directive is UTF-8: words, names and times are ASCII, and an IRI is read by characters.
-use Rattle.std.specs.Prelude.{ℕ, Bool, ◌&&◌, ◌||◌, not, ◌==◌, nat_le, if◌then◌else◌, Option, None, Some, List, [], ◌∷◌, length, drop, filter, codes}
+use Rattle.std.specs.Prelude.{ℕ, Bool, ◌&&◌, ◌||◌, not, ◌==◌, nat_le, if◌then◌else◌, Option, None, Some, List, [], ◌∷◌, length, drop, filter, codes, bytes_eq}
 use Rattle.std.specs.Char.{is_ascii_alphanumeric}
 use Rattle.std.specs.List.{list_all, slice_split}
 use Rattle.std.specs.Option.{option_map, option_and_then, option_or}
@@ -11,7 +11,7 @@ use Rattle.rsp_text.specs.Instants.{instant}
 use Rattle.rsp_nquads.specs.Fields.{absolute_iri}
 use Rattle.rsp_events.specs.declared.directives.Directive.{Directive}
 use Rattle.rsp_events.specs.declared.directives.Directive.TheVariants.{Register, Cancel, Item, Tick, Insert, Delete}
-use Rattle.rsp_events.specs.Lines.{same, is_blank, first_field}
+use Rattle.rsp_events.specs.Lines.{is_blank, first_field}
 
 -- ---- fields
 
@@ -20,15 +20,15 @@ abbrev pub fields : List ℕ → List (List ℕ)
 fields text = filter (λ part. not (length part == 0)) (slice_split is_blank text)
 
 -- the one field, where there is one and no other
-abbrev pub only : List (List ℕ) → Option (List ℕ)
-only [] = None
-only (field ∷ []) = Some field
-only (field ∷ other ∷ more) = None
+abbrev pub only_field : List (List ℕ) → Option (List ℕ)
+only_field [] = None
+only_field (field ∷ []) = Some field
+only_field (field ∷ other ∷ more) = None
 
 -- the two fields
-abbrev pub two : List (List ℕ) → Option (List ℕ × List ℕ)
-two [] = None
-two (first ∷ more) = option_map (λ second. (first, second)) (only more)
+abbrev pub two_fields : List (List ℕ) → Option (List ℕ × List ℕ)
+two_fields [] = None
+two_fields (first ∷ more) = option_map (λ second. (first, second)) (only_field more)
 
 -- ---- names and times
 
@@ -54,33 +54,33 @@ time_of text = option_or (number_of text) (instant text)
 -- ---- directives, by the fields behind the first
 
 -- a name
-abbrev pub named : (List ℕ → Directive) → List (List ℕ) → Option Directive
-named directive fields = option_map directive (option_and_then name_of (only fields))
+abbrev pub directive_with_name : (List ℕ → Directive) → List (List ℕ) → Option Directive
+directive_with_name directive fields = option_map directive (option_and_then name_of (only_field fields))
 
 -- a time
-abbrev pub timed : (ℕ → Directive) → List (List ℕ) → Option Directive
-timed directive fields = option_map directive (option_and_then time_of (only fields))
+abbrev pub directive_with_time : (ℕ → Directive) → List (List ℕ) → Option Directive
+directive_with_time directive fields = option_map directive (option_and_then time_of (only_field fields))
 
 -- an absolute IRI and a time
-abbrev pub item : List ℕ → List ℕ → Option Directive
-item stream time = option_and_then (λ iri. option_map (λ at. Item iri at) (time_of time)) (absolute_iri stream)
+abbrev pub item_directive : List ℕ → List ℕ → Option Directive
+item_directive stream time = option_and_then (λ iri. option_map (λ at. Item iri at) (time_of time)) (absolute_iri stream)
 
-abbrev pub item_of : List (List ℕ) → Option Directive
-item_of fields = option_and_then (λ x. item x.0 x.1) (two fields)
+abbrev pub item_of_fields : List (List ℕ) → Option Directive
+item_of_fields fields = option_and_then (λ x. item_directive x.0 x.1) (two_fields fields)
 
 -- nothing
-abbrev pub alone : Directive → List (List ℕ) → Option Directive
-alone directive fields = if length fields == 0 then Some directive else None
+abbrev pub directive_alone : Directive → List (List ℕ) → Option Directive
+directive_alone directive fields = if length fields == 0 then Some directive else None
 
 -- by the first field
 unfoldable pub directive_by : List ℕ → List (List ℕ) → Option Directive
 directive_by word fields =
-    if same word (codes "@register") then named (λ name. Register name) fields
-    else (if same word (codes "@cancel") then named (λ name. Cancel name) fields
-    else (if same word (codes "@item") then item_of fields
-    else (if same word (codes "@tick") then timed (λ time. Tick time) fields
-    else (if same word (codes "@insert") then alone Insert fields
-    else (if same word (codes "@delete") then alone Delete fields else None)))))
+    if bytes_eq word (codes "@register") then directive_with_name (λ name. Register name) fields
+    else (if bytes_eq word (codes "@cancel") then directive_with_name (λ name. Cancel name) fields
+    else (if bytes_eq word (codes "@item") then item_of_fields fields
+    else (if bytes_eq word (codes "@tick") then directive_with_time (λ time. Tick time) fields
+    else (if bytes_eq word (codes "@insert") then directive_alone Insert fields
+    else (if bytes_eq word (codes "@delete") then directive_alone Delete fields else None)))))
 
 -- the directive of a line, where it is one; the first field begins at the line's first byte
 abbrev pub directive_of : List ℕ → Option Directive

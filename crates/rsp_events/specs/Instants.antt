@@ -1,4 +1,4 @@
--- Which events and blocks have a time that is an instant, up to the end of the year 9999.
+-- Definitions: which events and blocks have a time that is an instant, up to the end of the year 9999.
 use Rattle.std.specs.Prelude.{◌≤◌, List, [], ◌∷◌, ⊤}
 use Rattle.rsp_spec.specs.Windows.{last_instant}
 use Rattle.rsp_events.specs.declared.event.Event.{Event}

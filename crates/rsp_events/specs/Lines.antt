@@ -1,8 +1,7 @@
--- The lines of the event log, and which of them begin and end a block.
-use Rattle.std.specs.Prelude.{ℕ, ◌≢◌, ◌+◌, Bool, true, false, ◌&&◌, ◌||◌, not, ◌==◌, nat_lt, if◌then◌else◌, List, [], ◌∷◌, drop, length, codes, nat_eq, sum_by}
+-- Definitions: the lines of the event log, and which of them begin and end a block.
+use Rattle.std.specs.Prelude.{ℕ, ◌≢◌, ◌+◌, Bool, true, false, ◌&&◌, ◌||◌, not, ◌==◌, nat_lt, if◌then◌else◌, List, [], ◌∷◌, drop, length, codes, nat_eq, bytes_eq, sum_by}
 use Rattle.std.specs.List.{AllByRecursion, list_any, list_all, slice_split, starts_with, before_first}
 use Rattle.std.specs.Str.Lines.{strip_carriage_return}
-use Rattle.std.specs.Cmp.Lexicographic.{pointwise}
 
 -- a line: its number in the text, from 1, its bytes before the line feed, and whether a line feed ends it, which only
 -- the last line may lack
@@ -50,10 +49,6 @@ sizes_of lines = sum_by size_of lines
 abbrev pub is_long : Line → Bool
 is_long line = nat_lt most_bytes (length line.bytes)
 
--- the same bytes
-abbrev pub same : List ℕ → List ℕ → Bool
-same = pointwise nat_eq
-
 -- a space or a tab
 abbrev pub is_blank : ℕ → Bool
 is_blank c = (c == 32) || (c == 9)
@@ -70,7 +65,7 @@ first_field line = before_first is_blank line
 -- a directive that has a body
 unfoldable pub has_body : List ℕ → Bool
 has_body line =
-    list_any (λ directive. same directive (first_field line))
+    list_any (λ directive. bytes_eq directive (first_field line))
     (codes "@register" ∷ codes "@item" ∷ codes "@insert" ∷ codes "@delete" ∷ [])
 
 -- `@end`, and nothing but blanks behind it

@@ -1,12 +1,14 @@
--- What the reader does with a next line, and with some bytes. No public clause cites this: `Blocks` is the definition,
--- and the laws that join the two are proved.
+-- Words of the way: what the reader does with a next line, and with some bytes.
+--
+-- No public clause cites this: `Blocks` is the definition, and the laws that join the two are proved.
 use Rattle.std.specs.Prelude.{◌≡◌, ℕ, ◌+◌, if◌then◌else◌, List, [], ◌∷◌, ◌++◌, length}
 use Rattle.rsp_events.specs.declared.event.Block.{Block}
 use Rattle.rsp_events.specs.declared.begun.HeldLine.{HeldLine}
 use Rattle.rsp_events.specs.declared.blocks.Place.{Place}
 use Rattle.rsp_events.specs.declared.blocks.Place.TheVariants.{Passed, Inside, Last}
 use Rattle.rsp_events.specs.Lines.{Line, passes, begins_body, ends_body}
-use Rattle.rsp_events.specs.Blocks.{Reader, HasRead, numbered_from, whole}
+use Rattle.rsp_events.specs.Reader.{Reader, HasRead}
+use Rattle.rsp_events.specs.Blocks.{numbered_from, whole_blocks}
 use Rattle.rsp_events.specs.Begun.{begun_block_of, held_line_of}
 use Rattle.rsp_events.specs.Instants.{AllTimed}
 
@@ -47,5 +49,5 @@ pub record TakesLine (old : Reader) (held : HeldLine) (new : Reader) (given : Li
 pub record Reads (old : Reader) (piece : List ℕ) (new : Reader) (given : List Block) : Type 0 where
   pub document : new.document ≡ old.document
   pub read : (before : List ℕ) → HasRead old before → HasRead new (before ++ piece)
-  pub blocks : (before : List ℕ) → HasRead old before → whole old.document (before ++ piece) ≡ whole old.document before ++ given
+  pub blocks : (before : List ℕ) → HasRead old before → whole_blocks old.document (before ++ piece) ≡ whole_blocks old.document before ++ given
   pub timed : AllTimed given

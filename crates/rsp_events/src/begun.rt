@@ -17,14 +17,14 @@ const MOST_BYTES: usize = 16_777_216;
 /// Whether bytes are an `@end`: as the last line of a text, and as a line that a line feed ends, which drops a carriage
 /// return before it.
 #[derive(Clone, Copy)]
-pub struct Ending {
+pub(crate) struct Ending {
     pub last: bool,
     pub fed: bool,
 }
 
 /// The line that has begun: its bytes, or how it may end a body where they are more than a block may have.
 #[derive(Drop)]
-pub enum BegunLine {
+pub(crate) enum BegunLine {
     Kept(Listed<u8>),
     Long(Ending),
 }
@@ -32,7 +32,7 @@ pub enum BegunLine {
 /// A line that has come to its end: what it says and its bytes with the line feed, or whether it ends a body where it has
 /// more than a block may have.
 #[derive(Drop)]
-pub enum HeldLine {
+pub(crate) enum HeldLine {
     Kept(Listed<u8>, usize),
     Long(bool),
 }
@@ -40,7 +40,7 @@ pub enum HeldLine {
 /// The block that has begun: none, or its lines with the number of the first and the bytes of all, or one that has more
 /// than a block may have.
 #[derive(Drop)]
-pub enum BegunBlock {
+pub(crate) enum BegunBlock {
     Between,
     Within(u64, Listed<Listed<u8>>, usize),
     TooLarge,
@@ -49,7 +49,7 @@ pub enum BegunBlock {
 // ---- a line
 
 /// The line with these bytes behind it, of which none is a line feed. Fails only where memory is refused.
-pub fn lengthened(line: BegunLine, run: &[u8]) -> Result<BegunLine, AllocError>
+pub(crate) fn lengthened(line: BegunLine, run: &[u8]) -> Result<BegunLine, AllocError>
     ensures { IfOk result (λ new. (bytes : List ℕ) → begun_line_of bytes ≡ line → new ≡ begun_line_of (bytes ++ run.now)) }
 {
     match line {
@@ -122,7 +122,7 @@ fn both(first: bool, second: bool) -> bool
 }
 
 /// The line at its end, with a line feed behind it or none.
-pub fn held(line: BegunLine, ended: bool) -> HeldLine
+pub(crate) fn held(line: BegunLine, ended: bool) -> HeldLine
     ensures { (l : Line) → begun_line_of l.bytes ≡ line → l.ended ≡ ended → result ≡ held_line_of l }
 {
     match line {
@@ -163,7 +163,7 @@ fn ends(ending: Ending, ended: bool) -> bool
 // ---- a block
 
 /// The block with this line behind it, whose number is `number`. Fails only where memory is refused.
-pub fn grown(
+pub(crate) fn grown(
     alloc: Global,
     block: BegunBlock,
     line: HeldLine,

@@ -7,7 +7,8 @@ ghost use Rattle.rsp_events.specs.declared.blocks.Place.TheVariants as place;
 ghost use Rattle.std.specs.List.{position_or_len};
 ghost use Rattle.rsp_events.specs.Lines.{IsInLine, Line, ends_body, has_body, is_passed};
 ghost use Rattle.rsp_events.specs.Begun.{begun_block_of, held_line_of};
-ghost use Rattle.rsp_events.specs.Blocks.{HasRead, blocks, content_of, numbered_from, whole};
+ghost use Rattle.rsp_events.specs.Reader.{HasRead};
+ghost use Rattle.rsp_events.specs.Blocks.{begun_group, begun_line, blocks, ended_lines, content_of, numbered_from, whole_blocks};
 ghost use Rattle.rsp_events.specs.Instants.{AllTimed, IsTimed};
 ghost use Rattle.rsp_events.specs.Steps.{Reads, TakesLine, begun_groups, place_of};
 
@@ -35,7 +36,7 @@ pub struct Blocks {
 }
 
 impl Model for Blocks {
-    ghost use Rattle.rsp_events.specs.Blocks.{Reader};
+    ghost use Rattle.rsp_events.specs.Reader.{Reader};
 
     ghost Value = { Reader };
 
@@ -59,7 +60,8 @@ impl Blocks {
     pub fn new(alloc: Global, document: u32) -> Blocks
         ensures read { HasRead result [] }
         ensures document { result.document ≡ document }
-        ensures prefix { (before more : List ℕ) → (rest : List Block) × (blocks document (before ++ more) ≡ whole document before ++ rest) }
+        ensures prefix { (before more : List ℕ) → (rest : List Block)
+            × (blocks document (before ++ more) ≡ whole_blocks document before ++ rest) }
     {
         Blocks {
             document,
@@ -78,10 +80,10 @@ impl Blocks {
         ensures document { self.new.document ≡ self.old.document }
         ensures read { OnOk result ((before : List ℕ) → HasRead self.old before → HasRead self.new (before ++ piece.now)) }
         ensures given { IfOk result (λ given. (before : List ℕ) → HasRead self.old before
-            → whole self.old.document (before ++ piece.now) ≡ whole self.old.document before ++ given) }
+            → whole_blocks self.old.document (before ++ piece.now) ≡ whole_blocks self.old.document before ++ given) }
         ensures timed { IfOk result AllTimed }
         ensures prefix { (before more : List ℕ) → (rest : List Block)
-            × (blocks self.old.document (before ++ more) ≡ whole self.old.document before ++ rest) }
+            × (blocks self.old.document (before ++ more) ≡ whole_blocks self.old.document before ++ rest) }
         ensures spent { OnErr result (self.new.spent ≡ true) }
         ensures dead { self.old.spent ≡ true → IsErr result }
     {
@@ -101,11 +103,12 @@ impl Blocks {
     pub fn finish(&mut self) -> Result<Option<Block>, AllocError>
         ensures document { self.new.document ≡ self.old.document }
         ensures given { IfOk result (λ last. (before : List ℕ) → HasRead self.old before
-            → blocks self.old.document before ≡ whole self.old.document before ++ option_to_list last) }
+            → blocks self.old.document before ≡ whole_blocks self.old.document before ++ option_to_list last) }
         ensures timed { IfOk result (λ last. AllTimed (option_to_list last)) }
         ensures prefix { (before more : List ℕ) → (rest : List Block)
-            × (blocks self.old.document (before ++ more) ≡ whole self.old.document before ++ rest) }
-        ensures empty { self.old.spent ≡ false → self.old.line ≡ line.Kept [] → self.old.block ≡ begun.Between → result ≡ Ok None }
+            × (blocks self.old.document (before ++ more) ≡ whole_blocks self.old.document before ++ rest) }
+        ensures empty { (before : List ℕ) → HasRead self.old before → begun_line before ≡ []
+            → begun_group (ended_lines before) ≡ [] → result ≡ Ok None }
         ensures spent { self.new.spent ≡ true }
         ensures dead { self.old.spent ≡ true → IsErr result }
     {
@@ -121,7 +124,7 @@ impl Blocks {
         ensures document { self.new.document ≡ self.old.document }
         ensures empty { self.old.line ≡ line.Kept [] → self.old.block ≡ begun.Between → result ≡ Ok None }
         ensures ends { IfOk result (λ last. (before : List ℕ) → HasRead self.old before
-            → blocks self.old.document before ≡ whole self.old.document before ++ option_to_list last) }
+            → blocks self.old.document before ≡ whole_blocks self.old.document before ++ option_to_list last) }
         ensures timed { IfOk result (λ last. AllTimed (option_to_list last)) }
     {
         if self.is_between_lines() {
@@ -333,7 +336,8 @@ fn ends_body(line: &HeldLine) -> bool
 
 fn content_of(alloc: Global, document: u32, block: BegunBlock) -> Result<Content, AllocError>
     ensures timed { IfOk result IsTimed }
-    ensures value { IfOk result (λ content. (group : List Line) → begun_block_of group ≡ block → content ≡ content_of document group) }
+    ensures value { IfOk result (λ content. (group : List Line) → begun_block_of group ≡ block
+        → content ≡ content_of document group) }
 {
     match block {
         BegunBlock::Within(first, texts, _) => {

@@ -4,7 +4,7 @@ ghost use Rattle.std.specs.List.{before_first, flat_map, list_any, position_or_l
 ghost use Rattle.std.specs.Str.{is_utf8};
 ghost use Rattle.std.specs.String.{string_bytes};
 ghost use Rattle.rsp_events.specs.Contents as form;
-ghost use Rattle.rsp_events.specs.Contents.{IsRead};
+ghost use Rattle.rsp_events.specs.BodyLines.{IsRead};
 ghost use Rattle.rsp_events.specs.Lines as text;
 
 use crate::lines::is_end;
@@ -13,11 +13,13 @@ use rsp_terms::{Listed, Quad, Text, Triple};
 use std::alloc::{AllocError, Global};
 use std::str;
 
-/// The lines before `@end`, or all where there is none.
-pub fn before_end(body: &[Listed<u8>]) -> &[Listed<u8>]
-    ensures { result.now ≡ before_first text.is_end body.now }
+/// The lines before `@end`, or all where there is none; and whether there is one.
+pub(crate) fn before_end(body: &[Listed<u8>]) -> (&[Listed<u8>], bool)
+    ensures lines { result.0.now ≡ before_first text.is_end body.now }
+    ensures end { result.1 ≡ list_any text.is_end body.now }
 {
-    &body[..end_place(body)]
+    let end = end_place(body);
+    (&body[..end], end < body.len())
 }
 
 fn end_place(body: &[Listed<u8>]) -> usize
@@ -29,22 +31,16 @@ fn end_place(body: &[Listed<u8>]) -> usize
         .count()
 }
 
-/// Whether a body has its `@end`.
-pub fn has_end(body: &[Listed<u8>]) -> bool
-    ensures { result ≡ list_any text.is_end body.now }
-{
-    body.iter().any(|line| is_end(line.as_slice()))
-}
-
 // ---- statements
 
 /// The quads that the lines say, in order, or the place of the first line that is refused.
-pub fn quads_of(
+pub(crate) fn quads_of(
     alloc: Global,
     document: u32,
     lines: &[Listed<u8>],
 ) -> Result<Result<Listed<Quad>, usize>, AllocError>
-    ensures { IfOk result (λ read. IsRead (form.is_bad_quad document) lines.now (flat_map (form.quad_on document) lines.now) read) }
+    ensures { IfOk result (λ read.
+        IsRead (form.is_bad_quad document) lines.now (flat_map (form.quad_on document) lines.now) read) }
 {
     let mut quads = Listed::new(alloc);
     for (place, line) in lines.iter().enumerate() {
@@ -77,12 +73,13 @@ fn take_quad(
 }
 
 /// The triples of an item's lines, in order, or the place of the first line that is refused or has a graph.
-pub fn graph_of(
+pub(crate) fn graph_of(
     alloc: Global,
     document: u32,
     lines: &[Listed<u8>],
 ) -> Result<Result<Listed<Triple>, usize>, AllocError>
-    ensures { IfOk result (λ read. IsRead (form.is_bad_triple document) lines.now (flat_map (form.triple_on document) lines.now) read) }
+    ensures { IfOk result (λ read.
+        IsRead (form.is_bad_triple document) lines.now (flat_map (form.triple_on document) lines.now) read) }
 {
     let mut graph = Listed::new(alloc);
     for (place, line) in lines.iter().enumerate() {
@@ -118,7 +115,10 @@ fn take_triple(
 // ---- query text
 
 /// The lines as one text, each with a line feed behind it, or the place of the first line that isn't UTF-8.
-pub fn text_of(alloc: Global, lines: &[Listed<u8>]) -> Result<Result<Text, usize>, AllocError>
+pub(crate) fn text_of(
+    alloc: Global,
+    lines: &[Listed<u8>],
+) -> Result<Result<Text, usize>, AllocError>
     ensures { IfOk result (λ read. IsRead form.is_bad_text lines.now (flat_map form.with_line_feed lines.now) read) }
 {
     let mut text = String::new(alloc);

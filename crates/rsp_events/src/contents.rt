@@ -1,15 +1,14 @@
 // What the lines of a block hold: the event, or the block's first fault.
 ghost use Rattle.std.specs.Prelude.{◌≡◌, ◌+◌, IfOk, if◌then◌else◌, length};
-ghost use Rattle.std.specs.List.{flat_map, list_any};
+ghost use Rattle.std.specs.List.{flat_map};
 ghost use Rattle.rsp_events.specs.Contents as form;
 ghost use Rattle.rsp_events.specs.Contents.{content_of_texts};
 ghost use Rattle.rsp_events.specs.Instants.{IsTimed};
-ghost use Rattle.rsp_events.specs.Lines as text;
 ghost use Rattle.rsp_events.specs.declared.event.BlockFault.TheVariants.{BadBody};
 ghost use Rattle.rsp_events.specs.declared.event.Content.TheVariants as content;
 ghost use Rattle.rsp_events.specs.declared.event.Event.TheVariants as event;
 
-use crate::bodies::{before_end, graph_of, has_end, quads_of, text_of};
+use crate::bodies::{before_end, graph_of, quads_of, text_of};
 use crate::directives::{Directive, directive_of};
 use crate::{BlockFault, Content, Event};
 use rsp_terms::{Listed, Text};
@@ -18,7 +17,7 @@ use std::alloc::{AllocError, Global};
 /// The event of a block's lines, of which the first has this number in the text, or its first fault. Fails only where
 /// memory is refused, or the 64-bit number of a line would pass its last value.
 #[tactic(auto, unfolding(crate::specs::Contents::content_of_texts))]
-pub fn content_of_texts(
+pub(crate) fn content_of_texts(
     alloc: Global,
     document: u32,
     first: u64,
@@ -62,11 +61,12 @@ fn register(
     name: Text,
     body: &[Listed<u8>],
 ) -> Result<Content, AllocError>
-    ensures { IfOk result (λ content. content ≡ form.of_body first body.now form.is_bad_text
+    ensures { IfOk result (λ content. content ≡ form.content_of_body first body.now form.is_bad_text
         (λ lines. event.Register name (flat_map form.with_line_feed lines))) }
 {
-    match text_of(alloc, before_end(body))? {
-        Ok(text) => ended(first, body, Event::Register { name, text }),
+    let (lines, has_end) = before_end(body);
+    match text_of(alloc, lines)? {
+        Ok(text) => ended(first, body, has_end, Event::Register { name, text }),
         Err(place) => bad_line(first, place),
     }
 }
@@ -79,13 +79,15 @@ fn item(
     time: u64,
     body: &[Listed<u8>],
 ) -> Result<Content, AllocError>
-    ensures { IfOk result (λ content. content ≡ form.of_body first body.now (form.is_bad_triple document)
+    ensures { IfOk result (λ content. content ≡ form.content_of_body first body.now (form.is_bad_triple document)
         (λ lines. event.Item stream time (flat_map (form.triple_on document) lines))) }
 {
-    match graph_of(alloc, document, before_end(body))? {
+    let (lines, has_end) = before_end(body);
+    match graph_of(alloc, document, lines)? {
         Ok(graph) => ended(
             first,
             body,
+            has_end,
             Event::Item {
                 stream,
                 time,
@@ -102,11 +104,12 @@ fn insert(
     first: u64,
     body: &[Listed<u8>],
 ) -> Result<Content, AllocError>
-    ensures { IfOk result (λ content. content ≡ form.of_body first body.now (form.is_bad_quad document)
+    ensures { IfOk result (λ content. content ≡ form.content_of_body first body.now (form.is_bad_quad document)
         (λ lines. event.Insert (flat_map (form.quad_on document) lines))) }
 {
-    match quads_of(alloc, document, before_end(body))? {
-        Ok(quads) => ended(first, body, Event::Insert { quads }),
+    let (lines, has_end) = before_end(body);
+    match quads_of(alloc, document, lines)? {
+        Ok(quads) => ended(first, body, has_end, Event::Insert { quads }),
         Err(place) => bad_line(first, place),
     }
 }
@@ -117,21 +120,27 @@ fn delete(
     first: u64,
     body: &[Listed<u8>],
 ) -> Result<Content, AllocError>
-    ensures { IfOk result (λ content. content ≡ form.of_body first body.now (form.is_bad_quad document)
+    ensures { IfOk result (λ content. content ≡ form.content_of_body first body.now (form.is_bad_quad document)
         (λ lines. event.Delete (flat_map (form.quad_on document) lines))) }
 {
-    match quads_of(alloc, document, before_end(body))? {
-        Ok(quads) => ended(first, body, Event::Delete { quads }),
+    let (lines, has_end) = before_end(body);
+    match quads_of(alloc, document, lines)? {
+        Ok(quads) => ended(first, body, has_end, Event::Delete { quads }),
         Err(place) => bad_line(first, place),
     }
 }
 
 // the event of a body without a bad line, where the body has its `@end`
-fn ended(first: u64, body: &[Listed<u8>], event: Event) -> Result<Content, AllocError>
-    ensures { IfOk result (λ made. made ≡ (if list_any text.is_end body.now
+fn ended(
+    first: u64,
+    body: &[Listed<u8>],
+    has_end: bool,
+    event: Event,
+) -> Result<Content, AllocError>
+    ensures { IfOk result (λ made. made ≡ (if has_end
         then content.Event event else content.Fault (BadBody (first + 1 + length body.now)))) }
 {
-    if has_end(body) {
+    if has_end {
         return Ok(Content::Event(event));
     }
     bad_line(first, body.len())

@@ -11,7 +11,7 @@ use std::alloc::{AllocError, Global};
 
 /// What a block does, by its first line.
 #[derive(Drop)]
-pub enum Directive {
+pub(crate) enum Directive {
     Register { name: Text },
     Cancel { name: Text },
     Item { stream: Text, time: u64 },
@@ -21,7 +21,7 @@ pub enum Directive {
 }
 
 /// The directive of a line, where it is one. Fails only where memory is refused.
-pub fn directive_of(alloc: Global, line: &[u8]) -> Result<Option<Directive>, AllocError>
+pub(crate) fn directive_of(alloc: Global, line: &[u8]) -> Result<Option<Directive>, AllocError>
     ensures { IfOk result (λ directive. directive ≡ form.directive_of line.now) }
 {
     let word = first_field(line);
@@ -54,7 +54,7 @@ fn directive_by(alloc: Global, word: &[u8], behind: &[u8]) -> Result<Option<Dire
 }
 
 fn register(alloc: Global, behind: &[u8]) -> Result<Option<Directive>, AllocError>
-    ensures { IfOk result (λ directive. directive ≡ form.named (λ name. Register name) (form.fields behind.now)) }
+    ensures { IfOk result (λ directive. directive ≡ form.directive_with_name (λ name. Register name) (form.fields behind.now)) }
 {
     let Some(field) = only_field(behind) else {
         return Ok(None);
@@ -66,7 +66,7 @@ fn register(alloc: Global, behind: &[u8]) -> Result<Option<Directive>, AllocErro
 }
 
 fn cancel(alloc: Global, behind: &[u8]) -> Result<Option<Directive>, AllocError>
-    ensures { IfOk result (λ directive. directive ≡ form.named (λ name. Cancel name) (form.fields behind.now)) }
+    ensures { IfOk result (λ directive. directive ≡ form.directive_with_name (λ name. Cancel name) (form.fields behind.now)) }
 {
     let Some(field) = only_field(behind) else {
         return Ok(None);
@@ -78,7 +78,7 @@ fn cancel(alloc: Global, behind: &[u8]) -> Result<Option<Directive>, AllocError>
 }
 
 fn item_of(alloc: Global, behind: &[u8]) -> Result<Option<Directive>, AllocError>
-    ensures { IfOk result (λ directive. directive ≡ form.item_of (form.fields behind.now)) }
+    ensures { IfOk result (λ directive. directive ≡ form.item_of_fields (form.fields behind.now)) }
 {
     let Some((stream, time)) = two_fields(behind) else {
         return Ok(None);
@@ -87,7 +87,7 @@ fn item_of(alloc: Global, behind: &[u8]) -> Result<Option<Directive>, AllocError
 }
 
 fn item(alloc: Global, stream: &[u8], time: &[u8]) -> Result<Option<Directive>, AllocError>
-    ensures { IfOk result (λ directive. directive ≡ form.item stream.now time.now) }
+    ensures { IfOk result (λ directive. directive ≡ form.item_directive stream.now time.now) }
 {
     let Some(stream) = absolute_iri(alloc, stream)? else {
         return Ok(None);
@@ -99,7 +99,7 @@ fn item(alloc: Global, stream: &[u8], time: &[u8]) -> Result<Option<Directive>, 
 }
 
 fn tick(behind: &[u8]) -> Option<Directive>
-    ensures { result ≡ form.timed (λ time. Tick time) (form.fields behind.now) }
+    ensures { result ≡ form.directive_with_time (λ time. Tick time) (form.fields behind.now) }
 {
     let field = only_field(behind)?;
     let time = time_of(field)?;
@@ -108,7 +108,7 @@ fn tick(behind: &[u8]) -> Option<Directive>
 
 // a directive without further fields
 fn alone(directive: Directive, behind: &[u8]) -> Option<Directive>
-    ensures { result ≡ form.alone directive (form.fields behind.now) }
+    ensures { result ≡ form.directive_alone directive (form.fields behind.now) }
 {
     if has_fields(behind) {
         None

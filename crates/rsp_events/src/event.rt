@@ -1,5 +1,6 @@
 // Events and blocks.
 use rsp_terms::{Listed, Quad, Text, Triple};
+use thiserror::Error;
 
 /// What the engine works off, one at a time.
 #[derive(Drop)]
@@ -34,14 +35,17 @@ pub enum Event {
 }
 
 /// Why a block is no event. They are tested in this order.
-#[derive(Clone, Copy, PartialEq, Eq, Debug)]
+#[derive(Clone, Copy, PartialEq, Eq, Debug, Error)]
 pub enum BlockFault {
     /// The block has more than 16,777,216 bytes.
+    #[error("a block of more than 16,777,216 bytes")]
     BlockTooLarge,
     /// The first line is no directive.
+    #[error("no directive")]
     BadDirective,
     /// A line of the body is refused, or its `@end` is missing; `line` is the number of the first such line in the text,
     /// from 1.
+    #[error("bad body: line {line}")]
     BadBody { line: u64 },
 }
 

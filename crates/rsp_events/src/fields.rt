@@ -17,7 +17,7 @@ const LAST_INSTANT: u64 = 253_402_300_799_999;
 // ---- fields
 
 /// Whether a text has a field.
-pub fn has_fields(text: &[u8]) -> bool
+pub(crate) fn has_fields(text: &[u8]) -> bool
     ensures { result ≡ not (length (form.fields text.now) == 0) }
 {
     match next_field(text) {
@@ -27,8 +27,9 @@ pub fn has_fields(text: &[u8]) -> bool
 }
 
 /// The field of a text that has one and no other.
-pub fn only_field(text: &[u8]) -> Option<&[u8]>
-    ensures { MatchOption result (form.only (form.fields text.now) ≡ None) (λ field. form.only (form.fields text.now) ≡ Some field.now) }
+pub(crate) fn only_field(text: &[u8]) -> Option<&[u8]>
+    ensures { MatchOption result (form.only_field (form.fields text.now) ≡ None)
+        (λ field. form.only_field (form.fields text.now) ≡ Some field.now) }
 {
     let (field, behind) = next_field(text)?;
     match next_field(behind) {
@@ -38,9 +39,9 @@ pub fn only_field(text: &[u8]) -> Option<&[u8]>
 }
 
 /// The fields of a text that has two.
-pub fn two_fields(text: &[u8]) -> Option<(&[u8], &[u8])>
-    ensures { MatchOption result (form.two (form.fields text.now) ≡ None)
-        (λ x. form.two (form.fields text.now) ≡ Some (x.0.now, x.1.now)) }
+pub(crate) fn two_fields(text: &[u8]) -> Option<(&[u8], &[u8])>
+    ensures { MatchOption result (form.two_fields (form.fields text.now) ≡ None)
+        (λ x. form.two_fields (form.fields text.now) ≡ Some (x.0.now, x.1.now)) }
 {
     let (first, behind) = next_field(text)?;
     let second = only_field(behind)?;
@@ -76,7 +77,7 @@ fn blanks(text: &[u8]) -> usize
 // ---- names and times
 
 /// The text of a query's name: 1 to 64 letters, digits, `_` and `-`.
-pub fn name_of(alloc: Global, field: &[u8]) -> Result<Option<Text>, AllocError>
+pub(crate) fn name_of(alloc: Global, field: &[u8]) -> Result<Option<Text>, AllocError>
     ensures { IfOk result (λ name. name ≡ form.name_of field.now) }
 {
     if !is_name(field) {
@@ -120,7 +121,7 @@ fn ascii_text(alloc: Global, bytes: &[u8]) -> Result<Text, AllocError>
 
 /// A time in ms since 1970, as a number or as a date and time (XML Schema Part 2, section 3.2.7), up to the end of the
 /// year 9999.
-pub fn time_of(field: &[u8]) -> Option<u64>
+pub(crate) fn time_of(field: &[u8]) -> Option<u64>
     ensures { result ≡ form.time_of field.now }
 {
     match number_of(field) {

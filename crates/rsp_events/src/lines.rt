@@ -1,17 +1,17 @@
 // Lines: which are passed over, which have a body, which end one.
-ghost use Rattle.std.specs.Prelude.{◌≡◌, ◌≤◌, length};
+ghost use Rattle.std.specs.Prelude.{◌≡◌, ◌≤◌, bytes_eq, length};
 ghost use Rattle.std.specs.List.{list_all, position_or_len};
 ghost use Rattle.rsp_events.specs.Lines as text;
 
 /// Whether these are the same bytes.
-pub fn same(left: &[u8], right: &[u8]) -> bool
-    ensures { result ≡ text.same left.now right.now }
+pub(crate) fn same(left: &[u8], right: &[u8]) -> bool
+    ensures { result ≡ bytes_eq left.now right.now }
 {
     left == right
 }
 
 /// Whether a character is a space or a tab.
-pub fn is_blank(c: u8) -> bool
+pub(crate) fn is_blank(c: u8) -> bool
     ensures { result ≡ text.is_blank c }
 {
     c == b' ' || c == b'\t'
@@ -25,7 +25,7 @@ fn all_blank(line: &[u8]) -> bool
 
 /// Whether a line is passed over between blocks.
 #[tactic(auto, unfolding(crate::specs::Lines::is_passed))]
-pub fn is_passed(line: &[u8]) -> bool
+pub(crate) fn is_passed(line: &[u8]) -> bool
     ensures { result ≡ text.is_passed line.now }
 {
     let Some((first, _)) = line.split_first() else {
@@ -39,7 +39,7 @@ pub fn is_passed(line: &[u8]) -> bool
 
 /// Whether a line is a directive that has a body.
 #[tactic(auto, unfolding(crate::specs::Lines::has_body))]
-pub fn has_body(line: &[u8]) -> bool
+pub(crate) fn has_body(line: &[u8]) -> bool
     ensures { result ≡ text.has_body line.now }
 {
     let directive = first_field(line);
@@ -56,7 +56,7 @@ pub fn has_body(line: &[u8]) -> bool
 }
 
 /// What stands before the first blank of a line.
-pub fn first_field(line: &[u8]) -> &[u8]
+pub(crate) fn first_field(line: &[u8]) -> &[u8]
     ensures { result.now ≡ text.first_field line.now }
 {
     let end = first_blank(line);
@@ -64,7 +64,7 @@ pub fn first_field(line: &[u8]) -> &[u8]
 }
 
 /// Where the first blank stands, or the line's length.
-pub fn first_blank(line: &[u8]) -> usize
+pub(crate) fn first_blank(line: &[u8]) -> usize
     ensures place { result ≡ position_or_len text.is_blank line.now }
     ensures bound { result ≤ length line.now }
 {
@@ -73,7 +73,7 @@ pub fn first_blank(line: &[u8]) -> usize
 
 /// Whether a line ends a body.
 #[tactic(auto, unfolding(crate::specs::Lines::is_end))]
-pub fn is_end(line: &[u8]) -> bool
+pub(crate) fn is_end(line: &[u8]) -> bool
     ensures { result ≡ text.is_end line.now }
 {
     if !line.starts_with(b"@end") {

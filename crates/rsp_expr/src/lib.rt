@@ -6,11 +6,22 @@
 #![tactic(auto)]
 
 mod aggregate;
+mod comparing;
+mod concatenation;
+mod evaluation;
 mod expression;
 mod function;
+mod functions;
+mod literals;
+mod operand;
+mod order;
 mod slot;
+mod texts;
 
 pub use aggregate::{Aggregate, Kind};
+pub use evaluation::{truth, value};
 pub use expression::Expression;
 pub use function::{Function, Sign};
+pub use order::compare_terms;
+pub use rsp_literals::{number_of, term_of};
 pub use slot::Slot;

@@ -1,3 +1,4 @@
+// The numbers of calls, and which of them fail.
 ghost use Rattle.std.specs.Prelude.{◌≡◌};
 ghost use Rattle.rsp_io.specs.Objects.{is_listed, one_more};
 

@@ -1,3 +1,4 @@
+// The one error of reads, writes and picks.
 ghost use Rattle.std.specs.Prelude.{Some, codes};
 
 use std::error::Error;

@@ -1,3 +1,4 @@
+// Files in memory, by name.
 ghost use Rattle.std.specs.Prelude.{◌≡◌, [], Some, None, IsTrue, IsFalse, MatchOption, is_some, min, length, take, drop};
 ghost use Rattle.rsp_io.specs.Files.{file_named, named_files, first_bytes, picked_bytes};
 

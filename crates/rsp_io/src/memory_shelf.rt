@@ -1,3 +1,4 @@
+// A shelf in memory whose calls fail as listed.
 ghost use Rattle.std.specs.Prelude.{◌≡◌, ◌<◌, ◌≤◌, ◌||◌, [], Some, IfOk, is_err, is_none, min, length};
 ghost use Rattle.rsp_spec.specs.Faults.{HasCause};
 ghost use Rattle.rsp_io.specs.Reading.{ReadTakes, GivenRises};

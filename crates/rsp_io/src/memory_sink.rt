@@ -1,3 +1,4 @@
+// A sink in memory whose calls fail as listed.
 ghost use Rattle.std.specs.Prelude.{◌≡◌, ◌<◌, ◌≤◌, ◌==◌, ◌||◌, [], Some, IfOk, IsOk, is_err, min, length};
 ghost use Rattle.rsp_spec.specs.Faults.{HasCause};
 ghost use Rattle.rsp_io.specs.Writing.{WriteAppends, RoomFalls};

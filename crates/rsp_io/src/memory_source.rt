@@ -1,3 +1,4 @@
+// A source in memory whose calls fail as listed.
 ghost use Rattle.std.specs.Prelude.{◌≡◌, ◌<◌, ◌≤◌, Some, IfOk, is_err, min, length};
 ghost use Rattle.rsp_spec.specs.Faults.{HasCause};
 ghost use Rattle.rsp_io.specs.Reading.{ReadTakes, GivenRises};

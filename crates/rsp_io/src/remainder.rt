@@ -1,3 +1,4 @@
+// Bytes that are handed out from the front.
 ghost use Rattle.std.specs.Prelude.{◌≡◌, min, length, take, drop};
 
 use crate::portion::hand_out;

@@ -1,3 +1,4 @@
+// Bytes that are appended to reserved memory.
 ghost use Rattle.std.specs.Prelude.{◌≡◌, ◌+◌, ◌++◌, ◌<◌, [], IfOk, IsOk, min, length, take};
 
 use std::alloc::{AllocError, Global};

@@ -1,3 +1,4 @@
+// Shelves.
 ghost use Rattle.std.specs.Prelude.{◌≡◌, IsTrue};
 ghost use Rattle.rsp_spec.specs.Faults.{HasCause};
 ghost use Rattle.rsp_io.specs.Files.{PickFinds, FailsForName};

@@ -1,3 +1,4 @@
+// Sources.
 ghost use Rattle.std.specs.Prelude.{◌≡◌, ◌<◌, ◌≤◌, ℕ, List, Bool, Option, None, IfOk, IsOk, IsTrue, length};
 ghost use Rattle.rsp_spec.specs.Faults.{HasCause};
 ghost use Rattle.rsp_io.specs.Reading.{ReadTakes, GivenRises};

@@ -1,4 +1,4 @@
-//! The trusted edge: standard input and output, of which nothing is told but counts.
+// The trusted edge: standard input and output, of which nothing is told but counts.
 ghost use Rattle.std.specs.Prelude.{◌≡◌, ◌<◌, ◌≤◌, ℕ, None, IfOk, IfSome, OnErr, length};
 ghost use Rattle.std.specs.Io.KnownBytes.{ReadConsumes, WriteAppends as TakesKnown};
 ghost use Rattle.rsp_spec.specs.Faults.{HasCause};

@@ -1,3 +1,4 @@
+// A shelf in memory that is sure.
 ghost use Rattle.std.specs.Prelude.{◌≡◌, ◌<◌, ◌≤◌, [], Some, Ok, is_ok, is_some, min, length};
 ghost use Rattle.rsp_spec.specs.Faults.{HasCause};
 ghost use Rattle.rsp_io.specs.Reading.{ReadTakes, GivenRises};

@@ -1,3 +1,4 @@
+// A sink in memory that tells its room.
 ghost use Rattle.std.specs.Prelude.{◌≡◌, ◌<◌, ◌≤◌, [], Some, IfOk, IsOk, MatchResult, min, length};
 ghost use Rattle.rsp_spec.specs.Faults.{HasCause};
 ghost use Rattle.rsp_io.specs.Writing.{WriteAppends, RoomFalls};

@@ -1,3 +1,4 @@
+// A source in memory that is sure.
 ghost use Rattle.std.specs.Prelude.{◌≡◌, ◌<◌, ◌≤◌, Some, Ok, min, length};
 ghost use Rattle.rsp_io.specs.Reading.{ReadTakes, GivenRises};
 

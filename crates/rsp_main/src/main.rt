@@ -5,11 +5,13 @@
 #![tactic(auto)]
 
 ghost use Rattle.std.specs.Prelude.{◌≡◌, ◌<◌};
+ghost use Rattle.std.specs.Process.{exit_status};
+ghost use Rattle.rsp_call.specs.Statuses.{code_of};
 
-use rsp_call::{Status, rsp};
+use rsp_call::{Status, rsp, words_behind_name};
 use rsp_io::{StdSink, StdSource, SteadyShelf};
 use rsp_steps::Steps;
-use rsp_terms::Text;
+use rsp_terms::{Listed, Text};
 use std::alloc::{AllocError, Global};
 use std::marker::Brand;
 use std::process::ExitCode;
@@ -18,7 +20,13 @@ use std::sync::ledger::{Blank, Ledger};
 use std::{env, io};
 
 fn main(rt: HostRuntime) -> ExitCode {
-    ExitCode::from(run::<HostRuntime, Brand>(&rt, Blank::new(1)) as u8)
+    exit_code(run::<HostRuntime, Brand>(&rt, Blank::new(1)))
+}
+
+fn exit_code(status: Status) -> ExitCode
+    ensures { exit_status result ≡ code_of status }
+{
+    ExitCode::from(status.code())
 }
 
 // Makes the words and the objects over the runtime, and works.
@@ -28,7 +36,7 @@ fn run<R: Input + Print + Env + AllocGlobal, L: Ledger>(rt: &R, blank: Blank) ->
     requires some { 0 < blank.parts }
 {
     let mut steps: Steps<L> = Steps::new(blank);
-    let Ok(words) = given_words(rt) else {
+    let Ok(words) = words_of(rt) else {
         return Status::OutOfMemory;
     };
     let mut input = StdSource::new(rt);
@@ -45,15 +53,10 @@ fn run<R: Input + Print + Env + AllocGlobal, L: Ledger>(rt: &R, blank: Blank) ->
 }
 
 // The command line's words without the program's name. Words that can't be read, as where one isn't text, are none.
-fn given_words<R: Env + AllocGlobal>(rt: &R) -> Result<Vec<Text>, AllocError> {
-    let mut words = Vec::new(rt.alloc());
-    let given = match env::args(rt) {
-        Ok(given) => given,
-        Err(error) if error.kind() == io::ErrorKind::OutOfMemory => return Err(AllocError),
-        Err(_) => return Ok(words),
-    };
-    for word in given.skip(1) {
-        words.push(Text::new(rt.alloc(), word.as_str())?)?;
+fn words_of<R: Env + AllocGlobal>(rt: &R) -> Result<Listed<Text>, AllocError> {
+    match env::args(rt) {
+        Ok(line) => words_behind_name(rt.alloc(), line),
+        Err(error) if error.kind() == io::ErrorKind::OutOfMemory => Err(AllocError),
+        Err(_) => Ok(Listed::new(rt.alloc())),
     }
-    Ok(words)
 }

@@ -2,7 +2,7 @@
 use Rattle.std.proofs.Common.{◌≡◌, Bool, true, false, ◌||◌, List, [], ◌∷◌, ◌++◌, ℤ, pos, ◌+ℤ◌, ◌≤ℤ◌, ◌<ℤ◌, refl, sym, true≢false, arith}
 use Rattle.std.specs.List.{list_any}
 use Rattle.std.proofs.lemmas.Int.{ints}
-use Rattle.rsp_multiset.specs.Weights.{only, weight, times, negated, IsChanged, IsSameMultiset, Holds}
+use Rattle.rsp_multiset.specs.Weights.{only, weight, times, negation, IsChanged, IsSameMultiset, Holds}
 use Rattle.rsp_multiset.proofs.Held.{weight-append, weight-negated}
 use Rattle.rsp_multiset.proofs.Linear.{entries_of, weight-entries_of}
 use Rattle.rsp_multiset.proofs.Sums.{sum_z-append}
@@ -46,9 +46,9 @@ module _ {E : Type 0} (eq : E → E → Bool) where
   changed-alike xs xs' ys ys' es ds h k w change q = let a = h q in let b = k q in let c = w q in let d = change q in omega (arith, ints)
 
   -- one list taken out and another put in
-  pub changed-whole : (xs ys : List E) → IsChanged eq xs (negated (entries_of xs) ++ entries_of ys) ys
+  pub changed-whole : (xs ys : List E) → IsChanged eq xs (negation (entries_of xs) ++ entries_of ys) ys
   changed-whole xs ys q =
-      let a = weight-append eq (negated (entries_of xs)) (entries_of ys) q in
+      let a = weight-append eq (negation (entries_of xs)) (entries_of ys) q in
       let b = weight-negated eq (entries_of xs) q in
       let c = weight-entries_of eq xs q in
       let d = weight-entries_of eq ys q in

@@ -9,7 +9,7 @@ use Rattle.std.proofs.lemmas.List.Elements.{All-from_recursion, recursion_from_A
 use Rattle.std.proofs.lemmas.Map.{NonePasses, lookup-none}
 use Rattle.std.proofs.lemmas.Map.Entries.{none_past_head}
 use Rattle.std.proofs.lemmas.Option.{none-some, slice_get_within, get_or_from_slice_get}
-use Rattle.rsp_multiset.specs.Weights.{only, weight, negated, AreChanges}
+use Rattle.rsp_multiset.specs.Weights.{only, weight, negation, AreChanges}
 
 head_or_rest : (b : Bool) (n w : ℤ) (rest : Option ℤ) → (b ≡ true → w ≡ pos 0) → (b ≡ false → w ≡ unwrap_or rest (pos 0)) → only b n +ℤ w ≡ unwrap_or (cond b (Some n) rest) (pos 0)
 head_or_rest true n w rest h k = let z = h refl in omega (arith, ints)
@@ -31,7 +31,7 @@ module _ {E : Type 0} (eq : E → E → Bool) where
   only-neg true n = refl
   only-neg false n = refl
 
-  pub weight-negated : (es : List (E × ℤ)) (q : E) → weight eq (negated es) q ≡ neg_ℤ (weight eq es q)
+  pub weight-negated : (es : List (E × ℤ)) (q : E) → weight eq (negation es) q ≡ neg_ℤ (weight eq es q)
   weight-negated [] q = refl
   weight-negated (e ∷ es) q = let h = weight-negated es q in let k = only-neg (eq q e.0) e.1 in omega (arith, ints)
 
@@ -91,20 +91,20 @@ pub drop_here : {X : Type 0} (xs : List X) (i : ℕ) (x : X) → slice_get xs i 
 drop_here xs i x h = drop-cons xs i x (slice_get_within xs i x h) ∙ (λ j. get_or_from_slice_get xs i x x h j ∷ drop (sym (add-one i) j) xs)
 
 module _ {E : Type 0} (eq : E → E → Bool) where
-  keys-negated : (es : List (E × ℤ)) → keys_of (negated es) ≡ keys_of es
+  keys-negated : (es : List (E × ℤ)) → keys_of (negation es) ≡ keys_of es
   keys-negated [] = refl
   keys-negated (e ∷ es) = (λ i. e.0 ∷ keys-negated es i)
 
   zero-negated : (n : ℤ) → neg_ℤ n ≡ pos 0 → n ≡ pos 0
   zero-negated n h = omega (arith, ints)
 
-  counted-negated : (es : List (E × ℤ)) → AllByRecursion (λ (e : E × ℤ). e.1 ≢ pos 0) es → AllByRecursion (λ (e : E × ℤ). e.1 ≢ pos 0) (negated es)
+  counted-negated : (es : List (E × ℤ)) → AllByRecursion (λ (e : E × ℤ). e.1 ≢ pos 0) es → AllByRecursion (λ (e : E × ℤ). e.1 ≢ pos 0) (negation es)
   counted-negated [] h = tt
   counted-negated (e ∷ es) h = (λ z. h.0 (zero-negated e.1 z), counted-negated es h.1)
 
-  pub changes-negated : (es : List (E × ℤ)) → AreChanges eq es → AreChanges eq (negated es)
+  pub changes-negated : (es : List (E × ℤ)) → AreChanges eq es → AreChanges eq (negation es)
   changes-negated es c =
       record {
         distinct = subst (IsDistinct eq) (sym (keys-negated es)) c.distinct;
-        counted = All-from_recursion (λ (e : E × ℤ). e.1 ≢ pos 0) (negated es) (counted-negated es (recursion_from_All (λ (e : E × ℤ). e.1 ≢ pos 0) es c.counted));
+        counted = All-from_recursion (λ (e : E × ℤ). e.1 ≢ pos 0) (negation es) (counted-negated es (recursion_from_All (λ (e : E × ℤ). e.1 ≢ pos 0) es c.counted));
       }

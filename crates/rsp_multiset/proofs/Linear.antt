@@ -2,7 +2,7 @@
 use Rattle.std.proofs.Common.{◌≡◌, ◌≤◌, ℕ, zero, suc, Bool, true, false, not, cond, List, [], ◌∷◌, ◌++◌, ℤ, pos, ◌+ℤ◌, ◌*ℤ◌, neg_ℤ, length, map, filter, refl, sym, ap, subst, ◌∙◌, arith, Decides}
 use Rattle.std.proofs.lemmas.Int.{ints}
 use Rattle.std.proofs.Math.IntN.{zero-*ℤ}
-use Rattle.rsp_multiset.specs.Weights.{sum_z, only, weight, total, times, negated, cardinality, IsChanged}
+use Rattle.rsp_multiset.specs.Weights.{sum_z, only, weight, total, times, negation, cardinality, IsChanged}
 use Rattle.rsp_multiset.proofs.Whole.{+ℤ-*ℤ, neg-*ℤ, one-*ℤ, times-one}
 use Rattle.rsp_multiset.proofs.Held.{weight-append, weight-negated}
 use Rattle.rsp_multiset.proofs.Sums.{sum_z-append, sum_z-alike, length-sum}
@@ -15,7 +15,7 @@ module _ {E : Type 0} where
   pub total-append : (f : E → ℤ) (es ds : List (E × ℤ)) → total f (es ++ ds) ≡ total f es +ℤ total f ds
   total-append f = sum_z-append (λ e. e.1 *ℤ f e.0)
 
-  pub total-negated : (f : E → ℤ) (es : List (E × ℤ)) → total f (negated es) ≡ neg_ℤ (total f es)
+  pub total-negated : (f : E → ℤ) (es : List (E × ℤ)) → total f (negation es) ≡ neg_ℤ (total f es)
   total-negated f [] = refl
   total-negated f (e ∷ es) = let h = total-negated f es in let k = neg-*ℤ e.1 (f e.0) in omega (arith, ints)
 
@@ -106,16 +106,16 @@ module _ {E : Type 0} {eq : E → E → Bool} (same : (x y : E) → Decides (eq 
 
   pub total-same : (f : E → ℤ) (es ds : List (E × ℤ)) → ((q : E) → weight eq es q ≡ weight eq ds q) → total f es ≡ total f ds
   total-same f es ds alike =
-      let none : (q : E) → weight eq (es ++ negated ds) q ≡ pos 0 = λ q. weight-append eq es (negated ds) q ∙ (let a = alike q in let b = weight-negated eq ds q in omega (arith, ints)) in
-      let zero = zero-total f (length (es ++ negated ds)) (es ++ negated ds) (omega arith) none in
-      let split = total-append f es (negated ds) in
+      let none : (q : E) → weight eq (es ++ negation ds) q ≡ pos 0 = λ q. weight-append eq es (negation ds) q ∙ (let a = alike q in let b = weight-negated eq ds q in omega (arith, ints)) in
+      let zero = zero-total f (length (es ++ negation ds)) (es ++ negation ds) (omega arith) none in
+      let split = total-append f es (negation ds) in
       let turn = total-negated f ds in
       omega (arith, ints)
 
   pub sum-changed : (f : E → ℤ) (before after : List E) (es : List (E × ℤ)) → IsChanged eq before es after → sum_z f after ≡ sum_z f before +ℤ total f es
-  sum-changed f before after es changed =
+  sum-changed f before after es changed_rows =
       sym (total-entries_of f after)
-      ∙ total-same f (entries_of after) (entries_of before ++ es) (λ q. weight-entries_of eq after q ∙ changed q ∙ ap (λ s. s +ℤ weight eq es q) (sym (weight-entries_of eq before q)) ∙ sym (weight-append eq (entries_of before) es q))
+      ∙ total-same f (entries_of after) (entries_of before ++ es) (λ q. weight-entries_of eq after q ∙ changed_rows q ∙ ap (λ s. s +ℤ weight eq es q) (sym (weight-entries_of eq before q)) ∙ sym (weight-append eq (entries_of before) es q))
       ∙ total-append f (entries_of before) es
       ∙ ap (λ s. s +ℤ total f es) (total-entries_of f before)
 

@@ -1,7 +1,7 @@
 -- A renaming of values that keeps apart what was apart changes no answer about rows, and no weight.
 use Rattle.std.proofs.Common.{◌≡◌, Bool, ◌&&◌, ◌||◌, List, [], ◌∷◌, ℤ, pos, ◌+ℤ◌, Option, Some, None, is_some, map, refl}
 use Rattle.std.specs.Option.{option_map, option_eq}
-use Rattle.rsp_multiset.specs.Rows.{Cells, row_eq, fits, compatible, shares, bound_in_either, merged}
+use Rattle.rsp_multiset.specs.Rows.{Cells, row_eq, fits, compatible, shares, bound_in_either, merge}
 use Rattle.rsp_multiset.specs.Weights.{only, weight, times}
 
 module _ {V W : Type 0} where
@@ -27,7 +27,7 @@ module _ {V W : Type 0} where
   bound_renamed f None y = refl
   bound_renamed f (Some x) y = refl
 
-  pub merged-renamed : (f : V → W) (a b : Cells V) → merged (renamed f a) (renamed f b) ≡ renamed f (merged a b)
+  pub merged-renamed : (f : V → W) (a b : Cells V) → merge (renamed f a) (renamed f b) ≡ renamed f (merge a b)
   merged-renamed f [] b = refl
   merged-renamed f (x ∷ a) [] = refl
   merged-renamed f (x ∷ a) (y ∷ b) = (λ i. bound_renamed f x y i ∷ merged-renamed f a b i)

@@ -43,8 +43,8 @@ pub record AreChanges {E : Type 0} (eq : E → E → Bool) (entries : List (E ×
   pub counted : All (λ (e : E × ℤ). e.1 ≢ pos 0) entries
 
 -- the change that takes the entries' change back
-abbrev pub negated : {E : Type 0} → List (E × ℤ) → List (E × ℤ)
-negated {E} entries = map {B = E × ℤ} (λ e. (e.0, neg_ℤ e.1)) entries
+abbrev pub negation : {E : Type 0} → List (E × ℤ) → List (E × ℤ)
+negation {E} entries = map {B = E × ℤ} (λ e. (e.0, neg_ℤ e.1)) entries
 
 -- n where it is above 0, else 0
 abbrev pub above : ℤ → ℤ

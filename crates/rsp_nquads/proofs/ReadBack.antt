@@ -13,7 +13,7 @@ use Rattle.rsp_spec.proofs.Truths.{equal_from}
 use Rattle.rsp_terms.specs.declared.term.Term.{Term}
 use Rattle.rsp_terms.specs.declared.term.Term.TheVariants.{Iri, Blank, Literal, Tagged}
 use Rattle.rsp_terms.specs.declared.statement.Quad.{Quad}
-use Rattle.rsp_terms.specs.Terms.{xsd_string, escaped_byte, escaped_text, iri_text, string_text, printed}
+use Rattle.rsp_terms.specs.Terms.{xsd_string, escaped_byte, escaped_text, iri_text, string_text, term_text}
 use Rattle.rsp_terms.specs.Characters.{is_iri_character, is_tag_text}
 use Rattle.rsp_scan.specs.Fronts.{accepts}
 use Rattle.rsp_scan.specs.declared.enclosed.Quote.TheVariants.{Double}
@@ -224,7 +224,7 @@ qualified qualifier s q after lexical name string_is is = record {
   name_is = at_front qualifier q after name is;
 }
 
-literal_written : (part rest after : List ℕ) (term : Term) → IsLiteral part rest term → IsLiteral (printed term) (32 ∷ after) term
+literal_written : (part rest after : List ℕ) (term : Term) → IsLiteral part rest term → IsLiteral (term_text term) (32 ∷ after) term
 literal_written part rest after (Iri name) e = absurd e
 literal_written part rest after (Blank number name) e = absurd e
 literal_written part rest after (Literal lexical name) e = by (bytes_eq name xsd_string) refl e
@@ -248,20 +248,20 @@ literal_written part rest after (Tagged lexical language) q =
     (tag_written q.name_is.part rest language after q.name_is.is)
 
 node_written : (d document : ℕ) (part rest after : List ℕ) (term : Term) → IsNotBlank term → IsNode d part rest term
-    → IsNode document (printed term) after term
+    → IsNode document (term_text term) after term
 node_written d document part rest after (Iri name) no_blank e = iri_written part name e
 node_written d document part rest after (Blank number name) no_blank e = absurd no_blank
 node_written d document part rest after (Literal lexical name) no_blank e = absurd e
 node_written d document part rest after (Tagged lexical language) no_blank e = absurd e
 
-iri_term_written : (part rest after : List ℕ) (term : Term) → IsIriTerm part rest term → IsIriTerm (printed term) after term
+iri_term_written : (part rest after : List ℕ) (term : Term) → IsIriTerm part rest term → IsIriTerm (term_text term) after term
 iri_term_written part rest after (Iri name) e = iri_written part name e
 iri_term_written part rest after (Blank number name) e = absurd e
 iri_term_written part rest after (Literal lexical name) e = absurd e
 iri_term_written part rest after (Tagged lexical language) e = absurd e
 
 object_written : (d document : ℕ) (part rest after : List ℕ) (term : Term) → IsNotBlank term → IsObject d part rest term
-    → IsObject document (printed term) (32 ∷ after) term
+    → IsObject document (term_text term) (32 ∷ after) term
 object_written d document part rest after term no_blank (inl e) = inl (node_written d document part rest (32 ∷ after) term no_blank e)
 object_written d document part rest after term no_blank (inr e) = inr (literal_written part rest after term e)
 
@@ -274,13 +274,13 @@ record Tail (graph : Option Term) : Type 0 where
 
 tail_of : (graph : Option Term) → Tail graph
 tail_of None = record { after = codes "."; is = refl }
-tail_of (Some name) = record { after = printed name ++ codes " ."; is = refl }
+tail_of (Some name) = record { after = term_text name ++ codes " ."; is = refl }
 
 graph_written : (d document : ℕ) (text rest : List ℕ) (graph : Option Term) → IsNotBlankIn graph → IsGraph d text rest graph
     → IsGraph document (graph_text graph ++ codes " .") (codes " .") graph
 graph_written d document text rest None no_blank e = refl
 graph_written d document text rest (Some name) no_blank e =
-    behind_space (IsNode document) (printed name) (codes " .") name (node_written d document e.part rest (codes " .") name no_blank e.is)
+    behind_space (IsNode document) (term_text name) (codes " .") name (node_written d document e.part rest (codes " .") name no_blank e.is)
 
 pub read_back : (d document : ℕ) (line : List ℕ) (quad : Quad) → Says d line quad → HasNoBlank quad → Says document (line_of quad) quad
 read_back d document line quad h no_blank =
@@ -288,17 +288,17 @@ read_back d document line quad h no_blank =
     let s = h.statement in
     record {
       statement = record {
-        after_subject = codes " " ++ (printed quad.triple.predicate ++ (codes " " ++ (printed quad.triple.object ++ (graph_text quad.graph ++ codes " ."))));
-        after_predicate = codes " " ++ (printed quad.triple.object ++ (graph_text quad.graph ++ codes " ."));
+        after_subject = codes " " ++ (term_text quad.triple.predicate ++ (codes " " ++ (term_text quad.triple.object ++ (graph_text quad.graph ++ codes " ."))));
+        after_predicate = codes " " ++ (term_text quad.triple.object ++ (graph_text quad.graph ++ codes " ."));
         after_object = graph_text quad.graph ++ codes " .";
         after_graph = codes " .";
         after_dot = [];
-        subject = at_front (IsNode document) (printed quad.triple.subject) (codes " " ++ (printed quad.triple.predicate ++ (codes " " ++ (printed quad.triple.object ++ (graph_text quad.graph ++ codes " ."))))) quad.triple.subject
-            (node_written d document s.subject.part s.after_subject (codes " " ++ (printed quad.triple.predicate ++ (codes " " ++ (printed quad.triple.object ++ (graph_text quad.graph ++ codes " ."))))) quad.triple.subject no_blank.0 s.subject.is);
-        predicate = behind_space IsIriTerm (printed quad.triple.predicate) (codes " " ++ (printed quad.triple.object ++ (graph_text quad.graph ++ codes " ."))) quad.triple.predicate
-            (iri_term_written s.predicate.part s.after_predicate (codes " " ++ (printed quad.triple.object ++ (graph_text quad.graph ++ codes " ."))) quad.triple.predicate s.predicate.is);
-        object = behind_space (IsObject document) (printed quad.triple.object) (graph_text quad.graph ++ codes " .") quad.triple.object
-            (subst (λ r. IsObject document (printed quad.triple.object) r quad.triple.object) (sym tail.is)
+        subject = at_front (IsNode document) (term_text quad.triple.subject) (codes " " ++ (term_text quad.triple.predicate ++ (codes " " ++ (term_text quad.triple.object ++ (graph_text quad.graph ++ codes " ."))))) quad.triple.subject
+            (node_written d document s.subject.part s.after_subject (codes " " ++ (term_text quad.triple.predicate ++ (codes " " ++ (term_text quad.triple.object ++ (graph_text quad.graph ++ codes " ."))))) quad.triple.subject no_blank.0 s.subject.is);
+        predicate = behind_space IsIriTerm (term_text quad.triple.predicate) (codes " " ++ (term_text quad.triple.object ++ (graph_text quad.graph ++ codes " ."))) quad.triple.predicate
+            (iri_term_written s.predicate.part s.after_predicate (codes " " ++ (term_text quad.triple.object ++ (graph_text quad.graph ++ codes " ."))) quad.triple.predicate s.predicate.is);
+        object = behind_space (IsObject document) (term_text quad.triple.object) (graph_text quad.graph ++ codes " .") quad.triple.object
+            (subst (λ r. IsObject document (term_text quad.triple.object) r quad.triple.object) (sym tail.is)
             (object_written d document s.object.part s.after_object tail.after quad.triple.object no_blank.1 s.object.is));
         graph = graph_written d document s.after_object s.after_graph quad.graph no_blank.2 s.graph;
         dot = record { blanks = 32 ∷ []; part = codes "."; are_blanks = refl; text_is = refl; is = refl };

@@ -3,17 +3,17 @@ use Rattle.std.specs.Prelude.{ℕ, ⊤, Option, None, Some, List, [], ◌++◌, 
 use Rattle.rsp_terms.specs.declared.term.Term.{Term}
 use Rattle.rsp_terms.specs.declared.term.Term.TheVariants.{Blank}
 use Rattle.rsp_terms.specs.declared.statement.Quad.{Quad}
-use Rattle.rsp_terms.specs.Terms.{printed}
+use Rattle.rsp_terms.specs.Terms.{term_text}
 
 -- the graph, where one is named, behind a space
 abbrev pub graph_text : Option Term → List ℕ
 graph_text None = []
-graph_text (Some name) = codes " " ++ printed name
+graph_text (Some name) = codes " " ++ term_text name
 
 -- the printed parts with one space between, and ` .`
 abbrev pub line_of : Quad → List ℕ
 line_of quad =
-    printed quad.triple.subject ++ (codes " " ++ (printed quad.triple.predicate ++ (codes " " ++ (printed quad.triple.object
+    term_text quad.triple.subject ++ (codes " " ++ (term_text quad.triple.predicate ++ (codes " " ++ (term_text quad.triple.object
     ++ (graph_text quad.graph ++ codes " .")))))
 
 abbrev pub IsNotBlank : Term → Type 0

@@ -1,6 +1,6 @@
 // Quads as lines.
 ghost use Rattle.std.specs.Prelude.{◌≡◌, ℕ, List, ◌++◌, ◌∷◌, [], OnOk, OnErr};
-ghost use Rattle.rsp_terms.specs.Terms.{printed};
+ghost use Rattle.rsp_terms.specs.Terms.{term_text};
 ghost use Rattle.rsp_nquads.specs.Answers.{statement};
 ghost use Rattle.rsp_nquads.specs.Statements.{statement_of};
 ghost use Rattle.rsp_nquads.specs.Writing.{line_of, graph_text, HasNoBlank};
@@ -42,7 +42,7 @@ fn push_line(quad: &Quad, out: &mut Vec<u8>) -> Result<(), AllocError>
 
 // a term and what stands behind it
 fn push_then(term: &Term, behind: &[u8], out: &mut Vec<u8>) -> Result<(), AllocError>
-    ensures ok { OnOk result (out.new.items ≡ out.old.items ++ (printed term.now ++ behind.now)) }
+    ensures ok { OnOk result (out.new.items ≡ out.old.items ++ (term_text term.now ++ behind.now)) }
     ensures begun { (rest : _) × (out.new.items ≡ out.old.items ++ rest) }
 {
     print(term, out)?;

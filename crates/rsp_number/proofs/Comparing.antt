@@ -1,12 +1,13 @@
 -- The order of fractions is that of their units.
 use Rattle.std.specs.Prelude.{◌≡◌, ℕ, ◌+◌, ◌*◌, ◌^◌, ◌<◌, ◌≤◌, true, false, ℤ, pos, ◌*ℤ◌, ◌<ℤ◌, ◌≤ℤ◌, int_lt, refl}
+use Rattle.std.specs.Cmp.{IsTotalOrder, int_cmp_total}
 use Rattle.std.specs.Ordering.{int_cmp}
 use Rattle.std.proofs.Common.{sym, ◌∙◌, ap, arith}
 use Rattle.std.proofs.lemmas.Int.{ints, by_lt_z}
 use Rattle.std.proofs.lemmas.Nat.{mul-le}
 use Rattle.std.proofs.Math.Nat.{mul_comm, add-mul, one-mul}
 use borrow.Author.Differences.{up, down}
-use Rattle.rsp_number.specs.Numbers.{value_of}
+use Rattle.rsp_number.specs.Numbers.{value_of, comparison}
 use Rattle.rsp_number.specs.declared.number.Number.{Number}
 use Rattle.rsp_number.specs.declared.number.Number.TheVariants.{Integer, Decimal}
 use Rattle.rsp_number.proofs.Shortest.{power-above-zero}
@@ -69,3 +70,36 @@ order-by-units m n u v d e first second left right =
     side u m d e is =
         sym (times-times u d e) ∙ ap (λ z. z *ℤ pos e) is ∙ times-times m (10 ^ 18) e
         ∙ ap (λ k. m *ℤ pos k) (mul_comm (10 ^ 18) e) ∙ sym (times-times m e (10 ^ 18))
+
+-- ---- the order is total: any three numbers compare as they do over one denominator
+
+exchange : (z : ℤ) (j k : ℕ) → (z *ℤ pos j) *ℤ pos k ≡ (z *ℤ pos k) *ℤ pos j
+exchange z j k = times-times z j k ∙ ap (λ n. z *ℤ pos n) (mul_comm j k) ∙ sym (times-times z k j)
+
+-- the numerator of the first over the denominators of all three
+abbrev over_all : Number → Number → Number → ℤ
+over_all x y z =
+    ((value_of x).numerator *ℤ pos (value_of y).denominator) *ℤ pos (value_of z).denominator
+
+first-second : (x y z : Number) → comparison x y ≡ int_cmp (over_all x y z) (over_all y x z)
+first-second x y z = sym (scaled-order _ _ _ (denominator-above-zero z))
+
+second-third : (x y z : Number) → comparison y z ≡ int_cmp (over_all y x z) (over_all z x y)
+second-third x y z =
+    first-second y z x
+    ∙ (λ i. int_cmp (exchange (value_of y).numerator (value_of z).denominator (value_of x).denominator i)
+    (exchange (value_of z).numerator (value_of y).denominator (value_of x).denominator i))
+
+first-third : (x y z : Number) → comparison x z ≡ int_cmp (over_all x y z) (over_all z x y)
+first-third x y z =
+    first-second x z y
+    ∙ (λ i. int_cmp (exchange (value_of x).numerator (value_of z).denominator (value_of y).denominator i) (over_all z x y))
+
+pub compared-total : IsTotalOrder comparison
+compared-total = record {
+  antisymm = λ x y. int_cmp_total.antisymm ((value_of x).numerator *ℤ pos (value_of y).denominator) ((value_of y).numerator *ℤ pos (value_of x).denominator);
+  trans = λ x y z below above.
+      first-third x y z ∙ int_cmp_total.trans (over_all x y z) (over_all y x z) (over_all z x y) (sym (first-second x y z) ∙ below) (sym (second-third x y z) ∙ above);
+  congr = λ x y z same.
+      first-third x y z ∙ int_cmp_total.congr (over_all x y z) (over_all y x z) (over_all z x y) (sym (first-second x y z) ∙ same) ∙ sym (second-third x y z);
+}

@@ -1,4 +1,4 @@
-//! The four operations: the exact value, cut toward zero where it is a decimal.
+// The four operations: the exact value, cut toward zero where it is a decimal.
 
 ghost use Rattle.std.specs.Prelude.{◌≡◌, ◌<◌, ◌*◌, false};
 ghost use Rattle.rsp_number.specs.Decimals.{fit};

@@ -1,4 +1,4 @@
-//! Decimals: a coefficient of at most 2^63 - 1 in size over a power of ten, with at most 18 digits after the point.
+// Decimals: a coefficient of at most 2^63 - 1 in size over a power of ten, with at most 18 digits after the point.
 
 ghost use Rattle.std.specs.Prelude.{◌≡◌, ◌≤◌, ◌^◌, ◌-◌, ◌*◌, ◌*ℤ◌, neg_ℤ, pos, unsigned_abs};
 ghost use Rattle.rsp_number.specs.Decimals.{largest, most_digits, shortest_form, IsDecimal};

@@ -1,4 +1,4 @@
-//! The parts of a written number.
+// The parts of a written number.
 
 ghost use Rattle.std.specs.Prelude.{◌≡◌, ◌≤◌, ◌+◌, length, take, drop};
 ghost use Rattle.rsp_number.specs.Texts.{is_negative, without_sign, are_digits, before_point, behind_point};

@@ -1,4 +1,4 @@
-//! The decimal that a fraction is cut to, by long division.
+// The decimal that a fraction is cut to, by long division.
 
 ghost use Rattle.std.specs.Prelude.{◌≡◌, ◌≤◌, ◌<◌, ◌*◌, ◌^◌};
 ghost use Rattle.rsp_number.specs.Decimals.{fit, fit_size, IsFitOf};

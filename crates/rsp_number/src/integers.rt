@@ -1,4 +1,4 @@
-//! Integers from -(2^63 - 1) to 2^63 - 1.
+// Integers from -(2^63 - 1) to 2^63 - 1.
 
 ghost use Rattle.std.specs.Prelude.{◌≡◌, ◌≤◌, ◌^◌, ◌+ℤ◌, ◌-ℤ◌, ◌*ℤ◌, ℤ, neg_ℤ, pos, unsigned_abs};
 ghost use Rattle.rsp_number.specs.Decimals.{largest, integer_in_range, with_sign, is_below_zero};

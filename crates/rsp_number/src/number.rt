@@ -1,4 +1,4 @@
-//! Numbers of both kinds.
+// Numbers of both kinds.
 
 ghost use Rattle.std.specs.Prelude.{◌≡◌, ◌≤◌, ◌^◌, unsigned_abs};
 ghost use Rattle.rsp_number.specs.Decimals.{largest};

@@ -1,4 +1,4 @@
-//! The order of numbers by their values.
+// The order of numbers by their values.
 
 ghost use Rattle.std.specs.Prelude.{◌≡◌};
 ghost use Rattle.rsp_number.specs.Numbers.{comparison};

@@ -1,4 +1,4 @@
-//! What a text reads as.
+// What a text reads as.
 
 ghost use Rattle.std.specs.Prelude.{◌≡◌};
 ghost use Rattle.rsp_number.specs.Texts.{read_integer, read_decimal, value_or_beyond, IsReadExactly};

@@ -1,4 +1,4 @@
-//! What gives a number of the same kind: negation, size and rounding to a whole number. It always exists.
+// What gives a number of the same kind: negation, size and rounding to a whole number. It always exists.
 
 ghost use Rattle.std.specs.Prelude.{◌≡◌, ◌≤◌, unsigned_abs};
 ghost use Rattle.rsp_number.specs.Decimals.{largest};

@@ -1,4 +1,4 @@
-//! Sums in units of 10^-18 that are wider than 128 bits: the whole part and the fraction are kept apart.
+// Sums in units of 10^-18 that are wider than 128 bits: the whole part and the fraction are kept apart.
 
 ghost use Rattle.std.specs.Prelude.{◌≡◌, ◌≤◌, ◌<◌, ◌*◌, ◌^◌, ◌+ℤ◌, ◌*ℤ◌, ℤ, neg_ℤ, pos, int_div, unsigned_abs};
 ghost use Rattle.rsp_number.specs.Decimals.{largest, integer_in_range, fit};

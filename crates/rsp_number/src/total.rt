@@ -1,4 +1,4 @@
-//! Sums of many numbers, exact whatever is taken in and given back.
+// Sums of many numbers, exact whatever is taken in and given back.
 
 ghost use Rattle.std.specs.Prelude.{◌≡◌, ◌≤◌, ◌+◌, ◌*◌, ◌^◌, unsigned_abs};
 ghost use Rattle.rsp_number.specs.Decimals.{largest};

@@ -1,4 +1,4 @@
-//! Whole numbers of 128 bits, for the numerators of exact values.
+// Whole numbers of 128 bits, for the numerators of exact values.
 
 ghost use Rattle.std.specs.Prelude.{◌≡◌, ◌≤◌, ◌<◌, ◌*◌, ◌^◌, ◌+◌, ◌+ℤ◌, ◌*ℤ◌, ℤ, neg_ℤ, pos, cond, unsigned_abs};
 ghost use Rattle.std.specs.Int.{int_div_euclid, int_rem_euclid};

@@ -1,4 +1,4 @@
-//! The numbers that digits write.
+// The numbers that digits write.
 
 ghost use Rattle.std.specs.Prelude.{◌≡◌, ◌≤◌, ◌++◌, Bool, true, ℕ, length, SomeIff};
 ghost use Rattle.rsp_number.specs.Decimals.{largest, integer_in_range, with_sign, shortest_form};

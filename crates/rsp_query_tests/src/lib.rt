@@ -1,8 +1,12 @@
-//! Tests of the parts of queries by tables of cases: tokens.
+//! Tests of the parts of queries by tables of cases: expressions and tokens.
 //!
 //! The values were taken from the standards and worked out by hand, and not from the program. Nothing stands on this
 //! crate.
 #![tactic(auto)]
 
+#[cfg(test)]
+mod expressions;
+#[cfg(test)]
+mod notation;
 #[cfg(test)]
 mod tokens;

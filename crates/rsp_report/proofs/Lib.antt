@@ -1,0 +1,4 @@
+pub mod Searching
+pub mod Membership
+pub mod Unseen
+pub mod PolicyRows

@@ -1,0 +1,5 @@
+-- Definitions: what a reader must believe
+pub mod Policies
+pub mod Due
+-- Words of the way: they link the code to the definitions
+pub mod Searches

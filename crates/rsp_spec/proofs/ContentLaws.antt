@@ -6,7 +6,7 @@ use Rattle.std.proofs.Common.{arith, inl, inr}
 use Rattle.std.proofs.Math.Nat.{mul-le-mul_right}
 use Rattle.std.proofs.lemmas.Bool.{cases_lt}
 use Rattle.std.proofs.lemmas.Bool.Decides.{nat_tests}
-use Rattle.rsp_spec.specs.Windows.{Shape, opening, active, in_content, IsActive, IsNeeded}
+use Rattle.rsp_spec.specs.Windows.{Shape, opening, active_window, in_content, IsActive, IsNeeded}
 use Rattle.rsp_spec.proofs.WindowLaws.{is_active}
 
 opens_no_later : (w : Shape) (k j : ℕ) → k ≤ j → opening w k ≤ opening w j
@@ -33,4 +33,4 @@ content_by_active w t time (Some k) slide is = (
 
 -- in the content at t: not after t, and needed at t
 pub in_content_is : (w : Shape) (t time : ℕ) → 1 ≤ w.slide → Decides (in_content w t time) ((time ≤ t) × IsNeeded w time t)
-in_content_is w t time slide = content_by_active w t time (active w t) slide (is_active w t slide)
+in_content_is w t time slide = content_by_active w t time (active_window w t) slide (is_active w t slide)

@@ -7,7 +7,7 @@ use Rattle.std.proofs.lemmas.Bool.{cases_lt}
 use Rattle.std.proofs.Math.Nat.{le-mul_of_pos_right}
 use Rattle.std.proofs.lemmas.Grind.{common_steps}
 use Rattle.std.proofs.lemmas.Bool.Decides.{nat_tests}
-use Rattle.rsp_spec.specs.Windows.{Shape, opening, closing, contains, active, closes_at, IsActive}
+use Rattle.rsp_spec.specs.Windows.{Shape, opening, closing, contains, active_window, closes_at, IsActive}
 
 -- each window opens 1 ms or more after the one before
 opens_later : (w : Shape) (k : ℕ) → 1 ≤ w.slide → k ≤ opening w k
@@ -42,8 +42,8 @@ least_of_all w t None slide none = λ k. elim (cases_lt k t) [
 least_of_all w t (Some least) slide is = (is.0, λ k below. is.1 k (omega arith) below)
 
 -- the search meets the relation
-pub is_active : (w : Shape) (t : ℕ) → 1 ≤ w.slide → IsActive w t (active w t)
-is_active w t slide = least_of_all w t (active w t) slide (found_is_least (λ k. contains w k t) 0 t t (omega arith))
+pub is_active : (w : Shape) (t : ℕ) → 1 ≤ w.slide → IsActive w t (active_window w t)
+is_active w t slide = least_of_all w t (active_window w t) slide (found_is_least (λ k. contains w k t) 0 t t (omega arith))
 
 -- no two answers meet the relation
 same_active : (w : Shape) (t : ℕ) (r s : Option ℕ) → IsActive w t r → IsActive w t s → r ≡ s
@@ -54,8 +54,8 @@ same_active w t (Some k) (Some j) r s =
     let same : k ≡ j = grind (arith, r.0, s.0, r.1 j, s.1 k) in ap (λ n. Some n) same
 
 -- so it gives what meets the relation
-pub active_is : (w : Shape) (t : ℕ) (r : Option ℕ) → 1 ≤ w.slide → IsActive w t r → active w t ≡ r
-active_is w t r slide is = same_active w t (active w t) r (is_active w t slide) is
+pub active_is : (w : Shape) (t : ℕ) (r : Option ℕ) → 1 ≤ w.slide → IsActive w t r → active_window w t ≡ r
+active_is w t r slide is = same_active w t (active_window w t) r (is_active w t slide) is
 
 any_at : (p : ℕ → Bool) (a n k : ℕ) → a ≤ k → k < a + n → p k ≡ true → list_any p (range_with_len a n) ≡ true
 any_at p a zero k low high passes = grind arith

@@ -1,6 +1,6 @@
 -- Worked instants of small windows.
 use Rattle.std.specs.Prelude.{◌≡◌, refl, true, false, None, Some}
-use Rattle.rsp_spec.specs.Windows.{Shape, active, closes_at}
+use Rattle.rsp_spec.specs.Windows.{Shape, active_window, closes_at}
 
 -- (0, 10], (5, 15], (10, 20], ..
 abbrev pub overlapping : Shape
@@ -11,14 +11,14 @@ abbrev pub apart : Shape
 apart = record { width = 2; slide = 5; origin = 0 }
 
 -- the first opening itself is in no window
-pub opening_is_outside : active overlapping 0 ≡ None
+pub opening_is_outside : active_window overlapping 0 ≡ None
 opening_is_outside = refl
 
 -- of two windows that contain an instant, the earlier; a closing is still inside
-pub closing_is_inside : active overlapping 10 ≡ Some 0
+pub closing_is_inside : active_window overlapping 10 ≡ Some 0
 closing_is_inside = refl
 
-pub after_closing : active overlapping 11 ≡ Some 1
+pub after_closing : active_window overlapping 11 ≡ Some 1
 after_closing = refl
 
 -- window 0 opens at 0 and closes first at 10
@@ -28,5 +28,5 @@ no_closing_at_opening = refl
 pub second_closing : closes_at overlapping 15 ≡ true
 second_closing = refl
 
-pub between_windows : active apart 3 ≡ None
+pub between_windows : active_window apart 3 ≡ None
 between_windows = refl

@@ -34,8 +34,8 @@ abbrev pub contains : Shape → ℕ → ℕ → Bool
 contains w k t = nat_lt (opening w k) t && nat_le t (closing w k)
 
 -- the least k whose window contains t; no window from t on does, since each opens 1 ms or more after the one before
-abbrev pub active : Shape → ℕ → Option ℕ
-active w t = find (λ k. contains w k t) (range_with_len 0 t)
+abbrev pub active_window : Shape → ℕ → Option ℕ
+active_window w t = find (λ k. contains w k t) (range_with_len 0 t)
 
 -- some window closes at t
 abbrev pub closes_at : Shape → ℕ → Bool
@@ -48,7 +48,7 @@ IsActive w t (Some least) = (contains w least t ≡ true) × ((k : ℕ) → k < 
 
 -- an item of this time is in the content at t: it came after the active window had opened, and not after t
 abbrev pub in_content : Shape → ℕ → ℕ → Bool
-in_content w t time = option_map_or (λ k. nat_lt (opening w k) time && nat_le time t) (active w t) false
+in_content w t time = option_map_or (λ k. nat_lt (opening w k) time && nat_le time t) (active_window w t) false
 
 -- a closing at `from` or later, and no closing from there on is before it
 pub record IsNextClosing (w : Shape) (from next : ℕ) : Type 0 where

@@ -5,12 +5,12 @@ use Rattle.std.specs.Ordering.{nat_cmp, is_gt}
 use Rattle.std.specs.Cmp.Lexicographic.{slice_cmp}
 use Rattle.rsp_multiset.specs.Rows.{Cells}
 use Rattle.rsp_terms.specs.declared.term.Term.{Term}
-use Rattle.rsp_terms.specs.Terms.{printed}
+use Rattle.rsp_terms.specs.Terms.{term_text}
 
 -- the printed term; an unbound variable has no text
 abbrev pub cell_text : Option Term → List ℕ
 cell_text None = []
-cell_text (Some term) = printed term
+cell_text (Some term) = term_text term
 
 -- the texts of the cells, with tabs between
 abbrev pub row_text : Cells Term → List ℕ

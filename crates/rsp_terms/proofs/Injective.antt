@@ -11,7 +11,7 @@ use Rattle.std.specs.Str.{bytes_eq}
 use Rattle.std.specs.Str.Parse.{AllDigits}
 use Rattle.rsp_terms.specs.declared.term.Term.{Term}
 use Rattle.rsp_terms.specs.declared.term.Term.TheVariants.{Iri, Blank, Literal, Tagged}
-use Rattle.rsp_terms.specs.Terms.{printed, iri_text, string_text, escaped_text, escaped_byte, datatype_text, xsd_string, HasShortNumber}
+use Rattle.rsp_terms.specs.Terms.{term_text, iri_text, string_text, escaped_text, escaped_byte, datatype_text, xsd_string, HasShortNumber}
 
 abbrev head : List ℕ → ℕ
 head [] = 0
@@ -105,7 +105,7 @@ blanks document number label other fits too same =
     (decimal_is_IsNumeral number small_too).0.1 same in
     (decimal_injective document number small small_too both.0, both.1)
 
-pub same_from_printed : (term other : Term) → HasShortNumber term → HasShortNumber other → printed term ≡ printed other → term ≡ other
+pub same_from_printed : (term other : Term) → HasShortNumber term → HasShortNumber other → term_text term ≡ term_text other → term ≡ other
 same_from_printed (Iri text) (Iri other) is as_well same = ap Iri (iris text other same)
 same_from_printed (Blank document label) (Blank number other) is as_well same =
     let both = blanks document number label other is as_well (ap (λ text. tail (tail (tail text))) same) in

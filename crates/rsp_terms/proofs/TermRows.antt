@@ -2,24 +2,24 @@
 use Rattle.std.specs.Prelude.{◌≡◌, ◌∷◌, [], refl, codes}
 use Rattle.rsp_terms.specs.declared.term.Term.TheVariants.{Iri, Blank, Literal, Tagged}
 use Rattle.std.specs.Fmt.{digits}
-use Rattle.rsp_terms.specs.Terms.{printed, escaped_text, xsd_string}
+use Rattle.rsp_terms.specs.Terms.{term_text, escaped_text, xsd_string}
 
 -- RDF 1.1 N-Quads, example 2
-pub iri_stands_between_brackets : printed (Iri (codes "http://example.org/#spiderman")) ≡ codes "<http://example.org/#spiderman>"
+pub iri_stands_between_brackets : term_text (Iri (codes "http://example.org/#spiderman")) ≡ codes "<http://example.org/#spiderman>"
 iri_stands_between_brackets = refl
 
-pub label_begins_with_the_document : printed (Blank 10 (codes "xa")) ≡ codes "_:b10xxa"
+pub label_begins_with_the_document : term_text (Blank 10 (codes "xa")) ≡ codes "_:b10xxa"
 unfolding digits
 label_begins_with_the_document = refl
 
-pub datatype_of_strings_is_left_out : printed (Literal (codes "a:1") xsd_string) ≡ 34 ∷ 97 ∷ 58 ∷ 49 ∷ 34 ∷ []
+pub datatype_of_strings_is_left_out : term_text (Literal (codes "a:1") xsd_string) ≡ 34 ∷ 97 ∷ 58 ∷ 49 ∷ 34 ∷ []
 datatype_of_strings_is_left_out = refl
 
-pub other_datatypes_stand_behind : printed (Literal [] (codes "d:t")) ≡ 34 ∷ 34 ∷ 94 ∷ 94 ∷ 60 ∷ 100 ∷ 58 ∷ 116 ∷ 62 ∷ []
+pub other_datatypes_stand_behind : term_text (Literal [] (codes "d:t")) ≡ 34 ∷ 34 ∷ 94 ∷ 94 ∷ 60 ∷ 100 ∷ 58 ∷ 116 ∷ 62 ∷ []
 other_datatypes_stand_behind = refl
 
 -- RDF 1.1 N-Quads, example 4
-pub language_stands_behind : printed (Tagged (codes "That") (codes "en-GB"))
+pub language_stands_behind : term_text (Tagged (codes "That") (codes "en-GB"))
     ≡ 34 ∷ 84 ∷ 104 ∷ 97 ∷ 116 ∷ 34 ∷ 64 ∷ 101 ∷ 110 ∷ 45 ∷ 71 ∷ 66 ∷ []
 language_stands_behind = refl
 

@@ -37,11 +37,11 @@ abbrev pub datatype_text : List ℕ → List ℕ
 datatype_text datatype = if bytes_eq datatype xsd_string then [] else codes "^^" ++ iri_text datatype
 
 -- the label of a blank node is `b`, the number of its document, `x` and the label that it has there
-abbrev pub printed : Term → List ℕ
-printed (Iri text) = iri_text text
-printed (Blank document label) = codes "_:b" ++ (decimal document ++ (codes "x" ++ label))
-printed (Literal lexical datatype) = string_text lexical ++ datatype_text datatype
-printed (Tagged lexical language) = string_text lexical ++ (codes "@" ++ language)
+abbrev pub term_text : Term → List ℕ
+term_text (Iri text) = iri_text text
+term_text (Blank document label) = codes "_:b" ++ (decimal document ++ (codes "x" ++ label))
+term_text (Literal lexical datatype) = string_text lexical ++ datatype_text datatype
+term_text (Tagged lexical language) = string_text lexical ++ (codes "@" ++ language)
 
 -- the number of a blank node's document has 32 bits, as it has in every term of a program
 abbrev pub HasShortNumber : Term → Type 0

@@ -1,5 +1,5 @@
-//! Classes of characters, and the texts that may stand in IRIs, blank nodes and tagged literals (RDF 1.1 N-Quads,
-//! section 4). None of these takes memory.
+// Classes of characters, and the texts that may stand in IRIs, blank nodes and tagged literals (RDF 1.1 N-Quads,
+// section 4). None of these takes memory.
 ghost use Rattle.std.specs.Prelude.{◌≡◌, ◌==◌, ◌&&◌, not};
 ghost use Rattle.std.specs.Char.{is_ascii_alphabetic, is_ascii_alphanumeric};
 ghost use Rattle.std.specs.List.{list_all, slice_split};

@@ -1,7 +1,7 @@
 // How terms are printed.
 ghost use Rattle.std.specs.Prelude.{◌≡◌, ◌++◌, codes, OnOk, OnErr};
 ghost use Rattle.std.specs.Fmt.{decimal};
-ghost use Rattle.rsp_terms.specs.Terms.{printed, iri_text, string_text, escaped_text, escaped_byte, datatype_text, HasShortNumber};
+ghost use Rattle.rsp_terms.specs.Terms.{term_text, iri_text, string_text, escaped_text, escaped_byte, datatype_text, HasShortNumber};
 
 use crate::Term;
 use itoa::Buffer;
@@ -15,9 +15,9 @@ pub const XSD_STRING: &str = "http://www.w3.org/2001/XMLSchema#string";
 /// `x` and the label that it has there. Fails only where memory is refused; `out` then holds the bytes that it held
 /// before. Different terms have different texts.
 pub fn print(term: &Term, out: &mut Vec<u8>) -> Result<(), AllocError>
-    ensures ok { OnOk result (out.new.items ≡ out.old.items ++ printed term.now) }
+    ensures ok { OnOk result (out.new.items ≡ out.old.items ++ term_text term.now) }
     ensures err { OnErr result (out.new.items ≡ out.old.items) }
-    ensures injective { (other : _) → HasShortNumber other → printed other ≡ printed term.now → other ≡ term.now }
+    ensures injective { (other : _) → HasShortNumber other → term_text other ≡ term_text term.now → other ≡ term.now }
 {
     let before = out.len();
     let printed = push_term(term, out);
@@ -28,7 +28,7 @@ pub fn print(term: &Term, out: &mut Vec<u8>) -> Result<(), AllocError>
 }
 
 fn push_term(term: &Term, out: &mut Vec<u8>) -> Result<(), AllocError>
-    ensures ok { OnOk result (out.new.items ≡ out.old.items ++ printed term.now) }
+    ensures ok { OnOk result (out.new.items ≡ out.old.items ++ term_text term.now) }
     ensures begun { (rest : _) × (out.new.items ≡ out.old.items ++ rest) }
     ensures numbered { HasShortNumber term.now }
 {

@@ -1,5 +1,5 @@
-//! The calls on cases that another program worked: exact fractions, cut to 18 digits. A text without a point is an
-//! integer, one with a point a decimal, and the empty text stands for none.
+// The calls on cases that another program worked: exact fractions, cut to 18 digits. A text without a point is an
+// integer, one with a point a decimal, and the empty text stands for none.
 
 use rsp_number::{
     DecimalNumber, IntegerNumber, Number, Reading, Total, abs, add, ceil, compare, decimal, div,

@@ -1,3 +1,4 @@
+// The one form of query text.
 use rsp_query_line::{query_line, translated};
 use std::alloc::{AllocError, Global};
 use std::test::Fail;

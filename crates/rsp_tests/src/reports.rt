@@ -1,3 +1,4 @@
+// Rows in order, and the texts of reports.
 use rsp_multiset::{Bag, Row};
 use rsp_streams_out::{ordered, overfull_text, report_text, row_text, rows_of};
 use rsp_terms::{Listed, Term, Text};

@@ -1,3 +1,4 @@
+// Terms, texts and lists of them.
 use rsp_multiset::Cell;
 use rsp_terms::{
     Fact, Listed, Quad, Spot, Term, Text, Triple, XSD_STRING, is_iri, is_label, is_tag, print,

@@ -1,7 +1,7 @@
-//! One query's windows, by their width, their distance and their first opening.
+// One query's windows, by their width, their distance and their first opening.
 
 ghost use Rattle.std.specs.Prelude.{◌≡◌, ℕ, ◌+◌, ◌*◌, ◌^◌, ◌<◌, ◌≤◌, ◌↔◌, IfSome, IsSome};
-ghost use Rattle.rsp_spec.specs.Windows.{IsActive, IsAtMost, IsLastNeeded, IsNeeded, IsNextClosing, IsShape, Shape, active, closes_at, closing, opening};
+ghost use Rattle.rsp_spec.specs.Windows.{IsActive, IsAtMost, IsLastNeeded, IsNeeded, IsNextClosing, IsShape, Shape, active_window, closes_at, closing, opening};
 
 use std::marker::Model;
 
@@ -53,7 +53,7 @@ impl Window {
     /// where none does. `t` is at most 2^48. What `active` gives can be handed to `opening` and `closing`.
     pub fn active(&self, t: u64) -> Option<u64>
         requires { t ≤ 2 ^ 48 }
-        ensures value { result ≡ active self.now t }
+        ensures value { result ≡ active_window self.now t }
         ensures least { IsActive self.now t result }
         ensures within { IfSome result (λ k. k * self.now.slide ≤ t) }
         ensures shape { IsShape self.now }

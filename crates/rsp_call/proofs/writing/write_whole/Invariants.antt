@@ -1,5 +1,5 @@
 use Rattle.std.proofs.Common.{◌-◌, length}
-use Rattle.rsp_call.specs.Sinks.{seen}
+use Rattle.rsp_call.specs.Sinks.{sink_seen}
 use Rattle.rsp_call.proofs.Writings.{Writing}
 use Rattle.rsp_call.proofs.writing.write_whole.Given as goal
 
@@ -7,10 +7,8 @@ use Rattle.rsp_call.proofs.writing.write_whole.Given as goal
 abbrev pub invariant-pieces : goal.invariant-pieces
 invariant-pieces g l =
     Writing
-    (seen (g.K.Sink.taken l.initial.out) (g.K.Sink.room l.initial.out))
-    (g.K.Sink.faults l.initial.out)
-    (seen (g.K.Sink.taken l.out) (g.K.Sink.room l.out))
-    (g.K.Sink.faults l.out)
+    (sink_seen (g.K.Sink.taken l.initial.out) (g.K.Sink.room l.initial.out) (g.K.Sink.faults l.initial.out))
+    (sink_seen (g.K.Sink.taken l.out) (g.K.Sink.room l.out) (g.K.Sink.faults l.out))
     l.text
     l.written
 

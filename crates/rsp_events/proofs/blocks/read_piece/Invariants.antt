@@ -1,6 +1,6 @@
 use Rattle.std.proofs.Common.{◌≡◌, ◌++◌, List, length}
 use Rattle.rsp_events.specs.declared.event.Block.{Block}
-use Rattle.rsp_events.specs.Blocks.{Reader}
+use Rattle.rsp_events.specs.Reader.{Reader}
 use Rattle.rsp_events.specs.Steps.{Reads}
 use Rattle.rsp_events.proofs.blocks.read_piece.Given as goal
 

@@ -1,5 +1,5 @@
 use Rattle.std.proofs.Common.{ap, sym, ◌∙◌}
-use Rattle.rsp_events.specs.Blocks.{Reader}
+use Rattle.rsp_events.specs.Reader.{Reader}
 use Rattle.rsp_events.proofs.Reading.{reads_run}
 use Rattle.rsp_events.proofs.blocks.Blocks.take_run.Goals as goal
 

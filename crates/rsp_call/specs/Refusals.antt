@@ -1,0 +1,45 @@
+-- Definitions: the line of a refusal: where it is, its number and its name, and its details.
+use Rattle.std.specs.Prelude.{ℕ, Option, Some, option_map, List, [], ◌∷◌, ◌++◌, codes}
+use Rattle.std.specs.Fmt.{decimal}
+use Rattle.rsp_events.specs.declared.event.BlockFault.{BlockFault}
+use Rattle.rsp_events.specs.declared.event.BlockFault.TheVariants.{BadBody, BadDirective, BlockTooLarge}
+use Rattle.rsp_engine.specs.Refusals.{Refusal, late, unbuilt, refusal_of}
+use Rattle.rsp_call.specs.declared.refusing.Place.{Place}
+use Rattle.rsp_call.specs.declared.refusing.Place.TheVariants.{Block}
+use Rattle.rsp_call.specs.declared.refusing.Answered.{Answered}
+use Rattle.rsp_call.specs.declared.refusing.Answered.TheVariants as answered
+
+-- why: a block is no event, or its event is refused
+pub data Reason : Type 0 where
+  of_block : BlockFault → Reason
+  of_event : Refusal → Reason
+
+-- the number and the name of each
+abbrev pub kind : Reason → ℕ × List ℕ
+kind (of_block BadDirective) = (3, codes "BadDirective")
+kind (of_block (BadBody line)) = (4, codes "BadBody")
+kind (of_block BlockTooLarge) = (5, codes "BlockTooLarge")
+kind (of_event (late time next)) = (15, codes "Late")
+kind (of_event unbuilt) = (22, codes "Unbuilt")
+
+-- the details of each
+abbrev pub details : Reason → List ℕ
+details (of_block (BadBody line)) = codes " line=" ++ decimal line
+details (of_event (late time next)) = codes " time=" ++ (decimal time ++ (codes " next=" ++ decimal next))
+details _ = []
+
+-- where: a block by its number
+abbrev pub place_text : Place → List ℕ
+place_text (Block number) = codes "block " ++ decimal number
+
+-- the line
+abbrev pub refusal_line : Place → Reason → List ℕ
+refusal_line place reason =
+    codes "# refused "
+    ++ (place_text place
+    ++ (codes " " ++ (decimal (kind reason).0 ++ (codes " " ++ ((kind reason).1 ++ (details reason ++ (10 ∷ [])))))))
+
+-- the reason that a fault or an engine's answer names; want of memory is none
+abbrev pub reason_of : Answered → Option Reason
+reason_of (answered.Fault fault) = Some (of_block fault)
+reason_of (answered.Event why) = option_map of_event (refusal_of why)

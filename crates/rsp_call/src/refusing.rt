@@ -1,0 +1,98 @@
+// The line of a refusal.
+ghost use Rattle.std.specs.Prelude.{◌≡◌, List, ℕ, Some, true, IfOk, IsSome, is_some, option_map, string_bytes};
+ghost use Rattle.rsp_call.specs.Refusals.{Reason, details, kind, place_text, reason_of, refusal_line};
+ghost use Rattle.rsp_call.specs.Sinks.{sink_seen};
+ghost use Rattle.rsp_call.specs.Stops.{Ends, IsLineOf};
+
+use crate::stop::Stop;
+use crate::writing::write_all;
+use rsp_engine::Refused;
+use rsp_events::BlockFault;
+use rsp_io::Sink;
+use std::alloc::{AllocError, Global};
+
+/// Where something is refused.
+#[derive(Clone, Copy)]
+pub(crate) enum Place {
+    Block(u64),
+}
+
+/// What a block was answered that isn't taken: it is no event, or the engine doesn't take its event.
+#[derive(Clone, Copy)]
+pub(crate) enum Answered {
+    Fault(BlockFault),
+    Event(Refused),
+}
+
+/// Writes the line of a refusal. Stops for want of memory where the engine's answer is that and no refusal.
+pub(crate) fn refuse<K: Sink>(
+    alloc: Global,
+    place: Place,
+    answered: Answered,
+    out: &mut K,
+) -> Result<bool, Stop>
+    ensures text { (text : List ℕ) → IsLineOf place (reason_of answered) text
+        → Ends
+        (sink_seen (K.taken out.old) (K.room out.old) (K.faults out.old))
+        (sink_seen (K.taken out.new) (K.room out.new) (K.faults out.new))
+        text result }
+    ensures refused { IfOk result (λ refused. (refused ≡ true) × (is_some (reason_of answered) ≡ true)) }
+{
+    match line(alloc, place, answered) {
+        Ok(Some(line)) => {
+            write_all(out, line.as_bytes())?;
+            Ok(true)
+        }
+        Ok(None) => Err(Stop::Memory),
+        Err(AllocError) => Err(Stop::Memory),
+    }
+}
+
+// the line, where the answer is a refusal
+fn line(alloc: Global, place: Place, answered: Answered) -> Result<Option<String>, AllocError>
+    ensures { IfOk result (λ line. option_map string_bytes line ≡ option_map (refusal_line place) (reason_of answered)) }
+{
+    match kind(answered) {
+        None => Ok(None),
+        Some((number, name)) => {
+            let place = place_text(alloc, place)?;
+            let details = details(alloc, answered)?;
+            Ok(Some(format!(in alloc; "# refused {place} {number} {name}{details}\n")?))
+        }
+    }
+}
+
+fn place_text(alloc: Global, place: Place) -> Result<String, AllocError>
+    ensures { IfOk result (λ text. string_bytes text ≡ place_text place) }
+{
+    match place {
+        Place::Block(number) => format!(in alloc; "block {number}"),
+    }
+}
+
+// the number and the name of each refusal
+fn kind(answered: Answered) -> Option<(u64, &'static str)>
+    ensures { option_map (λ k. (k.0, k.1.now)) result ≡ option_map kind (reason_of answered) }
+{
+    match answered {
+        Answered::Fault(BlockFault::BadDirective) => Some((3, "BadDirective")),
+        Answered::Fault(BlockFault::BadBody { .. }) => Some((4, "BadBody")),
+        Answered::Fault(BlockFault::BlockTooLarge) => Some((5, "BlockTooLarge")),
+        Answered::Event(Refused::Late { .. }) => Some((15, "Late")),
+        Answered::Event(Refused::Unbuilt) => Some((22, "Unbuilt")),
+        Answered::Event(Refused::Broken) | Answered::Event(Refused::OutOfMemory) => None,
+    }
+}
+
+// the details of each refusal
+fn details(alloc: Global, answered: Answered) -> Result<String, AllocError>
+    ensures { IfOk result (λ text. (reason : Reason) → reason_of answered ≡ Some reason → string_bytes text ≡ details reason) }
+{
+    match answered {
+        Answered::Fault(BlockFault::BadBody { line }) => format!(in alloc; " line={line}"),
+        Answered::Event(Refused::Late { time, next }) => {
+            format!(in alloc; " time={time} next={next}")
+        }
+        _ => Ok(String::new(alloc)),
+    }
+}

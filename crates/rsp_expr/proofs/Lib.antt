@@ -1,0 +1,9 @@
+pub mod BooleanRows
+pub mod ComparingRows
+pub mod FunctionRows
+pub mod JoinedTexts
+pub mod OrderRows
+pub mod OtherLengths
+pub mod AggregateRows
+pub mod TermOrder
+pub mod TwoTerms
