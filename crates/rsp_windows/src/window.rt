@@ -1,12 +1,8 @@
 // One query's windows, by their width, their distance and their first opening.
 
 ghost use Rattle.std.specs.Prelude.{◌≡◌, ℕ, ◌+◌, ◌*◌, ◌^◌, ◌<◌, ◌≤◌, ◌↔◌, IfSome, IsSome};
-<<<<<<< HEAD
-ghost use Rattle.rsp_spec.specs.Windows.{IsActive, IsAtMost, IsLastNeeded, IsNeeded, IsNextClosing, IsShape, Shape, active_window, closes_at, closing, opening};
-=======
 ghost use Rattle.rsp_spec.specs.Instants.{ClosesAtMultiple, IsLeastIn};
 ghost use Rattle.rsp_spec.specs.Windows.{IsActive, IsAtMost, IsLastNeeded, IsNeeded, IsNextClosing, IsShape, Shape, active_window, closes_at, closing, opening};
->>>>>>> b122cb258a524497bce600bd559fbc404003e9aa
 
 use crate::congruence::next_shared;
 use std::marker::Model;
