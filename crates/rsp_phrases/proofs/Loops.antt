@@ -1,5 +1,5 @@
 -- A loop that reads one part after another goes as the reader of many parts.
-use Rattle.std.proofs.Common.{◌≡◌, ℕ, zero, suc, Bool, true, false, cond, List, [], ◌∷◌, ◌++◌, length, refl, sym, ap, ◌∙◌, append_assoc, append-nil, Option, Some, None, Result, Ok, Err}
+use Rattle.std.proofs.Common.{◌≡◌, ℕ, suc, true, false, cond, List, [], ◌∷◌, ◌++◌, refl, sym, ap, ◌∙◌, append_assoc, append-nil, Some, None, Ok, Err}
 use Rattle.rsp_phrases.specs.Languages.{listed}
 use Rattle.rsp_phrases.specs.Readers.{Reading, Reader, starts, image, tied_from, beside, at_most_read, with_front}
 
@@ -15,8 +15,8 @@ pub one_more : {T A : Type 0} (kind : T → ℕ) (kinds : List ℕ) (r : Reader 
 unfolding at_most_read
 one_more kind kinds r n front v ts rest is read =
     ap (λ b. with_front front (image listed (cond b (image Some (tied_from (r ts) (λ w. at_most_read kind kinds r n))) (Ok (None, ts))))) is
-        ∙ ap (λ x. with_front front (image listed (image Some (tied_from x (λ w. at_most_read kind kinds r n))))) read
-        ∙ joined front v (at_most_read kind kinds r n rest)
+    ∙ ap (λ x. with_front front (image listed (image Some (tied_from x (λ w. at_most_read kind kinds r n))))) read
+    ∙ joined front v (at_most_read kind kinds r n rest)
 
 -- where the next part is wrong
 pub one_wrong : {T A : Type 0} (kind : T → ℕ) (kinds : List ℕ) (r : Reader T A) (n : ℕ) (front : List A) (left : ℕ) (ts : List T)
@@ -25,7 +25,7 @@ pub one_wrong : {T A : Type 0} (kind : T → ℕ) (kinds : List ℕ) (r : Reader
 unfolding at_most_read
 one_wrong kind kinds r n front left ts is read =
     ap (λ b. with_front front (image listed (cond b (image Some (tied_from (r ts) (λ w. at_most_read kind kinds r n))) (Ok (None, ts))))) is
-        ∙ ap (λ x. with_front front (image listed (image Some (tied_from x (λ w. at_most_read kind kinds r n))))) read
+    ∙ ap (λ x. with_front front (image listed (image Some (tied_from x (λ w. at_most_read kind kinds r n))))) read
 
 -- where no part begins
 pub no_more : {T A : Type 0} (kind : T → ℕ) (kinds : List ℕ) (r : Reader T A) (n : ℕ) (front : List A) (ts : List T)
@@ -34,7 +34,7 @@ pub no_more : {T A : Type 0} (kind : T → ℕ) (kinds : List ℕ) (r : Reader T
 unfolding at_most_read
 no_more kind kinds r n front ts is =
     ap (λ b. with_front front (image listed (cond b (image Some (tied_from (r ts) (λ w. at_most_read kind kinds r n))) (Ok (None, ts))))) is
-        ∙ ap (λ vs. Ok (vs, ts)) (append-nil front)
+    ∙ ap (λ vs. Ok (vs, ts)) (append-nil front)
 
 -- at the end of the loop
 pub at_end : {T A : Type 0} (kind : T → ℕ) (kinds : List ℕ) (r : Reader T A) (front : List A) (ts : List T)

@@ -1,6 +1,6 @@
 -- Laws of rules: expressions.
 use Rattle.std.proofs.Common.{Bool, ◌≡◌, ℕ, ◌+◌, true, false, List, [], ◌∷◌, ◌++◌, refl, Option, Some, None, is_some}
-use Rattle.rsp_phrases.specs.Languages.{mapped, both, optional, many, listed, never}
+use Rattle.rsp_phrases.specs.Languages.{both, optional, many, listed, never}
 use Rattle.rsp_phrases.specs.Readers.{Reader, never_read}
 use Rattle.rsp_phrases.proofs.Membership.{apart, apart_none, covered_by, covered_nil, has_left}
 use Rattle.rsp_phrases.proofs.Good.{Good, good_mapped, good_never, listed_as}
@@ -81,7 +81,7 @@ module _ (q : Rule Expr) (s : Reader Said Expr) (first : List Kind) (h : G q s f
   good_arguments arity.Two = good_mapped (λ (v : Expr × Expr). v.0 ∷ v.1 ∷ []) (good_in_parens (good_both h good_another refl) refl)
   good_arguments arity.Three =
       good_mapped (λ (v : Expr × (Expr × Expr)). v.0 ∷ v.1.0 ∷ v.1.1 ∷ [])
-          (good_in_parens (good_both h (good_both good_another good_another refl) refl) refl)
+      (good_in_parens (good_both h (good_both good_another good_another refl) refl) refl)
   good_arguments arity.TwoOrThree =
       good_mapped maybe_third (good_in_parens (good_both h (good_both good_another (good_optional good_another) refl) refl) refl)
   good_arguments arity.Any = good_expressions
@@ -222,7 +222,7 @@ under_arguments arity.One h = under_mapped (λ e. e ∷ []) (under_in_parens h)
 under_arguments arity.Two h = under_mapped (λ (v : Expr × Expr). v.0 ∷ v.1 ∷ []) (under_in_parens (under_tied h (λ v. under_another h)))
 under_arguments arity.Three h =
     under_mapped (λ (v : Expr × (Expr × Expr)). v.0 ∷ v.1.0 ∷ v.1.1 ∷ [])
-        (under_in_parens (under_tied h (λ v. under_tied (under_another h) (λ w. under_another h))))
+    (under_in_parens (under_tied h (λ v. under_tied (under_another h) (λ w. under_another h))))
 under_arguments arity.TwoOrThree h =
     under_mapped maybe_third (under_in_parens (under_tied h (λ v. under_tied (under_another h) (λ w. under_optional (under_another h)))))
 under_arguments arity.Any h = under_expressions h
@@ -230,7 +230,7 @@ under_arguments arity.Any h = under_expressions h
 pub under_call : {n : ℕ} {q q' : Rule Expr} → Under n q q' → Under (n + 1) (call_rule q) (call_rule q')
 under_call {n = n} h =
     under_either (under_same (n + 1) bound_call)
-        (under_mapped call_of (under_tied (under_same (n + 1) (one call_names)) (λ name. under_arguments (arity_of name.kind) h)))
+    (under_mapped call_of (under_tied (under_same (n + 1) (one call_names)) (λ name. under_arguments (arity_of name.kind) h)))
 
 under_row : {n : ℕ} (signs : List Kind) (make : Expr × List (Kind × Expr) → Expr) {p p' : Rule Expr} → Under n p p'
     → Under n (row signs make p) (row signs make p')

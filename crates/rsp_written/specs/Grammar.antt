@@ -120,9 +120,9 @@ arguments arity.Any inner = expressions inner
 abbrev pub call_names : List Kind
 call_names = map kind.Word
     (keyword.If ∷ keyword.Coalesce ∷ keyword.SameTerm ∷ keyword.IsIri ∷ keyword.IsUri ∷ keyword.IsBlank ∷ keyword.IsLiteral ∷ keyword.IsNumeric
-        ∷ keyword.Str ∷ keyword.Lang ∷ keyword.Datatype ∷ keyword.Iri ∷ keyword.Uri ∷ keyword.StrDt ∷ keyword.StrLang ∷ keyword.StrLen
-        ∷ keyword.SubStr ∷ keyword.Contains ∷ keyword.StrStarts ∷ keyword.StrEnds ∷ keyword.StrBefore ∷ keyword.StrAfter ∷ keyword.Concat
-        ∷ keyword.LangMatches ∷ keyword.Abs ∷ keyword.Ceil ∷ keyword.Floor ∷ keyword.Round ∷ [])
+    ∷ keyword.Str ∷ keyword.Lang ∷ keyword.Datatype ∷ keyword.Iri ∷ keyword.Uri ∷ keyword.StrDt ∷ keyword.StrLang ∷ keyword.StrLen
+    ∷ keyword.SubStr ∷ keyword.Contains ∷ keyword.StrStarts ∷ keyword.StrEnds ∷ keyword.StrBefore ∷ keyword.StrAfter ∷ keyword.Concat
+    ∷ keyword.LangMatches ∷ keyword.Abs ∷ keyword.Ceil ∷ keyword.Floor ∷ keyword.Round ∷ [])
 
 abbrev pub bound_call : Rule Expr
 bound_call = mapped bound (second_of (word keyword.Bound) (in_parens variable_name))

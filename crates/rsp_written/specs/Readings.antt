@@ -108,7 +108,7 @@ arguments_read arity.One s = mapped_read (λ e. e ∷ []) (in_parens_read s)
 arguments_read arity.Two s = mapped_read (λ (v : Expr × Expr). v.0 ∷ v.1 ∷ []) (in_parens_read (both_read s (another_read s)))
 arguments_read arity.Three s =
     mapped_read (λ (v : Expr × (Expr × Expr)). v.0 ∷ v.1.0 ∷ v.1.1 ∷ [])
-        (in_parens_read (both_read s (both_read (another_read s) (another_read s))))
+    (in_parens_read (both_read s (both_read (another_read s) (another_read s))))
 arguments_read arity.TwoOrThree s =
     mapped_read maybe_third (in_parens_read (both_read s (both_read (another_read s) (maybe_read (sign_kinds symbol.Comma) (another_read s)))))
 arguments_read arity.Any s = expressions_read s
@@ -125,8 +125,8 @@ call_read s = choice_read (word_kinds keyword.Bound) bound_read (function_read s
 unfoldable pub simple_read : Reader Said Expr → Reader Said Expr
 simple_read s =
     choice_read (sign_kinds symbol.OpenParen) (in_parens_read s) (choice_read call_first (call_read s)
-        (choice_read (kind.Iri ∷ []) (mapped_read iri iri_read) (choice_read (kind.Variable ∷ []) (mapped_read variable variable_read)
-            (mapped_read constant unsigned_literal_read))))
+    (choice_read (kind.Iri ∷ []) (mapped_read iri iri_read) (choice_read (kind.Variable ∷ []) (mapped_read variable variable_read)
+    (mapped_read constant unsigned_literal_read))))
 
 -- `ks`, `x`: the kinds that begin what else may be a Primary, and its reader
 unfoldable pub primary_read : List ℕ → Reader Said Expr → Reader Said Expr → Reader Said Expr
