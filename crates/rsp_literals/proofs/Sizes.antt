@@ -1,5 +1,5 @@
 -- The size that digits write, up to a bound.
-use Rattle.std.proofs.Common.{◌≡◌, ℕ, zero, suc, ◌+◌, ◌-◌, ◌*◌, ◌^◌, ◌<◌, ◌≤◌, List, [], ◌∷◌, length, drop, get_or, Bool, true, false, drop-cons, add-one, refl, sym, ap, ◌∙◌, arith, ⊎_elim}
+use Rattle.std.proofs.Common.{◌≡◌, ℕ, ◌+◌, ◌-◌, ◌*◌, ◌<◌, ◌≤◌, List, [], ◌∷◌, length, drop, get_or, Bool, true, false, drop-cons, add-one, sym, ap, ◌∙◌, arith, ⊎_elim}
 use Rattle.std.specs.Prelude.{min, ◌&&◌}
 use Rattle.std.proofs.lemmas.Bool.{cases_lt}
 use Rattle.rsp_number.specs.Texts.{are_digits, number_after}
@@ -26,10 +26,12 @@ pub record Goes (next i bound : ℕ) (ds : List ℕ) (total : ℕ) : Type 0 wher
   pub digits : are_digits (drop (i + 1) ds) ≡ true
   pub value : min (number_after next (drop (i + 1) ds)) bound ≡ total
 
-pub goes : (m next i bound : ℕ) (ds : List ℕ) (total : ℕ) → i < length ds → next ≡ min (m * 10 + (get_or ds i 0 - 48)) bound
+pub goes : (m next i bound : ℕ) (ds : List ℕ) (total : ℕ) → i < length ds
+    → next ≡ min (m * 10 + (get_or ds i 0 - 48)) bound
     → are_digits (drop i ds) ≡ true → min (number_after m (drop i ds)) bound ≡ total → Goes next i bound ds total
 goes m next i bound ds total below is digits value =
-    let opened : drop i ds ≡ get_or ds i 0 ∷ drop (i + 1) ds = drop-cons ds i 0 below ∙ ap (λ k. get_or ds i 0 ∷ drop k ds) (sym (add-one i)) in
+    let opened : drop i ds ≡ get_or ds i 0 ∷ drop (i + 1) ds = drop-cons ds i 0 below
+    ∙ ap (λ k. get_or ds i 0 ∷ drop k ds) (sym (add-one i)) in
     record {
       within = rw is (omega arith);
       digits = others _ _ (sym (ap are_digits opened) ∙ digits);

@@ -1,7 +1,7 @@
 -- Definitions: what a literal of a numeric type reads as.
 use Rattle.std.specs.Prelude.{ℕ, ℤ, Bool, ◌&&◌, if◌then◌else◌, Option, None, Some, List}
-use Rattle.rsp_number.specs.Decimals.{held, signed}
-use Rattle.rsp_number.specs.Texts.{is_negative, unsigned, number_after, has_integer_form, value_or_beyond, read_decimal}
+use Rattle.rsp_number.specs.Decimals.{integer_in_range, with_sign}
+use Rattle.rsp_number.specs.Texts.{is_negative, without_sign, number_after, has_integer_form, value_or_beyond, read_decimal}
 use Rattle.rsp_number.specs.declared.number.Number.{Number}
 use Rattle.rsp_number.specs.declared.number.Number.TheVariants as number
 use Rattle.rsp_number.specs.declared.reading.Reading.{Reading}
@@ -15,14 +15,14 @@ use Rattle.rsp_literals.specs.declared.datatypes.Datatype.TheVariants.{Whole, De
 
 -- the number that a text of the form of an integer writes, however large
 abbrev pub whole_number : List ℕ → ℤ
-whole_number text = signed (is_negative text) (number_after 0 (unsigned text))
+whole_number text = with_sign (is_negative text) (number_after 0 (without_sign text))
 
 -- the range of a type belongs to its form
 abbrev pub has_whole_form : WholeType → List ℕ → Bool
 has_whole_form type text = has_integer_form text && is_in_range type (whole_number text)
 
 abbrev pub whole_reading : WholeType → List ℕ → Reading ℤ
-whole_reading type text = if has_whole_form type text then value_or_beyond (held (whole_number text)) else NotForm
+whole_reading type text = if has_whole_form type text then value_or_beyond (integer_in_range (whole_number text)) else NotForm
 
 abbrev pub reading_map : {S T : Type 0} → (S → T) → Reading S → Reading T
 reading_map f (Value value) = Value (f value)

@@ -1,7 +1,7 @@
 // What a literal of a numeric type reads as.
 ghost use Rattle.std.specs.Prelude.{◌≡◌, ◌≤◌, ◌^◌, Bool, true, min};
-ghost use Rattle.rsp_number.specs.Decimals.{signed};
-ghost use Rattle.rsp_number.specs.Texts.{is_negative, unsigned, are_digits, number_after, has_integer_form};
+ghost use Rattle.rsp_number.specs.Decimals.{with_sign};
+ghost use Rattle.rsp_number.specs.Texts.{is_negative, without_sign, are_digits, number_after, has_integer_form};
 ghost use Rattle.rsp_number.specs.declared.number.Number.TheVariants as number;
 ghost use Rattle.rsp_literals.specs.Datatypes.{is_at_least, is_at_most, is_in_range, least_of, greatest_of};
 ghost use Rattle.rsp_literals.specs.Forms.{reading_map, value_in, whole_number, whole_reading, numeric_reading, number_of};
@@ -118,14 +118,14 @@ fn size_up_to_bound(digits: &[u8]) -> u128
 /// Whether the type has the number of this size, negated where `negative`.
 fn is_size_in_range(whole_type: WholeType, negative: bool, size: u128) -> bool
     requires { size ≤ 2 ^ 64 }
-    ensures { result ≡ is_in_range whole_type (signed negative size) }
+    ensures { result ≡ is_in_range whole_type (with_sign negative size) }
 {
     is_at_least(whole_type, negative, size) && is_at_most(whole_type, negative, size)
 }
 
 fn is_at_least(whole_type: WholeType, negative: bool, size: u128) -> bool
     requires { size ≤ 2 ^ 64 }
-    ensures { result ≡ is_at_least (least_of whole_type) (signed negative size) }
+    ensures { result ≡ is_at_least (least_of whole_type) (with_sign negative size) }
 {
     match whole_type.least() {
         Some(least) => least <= signed(negative, size),
@@ -135,7 +135,7 @@ fn is_at_least(whole_type: WholeType, negative: bool, size: u128) -> bool
 
 fn is_at_most(whole_type: WholeType, negative: bool, size: u128) -> bool
     requires { size ≤ 2 ^ 64 }
-    ensures { result ≡ is_at_most (greatest_of whole_type) (signed negative size) }
+    ensures { result ≡ is_at_most (greatest_of whole_type) (with_sign negative size) }
 {
     match whole_type.greatest() {
         Some(greatest) => signed(negative, size) <= greatest,
@@ -145,7 +145,7 @@ fn is_at_most(whole_type: WholeType, negative: bool, size: u128) -> bool
 
 fn signed(negative: bool, size: u128) -> i128
     requires { size ≤ 2 ^ 64 }
-    ensures { result ≡ signed negative size }
+    ensures { result ≡ with_sign negative size }
 {
     if negative {
         -(size as i128)

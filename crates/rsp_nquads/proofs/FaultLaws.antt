@@ -6,10 +6,12 @@ use Rattle.std.specs.Option.{option_map_or}
 use Rattle.rsp_terms.specs.declared.term.Term.{Term}
 use Rattle.rsp_nquads.specs.declared.statements.Part.{Part}
 use Rattle.rsp_text.specs.Fronts.{is_blank, behind_blanks}
-use Rattle.rsp_nquads.specs.Grammar.{Rule, Stands, IsIriTerm, IsNode, IsObject, IsDot, StandsNowhere, IsLongestPart, Fault, FaultHere, FaultIn, FaultAtEnd, FaultFromDot, FaultFromGraph, FaultFromObject, FaultFromPredicate, FaultFromSubject, IsAtColumn}
-use Rattle.rsp_nquads.specs.Parts.{PartReader, sign, iri_term, node, object}
+use Rattle.rsp_scan.specs.Enclosed.{Rule}
+use Rattle.rsp_nquads.specs.Grammar.{Stands, IsIriTerm, IsNode, IsObject, IsDot, StandsNowhere, IsLongestPart, Fault, FaultHere, FaultIn, FaultAtEnd, FaultFromDot, FaultFromGraph, FaultFromObject, FaultFromPredicate, FaultFromSubject, IsAtColumn}
+use Rattle.rsp_scan.specs.Readers.{PartReader, sign}
+use Rattle.rsp_nquads.specs.Parts.{iri_term, node, object}
 use Rattle.rsp_nquads.specs.Statements.{part_of, optional_part, is_end, ends, closes, onward, parts_of, column}
-use Rattle.rsp_nquads.proofs.RuleLaws.{Reads}
+use Rattle.rsp_scan.proofs.RuleLaws.{Reads}
 use Rattle.rsp_nquads.proofs.TermLaws.{blanks_split, behind_onto, StartsWell, stands_sound, stands_full, node_reads, node_starts, object_less, object_starts, iri_term_reads, iri_term_starts}
 use Rattle.rsp_nquads.proofs.StatementLaws.{at_place, dot_stands, dot_behind, end_found, end_finds, object_stands, graph_read, predicate_step, object_step, graph_step, last_step}
 

@@ -4,10 +4,11 @@ use Rattle.std.specs.Prelude.{◌==◌, ◌&&◌, ◌↔◌}
 use Rattle.std.specs.Option.{option_and_then}
 use Rattle.rsp_spec.proofs.Truths.{and_left, and_right, equal_from}
 use Rattle.rsp_terms.specs.Characters.{is_absolute}
-use Rattle.rsp_nquads.specs.Grammar.{IsIri, IsAbsoluteIri}
-use Rattle.rsp_nquads.specs.Parts.{iri}
+use Rattle.rsp_scan.specs.Enclosed.{IsIri}
+use Rattle.rsp_nquads.specs.Grammar.{IsAbsoluteIri}
+use Rattle.rsp_scan.specs.Readers.{iri}
 use Rattle.rsp_nquads.specs.Fields.{absolute_iri}
-use Rattle.rsp_nquads.proofs.RuleLaws.{iri_reads}
+use Rattle.rsp_scan.proofs.RuleLaws.{iri_reads}
 
 abbrev some_name : List ℕ → Option (List ℕ)
 some_name name = Some name

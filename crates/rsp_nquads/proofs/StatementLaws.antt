@@ -12,13 +12,14 @@ use Rattle.rsp_terms.specs.declared.term.Term.TheVariants.{Iri, Blank, Literal, 
 use Rattle.rsp_terms.specs.declared.statement.Quad.{Quad}
 use Rattle.rsp_nquads.specs.declared.statements.Part.{Part}
 use Rattle.rsp_nquads.specs.declared.statements.Parts.{Parts}
-use Rattle.rsp_nquads.specs.Parts.{PartReader, sign, enclosed, iri_term, label, tag, datatype, node, object}
+use Rattle.rsp_scan.specs.Readers.{PartReader, sign, enclosed, label, tag}
+use Rattle.rsp_nquads.specs.Parts.{iri_term, datatype, node, object}
 use Rattle.rsp_text.specs.Fronts.{is_blank, behind_blanks}
 use Rattle.rsp_nquads.specs.Grammar.{Stands, IsIriTerm, IsNode, IsObject, IsGraph, IsEnd, IsDot, IsStatement, is_relative, terms_of, terms_in, Says, SaysNothing}
 use Rattle.rsp_nquads.specs.Statements.{part_of, optional_part, is_end, ends, closes, onward, parts_of, quad_of, column, first_relative, judged, answer, statement_of}
 use Rattle.rsp_nquads.specs.Answers.{Answer, nothing, statement, relative_iri}
-use Rattle.rsp_nquads.proofs.Pieces.{all_run}
-use Rattle.rsp_nquads.proofs.RuleLaws.{sign_found, sign_finds}
+use Rattle.rsp_scan.proofs.Pieces.{all_run}
+use Rattle.rsp_scan.proofs.RuleLaws.{sign_found, sign_finds}
 use Rattle.rsp_nquads.proofs.TermLaws.{blank_first, behind_onto, blanks_split, StartsWell, stands_sound, stands_full, stands_behind, IsFree, iri_term_reads, iri_term_starts, node_reads, node_starts, object_sound, object_full, object_starts}
 
 -- ---- one part

@@ -1,117 +1,25 @@
 -- Definitions: the grammar of a line (RDF 1.1 N-Quads, section 4): which lines say which quad, which say nothing, and
 -- where each other line has its first fault.
---
--- A part is made of characters: nowhere does it hold bytes that aren't UTF-8.
-use Rattle.std.specs.Prelude.{◌≡◌, ℕ, ◌+◌, ◌≤◌, Bool, true, false, not, ◌||◌, ◌==◌, nat_lt, ◌⊎◌, ⊤, List, [], ◌∷◌, ◌++◌, map, length, codes, if◌then◌else◌, Option, None, Some}
-use Rattle.std.specs.Char.{encode_utf8, is_ascii_hexdigit}
-use Rattle.std.specs.Int.{is_in_range}
-use Rattle.std.specs.List.{list_all, list_any, find, concat, cons_option, AllByRecursion}
+use Rattle.std.specs.Prelude.{◌≡◌, ℕ, ◌+◌, ◌≤◌, Bool, true, false, not, ◌⊎◌, ⊤, List, [], ◌∷◌, ◌++◌, length, codes, Option, None, Some}
+use Rattle.std.specs.List.{list_all, list_any, find, cons_option}
 use Rattle.std.specs.Option.{option_map}
-use Rattle.std.specs.Str.{all_scalars, encode_utf8_all, byte, IsUtf8}
-use Rattle.std.specs.Str.Parse.{digits_value}
+use Rattle.std.specs.Str.{IsUtf8}
 use Rattle.rsp_text.specs.Fronts.{is_blank, behind_blanks}
 use Rattle.rsp_terms.specs.declared.term.Term.{Term}
 use Rattle.rsp_terms.specs.declared.term.Term.TheVariants.{Iri, Blank, Literal, Tagged}
 use Rattle.rsp_terms.specs.declared.statement.Quad.{Quad}
 use Rattle.rsp_terms.specs.Terms.{xsd_string}
-use Rattle.rsp_terms.specs.Characters.{is_iri_character, is_label_text, is_tag_text, is_absolute}
-
--- a rule: the bytes of a part, those that follow it, and its value
-abbrev pub Rule : Type 0 → Type 1
-Rule A = List ℕ → List ℕ → A → Type 0
-
--- ---- characters of IRIs and strings
-
-abbrev pub is_scalar : ℕ → Bool
-is_scalar c = nat_lt c 0xD800 || is_in_range 0xE000 0x10FFFF c
-
--- what may stand unescaped in a string: all but `"` `\` line feed and carriage return
-abbrev pub is_string_character : ℕ → Bool
-is_string_character c = not ((c == byte "\"") || ((c == byte "\\") || ((c == byte "\n") || (c == byte "\r"))))
-
-pub data Piece : Type 0 where
-  plain : ℕ → Piece  -- a character as it is
-  short : List ℕ → Piece  -- UCHAR: `\u` and its digits
-  long : List ℕ → Piece  -- UCHAR: `\U` and its digits
-  named : ℕ → Piece  -- ECHAR: `\` and a character
-
-abbrev pub piece_text : Piece → List ℕ
-piece_text (plain c) = encode_utf8 c
-piece_text (short digits) = codes "\\u" ++ digits
-piece_text (long digits) = codes "\\U" ++ digits
-piece_text (named c) = codes "\\" ++ (c ∷ [])
-
--- so many hexadecimal digits that write this number
-abbrev pub IsHexadecimal : ℕ → List ℕ → ℕ → Type 0
-IsHexadecimal count digits c = (length digits ≡ count) × (list_all is_ascii_hexdigit digits ≡ true) × (digits_value 16 digits ≡ c)
-
--- ECHAR: `\` and one of `t b n r f " ' \`
-abbrev pub named_character : ℕ → Option ℕ
-named_character c =
-    if c == byte "t" then Some (byte "\t")
-    else (if c == byte "b" then Some 8
-    else (if c == byte "n" then Some (byte "\n")
-    else (if c == byte "r" then Some (byte "\r")
-    else (if c == byte "f" then Some 12
-    else (if (c == byte "\"") || ((c == byte "'") || (c == byte "\\")) then Some c else None)))))
-
--- the piece stands for this character
-abbrev pub StandsFor : Piece → ℕ → Type 0
-StandsFor (plain c) d = c ≡ d
-StandsFor (short digits) d = IsHexadecimal 4 digits d
-StandsFor (long digits) d = IsHexadecimal 8 digits d
-StandsFor (named c) d = named_character c ≡ Some d
-
--- in an IRI, an IRI character as it is or as UCHAR
-abbrev pub IsIriPiece : Piece → ℕ → Type 0
-IsIriPiece (named c) d = ⊥
-IsIriPiece _ d = is_iri_character d ≡ true
-
--- in a string, a string character as it is, or any as UCHAR or ECHAR
-abbrev pub IsStringPiece : Piece → ℕ → Type 0
-IsStringPiece (plain c) d = is_string_character d ≡ true
-IsStringPiece _ d = ⊤
-
--- a piece beside the character that it stands for, a Unicode scalar value
-abbrev pub IsPieceOf : (Piece → ℕ → Type 0) → Piece × ℕ → Type 0
-IsPieceOf may x = (is_scalar x.1 ≡ true) × StandsFor x.0 x.1 × may x.0 x.1
-
--- pieces between an opening and a closing sign; the value is their characters in UTF-8
-pub record IsEnclosed (may : Piece → ℕ → Type 0) (opening closing : ℕ) (part value : List ℕ) : Type 0 where
-  pub pieces : List (Piece × ℕ)
-  pub each : AllByRecursion (IsPieceOf may) pieces
-  pub part_is : part ≡ opening ∷ (concat (map (λ x. piece_text x.0) pieces) ++ (closing ∷ []))
-  pub value_is : value ≡ encode_utf8_all (map (λ x. x.1) pieces)
-
--- IRIREF
-abbrev pub IsIri : Rule (List ℕ)
-IsIri part rest name = IsEnclosed IsIriPiece (byte "<") (byte ">") part name
-
--- STRING_LITERAL_QUOTE
-abbrev pub IsString : Rule (List ℕ)
-IsString part rest lexical = IsEnclosed IsStringPiece (byte "\"") (byte "\"") part lexical
+use Rattle.rsp_terms.specs.Characters.{is_absolute}
+use Rattle.rsp_scan.specs.declared.enclosed.Quote.TheVariants.{Double}
+use Rattle.rsp_scan.specs.declared.labels.Labels.TheVariants.{NQuads}
+use Rattle.rsp_scan.specs.Enclosed.{Rule, IsIri, IsString}
+use Rattle.rsp_scan.specs.Names.{IsLabel, IsTag}
 
 -- a field that is an IRIREF, and its IRI is absolute (RFC 3986, section 4.3)
 abbrev pub IsAbsoluteIri : List ℕ → List ℕ → Type 0
 IsAbsoluteIri field name = IsIri field [] name × (is_absolute name ≡ true)
 
--- ---- labels, tags, literals
-
--- BLANK_NODE_LABEL, and none that is longer stands there
-pub record IsLabel (part rest label : List ℕ) : Type 0 where
-  pub characters : List ℕ
-  pub scalars : all_scalars characters ≡ true
-  pub is_label : is_label_text characters ≡ true
-  pub label_is : label ≡ encode_utf8_all characters
-  pub part_is : part ≡ codes "_:" ++ label
-  pub longest : (more others : List ℕ) → all_scalars more ≡ true → rest ≡ encode_utf8_all more ++ others
-      → is_label_text (characters ++ more) ≡ true → more ≡ []
-
--- LANGTAG, and none that is longer stands there
-pub record IsTag (part rest language : List ℕ) : Type 0 where
-  pub is_tag : is_tag_text language ≡ true
-  pub part_is : part ≡ codes "@" ++ language
-  pub longest : (more others : List ℕ) → rest ≡ more ++ others → is_tag_text (language ++ more) ≡ true → more ≡ []
+-- ---- literals
 
 -- the rule's part stands in a text, behind blanks and before the rest
 pub record Stands {A : Type 0} (rule : Rule A) (text rest : List ℕ) (value : A) : Type 0 where
@@ -132,13 +40,13 @@ pub record IsQualified (qualifier : Rule (List ℕ)) (part rest lexical name : L
   pub string : List ℕ
   pub behind : List ℕ
   pub part_is : part ≡ string ++ behind
-  pub is_string : IsString string (behind ++ rest) lexical
+  pub is_string : IsString Double string (behind ++ rest) lexical
   pub name_is : Stands qualifier (behind ++ rest) rest name
 
 -- literal ::= STRING_LITERAL_QUOTE ('^^' IRIREF | LANGTAG)?
 abbrev pub IsLiteral : Rule Term
 IsLiteral part rest (Literal lexical name) =
-    IsQualified IsDatatype part rest lexical name ⊎ ((name ≡ xsd_string) × IsString part rest lexical)
+    IsQualified IsDatatype part rest lexical name ⊎ ((name ≡ xsd_string) × IsString Double part rest lexical)
 IsLiteral part rest (Tagged lexical language) = IsQualified IsTag part rest lexical language
 IsLiteral part rest _ = ⊥
 
@@ -151,7 +59,7 @@ IsIriTerm part rest _ = ⊥
 -- subject and graph ::= IRIREF | BLANK_NODE_LABEL
 abbrev pub IsNode : ℕ → Rule Term
 IsNode document part rest (Iri name) = IsIri part rest name
-IsNode document part rest (Blank number name) = (number ≡ document) × IsLabel part rest name
+IsNode document part rest (Blank number name) = (number ≡ document) × IsLabel NQuads part rest name
 IsNode document part rest _ = ⊥
 
 -- object ::= IRIREF | BLANK_NODE_LABEL | literal

@@ -5,7 +5,8 @@ use Rattle.rsp_nquads.specs.declared.statements.Wanted.{Wanted}
 use Rattle.rsp_nquads.specs.declared.statements.Wanted.TheVariants.{Node, Iri, Object}
 use Rattle.rsp_nquads.specs.declared.statements.Halt.{Halt}
 use Rattle.rsp_nquads.specs.declared.statements.Halt.TheVariants as halt
-use Rattle.rsp_nquads.specs.Parts.{PartReader, iri_term, node, object}
+use Rattle.rsp_scan.specs.Readers.{PartReader}
+use Rattle.rsp_nquads.specs.Parts.{iri_term, node, object}
 
 abbrev pub reader : Wanted → ℕ → PartReader Term
 reader Node document = node document

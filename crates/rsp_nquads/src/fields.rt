@@ -3,7 +3,7 @@ ghost use Rattle.std.specs.Prelude.{◌≡◌, ◌↔◌, ℕ, List, Some, IfOk}
 ghost use Rattle.rsp_nquads.specs.Grammar.{IsAbsoluteIri};
 ghost use Rattle.rsp_nquads.specs.Fields.{absolute_iri};
 
-use crate::enclosed::iri;
+use rsp_scan::iri;
 use rsp_terms::Text;
 use rsp_terms::characters::is_absolute;
 use std::alloc::{AllocError, Global};

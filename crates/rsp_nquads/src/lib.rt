@@ -3,15 +3,11 @@
 //! A line says a quad, nothing, or has a fault with its column: `statement_of` is a function of the line, and the
 //! grammar, as relations, says the same of every line. `absolute_iri` reads a field that is an IRI and nothing else. What
 //! `write` appends of a quad without blank nodes says that quad.
-//! Above: the event log and recorded streams. Below: terms and their characters.
+//! Above: the event log and recorded streams. Below: the parts that SPARQL writes alike, terms.
 #![tactic(auto)]
 
-mod enclosed;
-mod escapes;
 mod fault;
 mod fields;
-mod labels;
-mod signs;
 mod statements;
 mod terms;
 mod writing;

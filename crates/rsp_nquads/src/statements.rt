@@ -8,8 +8,8 @@ ghost use Rattle.rsp_nquads.specs.Results.{reader, Halts};
 ghost use Rattle.rsp_nquads.specs.Answers.{IsAnswer, IsByGrammar, IsTied};
 
 use crate::LineFault;
-use crate::signs::sign;
 use crate::terms::{iri_term, node, object};
+use rsp_scan::sign;
 use rsp_terms::characters::is_absolute;
 use rsp_terms::{Quad, Term, Triple};
 use rsp_text::behind_blanks;

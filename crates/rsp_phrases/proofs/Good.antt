@@ -179,7 +179,7 @@ good_nothing kind a = record {
   first = λ e x is. absurd (true≢false (sym is));
 }
 
-pub good_never : {T A : Type 0} (kind : T → ℕ) → Good {T = T} {A = A} kind never never_read [] [] false false
+pub good_never : {T A : Type 0} (kind : T → ℕ) → Good {T = T} {A = A} kind never never_read [] [] false true
 good_never kind = record {
   reads = λ ts. record { used = []; rest = ts; whole = refl; place = refl; begun = refl; stopped = λ x after more h f. no_nil f; unfinished = λ v f. f };
   begins = λ x m f. absurd (no_nil f);
@@ -190,7 +190,7 @@ good_never kind = record {
   unique = λ ts v w f g. absurd f;
   void = λ e v f. f;
   blank = λ e. absurd (true≢false (sym e));
-  first = λ e x is. absurd (true≢false (sym e));
+  first = λ e x is. absurd (true≢false (sym is));
 }
 
 -- ---- another value

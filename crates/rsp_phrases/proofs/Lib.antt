@@ -7,3 +7,4 @@ pub mod Under
 pub mod DepthLaws
 pub mod Drawing
 pub mod DistinctLaws
+pub mod Seeing

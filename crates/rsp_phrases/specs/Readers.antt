@@ -1,5 +1,5 @@
 -- Words of the way: functions on rows of tokens of the same shape as the rules, which the code is proved against.
-use Rattle.std.specs.Prelude.{ℕ, zero, suc, Bool, false, List, [], ◌∷◌, length, cond, Option, None, Some, Result, Ok, Err}
+use Rattle.std.specs.Prelude.{ℕ, zero, suc, Bool, false, List, [], ◌∷◌, length, ◌-◌, drop, map, cond, Option, None, Some, Result, Ok, Err}
 use Rattle.std.specs.List.{list_any}
 use Rattle.rsp_phrases.specs.Languages.{has, listed, follows}
 
@@ -58,6 +58,14 @@ second_read r s = mapped_read (λ (v : _ × _). v.1) (both_read r s)
 
 abbrev pub first_read : {T A B : Type 0} → Reader T A → Reader T B → Reader T A
 first_read r s = mapped_read (λ (v : _ × _). v.0) (both_read r s)
+
+-- the rest of the tokens as they were before they were read as others
+abbrev pub rest_of : {T A : Type 0} → List T → Reading T A → Reading T A
+rest_of ts (Ok x) = Ok (x.0, drop (length ts - length x.1) ts)
+rest_of ts (Err left) = Err left
+
+abbrev pub seen_read : {T A : Type 0} → (T → T) → Reader T A → Reader T A
+seen_read f r ts = rest_of ts (r (map f ts))
 
 -- whether the next token is of one of these kinds
 abbrev pub starts : {T : Type 0} → (T → ℕ) → List ℕ → List T → Bool

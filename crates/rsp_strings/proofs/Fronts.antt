@@ -1,5 +1,5 @@
 -- The bytes of the first characters of a text, and of those behind them.
-use Rattle.std.proofs.Common.{◌≡◌, ℕ, zero, suc, ◌+◌, ◌-◌, ◌<◌, ◌≤◌, Bool, true, false, List, [], ◌∷◌, ◌++◌, length, take, drop, refl, sym, ap, ◌∙◌, arith, IsUtf8, chars, length-append}
+use Rattle.std.proofs.Common.{◌≡◌, ℕ, zero, suc, ◌+◌, ◌-◌, ◌<◌, Bool, true, false, List, [], ◌∷◌, ◌++◌, length, take, drop, refl, sym, ap, ◌∙◌, arith, IsUtf8, chars, length-append}
 use Rattle.std.specs.Prelude.{◌&&◌}
 use Rattle.std.specs.List.{slice_range}
 use Rattle.std.specs.Str.{all_scalars, encode_utf8_all, IsCharBoundary}
@@ -23,7 +23,8 @@ scalars-drop (suc n) (c ∷ cs) h = scalars-drop n cs (and_right _ (all_scalars 
 scalars-take : (n : ℕ) (cs : List ℕ) → all_scalars cs ≡ true → all_scalars (take n cs) ≡ true
 scalars-take zero cs h = refl
 scalars-take (suc n) [] h = refl
-scalars-take (suc n) (c ∷ cs) h = rw (and_left _ (all_scalars cs) h) (scalars-take n cs (and_right _ (all_scalars cs) h))
+scalars-take (suc n) (c ∷ cs) h = rw (and_left _ (all_scalars cs) h)
+    (scalars-take n cs (and_right _ (all_scalars cs) h))
 
 take_front : (xs ys : List ℕ) → take (length xs) (xs ++ ys) ≡ xs
 take_front [] ys = refl
@@ -67,10 +68,12 @@ front_more text rest c zero whole parts some = absurd (omega arith)
 front_more text rest c (suc left) whole parts some =
     let less : suc left - 1 ≡ left = omega arith in
     rw (chars_past_char text rest c whole parts, less)
-    (length-append (encode_utf8 c) (front_bytes left rest) ∙ ap (λ n. n + length (front_bytes left rest)) (length-encode c))
+    (length-append (encode_utf8 c) (front_bytes left rest)
+    ∙ ap (λ n. n + length (front_bytes left rest)) (length-encode c))
 
 -- of no character
-pub front_ended : (len left total : ℕ) (text : List ℕ) → left ≡ 0 → len + length (front_bytes left text) ≡ total → len ≡ total
+pub front_ended : (len left total : ℕ) (text : List ℕ) → left ≡ 0 → len + length (front_bytes left text) ≡ total
+    → len ≡ total
 front_ended len zero total text none is = omega arith
 front_ended len (suc left) total text none is = absurd (omega arith)
 

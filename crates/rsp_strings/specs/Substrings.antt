@@ -1,4 +1,4 @@
--- Definitions: the characters of a text, and those that stand at given places (SPARQL 1.1, sections 17.4.3.2 and 17.4.3.3).
+-- Definitions: the characters of a text, and those at given places (SPARQL 1.1, sections 17.4.3.2 and 17.4.3.3).
 -- A text is its bytes in UTF-8, and a character is a code point: `chars` gives those that the bytes spell, and
 -- `encode_utf8_all` their bytes.
 use Rattle.std.specs.Prelude.{ℕ, suc, ℤ, pos, ◌+ℤ◌, int_le, int_lt, Bool, ◌&&◌, if◌then◌else◌, List, [], ◌∷◌, length}

@@ -23,7 +23,8 @@ fn is_same_range(tag: &str, range: &str) -> bool
 
 /// Whether the tag begins with the range and `-`.
 fn is_within_range(tag: &[u8], range: &[u8]) -> bool
-    ensures { result ≡ starts_with nat_eq (str_to_ascii_lowercase tag.now) (str_to_ascii_lowercase range.now ++ codes "-") }
+    ensures { result ≡ starts_with nat_eq (str_to_ascii_lowercase tag.now)
+        (str_to_ascii_lowercase range.now ++ codes "-") }
 {
     if tag.len() <= range.len() {
         return false;

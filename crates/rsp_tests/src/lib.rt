@@ -8,9 +8,17 @@
 #[cfg(test)]
 mod answers;
 #[cfg(test)]
+mod call;
+#[cfg(test)]
+mod engine;
+#[cfg(test)]
 mod evaluation;
 #[cfg(test)]
+mod events;
+#[cfg(test)]
 mod multisets;
+#[cfg(test)]
+mod nquads;
 #[cfg(test)]
 mod numbers;
 #[cfg(test)]

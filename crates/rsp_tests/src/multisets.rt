@@ -74,7 +74,8 @@ fn two_that_come(
     requires row { row.now ≡ Some 1 ∷ [] }
     ensures { IfOk result (λ count. pos count ≡ pos 2) }
 {
-    Ok(positive(alloc, changes)?.count(row))
+    let bag = positive(alloc, changes)?;
+    Ok(bag.count(row))
 }
 
 fn four_that_go(
@@ -86,7 +87,8 @@ fn four_that_go(
     requires row { row.now ≡ Some 3 ∷ [] }
     ensures { IfOk result (λ count. pos count ≡ pos 4) }
 {
-    Ok(negative(alloc, changes)?.count(row))
+    let bag = negative(alloc, changes)?;
+    Ok(bag.count(row))
 }
 
 // ---- Laws of rows

@@ -1,0 +1,4 @@
+pub mod Simple
+pub mod Expressions
+pub mod Triples
+pub mod Groups

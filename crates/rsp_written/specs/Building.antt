@@ -6,21 +6,23 @@ use Rattle.rsp_terms.specs.Terms.{xsd_string}
 use Rattle.rsp_written.specs.declared.said.Kind.{Kind}
 use Rattle.rsp_written.specs.declared.said.Kind.TheVariants as kind
 use Rattle.rsp_written.specs.declared.said.Said.{Said}
-use Rattle.rsp_written.specs.Trees.{Expr, Exprs, Operands, any_of, all_of, compared, member, sum, product, signed, bound, call, aggregate, no_expr, expr_then, no_operand, operand_then, Way, Ways, step, inverse, sequence, choice, no_way, way_then, Verb, Node, Nodes, Properties, no_node, node_then, no_property, property_then, described, Element, Elements, Groups, no_element, element_then, no_group, group_then, triples, Item, Projection, sub_select, selected, Policy, no_policy, Window, Written}
+use Rattle.rsp_written.specs.declared.literals.Suffix.{Suffix}
+use Rattle.rsp_written.specs.declared.literals.Suffix.TheVariants.{InLanguage, OfDatatype}
+use Rattle.rsp_written.specs.Trees.{Expr, Exprs, Operands, any_of, all_of, compared, member, sum, product, signed, call, aggregate, no_expr, expr_then, no_operand, operand_then, Way, Ways, inverse, sequence, choice, no_way, way_then, Verb, Node, Nodes, Properties, no_node, node_then, no_property, property_then, Element, Elements, Groups, no_element, element_then, no_group, group_then, triples, Item, Projection, sub_select, selected, Policy, no_policy, Window, Written}
 
 -- ---- literals
 
 abbrev pub xsd : List ℕ → List ℕ
 xsd name = codes "http://www.w3.org/2001/XMLSchema#" ++ name
 
-pub data Suffix : Type 0 where
-  in_language : List ℕ → Suffix
-  of_datatype : List ℕ → Suffix
+-- a string with its tag or datatype
+abbrev pub suffixed : List ℕ → Option Suffix → Term
+suffixed text None = term.Literal text xsd_string
+suffixed text (Some (InLanguage tag)) = term.Tagged text tag
+suffixed text (Some (OfDatatype datatype)) = term.Literal text datatype
 
 abbrev pub string_term : Said × Option Suffix → Term
-string_term (said, None) = term.Literal said.text xsd_string
-string_term (said, Some (in_language tag)) = term.Tagged said.text tag
-string_term (said, Some (of_datatype datatype)) = term.Literal said.text datatype
+string_term v = suffixed v.0.text v.1
 
 abbrev pub number_type : Kind → List ℕ
 number_type kind.Integer = xsd (codes "integer")
@@ -31,9 +33,12 @@ abbrev pub number_term : Said → Term
 number_term said = term.Literal said.text (number_type said.kind)
 
 -- with the sign in the lexical form
+abbrev pub negative_term : Said → Term
+negative_term said = term.Literal (45 ∷ said.text) (number_type said.kind)
+
 abbrev pub signed_term : Option Said × Said → Term
 signed_term (None, said) = number_term said
-signed_term (Some minus, said) = term.Literal (45 ∷ said.text) (number_type said.kind)
+signed_term (Some minus, said) = negative_term said
 
 abbrev pub boolean_term : List ℕ → Term
 boolean_term lexical = term.Literal lexical (xsd (codes "boolean"))
@@ -44,23 +49,31 @@ abbrev pub exprs_in : List Expr → Exprs
 exprs_in [] = no_expr
 exprs_in (e ∷ more) = expr_then e (exprs_in more)
 
-abbrev pub operands_in : List (Said × Expr) → Operands
+abbrev pub operands_in : List (Kind × Expr) → Operands
 operands_in [] = no_operand
-operands_in (x ∷ more) = operand_then x.0.kind x.1 (operands_in more)
+operands_in (x ∷ more) = operand_then x.0 x.1 (operands_in more)
 
-abbrev pub any_row : Expr × List (Said × Expr) → Expr
+-- a sign and what stands behind it
+abbrev pub signed_part : Said × Expr → Kind × Expr
+signed_part v = (v.0.kind, v.1)
+
+abbrev pub parts_of : List (Kind × Expr) → List Expr
+parts_of [] = []
+parts_of (x ∷ more) = x.1 ∷ parts_of more
+
+abbrev pub any_row : Expr × List (Kind × Expr) → Expr
 any_row (e, []) = e
-any_row (e, x ∷ more) = any_of (exprs_in (e ∷ map (λ y. y.1) (x ∷ more)))
+any_row (e, x ∷ more) = any_of (exprs_in (e ∷ x.1 ∷ parts_of more))
 
-abbrev pub all_row : Expr × List (Said × Expr) → Expr
+abbrev pub all_row : Expr × List (Kind × Expr) → Expr
 all_row (e, []) = e
-all_row (e, x ∷ more) = all_of (exprs_in (e ∷ map (λ y. y.1) (x ∷ more)))
+all_row (e, x ∷ more) = all_of (exprs_in (e ∷ x.1 ∷ parts_of more))
 
-abbrev pub sum_row : Expr × List (Said × Expr) → Expr
+abbrev pub sum_row : Expr × List (Kind × Expr) → Expr
 sum_row (e, []) = e
 sum_row (e, x ∷ more) = sum e (operands_in (x ∷ more))
 
-abbrev pub product_row : Expr × List (Said × Expr) → Expr
+abbrev pub product_row : Expr × List (Kind × Expr) → Expr
 product_row (e, []) = e
 product_row (e, x ∷ more) = product e (operands_in (x ∷ more))
 
@@ -166,12 +179,12 @@ policy_or_none (Some policy) = policy
 
 abbrev pub written_of : (Said × (List ℕ × Option Policy)) × ((Option Said × Projection) × (List Window × (List Element × (Option (List Item) × Option Expr)))) → Written
 written_of v = record {
-    operator = v.0.0.kind;
-    output = v.0.1.0;
-    policy = policy_or_none v.0.1.1;
-    windows = v.1.1.0;
-    select = selected (is_some v.1.0.0) v.1.0.1 (elements_in v.1.1.1.0) (keys_or_none v.1.1.1.1.0) v.1.1.1.1.1;
-  }
+  operator = v.0.0.kind;
+  output = v.0.1.0;
+  policy = policy_or_none v.0.1.1;
+  windows = v.1.1.0;
+  select = selected (is_some v.1.0.0) v.1.0.1 (elements_in v.1.1.1.0) (keys_or_none v.1.1.1.1.0) v.1.1.1.1.1;
+}
 
 -- the later one, where it is there
 abbrev pub later : {A : Type 0} → Option A → Option A → Option A

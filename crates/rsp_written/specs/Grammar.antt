@@ -3,14 +3,14 @@
 -- the end the order is that of the grammar. Tokens are what they say: words in any case, IRIs absolute with prefixes
 -- replaced, strings without escapes. What is left out of SPARQL: paths `*` `+` `?` `!`, collections, SERVICE, queries of
 -- other forms, solution modifiers but grouping, and functions named by IRIs.
-use Rattle.std.specs.Prelude.{◌≡◌, ℕ, zero, suc, Bool, true, false, ◌&&◌, List, [], ◌∷◌, ◌++◌, cond, map, length, Option, None, Some, is_some, codes, ◌==◌, nat_le}
+use Rattle.std.specs.Prelude.{ℕ, zero, suc, List, [], ◌∷◌, ◌++◌, cond, map, length, Option, None, Some, is_some, codes, nat_le}
 use Rattle.std.specs.List.{flat_map}
 use Rattle.std.specs.Str.{bytes_eq}
 use Rattle.std.specs.Str.Parse.{digits_value}
 use Rattle.rsp_text.specs.Instants.{instant}
 use Rattle.rsp_terms.specs.declared.term.Term.TheVariants as term
 use Rattle.rsp_terms.specs.declared.term.Term.{Term}
-use Rattle.rsp_phrases.specs.Languages.{Language, among, token, mapped, tied, both, second_of, first_of_both, either, optional, many, dotted, distinct, within_itself, seen, listed, never}
+use Rattle.rsp_phrases.specs.Languages.{Language, has, among, token, mapped, tied, both, second_of, first_of_both, either, optional, many, dotted, distinct, within_itself, seen, listed, never}
 use Rattle.rsp_written.specs.declared.said.Keyword.{Keyword}
 use Rattle.rsp_written.specs.declared.said.Keyword.TheVariants as keyword
 use Rattle.rsp_written.specs.declared.said.Symbol.{Symbol}
@@ -18,9 +18,13 @@ use Rattle.rsp_written.specs.declared.said.Symbol.TheVariants as symbol
 use Rattle.rsp_written.specs.declared.said.Kind.{Kind}
 use Rattle.rsp_written.specs.declared.said.Kind.TheVariants as kind
 use Rattle.rsp_written.specs.declared.said.Said.{Said}
-use Rattle.rsp_written.specs.Kinds.{number_of}
-use Rattle.rsp_written.specs.Trees.{Expr, variable, iri, constant, bound, count_rows, Way, step, Verb, named, along, Node, variable_node, iri_node, constant_node, label_node, blank_node, described, Properties, Item, shown, computed, Projection, every_name, these, Graph, graph_variable, graph_iri, Element, optional_group, minus_group, union_of, graph_group, window_group, filter, exists, bind, values, sub_select, Selected, selected, Strategy, Policy, no_policy, profile, reporting, Window, Written}
-use Rattle.rsp_written.specs.Building.{Suffix, in_language, of_datatype, string_term, number_term, signed_term, boolean_term, any_row, all_row, sum_row, product_row, Relation, compared_to, one_of, related, with_sign, call_of, aggregate_of, sequence_row, choice_row, turned, rdf_type, property_list, some_properties, elements_in, groups_in, run, sub_select_of, written_of, later, is_nil}
+use Rattle.rsp_written.specs.declared.said.Arity.{Arity}
+use Rattle.rsp_written.specs.declared.said.Arity.TheVariants as arity
+use Rattle.rsp_written.specs.Kinds.{number_of, arity_of}
+use Rattle.rsp_written.specs.Trees.{Expr, variable, iri, constant, bound, count_rows, Way, step, Verb, named, along, Node, variable_node, iri_node, constant_node, label_node, blank_node, described, Properties, Item, shown, computed, Projection, every_name, these, Graph, graph_variable, graph_iri, Element, optional_group, minus_group, union_of, graph_group, window_group, filter, exists, bind, values, Strategy, Policy, profile, reporting, Window, Written}
+use Rattle.rsp_written.specs.Building.{string_term, number_term, signed_term, boolean_term, signed_part, any_row, all_row, sum_row, product_row, Relation, compared_to, one_of, related, with_sign, call_of, aggregate_of, sequence_row, choice_row, turned, rdf_type, property_list, some_properties, elements_in, groups_in, run, sub_select_of, written_of, later, is_nil}
+use Rattle.rsp_written.specs.declared.literals.Suffix.{Suffix}
+use Rattle.rsp_written.specs.declared.literals.Suffix.TheVariants.{InLanguage, OfDatatype}
 
 abbrev pub Rule : Type 0 → Type 1
 Rule A = Language Said A
@@ -61,8 +65,8 @@ variable_name = mapped text_of (one (kind.Variable ∷ []))
 -- (without '+'; white space may stand behind '-')
 abbrev pub suffix : Rule Suffix
 suffix =
-    either (mapped (λ tag. in_language tag.text) (one (kind.Tag ∷ [])))
-        (second_of (sign symbol.Carets) (mapped of_datatype iri_name))
+    either (mapped (λ tag. InLanguage tag.text) (one (kind.Tag ∷ [])))
+    (second_of (sign symbol.Carets) (mapped OfDatatype iri_name))
 
 abbrev pub string_literal : Rule Term
 string_literal = mapped string_term (both (one (kind.String ∷ [])) (optional suffix))
@@ -79,7 +83,7 @@ signed_number = mapped signed_term (both (optional (sign symbol.Minus)) (one num
 abbrev pub boolean : Rule Term
 boolean =
     either (mapped (λ w. boolean_term (codes "true")) (word keyword.True))
-        (mapped (λ w. boolean_term (codes "false")) (word keyword.False))
+    (mapped (λ w. boolean_term (codes "false")) (word keyword.False))
 
 abbrev pub literal : Rule Term
 literal = either string_literal (either signed_number boolean)
@@ -93,64 +97,47 @@ unsigned_literal = either string_literal (either unsigned_number boolean)
 abbrev pub expressions : Rule Expr → Rule (List Expr)
 expressions inner =
     second_of (sign symbol.OpenParen)
-        (mapped (λ (v : _ × _). listed v.0)
-            (both (optional (both inner (many (second_of (sign symbol.Comma) inner)))) (sign symbol.CloseParen)))
+    (mapped (λ (v : _ × _). listed v.0)
+    (both (optional (both inner (many (second_of (sign symbol.Comma) inner)))) (sign symbol.CloseParen)))
 
 -- Call ::= a name, '(' arguments separated by ',' ')'                                                [121] BuiltInCall
--- (each name with its numbers of arguments)
-abbrev pub unary_names : List Kind
-unary_names = map kind.Word
-    (keyword.IsIri ∷ keyword.IsUri ∷ keyword.IsBlank ∷ keyword.IsLiteral ∷ keyword.IsNumeric ∷ keyword.Str ∷ keyword.Lang ∷ keyword.Datatype
-        ∷ keyword.Iri ∷ keyword.Uri ∷ keyword.StrLen ∷ keyword.Abs ∷ keyword.Ceil ∷ keyword.Floor ∷ keyword.Round ∷ [])
-
-abbrev pub binary_names : List Kind
-binary_names = map kind.Word
-    (keyword.SameTerm ∷ keyword.StrDt ∷ keyword.StrLang ∷ keyword.Contains ∷ keyword.StrStarts ∷ keyword.StrEnds ∷ keyword.StrBefore
-        ∷ keyword.StrAfter ∷ keyword.LangMatches ∷ [])
-
-abbrev pub free_names : List Kind
-free_names = map kind.Word (keyword.Coalesce ∷ keyword.Concat ∷ [])
-
-abbrev pub bound_call : Rule Expr
-bound_call = mapped bound (second_of (word keyword.Bound) (in_parens variable_name))
-
+-- (each name with its numbers of arguments; BOUND has a variable)
 abbrev pub another : Rule Expr → Rule Expr
 another inner = second_of (sign symbol.Comma) inner
-
-abbrev pub unary_call : Rule Expr → Rule Expr
-unary_call inner = mapped (λ (v : _ × _). call_of (v.0, v.1 ∷ [])) (both (one unary_names) (in_parens inner))
-
-abbrev pub binary_call : Rule Expr → Rule Expr
-binary_call inner =
-    mapped (λ (v : Said × (Expr × Expr)). call_of (v.0, v.1.0 ∷ v.1.1 ∷ []))
-        (both (one binary_names) (in_parens (both inner (another inner))))
 
 abbrev pub maybe_third : Expr × (Expr × Option Expr) → List Expr
 maybe_third (a, (b, None)) = a ∷ b ∷ []
 maybe_third (a, (b, Some c)) = a ∷ b ∷ c ∷ []
 
-abbrev pub substring_call : Rule Expr → Rule Expr
-substring_call inner =
-    mapped (λ (v : Said × (Expr × (Expr × Option Expr))). call_of (v.0, maybe_third v.1))
-        (both (word keyword.SubStr) (in_parens (both inner (both (another inner) (optional (another inner))))))
+abbrev pub arguments : Arity → Rule Expr → Rule (List Expr)
+arguments arity.One inner = mapped (λ e. e ∷ []) (in_parens inner)
+arguments arity.Two inner = mapped (λ (v : Expr × Expr). v.0 ∷ v.1 ∷ []) (in_parens (both inner (another inner)))
+arguments arity.Three inner =
+    mapped (λ (v : Expr × (Expr × Expr)). v.0 ∷ v.1.0 ∷ v.1.1 ∷ []) (in_parens (both inner (both (another inner) (another inner))))
+arguments arity.TwoOrThree inner = mapped maybe_third (in_parens (both inner (both (another inner) (optional (another inner)))))
+arguments arity.Any inner = expressions inner
 
-abbrev pub if_call : Rule Expr → Rule Expr
-if_call inner =
-    mapped (λ (v : Said × (Expr × (Expr × Expr))). call_of (v.0, v.1.0 ∷ v.1.1.0 ∷ v.1.1.1 ∷ []))
-        (both (word keyword.If) (in_parens (both inner (both (another inner) (another inner)))))
+abbrev pub call_names : List Kind
+call_names = map kind.Word
+    (keyword.If ∷ keyword.Coalesce ∷ keyword.SameTerm ∷ keyword.IsIri ∷ keyword.IsUri ∷ keyword.IsBlank ∷ keyword.IsLiteral ∷ keyword.IsNumeric
+        ∷ keyword.Str ∷ keyword.Lang ∷ keyword.Datatype ∷ keyword.Iri ∷ keyword.Uri ∷ keyword.StrDt ∷ keyword.StrLang ∷ keyword.StrLen
+        ∷ keyword.SubStr ∷ keyword.Contains ∷ keyword.StrStarts ∷ keyword.StrEnds ∷ keyword.StrBefore ∷ keyword.StrAfter ∷ keyword.Concat
+        ∷ keyword.LangMatches ∷ keyword.Abs ∷ keyword.Ceil ∷ keyword.Floor ∷ keyword.Round ∷ [])
 
-abbrev pub free_call : Rule Expr → Rule Expr
-free_call inner = mapped call_of (both (one free_names) (expressions inner))
+abbrev pub bound_call : Rule Expr
+bound_call = mapped bound (second_of (word keyword.Bound) (in_parens variable_name))
+
+abbrev pub function_call : Rule Expr → Rule Expr
+function_call inner = mapped call_of (tied (one call_names) (λ name. arguments (arity_of name.kind) inner))
 
 abbrev pub call_rule : Rule Expr → Rule Expr
-call_rule inner =
-    either bound_call (either (unary_call inner) (either (binary_call inner) (either (substring_call inner) (either (if_call inner) (free_call inner)))))
+call_rule inner = either bound_call (function_call inner)
 
 -- Primary ::= '(' Expr ')' | Call | Iri | Variable | unsigned Literal                          [119] PrimaryExpression
 abbrev pub primary : Rule Expr → Rule Expr → Rule Expr
 primary extra inner =
     either extra (either (in_parens inner) (either (call_rule inner)
-        (either (mapped iri iri_name) (either (mapped variable variable_name) (mapped constant unsigned_literal)))))
+    (either (mapped iri iri_name) (either (mapped variable variable_name) (mapped constant unsigned_literal)))))
 
 -- Unary ::= ('!' | '-' | '+')? Primary                                                           [118] UnaryExpression
 abbrev pub unary_signs : List Kind
@@ -160,8 +147,8 @@ abbrev pub unary : Rule Expr → Rule Expr → Rule Expr
 unary extra inner = mapped with_sign (both (optional (one unary_signs)) (primary extra inner))
 
 -- parts with signs between
-abbrev pub row : List Kind → (Expr × List (Said × Expr) → Expr) → Rule Expr → Rule Expr
-row signs make part = mapped make (both part (many (both (one signs) part)))
+abbrev pub row : List Kind → (Expr × List (Kind × Expr) → Expr) → Rule Expr → Rule Expr
+row signs make part = mapped make (both part (many (mapped signed_part (both (one signs) part))))
 
 -- Product ::= Unary (('*' | '/') Unary)*                                                [117] MultiplicativeExpression
 abbrev pub product_signs : List Kind
@@ -188,7 +175,7 @@ comparison extra inner = mapped (λ (v : Said × Expr). compared_to v.0.kind v.1
 abbrev pub membership : Rule Expr → Rule Relation
 membership inner =
     mapped (λ (v : Option Said × List Expr). one_of (is_some v.0) v.1)
-        (both (optional (word keyword.Not)) (second_of (word keyword.In) (expressions inner)))
+    (both (optional (word keyword.Not)) (second_of (word keyword.In) (expressions inner)))
 
 abbrev pub relation : Rule Expr → Rule Expr → Rule Expr
 relation extra inner = mapped related (both (sum_rule extra inner) (optional (either (comparison extra inner) (membership inner))))
@@ -218,7 +205,7 @@ maybe_distinct = both (optional (word keyword.Distinct)) expression
 abbrev pub count_rule : Rule Expr
 count_rule =
     second_of (word keyword.Count) (in_parens
-        (either (mapped (λ star. count_rows) (sign symbol.Star)) (mapped (aggregate_of (kind.Word keyword.Count)) maybe_distinct)))
+    (either (mapped (λ star. count_rows) (sign symbol.Star)) (mapped (aggregate_of (kind.Word keyword.Count)) maybe_distinct)))
 
 abbrev pub folds : List Kind
 folds = map kind.Word (keyword.Sum ∷ keyword.Avg ∷ keyword.Min ∷ keyword.Max ∷ [])
@@ -226,7 +213,7 @@ folds = map kind.Word (keyword.Sum ∷ keyword.Avg ∷ keyword.Min ∷ keyword.M
 abbrev pub aggregate_rule : Rule Expr
 aggregate_rule =
     either count_rule
-        (mapped (λ (v : Said × (Option Said × Expr)). aggregate_of v.0.kind v.1) (both (one folds) (in_parens maybe_distinct)))
+    (mapped (λ (v : Said × (Option Said × Expr)). aggregate_of v.0.kind v.1) (both (one folds) (in_parens maybe_distinct)))
 
 -- AggExpr ::= Expr in which Primary may also be an Aggregate
 abbrev pub aggregate_expression : Rule Expr
@@ -262,7 +249,7 @@ verb = either (mapped named variable_name) (mapped along path)
 abbrev pub subject_name : Rule Node
 subject_name =
     either (mapped variable_node variable_name)
-        (either (mapped iri_node iri_name) (mapped (λ said. label_node said.text) (one (kind.Label ∷ []))))
+    (either (mapped iri_node iri_name) (mapped (λ said. label_node said.text) (one (kind.Label ∷ []))))
 
 abbrev pub node_name : Rule Node
 node_name = either subject_name (mapped constant_node literal)
@@ -309,7 +296,7 @@ properties = within_itself properties_rule
 abbrev pub same : Rule (Node × Properties)
 same =
     either (mapped (λ (v : Node × Properties). v) (both subject properties))
-        (mapped (λ (v : Node × Option Properties). (v.0, some_properties v.1)) (both (bracketed properties) (optional properties)))
+    (mapped (λ (v : Node × Option Properties). (v.0, some_properties v.1)) (both (bracketed properties) (optional properties)))
 
 -- Triples ::= Same ('.' Triples?)?                                                                  [55] TriplesBlock
 abbrev pub triples_rule : Rule (List (Node × Properties))
@@ -321,7 +308,7 @@ triples_rule = dotted (sign symbol.Dot) same
 abbrev pub value : Rule (Option Term)
 value =
     either (mapped (λ name. Some (term.Iri name)) iri_name)
-        (either (mapped Some literal) (mapped (λ w. None) (word keyword.Undef)))
+    (either (mapped Some literal) (mapped (λ w. None) (word keyword.Undef)))
 
 abbrev pub in_braces : {A : Type 0} → Rule A → Rule A
 in_braces p = second_of (sign symbol.OpenBrace) (first_of_both p (sign symbol.CloseBrace))
@@ -335,7 +322,7 @@ value_row zero = mapped (λ close. []) (sign symbol.CloseParen)
 value_row (suc n) = mapped (λ (v : Option Term × List (Option Term)). v.0 ∷ v.1) (both value (value_row n))
 
 abbrev pub name_if_variable : Said → Option (List ℕ)
-name_if_variable said = cond (number_of said.kind == number_of kind.Variable) (Some said.text) None
+name_if_variable said = cond (has (numbers (kind.Variable ∷ [])) (kind_number said)) (Some said.text) None
 
 -- no variable twice
 abbrev pub columns : Rule (List (List ℕ))
@@ -344,9 +331,9 @@ columns = distinct name_if_variable []
 abbrev pub many_columns : Rule Element
 many_columns =
     mapped (λ (v : List (List ℕ) × List (List (Option Term))). values v.0 v.1)
-        (second_of (sign symbol.OpenParen)
-            (tied (first_of_both columns (sign symbol.CloseParen))
-                (λ names. in_braces (many (second_of (sign symbol.OpenParen) (value_row (length names)))))))
+    (second_of (sign symbol.OpenParen)
+    (tied (first_of_both columns (sign symbol.CloseParen))
+    (λ names. in_braces (many (second_of (sign symbol.OpenParen) (value_row (length names)))))))
 
 -- Block ::= Variable '{' Value* '}' | '(' Variable* ')' '{' ('(' Value* ')')* '}'                    [62] DataBlock
 -- (a row has as many values as there are variables)
@@ -367,7 +354,7 @@ minus_rule inner = mapped (λ g. minus_group (elements_in g)) (second_of (word k
 abbrev pub union_rule : Rule (List Element) → Rule Element
 union_rule inner =
     mapped (λ (v : List Element × List (List Element)). union_of (groups_in (v.0 ∷ v.1)))
-        (both (group_of inner) (many (second_of (word keyword.Union) (group_of inner))))
+    (both (group_of inner) (many (second_of (word keyword.Union) (group_of inner))))
 
 abbrev pub graph_name : Rule Graph
 graph_name = either (mapped graph_variable variable_name) (mapped graph_iri iri_name)
@@ -375,22 +362,22 @@ graph_name = either (mapped graph_variable variable_name) (mapped graph_iri iri_
 abbrev pub graph_rule : Rule (List Element) → Rule Element
 graph_rule inner =
     mapped (λ (v : Said × (Graph × List Element)). graph_group v.1.0 v.0.at (elements_in v.1.1))
-        (both (word keyword.Graph) (both graph_name (group_of inner)))
+    (both (word keyword.Graph) (both graph_name (group_of inner)))
 
 abbrev pub window_rule : Rule (List Element) → Rule Element
 window_rule inner =
     mapped (λ (v : Said × (List ℕ × List Element)). window_group v.1.0 v.0.at (elements_in v.1.1))
-        (both (word keyword.Window) (both iri_name (group_of inner)))
+    (both (word keyword.Window) (both iri_name (group_of inner)))
 
 abbrev pub exists_rule : Rule (List Element) → Rule Element
 exists_rule inner =
     mapped (λ (v : Option Said × (Said × List Element)). exists (is_some v.0) v.1.0.at (elements_in v.1.1))
-        (both (optional (word keyword.Not)) (both (word keyword.Exists) (group_of inner)))
+    (both (optional (word keyword.Not)) (both (word keyword.Exists) (group_of inner)))
 
 abbrev pub filter_rule : Rule (List Element) → Rule Element
 filter_rule inner =
     second_of (word keyword.Filter)
-        (either (mapped filter (in_parens expression)) (either (mapped filter (call_rule expression)) (exists_rule inner)))
+    (either (mapped filter (in_parens expression)) (either (mapped filter (call_rule expression)) (exists_rule inner)))
 
 abbrev pub as_variable : Rule Expr → Rule (Expr × List ℕ)
 as_variable e = in_parens (both e (second_of (word keyword.As) variable_name))
@@ -408,7 +395,7 @@ values_rule = second_of (word keyword.Values) block
 abbrev pub other : Rule (List Element) → Rule Element
 other inner =
     either (optional_rule inner) (either (minus_rule inner) (either (union_rule inner) (either (graph_rule inner)
-        (either (window_rule inner) (either (filter_rule inner) (either bind_rule values_rule))))))
+    (either (window_rule inner) (either (filter_rule inner) (either bind_rule values_rule))))))
 
 -- Select ::= 'SELECT' 'DISTINCT'? ('*' | (Variable | '(' AggExpr 'AS' Variable ')')+)                  [9] SelectClause
 abbrev pub item_of : Rule Expr → Rule Item
@@ -443,12 +430,12 @@ sub_select_rule inner =
 abbrev pub piece : Rule (List Element) → Rule (List Element)
 piece inner =
     mapped (λ (v : Element × (Option Said × Option (List (Node × Properties)))). v.0 ∷ run v.1.1)
-        (both (other inner) (both (optional (sign symbol.Dot)) (optional triples_rule)))
+    (both (other inner) (both (optional (sign symbol.Dot)) (optional triples_rule)))
 
 abbrev pub body : Rule (List Element) → Rule (List Element)
 body inner =
     mapped (λ (v : Option (List (Node × Properties)) × List (List Element)). run v.0 ++ flat_map (λ found. found) v.1)
-        (both (optional triples_rule) (many (piece inner)))
+    (both (optional triples_rule) (many (piece inner)))
 
 abbrev pub group_rule : Rule (List Element) → Rule (List Element)
 group_rule inner = first_of_both (either (sub_select_rule inner) (body inner)) (sign symbol.CloseBrace)
@@ -475,9 +462,9 @@ origin = token (λ said. origin_of_kind said.kind said.text)
 abbrev pub window_size : Rule (List ℕ × (Option (List ℕ) × Option ℕ))
 window_size =
     second_of (sign symbol.OpenBracket) (first_of_both
-        (second_of (word keyword.Range) (both span_text
-            (both (optional (second_of (word keyword.Step) span_text)) (optional (second_of (word keyword.Start) origin)))))
-        (sign symbol.CloseBracket))
+    (second_of (word keyword.Range) (both span_text
+    (both (optional (second_of (word keyword.Step) span_text)) (optional (second_of (word keyword.Start) origin)))))
+    (sign symbol.CloseBracket))
 
 abbrev pub window_of : Said × (List ℕ × (List ℕ × (List ℕ × (Option (List ℕ) × Option ℕ)))) → Window
 window_of v = record { at = v.0.at; name = v.1.0; stream = v.1.1.0; range = v.1.1.1.0; slide = v.1.1.1.1.0; origin = v.1.1.1.1.1 }
@@ -485,7 +472,7 @@ window_of v = record { at = v.0.at; name = v.1.0; stream = v.1.1.0; range = v.1.
 abbrev pub window : Rule Window
 window =
     mapped window_of (both (word keyword.From) (second_of (word keyword.Named) (second_of (word keyword.Window)
-        (both iri_name (second_of (word keyword.On) (both iri_name window_size))))))
+    (both iri_name (second_of (word keyword.On) (both iri_name window_size))))))
 
 -- Strategy ::= 'CLOSE' | 'CHANGE' | 'NONEMPTY' | 'EVERY' Span                                       (of this profile)
 abbrev pub plain_strategies : List Kind
@@ -494,7 +481,7 @@ plain_strategies = map kind.Word (keyword.Close ∷ keyword.Change ∷ keyword.N
 abbrev pub strategy : Rule Strategy
 strategy =
     either (mapped (λ said. record { kind = said.kind; period = None }) (one plain_strategies))
-        (mapped (λ text. record { kind = kind.Word keyword.Every; period = Some text }) (second_of (word keyword.Every) span_text))
+    (mapped (λ text. record { kind = kind.Word keyword.Every; period = Some text }) (second_of (word keyword.Every) span_text))
 
 -- Policy ::= 'UNDER' ('CSPARQL' | 'CQELS') | 'REPORT' Strategy ('AND' Strategy)* 'TICK' ('TIME' | 'TUPLE')
 abbrev pub profiles : List Kind
@@ -506,8 +493,8 @@ ticks = map kind.Word (keyword.Time ∷ keyword.Tuple ∷ [])
 abbrev pub reported : Rule Policy
 reported =
     mapped (λ (v : (Strategy × List Strategy) × Said). reporting (v.0.0 ∷ v.0.1) v.1.kind)
-        (second_of (word keyword.Report)
-            (both (both strategy (many (second_of (word keyword.And) strategy))) (second_of (word keyword.Tick) (one ticks))))
+    (second_of (word keyword.Report)
+    (both (both strategy (many (second_of (word keyword.And) strategy))) (second_of (word keyword.Tick) (one ticks))))
 
 abbrev pub policy : Rule Policy
 policy = either (mapped (λ said. profile said.kind) (second_of (word keyword.Under) (one profiles))) reported
@@ -527,7 +514,7 @@ windows = mapped (λ (v : Window × List Window). v.0 ∷ v.1) (both window (man
 abbrev pub query_body : Rule Written
 query_body =
     mapped written_of (both registered (both select_clause (both windows
-        (both (second_of (optional (word keyword.Where)) group) tail))))
+    (both (second_of (optional (word keyword.Where)) group) tail))))
 
 -- Prefix ::= 'PREFIX' Prefixed-with-empty-local Iri-token                                               [6] PrefixDecl
 abbrev pub prefix_of_kind : Kind → Said → Option (List ℕ)

@@ -6,6 +6,8 @@ use Rattle.rsp_written.specs.declared.said.Symbol.{Symbol}
 use Rattle.rsp_written.specs.declared.said.Symbol.TheVariants as symbol
 use Rattle.rsp_written.specs.declared.said.Kind.{Kind}
 use Rattle.rsp_written.specs.declared.said.Kind.TheVariants as kind
+use Rattle.rsp_written.specs.declared.said.Arity.{Arity}
+use Rattle.rsp_written.specs.declared.said.Arity.TheVariants as arity
 
 abbrev pub place_of_keyword : Keyword → ℕ
 place_of_keyword keyword.Prefix = 0
@@ -130,3 +132,24 @@ number_of kind.String = 9
 number_of kind.Nowhere = 10
 number_of (kind.Word w) = 20 + place_of_keyword w
 number_of (kind.Symbol s) = 120 + place_of_symbol s
+
+-- how many arguments a call by this name has
+abbrev pub arity_of_keyword : Keyword → Arity
+arity_of_keyword keyword.SameTerm = arity.Two
+arity_of_keyword keyword.StrDt = arity.Two
+arity_of_keyword keyword.StrLang = arity.Two
+arity_of_keyword keyword.Contains = arity.Two
+arity_of_keyword keyword.StrStarts = arity.Two
+arity_of_keyword keyword.StrEnds = arity.Two
+arity_of_keyword keyword.StrBefore = arity.Two
+arity_of_keyword keyword.StrAfter = arity.Two
+arity_of_keyword keyword.LangMatches = arity.Two
+arity_of_keyword keyword.If = arity.Three
+arity_of_keyword keyword.SubStr = arity.TwoOrThree
+arity_of_keyword keyword.Coalesce = arity.Any
+arity_of_keyword keyword.Concat = arity.Any
+arity_of_keyword _ = arity.One
+
+abbrev pub arity_of : Kind → Arity
+arity_of (kind.Word w) = arity_of_keyword w
+arity_of _ = arity.One

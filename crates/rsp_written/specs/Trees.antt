@@ -1,5 +1,5 @@
 -- Definitions: the tree of a query as it is written. A name or an IRI is its characters.
-use Rattle.std.specs.Prelude.{ℕ, Bool, List, [], ◌∷◌, Option}
+use Rattle.std.specs.Prelude.{ℕ, Bool, List, Option}
 use Rattle.rsp_terms.specs.declared.term.Term.{Term}
 use Rattle.rsp_written.specs.declared.said.Kind.{Kind}
 
@@ -21,9 +21,11 @@ mutual
     call : Kind → Exprs → Expr
     count_rows : Expr
     aggregate : Kind → Bool → Expr → Expr
+
   pub data Exprs : Type 0 where
     no_expr : Exprs
     expr_then : Expr → Exprs → Exprs
+
   -- a sign and what it joins, in order
   pub data Operands : Type 0 where
     no_operand : Operands
@@ -37,6 +39,7 @@ mutual
     inverse : Way → Way
     sequence : Ways → Way
     choice : Ways → Way
+
   pub data Ways : Type 0 where
     no_way : Ways
     way_then : Way → Ways → Ways
@@ -55,9 +58,11 @@ mutual
     label_node : List ℕ → Node
     blank_node : Node
     described : Properties → Node
+
   pub data Nodes : Type 0 where
     no_node : Nodes
     node_then : Node → Nodes → Nodes
+
   -- verbs, each with its objects
   pub data Properties : Type 0 where
     no_property : Properties
@@ -92,12 +97,15 @@ mutual
     bind : Expr → List ℕ → Element
     values : List (List ℕ) → List (List (Option Term)) → Element
     sub_select : Selected → Element
+
   pub data Elements : Type 0 where
     no_element : Elements
     element_then : Element → Elements → Elements
+
   pub data Groups : Type 0 where
     no_group : Groups
     group_then : Elements → Groups → Groups
+
   pub data Selected : Type 0 where
     selected : Bool → Projection → Elements → List Item → Option Expr → Selected
 

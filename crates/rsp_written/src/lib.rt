@@ -2,6 +2,12 @@
 //! numbers and each row of signs as one list.
 #![tactic(auto)]
 
+mod expression;
+mod literals;
+mod reading;
 mod said;
 
-pub use said::{Keyword, Kind, Said, Symbol};
+pub use expression::{Expression, Operand};
+pub use literals::{Suffix, literal, unsigned_literal};
+pub use reading::{Halt, first_is, first_is_among, iri, one, sign, variable, word};
+pub use said::{Arity, Keyword, Kind, Said, Symbol};

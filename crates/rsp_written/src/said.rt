@@ -195,6 +195,39 @@ impl Keyword {
     }
 }
 
+/// How many arguments a call has.
+#[derive(Clone, Copy, PartialEq, Eq, Drop)]
+pub enum Arity {
+    One,
+    Two,
+    Three,
+    TwoOrThree,
+    Any,
+}
+
+impl Keyword {
+    /// How many arguments a call by this name has; of a word that names no function it says nothing.
+    pub fn arity(self) -> Arity
+        ensures { result ≡ kinds.arity_of_keyword self }
+    {
+        match self {
+            Keyword::SameTerm
+            | Keyword::StrDt
+            | Keyword::StrLang
+            | Keyword::Contains
+            | Keyword::StrStarts
+            | Keyword::StrEnds
+            | Keyword::StrBefore
+            | Keyword::StrAfter
+            | Keyword::LangMatches => Arity::Two,
+            Keyword::If => Arity::Three,
+            Keyword::SubStr => Arity::TwoOrThree,
+            Keyword::Coalesce | Keyword::Concat => Arity::Any,
+            _ => Arity::One,
+        }
+    }
+}
+
 impl Symbol {
     /// The symbol's place among them, from 0.
     pub fn place(self) -> u8
@@ -206,6 +239,16 @@ impl Symbol {
 }
 
 impl Kind {
+    /// How many arguments a call by this name has.
+    pub fn arity(self) -> Arity
+        ensures { result ≡ kinds.arity_of self }
+    {
+        match self {
+            Kind::Word(keyword) => keyword.arity(),
+            _ => Arity::One,
+        }
+    }
+
     /// A number of its own for each kind.
     pub fn number(self) -> u8
         ensures { result ≡ kinds.number_of self }

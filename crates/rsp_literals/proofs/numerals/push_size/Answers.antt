@@ -1,4 +1,3 @@
-use Rattle.std.proofs.Common.{◌<◌, sym, subst}
 use Rattle.rsp_number.proofs.Shortest.{power-above-zero}
 use Rattle.rsp_literals.proofs.numerals.push_size.Goals as goal
 

@@ -1,4 +1,4 @@
-use Rattle.std.proofs.Common.{◌∙◌, sym, ap}
+use Rattle.std.proofs.Common.{sym, ap}
 use Rattle.std.specs.Option.{option_map}
 use Rattle.rsp_strings.proofs.Sides.{sides_around, sides_none}
 use Rattle.rsp_strings.proofs.occurrences.text_before.Goals as goal

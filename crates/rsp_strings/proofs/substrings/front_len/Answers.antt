@@ -19,7 +19,8 @@ loop-character-preserved c =
     record {
       whole = IsUtf8-past_char _ _ c.in-Some.character held.whole parts;
       front =
-          let step = front_more _ _ c.in-Some.character c.loop-character.left held.whole parts (let some = c.if-left-eq0.false in omega arith) in
+          let step = front_more _ _ c.in-Some.character c.loop-character.left held.whole parts
+          (let some = c.if-left-eq0.false in omega arith) in
           omega (arith, held.front, step, c.len_utf8-len.ensures.value);
       read = omega (arith, held.read, longer, len);
     }

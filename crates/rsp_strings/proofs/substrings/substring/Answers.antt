@@ -1,4 +1,4 @@
-use Rattle.std.proofs.Common.{◌∙◌, sym, ap, chars, take}
+use Rattle.std.proofs.Common.{◌∙◌, sym, ap, chars}
 use Rattle.std.specs.Str.{encode_utf8_all}
 use Rattle.rsp_strings.specs.Substrings.{items_at, is_from, substring_from}
 use Rattle.rsp_strings.proofs.Fronts.{chars_front, front_bytes}

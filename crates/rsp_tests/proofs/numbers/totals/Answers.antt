@@ -3,15 +3,15 @@ use Rattle.std.proofs.Common.{arith}
 use Rattle.std.proofs.lemmas.Int.{ints}
 use Rattle.rsp_number.specs.Decimals.{largest, Scaled}
 use Rattle.rsp_number.specs.Tallies.{Tally, IsWithin}
-use Rattle.rsp_number.specs.Totals.{units, nothing, taken, given}
+use Rattle.rsp_number.specs.Totals.{units, empty_tally, after_taking, after_giving}
 use Rattle.rsp_number.specs.declared.number.Number.TheVariants.{Decimal}
 use Rattle.rsp_tests.proofs.numbers.totals.Goals as goal
 
-one-left : (s t u : Tally) (d e : Scaled) → s ≡ nothing → t ≡ taken s (Decimal d) 1 → u ≡ taken t (Decimal e) 1
+one-left : (s t u : Tally) (d e : Scaled) → s ≡ empty_tally → t ≡ after_taking s (Decimal d) 1 → u ≡ after_taking t (Decimal e) 1
     → unsigned_abs (units (Decimal e)) ≤ largest * 10 ^ 18 → IsWithin (u.sum -ℤ (units (Decimal d) *ℤ pos 1)) (u.integers - 0 + (u.decimals - 1))
 one-left s t u d e none first second size = rw (second, first, none) (omega (arith, ints))
 
-nothing-left : (s t u v : Tally) (d e : Scaled) → s ≡ nothing → t ≡ taken s (Decimal d) 1 → u ≡ taken t (Decimal e) 1 → v ≡ given u (Decimal d) 1
+nothing-left : (s t u v : Tally) (d e : Scaled) → s ≡ empty_tally → t ≡ after_taking s (Decimal d) 1 → u ≡ after_taking t (Decimal e) 1 → v ≡ after_giving u (Decimal d) 1
     → v.sum -ℤ (units (Decimal e) *ℤ pos 1) ≡ pos 0
 nothing-left s t u v d e none first second third = rw (third, second, first, none) (omega (arith, ints))
 

@@ -1,0 +1,190 @@
+-- Words of the way: readings of groups, selects and the query.
+use Rattle.std.specs.Prelude.{ℕ, List, [], ◌∷◌, ◌++◌, Option, None, Some, is_some}
+use Rattle.std.specs.List.{flat_map}
+use Rattle.rsp_phrases.specs.Readers.{Reader, token_read, mapped_read, tied_read, both_read, second_read, first_read, within_itself_read, seen_read}
+use Rattle.rsp_written.specs.declared.said.Keyword.TheVariants as keyword
+use Rattle.rsp_written.specs.declared.said.Symbol.TheVariants as symbol
+use Rattle.rsp_written.specs.declared.said.Kind.{Kind}
+use Rattle.rsp_written.specs.declared.said.Kind.TheVariants as kind
+use Rattle.rsp_written.specs.declared.said.Said.{Said}
+use Rattle.rsp_written.specs.Trees.{Expr, Node, Properties, Item, shown, computed, Projection, every_name, these, Graph, graph_variable, graph_iri, Element, optional_group, minus_group, union_of, graph_group, window_group, filter, exists, bind, Strategy, Policy, profile, reporting, Window, Written}
+use Rattle.rsp_written.specs.Building.{elements_in, groups_in, run, sub_select_of, written_of}
+use Rattle.rsp_written.specs.Grammar.{text_of, window_of, origin_of_kind, plain_strategies, profiles, ticks, operators, prefix_of_kind, resolved}
+use Rattle.rsp_written.specs.Readings.{one_read, word_read, sign_read, choice_read, maybe_read, repeated_read, word_kinds, sign_kinds, in_parens_read, iri_read, variable_read, call_first, call_read, expression_read, aggregate_expression_read}
+use Rattle.rsp_written.specs.TripleReadings.{same_first, triples_read, block_read}
+
+abbrev pub group_of_read : Reader Said (List Element) → Reader Said (List Element)
+group_of_read s = second_read (sign_read symbol.OpenBrace) s
+
+unfoldable pub optional_rule_read : Reader Said (List Element) → Reader Said Element
+optional_rule_read s = mapped_read (λ g. optional_group (elements_in g)) (second_read (word_read keyword.Optional) (group_of_read s))
+
+unfoldable pub minus_rule_read : Reader Said (List Element) → Reader Said Element
+minus_rule_read s = mapped_read (λ g. minus_group (elements_in g)) (second_read (word_read keyword.Minus) (group_of_read s))
+
+unfoldable pub union_rule_read : Reader Said (List Element) → Reader Said Element
+union_rule_read s =
+    mapped_read (λ (v : List Element × List (List Element)). union_of (groups_in (v.0 ∷ v.1)))
+    (both_read (group_of_read s) (repeated_read (word_kinds keyword.Union) (second_read (word_read keyword.Union) (group_of_read s))))
+
+unfoldable pub graph_name_read : Reader Said Graph
+graph_name_read = choice_read (kind.Variable ∷ []) (mapped_read graph_variable variable_read) (mapped_read graph_iri iri_read)
+
+unfoldable pub graph_rule_read : Reader Said (List Element) → Reader Said Element
+graph_rule_read s =
+    mapped_read (λ (v : Said × (Graph × List Element)). graph_group v.1.0 v.0.at (elements_in v.1.1))
+    (both_read (word_read keyword.Graph) (both_read graph_name_read (group_of_read s)))
+
+unfoldable pub window_rule_read : Reader Said (List Element) → Reader Said Element
+window_rule_read s =
+    mapped_read (λ (v : Said × (List ℕ × List Element)). window_group v.1.0 v.0.at (elements_in v.1.1))
+    (both_read (word_read keyword.Window) (both_read iri_read (group_of_read s)))
+
+unfoldable pub exists_rule_read : Reader Said (List Element) → Reader Said Element
+exists_rule_read s =
+    mapped_read (λ (v : Option Said × (Said × List Element)). exists (is_some v.0) v.1.0.at (elements_in v.1.1))
+    (both_read (maybe_read (word_kinds keyword.Not) (word_read keyword.Not)) (both_read (word_read keyword.Exists) (group_of_read s)))
+
+unfoldable pub filter_rule_read : Reader Said (List Element) → Reader Said Element
+filter_rule_read s =
+    second_read (word_read keyword.Filter)
+    (choice_read (sign_kinds symbol.OpenParen) (mapped_read filter (in_parens_read expression_read))
+    (choice_read call_first (mapped_read filter (call_read expression_read)) (exists_rule_read s)))
+
+unfoldable pub as_variable_read : Reader Said Expr → Reader Said (Expr × List ℕ)
+as_variable_read r = in_parens_read (both_read r (second_read (word_read keyword.As) variable_read))
+
+unfoldable pub bind_rule_read : Reader Said Element
+bind_rule_read = mapped_read (λ (v : Expr × List ℕ). bind v.0 v.1) (second_read (word_read keyword.Bind) (as_variable_read expression_read))
+
+unfoldable pub values_rule_read : Reader Said Element
+values_rule_read = second_read (word_read keyword.Values) block_read
+
+unfoldable pub other_read : Reader Said (List Element) → Reader Said Element
+other_read s =
+    choice_read (word_kinds keyword.Optional) (optional_rule_read s) (choice_read (word_kinds keyword.Minus) (minus_rule_read s)
+    (choice_read (sign_kinds symbol.OpenBrace) (union_rule_read s) (choice_read (word_kinds keyword.Graph) (graph_rule_read s)
+    (choice_read (word_kinds keyword.Window) (window_rule_read s) (choice_read (word_kinds keyword.Filter) (filter_rule_read s)
+    (choice_read (word_kinds keyword.Bind) bind_rule_read values_rule_read))))))
+
+abbrev pub other_first : List Kind
+other_first =
+    kind.Word keyword.Optional ∷ kind.Word keyword.Minus ∷ kind.Symbol symbol.OpenBrace ∷ kind.Word keyword.Graph ∷ kind.Word keyword.Window
+    ∷ kind.Word keyword.Filter ∷ kind.Word keyword.Bind ∷ kind.Word keyword.Values ∷ []
+
+abbrev pub item_first : List Kind
+item_first = kind.Variable ∷ sign_kinds symbol.OpenParen
+
+unfoldable pub item_read : Reader Said Expr → Reader Said Item
+item_read r =
+    choice_read (kind.Variable ∷ []) (mapped_read shown variable_read) (mapped_read (λ (v : Expr × List ℕ). computed v.0 v.1) (as_variable_read r))
+
+unfoldable pub items_of_read : Reader Said Expr → Reader Said (List Item)
+items_of_read r = mapped_read (λ (v : Item × List Item). v.0 ∷ v.1) (both_read (item_read r) (repeated_read item_first (item_read r)))
+
+unfoldable pub projection_read : Reader Said Projection
+projection_read =
+    choice_read (sign_kinds symbol.Star) (mapped_read (λ star. every_name) (sign_read symbol.Star)) (mapped_read these (items_of_read aggregate_expression_read))
+
+unfoldable pub select_clause_read : Reader Said (Option Said × Projection)
+select_clause_read =
+    second_read (word_read keyword.Select) (both_read (maybe_read (word_kinds keyword.Distinct) (word_read keyword.Distinct)) projection_read)
+
+unfoldable pub keys_read : Reader Said (List Item)
+keys_read = second_read (word_read keyword.Group) (second_read (word_read keyword.By) (items_of_read expression_read))
+
+unfoldable pub having_read : Reader Said Expr
+having_read = second_read (word_read keyword.Having) (in_parens_read aggregate_expression_read)
+
+unfoldable pub tail_read : Reader Said (Option (List Item) × Option Expr)
+tail_read = both_read (maybe_read (word_kinds keyword.Group) keys_read) (maybe_read (word_kinds keyword.Having) having_read)
+
+unfoldable pub maybe_where_read : Reader Said (Option Said)
+maybe_where_read = maybe_read (word_kinds keyword.Where) (word_read keyword.Where)
+
+unfoldable pub sub_select_read : Reader Said (List Element) → Reader Said (List Element)
+sub_select_read s = mapped_read sub_select_of (both_read select_clause_read (both_read maybe_where_read (both_read (group_of_read s) tail_read)))
+
+unfoldable pub piece_read : Reader Said (List Element) → Reader Said (List Element)
+piece_read s =
+    mapped_read (λ (v : Element × (Option Said × Option (List (Node × Properties)))). v.0 ∷ run v.1.1)
+    (both_read (other_read s) (both_read (maybe_read (sign_kinds symbol.Dot) (sign_read symbol.Dot)) (maybe_read same_first triples_read)))
+
+unfoldable pub body_read : Reader Said (List Element) → Reader Said (List Element)
+body_read s =
+    mapped_read (λ (v : Option (List (Node × Properties)) × List (List Element)). run v.0 ++ flat_map (λ found. found) v.1)
+    (both_read (maybe_read same_first triples_read) (repeated_read other_first (piece_read s)))
+
+unfoldable pub group_rule_read : Reader Said (List Element) → Reader Said (List Element)
+group_rule_read s = first_read (choice_read (word_kinds keyword.Select) (sub_select_read s) (body_read s)) (sign_read symbol.CloseBrace)
+
+unfoldable pub group_read : Reader Said (List Element)
+group_read = group_of_read (within_itself_read group_rule_read)
+
+-- ---- the query
+
+unfoldable pub span_read : Reader Said (List ℕ)
+span_read = mapped_read text_of (one_read (kind.Span ∷ []))
+
+unfoldable pub origin_read : Reader Said ℕ
+origin_read = token_read (λ said. origin_of_kind said.kind said.text)
+
+unfoldable pub window_size_read : Reader Said (List ℕ × (Option (List ℕ) × Option ℕ))
+window_size_read =
+    second_read (sign_read symbol.OpenBracket) (first_read
+    (second_read (word_read keyword.Range) (both_read span_read
+    (both_read (maybe_read (word_kinds keyword.Step) (second_read (word_read keyword.Step) span_read))
+    (maybe_read (word_kinds keyword.Start) (second_read (word_read keyword.Start) origin_read)))))
+    (sign_read symbol.CloseBracket))
+
+unfoldable pub window_read : Reader Said Window
+window_read =
+    mapped_read window_of (both_read (word_read keyword.From) (second_read (word_read keyword.Named) (second_read (word_read keyword.Window)
+    (both_read iri_read (second_read (word_read keyword.On) (both_read iri_read window_size_read))))))
+
+abbrev pub strategy_of : Said → Strategy
+strategy_of said = record { kind = said.kind; period = None }
+
+abbrev pub every_strategy : List ℕ → Strategy
+every_strategy text = record { kind = kind.Word keyword.Every; period = Some text }
+
+unfoldable pub strategy_read : Reader Said Strategy
+strategy_read =
+    choice_read plain_strategies (mapped_read strategy_of (one_read plain_strategies))
+    (mapped_read every_strategy (second_read (word_read keyword.Every) span_read))
+
+unfoldable pub reported_read : Reader Said Policy
+reported_read =
+    mapped_read (λ (v : (Strategy × List Strategy) × Said). reporting (v.0.0 ∷ v.0.1) v.1.kind)
+    (second_read (word_read keyword.Report)
+    (both_read (both_read strategy_read (repeated_read (word_kinds keyword.And) (second_read (word_read keyword.And) strategy_read)))
+    (second_read (word_read keyword.Tick) (one_read ticks))))
+
+unfoldable pub policy_read : Reader Said Policy
+policy_read =
+    choice_read (word_kinds keyword.Under) (mapped_read (λ said. profile said.kind) (second_read (word_read keyword.Under) (one_read profiles)))
+    reported_read
+
+abbrev pub policy_first : List Kind
+policy_first = word_kinds keyword.Under ++ word_kinds keyword.Report
+
+unfoldable pub registered_read : Reader Said (Said × (List ℕ × Option Policy))
+registered_read =
+    second_read (word_read keyword.Register)
+    (both_read (one_read operators) (both_read iri_read (first_read (maybe_read policy_first policy_read) (word_read keyword.As))))
+
+unfoldable pub windows_read : Reader Said (List Window)
+windows_read = mapped_read (λ (v : Window × List Window). v.0 ∷ v.1) (both_read window_read (repeated_read (word_kinds keyword.From) window_read))
+
+unfoldable pub query_body_read : Reader Said Written
+query_body_read =
+    mapped_read written_of (both_read registered_read (both_read select_clause_read (both_read windows_read
+    (both_read (second_read maybe_where_read group_read) tail_read))))
+
+unfoldable pub prefix_read : Reader Said (List ℕ × List ℕ)
+prefix_read = second_read (word_read keyword.Prefix) (both_read (token_read (λ said. prefix_of_kind said.kind said)) iri_read)
+
+unfoldable pub query_read : Reader Said Written
+query_read =
+    mapped_read (λ (v : List (List ℕ × List ℕ) × Written). v.1)
+    (tied_read (repeated_read (word_kinds keyword.Prefix) prefix_read) (λ prefixes. seen_read (resolved prefixes) query_body_read))

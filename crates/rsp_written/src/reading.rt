@@ -1,0 +1,117 @@
+// Reading tokens: one of some kinds, names, literals.
+ghost use Rattle.std.specs.Prelude.{◌≡◌, ◌∷◌, []};
+ghost use Rattle.rsp_phrases.specs.Languages.{has};
+ghost use Rattle.rsp_written.specs.Kinds.{number_of};
+ghost use Rattle.rsp_phrases.specs.Readers.{starts};
+ghost use Rattle.rsp_written.specs.Gives.{Gives};
+ghost use Rattle.rsp_written.specs.Grammar.{kind_number, numbers};
+ghost use Rattle.rsp_written.specs.Readings.{iri_read, one_read, sign_read, variable_read, word_read};
+ghost use Rattle.rsp_written.specs.declared.reading.Halt.TheVariants.{OutOfMemory};
+
+use crate::{Keyword, Kind, Said, Symbol};
+use rsp_terms::Text;
+use std::alloc::{AllocError, AllocFailed};
+
+/// Why reading ended.
+#[derive(Drop)]
+pub enum Halt {
+    /// So many tokens are left from the first one that can't stand; none where the text is unfinished.
+    Wrong(usize),
+    OutOfMemory,
+}
+
+impl From<AllocError> for Halt {
+    ghost from_gives = { λ _ e. e ≡ OutOfMemory };
+
+    fn from(_error: AllocError) -> Halt {
+        Halt::OutOfMemory
+    }
+}
+
+impl<T: Drop> From<AllocFailed<T>> for Halt {
+    ghost from_gives = { λ _ e. e ≡ OutOfMemory };
+
+    fn from(_failed: AllocFailed<T>) -> Halt {
+        Halt::OutOfMemory
+    }
+}
+
+// whether a kind with this number is among these
+fn is_among(number: u8, kinds: &[Kind]) -> bool
+    ensures { result ≡ has (numbers kinds.now) number }
+{
+    for kind in kinds {
+        if kind.number() == number {
+            return true;
+        }
+    }
+    false
+}
+
+/// Whether the next token is of one of these kinds.
+pub fn first_is_among(kinds: &[Kind], tokens: &[Said]) -> bool
+    ensures { result ≡ starts kind_number (numbers kinds.now) tokens.now }
+{
+    match tokens.first() {
+        None => false,
+        Some(said) => is_among(said.kind.number(), kinds),
+    }
+}
+
+/// Whether the next token is of this kind.
+pub fn first_is(kind: Kind, tokens: &[Said]) -> bool
+    ensures { result ≡ starts kind_number (numbers (kind ∷ [])) tokens.now }
+{
+    match tokens.first() {
+        None => false,
+        Some(said) => kind.number() == said.kind.number(),
+    }
+}
+
+/// The next token, where it is of one of these kinds.
+pub fn one<'a>(kinds: &[Kind], tokens: &'a [Said]) -> Result<(&'a Said, &'a [Said]), Halt>
+    ensures { Gives (λ x. (x.0.now, x.1.now)) result (one_read kinds.now tokens.now) }
+{
+    match tokens.split_first() {
+        None => Err(Halt::Wrong(0)),
+        Some((said, rest)) => {
+            if is_among(said.kind.number(), kinds) {
+                Ok((said, rest))
+            } else {
+                Err(Halt::Wrong(tokens.len()))
+            }
+        }
+    }
+}
+
+/// What stands behind this word.
+pub fn word<'a>(keyword: Keyword, tokens: &'a [Said]) -> Result<(&'a Said, &'a [Said]), Halt>
+    ensures { Gives (λ x. (x.0.now, x.1.now)) result (word_read keyword tokens.now) }
+{
+    one(&[Kind::Word(keyword)], tokens)
+}
+
+/// What stands behind this symbol.
+pub fn sign<'a>(symbol: Symbol, tokens: &'a [Said]) -> Result<(&'a Said, &'a [Said]), Halt>
+    ensures { Gives (λ x. (x.0.now, x.1.now)) result (sign_read symbol tokens.now) }
+{
+    one(&[Kind::Symbol(symbol)], tokens)
+}
+
+/// The characters of an IRI.
+#[tactic(auto, unfolding(crate::specs::Readings::iri_read))]
+pub fn iri(tokens: &[Said]) -> Result<(Text, &[Said]), Halt>
+    ensures { Gives (λ x. (x.0, x.1.now)) result (iri_read tokens.now) }
+{
+    let (said, rest) = one(&[Kind::Iri], tokens)?;
+    Ok((said.text.share()?, rest))
+}
+
+/// The name of a variable.
+#[tactic(auto, unfolding(crate::specs::Readings::variable_read))]
+pub fn variable(tokens: &[Said]) -> Result<(Text, &[Said]), Halt>
+    ensures { Gives (λ x. (x.0, x.1.now)) result (variable_read tokens.now) }
+{
+    let (said, rest) = one(&[Kind::Variable], tokens)?;
+    Ok((said.text.share()?, rest))
+}
