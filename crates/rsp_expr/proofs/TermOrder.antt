@@ -7,8 +7,8 @@ use Rattle.std.specs.Ordering.{nat_cmp, ordering_then, is_eq}
 use Rattle.std.specs.declared.cmp.Ordering.{Ordering}
 use Rattle.std.specs.declared.cmp.Ordering.TheVariants.{Less, Equal, Greater}
 use Rattle.std.proofs.Common.{ap, sym, ◌∙◌}
-use Rattle.rsp_number.specs.Numbers.{compared}
-use Rattle.rsp_number.proofs.Comparing.{compared-total}
+use Rattle.rsp_number.specs.Numbers.{comparison}
+use Rattle.rsp_number.proofs.Comparing.{comparison-total}
 use Rattle.rsp_terms.specs.declared.term.Term.{Term}
 use Rattle.rsp_terms.specs.Terms.{printed, HasShortNumber}
 use Rattle.rsp_terms.proofs.Injective.{same_from_printed}
@@ -19,7 +19,7 @@ pub order_total : IsTotalOrder order
 order_total =
     then_total (on_total rank nat_cmp_total)
     (then_total
-    (on_total (option_and_then number_of) (options_total compared-total))
+    (on_total (option_and_then number_of) (options_total comparison-total))
     (on_total (option_map printed) (options_total nat_list_cmp_total)))
 
 last_equal : (first second : Ordering) → ordering_then first second ≡ Equal → second ≡ Equal
@@ -32,7 +32,7 @@ same_texts xs ys same = (bytes_decides xs ys).0 (texts_ties xs ys ∙ ap is_eq s
 
 -- terms of one rank whose numbers and texts are equal are one
 pub same_in_rank : {E : Type 0} (a b : Term) (found : Result Ordering E) → HasShortNumber a → HasShortNumber b
-    → IfOk found (λ o. o ≡ ordering_then (option_cmp compared (number_of a) (number_of b)) (slice_cmp nat_cmp (printed a) (printed b)))
+    → IfOk found (λ o. o ≡ ordering_then (option_cmp comparison (number_of a) (number_of b)) (slice_cmp nat_cmp (printed a) (printed b)))
     → IfOk found (λ o. o ≡ Equal → a ≡ b)
 same_in_rank a b (Ok found) first second is =
     λ same. same_from_printed a b first second (same_texts (printed a) (printed b) (last_equal _ _ (sym is ∙ same)))

@@ -33,7 +33,7 @@ comparable_of term =
 
 -- `=` on values; None where they are of two kinds
 abbrev pub value_equality : Comparable → Comparable → Option Bool
-value_equality (number left) (number right) = Some (is_eq (numbers.compared left right))
+value_equality (number left) (number right) = Some (is_eq (numbers.comparison left right))
 value_equality (string left) (string right) = Some (bytes_eq left right)
 value_equality (boolean left) (boolean right) = Some (beq left right)
 value_equality left right = None
@@ -41,7 +41,7 @@ value_equality left right = None
 -- `<` and the like on values: numbers by value, strings by code points, false before true; None where they are of two
 -- kinds
 abbrev pub value_order : Comparable → Comparable → Option Ordering
-value_order (number left) (number right) = Some (numbers.compared left right)
+value_order (number left) (number right) = Some (numbers.comparison left right)
 value_order (string left) (string right) = Some (code_points.code_point_order left right)
 value_order (boolean left) (boolean right) = Some (bool_cmp left right)
 value_order left right = None

@@ -4,7 +4,7 @@ use Rattle.std.specs.Bool.{then_some}
 use Rattle.std.specs.List.{concat, list_all}
 use Rattle.std.specs.Option.{option_and_then, option_eq}
 use Rattle.std.specs.Str.{bytes_eq, chars}
-use Rattle.rsp_number.specs.Numbers.{whole, sum, difference, product, quotient, negated, absolute, rounded, floor_of, ceil_of, round_of}
+use Rattle.rsp_number.specs.Numbers.{integer_result, sum, difference, product, quotient, negation, absolute_value, rounding, floor_of, ceil_of, round_of}
 use Rattle.rsp_number.specs.declared.number.Number.{Number}
 use Rattle.rsp_number.specs.declared.number.Number.TheVariants.{Integer, Decimal}
 use Rattle.rsp_strings.specs.Occurrences as texts
@@ -47,7 +47,7 @@ abbrev pub arithmetic : Sign → Term → Term → Option Term
 arithmetic sign left right = numeral_result (value_of_both (calculation sign) (number_of left) (number_of right))
 
 abbrev pub unary_minus : Term → Option Term
-unary_minus term = numeral_result (option_map negated (number_of term))
+unary_minus term = numeral_result (option_map negation (number_of term))
 
 abbrev pub unary_plus : Term → Option Term
 unary_plus term = numeral_result (number_of term)
@@ -156,11 +156,11 @@ unary_value function.Lang term = language_tag term  -- 17.4.2.6
 unary_value function.Datatype term = datatype_iri term  -- 17.4.2.7
 unary_value function.Iri term = iri_of term  -- 17.4.2.8
 unary_value function.Uri term = iri_of term  -- 17.4.2.8
-unary_value function.StrLen term = option_and_then (λ (w : Written). numeral_result (whole (pos (character_count w.text)))) (written_of term)
-unary_value function.Abs term = numeral_result (option_map absolute (number_of term))  -- 17.4.4.1
-unary_value function.Round term = numeral_result (option_map (rounded round_of) (number_of term))
-unary_value function.Ceil term = numeral_result (option_map (rounded ceil_of) (number_of term))
-unary_value function.Floor term = numeral_result (option_map (rounded floor_of) (number_of term))
+unary_value function.StrLen term = option_and_then (λ (w : Written). numeral_result (integer_result (pos (character_count w.text)))) (written_of term)
+unary_value function.Abs term = numeral_result (option_map absolute_value (number_of term))  -- 17.4.4.1
+unary_value function.Round term = numeral_result (option_map (rounding round_of) (number_of term))
+unary_value function.Ceil term = numeral_result (option_map (rounding ceil_of) (number_of term))
+unary_value function.Floor term = numeral_result (option_map (rounding floor_of) (number_of term))
 unary_value name term = None
 
 -- ---- of two arguments

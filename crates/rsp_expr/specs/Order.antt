@@ -4,7 +4,7 @@ use Rattle.std.specs.Cmp.Lexicographic.{slice_cmp}
 use Rattle.std.specs.Option.{option_and_then, option_cmp}
 use Rattle.std.specs.Ordering.{nat_cmp, on, then_cmp}
 use Rattle.std.specs.declared.cmp.Ordering.{Ordering}
-use Rattle.rsp_number.specs.Numbers.{compared}
+use Rattle.rsp_number.specs.Numbers.{comparison}
 use Rattle.rsp_terms.specs.declared.term.Term.{Term}
 use Rattle.rsp_terms.specs.declared.term.Term.TheVariants.{Iri, Blank}
 use Rattle.rsp_terms.specs.Terms.{printed}
@@ -25,7 +25,7 @@ abbrev pub order : Option Term → Option Term → Ordering
 order =
     then_cmp (on rank nat_cmp)
     (then_cmp
-    (on (option_and_then number_of) (option_cmp compared))
+    (on (option_and_then number_of) (option_cmp comparison))
     (on (option_map printed) (option_cmp (slice_cmp nat_cmp))))
 
 -- the order of two terms that are bound

@@ -5,7 +5,7 @@ ghost use Rattle.std.specs.Cmp.Lexicographic.{slice_cmp};
 ghost use Rattle.std.specs.Option.{option_cmp};
 ghost use Rattle.std.specs.Ordering.{nat_cmp, ordering_then};
 ghost use Rattle.std.specs.declared.cmp.Ordering.TheVariants.{Equal};
-ghost use Rattle.rsp_number.specs.Numbers.{compared};
+ghost use Rattle.rsp_number.specs.Numbers.{comparison};
 ghost use Rattle.rsp_terms.specs.Terms.{printed, HasShortNumber};
 ghost use Rattle.rsp_literals.specs.Forms.{number_of as number};
 ghost use Rattle.rsp_expr.specs.Order.{order, term_order, term_rank};
@@ -32,7 +32,7 @@ pub fn compare_terms(alloc: Global, left: &Term, right: &Term) -> Result<Orderin
 }
 
 fn compare_within_rank(alloc: Global, left: &Term, right: &Term) -> Result<Ordering, AllocError>
-    ensures { IfOk result (λ found. found ≡ ordering_then (option_cmp compared (number left.now) (number right.now))
+    ensures { IfOk result (λ found. found ≡ ordering_then (option_cmp comparison (number left.now) (number right.now))
         (slice_cmp nat_cmp (printed left.now) (printed right.now))) }
 {
     match compare_numbers(number_of(left), number_of(right)) {
@@ -65,7 +65,7 @@ fn rank_of_literal(number: Option<Number>) -> u8
 }
 
 fn compare_numbers(left: Option<Number>, right: Option<Number>) -> Ordering
-    ensures { result ≡ option_cmp compared left right }
+    ensures { result ≡ option_cmp comparison left right }
 {
     match (left, right) {
         (None, None) => Ordering::Equal,

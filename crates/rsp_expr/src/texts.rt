@@ -1,7 +1,7 @@
 // Functions on texts (SPARQL 1.1 Query, section 17.4.3). Of another kind of argument they are errors.
 ghost use Rattle.std.specs.Prelude.{◌≡◌, IfOk, pos};
 ghost use Rattle.std.specs.Option.{option_copied};
-ghost use Rattle.rsp_number.specs.Numbers.{whole};
+ghost use Rattle.rsp_number.specs.Numbers.{integer_result};
 ghost use Rattle.rsp_expr.specs.Functions.{are_compatible, part_of, integer_of, integer_in, unary_value, binary_value, ternary_value, numeral_result};
 ghost use Rattle.rsp_expr.specs.declared.function.Function.TheVariants as function;
 ghost use Rattle.rsp_expr.specs.Operands.{term_for, value_for, written_for};
@@ -179,7 +179,7 @@ fn integer_in(number: &Number) -> Option<IntegerNumber>
 }
 
 fn integer(count: usize) -> Option<Operand>
-    ensures { value_for result ≡ numeral_result (whole (pos count)) }
+    ensures { value_for result ≡ numeral_result (integer_result (pos count)) }
 {
     match i64::try_from(count) {
         Err(_) => None,

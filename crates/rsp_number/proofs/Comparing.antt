@@ -7,7 +7,7 @@ use Rattle.std.proofs.lemmas.Int.{ints, by_lt_z}
 use Rattle.std.proofs.lemmas.Nat.{mul-le}
 use Rattle.std.proofs.Math.Nat.{mul_comm, add-mul, one-mul}
 use borrow.Author.Differences.{up, down}
-use Rattle.rsp_number.specs.Numbers.{value_of, compared}
+use Rattle.rsp_number.specs.Numbers.{value_of, comparison}
 use Rattle.rsp_number.specs.declared.number.Number.{Number}
 use Rattle.rsp_number.specs.declared.number.Number.TheVariants.{Integer, Decimal}
 use Rattle.rsp_number.proofs.Shortest.{power-above-zero}
@@ -81,22 +81,22 @@ abbrev over_all : Number → Number → Number → ℤ
 over_all x y z =
     ((value_of x).numerator *ℤ pos (value_of y).denominator) *ℤ pos (value_of z).denominator
 
-first-second : (x y z : Number) → compared x y ≡ int_cmp (over_all x y z) (over_all y x z)
+first-second : (x y z : Number) → comparison x y ≡ int_cmp (over_all x y z) (over_all y x z)
 first-second x y z = sym (scaled-order _ _ _ (denominator-above-zero z))
 
-second-third : (x y z : Number) → compared y z ≡ int_cmp (over_all y x z) (over_all z x y)
+second-third : (x y z : Number) → comparison y z ≡ int_cmp (over_all y x z) (over_all z x y)
 second-third x y z =
     first-second y z x
     ∙ (λ i. int_cmp (exchange (value_of y).numerator (value_of z).denominator (value_of x).denominator i)
     (exchange (value_of z).numerator (value_of y).denominator (value_of x).denominator i))
 
-first-third : (x y z : Number) → compared x z ≡ int_cmp (over_all x y z) (over_all z x y)
+first-third : (x y z : Number) → comparison x z ≡ int_cmp (over_all x y z) (over_all z x y)
 first-third x y z =
     first-second x z y
     ∙ (λ i. int_cmp (exchange (value_of x).numerator (value_of z).denominator (value_of y).denominator i) (over_all z x y))
 
-pub compared-total : IsTotalOrder compared
-compared-total = record {
+pub comparison-total : IsTotalOrder comparison
+comparison-total = record {
   antisymm = λ x y. int_cmp_total.antisymm ((value_of x).numerator *ℤ pos (value_of y).denominator) ((value_of y).numerator *ℤ pos (value_of x).denominator);
   trans = λ x y z below above.
       first-third x y z ∙ int_cmp_total.trans (over_all x y z) (over_all y x z) (over_all z x y) (sym (first-second x y z) ∙ below) (sym (second-third x y z) ∙ above);
