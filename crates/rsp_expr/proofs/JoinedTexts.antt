@@ -48,13 +48,13 @@ tags_of-all [] ws is = ap (λ o. tags_of (unwrap_or o [])) is
 tags_of-all (term ∷ terms) ws is =
     tags_step term terms ws (written_of term) (all_values (map written_of terms)) refl refl (tags_of-all terms) is
 
-whole : (terms : List Term) (others : Option (List Written)) → all_values (map written_of terms) ≡ others
+together : (terms : List Term) (others : Option (List Written)) → all_values (map written_of terms) ≡ others
     → concatenation terms ≡ option_map (text_literal (common_tag (map tag_for terms))) (texts_onto (Some []) terms)
-whole terms None is =
+together terms None is =
     ap (option_map (λ ws. text_literal (common_tag (tags_of ws)) (texts_of ws))) is
     ∙ ap (λ all. option_map (text_literal (common_tag (map tag_for terms))) (option_map texts_of all)) (sym is)
     ∙ ap (option_map (text_literal (common_tag (map tag_for terms)))) (sym (texts_onto-all [] terms))
-whole terms (Some ws) is =
+together terms (Some ws) is =
     ap (option_map (λ vs. text_literal (common_tag (tags_of vs)) (texts_of vs))) is
     ∙ ap (λ tags. Some (text_literal (common_tag tags) (texts_of ws))) (sym (tags_of-all terms ws is))
     ∙ ap (λ all. option_map (text_literal (common_tag (map tag_for terms))) (option_map texts_of all)) (sym is)
@@ -62,7 +62,7 @@ whole terms (Some ws) is =
 
 pub concatenation-is : (terms : List Term)
     → concatenation terms ≡ option_map (text_literal (common_tag (map tag_for terms))) (texts_onto (Some []) terms)
-concatenation-is terms = whole terms (all_values (map written_of terms)) refl
+concatenation-is terms = together terms (all_values (map written_of terms)) refl
 
 pub concatenation-none : (terms : List Term) → None ≡ texts_onto (Some []) terms → None ≡ concatenation terms
 concatenation-none terms is =
