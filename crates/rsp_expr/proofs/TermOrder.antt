@@ -8,11 +8,7 @@ use Rattle.std.specs.declared.cmp.Ordering.{Ordering}
 use Rattle.std.specs.declared.cmp.Ordering.TheVariants.{Less, Equal, Greater}
 use Rattle.std.proofs.Common.{ap, sym, ◌∙◌}
 use Rattle.rsp_number.specs.Numbers.{comparison}
-<<<<<<< HEAD
-use Rattle.rsp_number.proofs.Comparing.{compared-total}
-=======
 use Rattle.rsp_number.proofs.Comparing.{comparison-total}
->>>>>>> 4f5ba9b7643a85f3a19c1be8cd3e11ac15b82d01
 use Rattle.rsp_terms.specs.declared.term.Term.{Term}
 use Rattle.rsp_terms.specs.Terms.{term_text, HasShortNumber}
 use Rattle.rsp_terms.proofs.Injective.{same_from_printed}
@@ -23,13 +19,8 @@ pub order_total : IsTotalOrder order
 order_total =
     then_total (on_total rank nat_cmp_total)
     (then_total
-<<<<<<< HEAD
-    (on_total (option_and_then number_of) (options_total compared-total))
-    (on_total (option_map term_text) (options_total nat_list_cmp_total)))
-=======
     (on_total (option_and_then number_of) (options_total comparison-total))
     (on_total (option_map term_text) (options_total nat_list_cmp_total)))
->>>>>>> 4f5ba9b7643a85f3a19c1be8cd3e11ac15b82d01
 
 last_equal : (first second : Ordering) → ordering_then first second ≡ Equal → second ≡ Equal
 last_equal Less second same = cc
@@ -41,11 +32,7 @@ same_texts xs ys same = (bytes_decides xs ys).0 (texts_ties xs ys ∙ ap is_eq s
 
 -- terms of one rank whose numbers and texts are equal are one
 pub same_in_rank : {E : Type 0} (a b : Term) (found : Result Ordering E) → HasShortNumber a → HasShortNumber b
-<<<<<<< HEAD
     → IfOk found (λ o. o ≡ ordering_then (option_cmp comparison (number_of a) (number_of b)) (slice_cmp nat_cmp (term_text a) (term_text b)))
-=======
-    → IfOk found (λ o. o ≡ ordering_then (option_cmp comparison (number_of a) (number_of b)) (slice_cmp nat_cmp (term_text a) (term_text b)))
->>>>>>> 4f5ba9b7643a85f3a19c1be8cd3e11ac15b82d01
     → IfOk found (λ o. o ≡ Equal → a ≡ b)
 same_in_rank a b (Ok found) first second is =
     λ same. same_from_printed a b first second (same_texts (term_text a) (term_text b) (last_equal _ _ (sym is ∙ same)))

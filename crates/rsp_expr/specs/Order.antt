@@ -26,11 +26,7 @@ order =
     then_cmp (on rank nat_cmp)
     (then_cmp
     (on (option_and_then number_of) (option_cmp comparison))
-<<<<<<< HEAD
     (on (option_map term_text) (option_cmp (slice_cmp nat_cmp))))
-=======
-    (on (option_map term_text) (option_cmp (slice_cmp nat_cmp))))
->>>>>>> 4f5ba9b7643a85f3a19c1be8cd3e11ac15b82d01
 
 -- the order of two terms that are bound
 abbrev pub term_order : Term → Term → Ordering

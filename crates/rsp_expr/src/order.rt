@@ -6,11 +6,7 @@ ghost use Rattle.std.specs.Option.{option_cmp};
 ghost use Rattle.std.specs.Ordering.{nat_cmp, ordering_then};
 ghost use Rattle.std.specs.declared.cmp.Ordering.TheVariants.{Equal};
 ghost use Rattle.rsp_number.specs.Numbers.{comparison};
-<<<<<<< HEAD
 ghost use Rattle.rsp_terms.specs.Terms.{term_text, HasShortNumber};
-=======
-ghost use Rattle.rsp_terms.specs.Terms.{term_text, HasShortNumber};
->>>>>>> 4f5ba9b7643a85f3a19c1be8cd3e11ac15b82d01
 ghost use Rattle.rsp_literals.specs.Forms.{number_of as number};
 ghost use Rattle.rsp_expr.specs.Order.{order, term_order, term_rank};
 
@@ -37,11 +33,7 @@ pub fn compare_terms(alloc: Global, left: &Term, right: &Term) -> Result<Orderin
 
 fn compare_within_rank(alloc: Global, left: &Term, right: &Term) -> Result<Ordering, AllocError>
     ensures { IfOk result (λ found. found ≡ ordering_then (option_cmp comparison (number left.now) (number right.now))
-<<<<<<< HEAD
         (slice_cmp nat_cmp (term_text left.now) (term_text right.now))) }
-=======
-        (slice_cmp nat_cmp (printed left.now) (printed right.now))) }
->>>>>>> 4f5ba9b7643a85f3a19c1be8cd3e11ac15b82d01
 {
     match compare_numbers(number_of(left), number_of(right)) {
         Ordering::Less => Ok(Ordering::Less),

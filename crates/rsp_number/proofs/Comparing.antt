@@ -95,13 +95,8 @@ first-third x y z =
     first-second x z y
     ∙ (λ i. int_cmp (exchange (value_of x).numerator (value_of z).denominator (value_of y).denominator i) (over_all z x y))
 
-<<<<<<< HEAD
-pub compared-total : IsTotalOrder comparison
-compared-total = record {
-=======
 pub comparison-total : IsTotalOrder comparison
 comparison-total = record {
->>>>>>> 4f5ba9b7643a85f3a19c1be8cd3e11ac15b82d01
   antisymm = λ x y. int_cmp_total.antisymm ((value_of x).numerator *ℤ pos (value_of y).denominator) ((value_of y).numerator *ℤ pos (value_of x).denominator);
   trans = λ x y z below above.
       first-third x y z ∙ int_cmp_total.trans (over_all x y z) (over_all y x z) (over_all z x y) (sym (first-second x y z) ∙ below) (sym (second-third x y z) ∙ above);
