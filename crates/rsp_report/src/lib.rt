@@ -9,6 +9,7 @@
 mod chosen;
 mod contents;
 mod instants;
+mod jumps;
 mod words;
 
 pub use chosen::{Chosen, PolicyMix, policy};
