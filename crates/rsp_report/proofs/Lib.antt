@@ -3,3 +3,4 @@ pub mod Membership
 pub mod Unseen
 pub mod PolicyRows
 pub mod NextItems
+pub mod Agreement

@@ -1,10 +1,10 @@
 -- From item to item: the next instant of a content.
 use Rattle.std.specs.Prelude.{◌≡◌, ℕ, ◌+◌, ◌-◌, ◌<◌, ◌≤◌, min, max, Option, None, Some, List, true, ◌⊎◌}
 use Rattle.std.specs.List.{Contains, list_any}
-use Rattle.std.proofs.Common.{arith, inl, inr, sym, refl}
+use Rattle.std.proofs.Common.{arith, inl, inr, sym}
 use Rattle.std.proofs.lemmas.Bool.{cases_lt}
 use Rattle.std.proofs.lemmas.Bool.Decides.{nat_tests}
-use Rattle.rsp_spec.specs.Windows.{Shape, opening, closing, contains, in_content, IsNeeded, IsLastNeeded, IsAtMost}
+use Rattle.rsp_spec.specs.Windows.{Shape, opening, closing, in_content, IsNeeded, IsLastNeeded}
 use Rattle.rsp_spec.specs.Instants.{IsLeastIn}
 use Rattle.rsp_spec.proofs.InstantLaws.{least_alike}
 use Rattle.rsp_report.specs.Due.{differ}
@@ -23,21 +23,6 @@ behind_from w times low t k (Some x) reaches first found = (
   λ time listed above needed. found.2 time listed (grind (arith, behind_opening w t k time first needed, above)),
 )
 
--- an item in a gap: what comes behind it is still needed when it comes
-pub gap_passed : (w : Shape) (times : List ℕ) (low t reach x : ℕ) → IsFirstBehind w times low reach (Some x) → (IsNeeded w x t → ⊥)
-    → ((time : ℕ) → Contains times time → low < time → IsNeeded w time t → IsNeeded w time reach)
-    → (time : ℕ) → Contains times time → low < time → IsNeeded w time t → IsNeeded w time x
-gap_passed w times low t reach x found other ahead time listed above needed =
-    let later : x ≤ time = found.3 time listed above (ahead time listed above needed) in
-    record { number = needed.number; inside = needed.inside; late = grind (arith, nat_tests, needed.inside, later) }
-
-pub gap_ahead : (w : Shape) (times : List ℕ) (low t reach x : ℕ) → IsFirstBehind w times low reach (Some x) → t ≤ reach
-    → (IsNeeded w x t → ⊥) → reach < x
-gap_ahead w times low t reach x found after other = elim (cases_lt reach x) [
-  | inl more ↦ more
-  | inr less ↦ absurd (other (needed_earlier w x reach t after (found.2 less)))
-]
-
 some_time : (w : Shape) (time t : ℕ) → IsNeeded w time t → 0 < time
 some_time w time t needed = grind (arith, nat_tests, needed.inside)
 
@@ -53,16 +38,27 @@ content_next w times from to x slide first high = (
     seen : ((from < x) ⊎ (x ≤ from)) → IsNeeded w x (max from x)
     seen (inl before) = record { number = first.2.number; inside = first.2.inside; late = grind (arith, nat_tests, first.2.inside, before) }
     seen (inr after) = record { number = first.2.number; inside = first.2.inside; late = omega (arith, first.2.late, after) }
+
     no_sooner : (t : ℕ) → from ≤ t → Passing times (IsSeen w t) → max from x ≤ t
-    no_sooner t late found = omega (arith, late, found.passes.0,
-      first.3 found.time found.listed (some_time w found.time t found.passes.1) (needed_earlier w found.time t from late found.passes.1))
+    no_sooner t late found = omega (
+      arith,
+      late,
+      found.passes.0,
+      first.3 found.time found.listed (some_time w found.time t found.passes.1) (needed_earlier w found.time t from late found.passes.1),
+    )
 
 pub no_content_next : (w : Shape) (times : List ℕ) (from to x : ℕ) → 1 ≤ w.slide → IsFirstNeeded w times 0 from (Some x) → to < max from x
     → IsLeastIn (λ t. list_any (in_content w t) times ≡ true) from to None
 no_content_next w times from to x slide first beyond = λ t late early some.
     let found = (content_is w times t slide).0 some in
-    omega (arith, late, early, beyond, found.passes.0,
-      first.3 found.time found.listed (some_time w found.time t found.passes.1) (needed_earlier w found.time t from late found.passes.1))
+    omega (
+      arith,
+      late,
+      early,
+      beyond,
+      found.passes.0,
+      first.3 found.time found.listed (some_time w found.time t found.passes.1) (needed_earlier w found.time t from late found.passes.1),
+    )
 
 pub no_content : (w : Shape) (times : List ℕ) (from to : ℕ) → 1 ≤ w.slide → IsFirstNeeded w times 0 from None
     → IsLeastIn (λ t. list_any (in_content w t) times ≡ true) from to None
@@ -110,7 +106,7 @@ leaves_after : (w : Shape) (times : List ℕ) (from x last t : ℕ) → IsFirstN
     → IsLastNeeded w x (Some last) → from ≤ t → Leaves w times t → last < t
 leaves_after w times from x last t first is late leaves =
     let after : x ≤ leaves.time = first.3 leaves.time leaves.listed (some_time w leaves.time (t - 1) leaves.needed)
-        (needed_earlier w leaves.time (t - 1) (from - 1) (omega (arith, late)) leaves.needed) in
+    (needed_earlier w leaves.time (t - 1) (from - 1) (omega (arith, late)) leaves.needed) in
     elim (cases_lt last t) [
       | inl more ↦ more
       | inr less ↦ absurd (leaves.left (needed_between w x leaves.time t after (omega (arith, leaves.earlier))
@@ -150,14 +146,24 @@ either_by f g (inr b) = g b
 pub sooner_least : (p q : ℕ → Type 0) (from to : ℕ) (a b : Option ℕ) → IsLeastIn p from to a → IsLeastIn q from to b
     → IsLeastIn (λ t. p t ⊎ q t) from to (sooner a b)
 sooner_least p q from to None None a b = λ t late early holds. either_by (a t late early) (b t late early) holds
-sooner_least p q from to None (Some y) a b = (b.0, b.1, inr b.2, λ t late holds. elim (cases_lt to t) [
+sooner_least p q from to None (Some y) a b = (
+  b.0,
+  b.1,
+  inr b.2,
+  λ t late holds. elim (cases_lt to t) [
     | inl beyond ↦ omega (arith, beyond, b.1)
     | inr early ↦ either_by (λ h. absurd (a t late early h)) (b.3 t late) holds
-  ])
-sooner_least p q from to (Some x) None a b = (a.0, a.1, inl a.2, λ t late holds. elim (cases_lt to t) [
+  ],
+)
+sooner_least p q from to (Some x) None a b = (
+  a.0,
+  a.1,
+  inl a.2,
+  λ t late holds. elim (cases_lt to t) [
     | inl beyond ↦ omega (arith, beyond, a.1)
     | inr early ↦ either_by (a.3 t late) (λ h. absurd (b t late early h)) holds
-  ])
+  ],
+)
 sooner_least p q from to (Some x) (Some y) a b = (
   omega (arith, a.0, b.0),
   omega (arith, a.1, b.1),

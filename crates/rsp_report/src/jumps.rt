@@ -40,9 +40,7 @@ fn next_entering(watched: &Watched, from: u64, to: u64) -> Option<u64>
     ensures shape { IsShape watched.now.window }
 {
     match first_needed(watched, from.saturating_sub(1), from) {
-        Some(time) => {
-            if time <= to { Some(time) } else { None }
-        }
+        Some(time) => { if time <= to { Some(time) } else { None } }
         None => None,
     }
 }
@@ -65,9 +63,7 @@ fn leaving_of(watched: &Watched, time: u64, from: u64, to: u64) -> Option<u64>
     ensures { IsLeastIn (Leaves watched.now.window watched.now.times) from to result }
 {
     match watched.window.last_needed(time) {
-        Some(last) => {
-            if last < to { Some(last + 1) } else { None }
-        }
+        Some(last) => { if last < to { Some(last + 1) } else { None } }
         None => None,
     }
 }
