@@ -79,7 +79,7 @@ pub(crate) fn sooner(a: Option<u64>, b: Option<u64>) -> Option<u64>
     }
 }
 
-// the first time above `low` that some window contains and that is needed at `t`; times in gaps are passed a gap at a time
+// the first time above `low` that some window contains and that is needed at `t`; times in gaps are passed gap by gap
 fn first_needed(watched: &Watched, low: u64, t: u64) -> Option<u64>
     requires low_high { low ≤ 2 ^ 48 }
     requires within { t ≤ 2 ^ 48 }

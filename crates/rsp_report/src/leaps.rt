@@ -21,9 +21,9 @@ enum Question {
     Content,
 }
 
-/// The least instant from `from` to `to` ms at which a query with these windows is due; None exactly where there is none.
-/// The policy looks at instants, a period is at least 1 ms, `to` and all times are at most 2^48. Takes no memory. It goes
-/// from item to item and from closing to closing, never through the instants between.
+/// The least instant from `from` to `to` ms at which a query with these windows is due; None exactly where there is
+/// none. The policy looks at instants, a period is at least 1 ms, `to` and all times are at most 2^48. Takes no memory.
+/// It goes from item to item and from closing to closing, never through the instants between.
 pub fn next_due(policy: &Chosen, watched: &[Watched], from: u64, to: u64) -> Option<u64>
     requires tick { policy.now.tuple ≡ false }
     requires period { ForSome policy.now.period (λ period. 0 < period) }
