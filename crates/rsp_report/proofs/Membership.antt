@@ -2,7 +2,7 @@
 use Rattle.std.specs.Prelude.{◌≡◌, ℕ, ◌-◌, ◌<◌, ◌≤◌, Bool, true, false, not, ◌&&◌, nat_le, None, Some, List, ◌⊎◌}
 use Rattle.std.specs.Bool.{Decides}
 use Rattle.std.specs.List.{Contains, list_any, slice_index_or}
-use Rattle.std.proofs.Common.{arith, inl, inr, sym, refl, true≢false}
+use Rattle.std.proofs.Common.{arith, inl, inr, sym, refl, true≢false, ◌∙◌}
 use Rattle.std.proofs.lemmas.Bool.{cases_lt}
 use Rattle.std.proofs.lemmas.Bool.Decides.{nat_tests, same_from_decides}
 use Rattle.std.proofs.lemmas.List.Folds.{Any-from_list_any, list_any-from_Any, list_any_none}
@@ -31,14 +31,14 @@ abbrev pub IsSeen : Shape → ℕ → ℕ → Type 0
 IsSeen w t time = (time ≤ t) × IsNeeded w time t
 
 -- what is still needed later is needed now
-needed_earlier : (w : Shape) (time t s : ℕ) → s ≤ t → IsNeeded w time t → IsNeeded w time s
+pub needed_earlier : (w : Shape) (time t s : ℕ) → s ≤ t → IsNeeded w time t → IsNeeded w time s
 needed_earlier w time t s before needed = record { number = needed.number; inside = needed.inside; late = omega (arith, needed.late) }
 
 needed_same : (w : Shape) (time other t : ℕ) → time ≡ other → IsNeeded w time t → IsNeeded w other t
 needed_same w time other t same needed = record { number = needed.number; inside = grind (arith, nat_tests, needed.inside, same); late = needed.late }
 
 -- an item that comes between one and t is needed as long
-needed_between : (w : Shape) (first time t : ℕ) → first ≤ time → time ≤ t → IsNeeded w first t → IsNeeded w time t
+pub needed_between : (w : Shape) (first time t : ℕ) → first ≤ time → time ≤ t → IsNeeded w first t → IsNeeded w time t
 needed_between w first time t after before needed = record {
   number = needed.number;
   inside = grind (arith, nat_tests, needed.inside, needed.late);
@@ -53,6 +53,9 @@ content_at w times t first found = (
       record { time = first; listed = found.0; passes = (before, found.1 before) },
   λ seen. let before : first ≤ t = omega (arith, found.2 seen.time seen.listed seen.passes.1, seen.passes.0) in grind (arith, nat_tests, before),
 )
+
+pub content_is : (w : Shape) (times : List ℕ) (t : ℕ) → 1 ≤ w.slide → Decides (list_any (in_content w t) times) (Passing times (IsSeen w t))
+content_is w times t slide = some_passing (in_content w t) (IsSeen w t) (λ time. in_content_is w t time slide) times
 
 pub has_content_at : (w : Shape) (times : List ℕ) (t first : ℕ) → 1 ≤ w.slide → IsFirstReaching w times t (Some first)
     → nat_le first t ≡ list_any (in_content w t) times
@@ -161,3 +164,24 @@ pub none_changes_at_first : (w : Shape) (times : List ℕ) (t : ℕ) → t ≡ 0
 none_changes_at_first w times t first =
     let before : t - 1 ≡ t = omega (arith, first) in
     rw before (sym (list_any_none (λ time. differ (in_content w t time) (in_content w t time)) times (λ k d below. same_both (in_content w t (slice_index_or times k d)))))
+
+pub changes_if_left : (w : Shape) (times : List ℕ) (t : ℕ) → 1 ≤ w.slide → Leaves w times t
+    → list_any (λ time. differ (in_content w t time) (in_content w (t - 1) time)) times ≡ true
+changes_if_left w times t slide leaves =
+    (changes_is w times t slide (omega (arith, leaves.earlier))).1
+    (record { time = leaves.time; listed = leaves.listed; passes = inr (leaves.earlier, leaves.needed, leaves.left) })
+
+-- where the content changes, an item enters or leaves
+turn_from : (w : Shape) (times : List ℕ) (t time : ℕ) → Contains times time → Turns w t time
+    → (Contains times t × IsNeeded w t t) ⊎ Leaves w times t
+turn_from w times t time listed (inl (at, needed)) = inl (rw at at listed, needed)
+turn_from w times t time listed (inr (early, needed, left)) =
+    inr (record { time = time; listed = listed; earlier = early; needed = needed; left = left })
+
+pub turn_of : (w : Shape) (times : List ℕ) (t : ℕ) → 1 ≤ w.slide
+    → list_any (λ time. differ (in_content w t time) (in_content w (t - 1) time)) times ≡ true
+    → (Contains times t × IsNeeded w t t) ⊎ Leaves w times t
+turn_of w times t slide changes = elim (cases_lt 0 t) [
+  | inl later ↦ let found = (changes_is w times t slide later).0 changes in turn_from w times t found.time found.listed found.passes
+  | inr first ↦ absurd (true≢false (sym (none_changes_at_first w times t (omega (arith, first)) ∙ changes)))
+]

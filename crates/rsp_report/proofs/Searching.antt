@@ -56,7 +56,7 @@ opens_no_later : (w : Shape) (k j : ℕ) → k ≤ j → opening w k ≤ opening
 opens_no_later w k j before = omega (arith, mul-le-mul_right w.slide before)
 
 -- a window that closes at t or later isn't before the first such window, so what it contains is behind that opening
-behind_opening : (w : Shape) (t k time : ℕ) → ((j : ℕ) → j < k → closing w j < t) → IsNeeded w time t → opening w k < time
+pub behind_opening : (w : Shape) (t k time : ℕ) → ((j : ℕ) → j < k → closing w j < t) → IsNeeded w time t → opening w k < time
 behind_opening w t k time first needed = elim (cases_lt needed.number k) [
   | inl early ↦ absurd (omega (arith, first needed.number early, needed.late))
   | inr late ↦ grind (arith, nat_tests, opens_no_later w k needed.number late, needed.inside)

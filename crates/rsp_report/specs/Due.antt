@@ -1,5 +1,5 @@
--- Definitions: when a query is due (SECRET, report and tick), over its windows with the times of the items that it may see.
--- An item stands for itself by its place in `times`. Each strategy may hold by another window.
+-- Definitions: when a query is due (SECRET, report and tick), over its windows with the times of the items that it may
+-- see. An item stands for itself by its place in `times`. Each strategy may hold by another window.
 use Rattle.std.specs.Prelude.{◌≡◌, ℕ, ◌-◌, ◌^◌, ◌≤◌, ◌%◌, ◌==◌, Bool, true, false, ◌&&◌, ◌||◌, not, Option, None, Some, List, slice_get, length}
 use Rattle.std.specs.List.{list_any, filter, All}
 use Rattle.std.specs.List.Sorted.{IsNonDecreasing}
@@ -63,4 +63,9 @@ is_due_on_item policy watched t =
 
 -- the window with those times alone that are in the content at t or at the instant before
 abbrev pub seen_at : ℕ → Watched → Watched
-seen_at t w = record { window = w.window; times = filter (λ time. in_content w.window t time || in_content w.window (t - 1) time) w.times; fresh = w.fresh }
+seen_at t w =
+    record {
+      window = w.window;
+      times = filter (λ time. in_content w.window t time || in_content w.window (t - 1) time) w.times;
+      fresh = w.fresh;
+    }

@@ -3,3 +3,4 @@ pub mod Policies
 pub mod Due
 -- Words of the way: they link the code to the definitions
 pub mod Searches
+pub mod Leaps

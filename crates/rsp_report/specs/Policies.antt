@@ -59,4 +59,11 @@ abbrev pub choice_of : PolicyWords → Chosen
 choice_of words.Absent = csparql
 choice_of words.Csparql = csparql
 choice_of words.Cqels = cqels
-choice_of (words.Listed strategies tuple) = record { close = is_named Close strategies; change = is_named Change strategies; nonempty = is_named NonEmpty strategies; period = first_period strategies; tuple = tuple }
+choice_of (words.Listed strategies tuple) =
+    record {
+      close = is_named Close strategies;
+      change = is_named Change strategies;
+      nonempty = is_named NonEmpty strategies;
+      period = first_period strategies;
+      tuple = tuple;
+    }

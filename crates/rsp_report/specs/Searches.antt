@@ -1,5 +1,5 @@
 -- Words of the way: what a search among sorted times finds.
-use Rattle.std.specs.Prelude.{ℕ, ◌-◌, ◌<◌, ◌≤◌, Option, None, Some, List}
+use Rattle.std.specs.Prelude.{min, ℕ, ◌-◌, ◌<◌, ◌≤◌, Option, None, Some, List}
 use Rattle.std.specs.List.{Contains}
 use Rattle.rsp_spec.specs.Windows.{Shape, IsNeeded}
 
@@ -23,3 +23,27 @@ pub record Leaves (w : Shape) (times : List ℕ) (t : ℕ) : Type 0 where
   pub earlier : time < t
   pub needed : IsNeeded w time (t - 1)
   pub left : IsNeeded w time t → ⊥
+
+-- as `IsFirstReaching`, among the times above `low` alone
+abbrev pub IsFirstBehind : Shape → List ℕ → ℕ → ℕ → Option ℕ → Type 0
+IsFirstBehind w times low t None = (time : ℕ) → Contains times time → low < time → IsNeeded w time t → ⊥
+IsFirstBehind w times low t (Some first) =
+    Contains times first × (low < first) × (first ≤ t → IsNeeded w first t)
+    × ((time : ℕ) → Contains times time → low < time → IsNeeded w time t → first ≤ time)
+
+-- the least of the times above `low` that are needed at t, also of those later than t, or there is none
+abbrev pub IsFirstNeeded : Shape → List ℕ → ℕ → ℕ → Option ℕ → Type 0
+IsFirstNeeded w times low t None = (time : ℕ) → Contains times time → low < time → IsNeeded w time t → ⊥
+IsFirstNeeded w times low t (Some first) =
+    Contains times first × (low < first) × IsNeeded w first t
+    × ((time : ℕ) → Contains times time → low < time → IsNeeded w time t → first ≤ time)
+
+-- an item enters the content at t
+abbrev pub Enters : Shape → List ℕ → ℕ → Type 0
+Enters w times t = Contains times t × IsNeeded w t t
+
+-- the lesser number, where there are two
+abbrev pub sooner : Option ℕ → Option ℕ → Option ℕ
+sooner None b = b
+sooner (Some x) None = Some x
+sooner (Some x) (Some y) = Some (min x y)

@@ -23,8 +23,8 @@ pub struct Chosen {
 #[derive(Clone, Copy, PartialEq, Eq, Drop)]
 pub struct PolicyMix;
 
-/// What the words ask. Takes no memory. `PolicyMix` exactly where a strategy is named twice, EVERY with two periods too,
-/// or the tick is TUPLE beside CLOSE or EVERY.
+/// What the words ask. Takes no memory. `PolicyMix` exactly where a strategy is named twice, EVERY with two periods
+/// too, or the tick is TUPLE beside CLOSE or EVERY.
 pub fn policy(words: &PolicyWords) -> Result<Chosen, PolicyMix>
     ensures choice { IfOk result (λ chosen. chosen ≡ choice_of words.now) }
     ensures mix { IsErr result ↔ IsTrue (is_mixed words.now) }

@@ -97,7 +97,7 @@ fn leaves(watched: &Watched, t: u64) -> bool
 }
 
 // whether some window contains the time and closes at t or later
-fn is_needed(window: &Window, time: u64, t: u64) -> bool
+pub(crate) fn is_needed(window: &Window, time: u64, t: u64) -> bool
     requires within { time ≤ 2 ^ 48 }
     ensures needed { IsTrue result ↔ IsNeeded window.now time t }
     ensures shape { IsShape window.now }
@@ -122,7 +122,8 @@ fn first_reaching(watched: &Watched, t: u64) -> Option<u64>
     )
 }
 
-fn first_after(times: &[u64], low: u64) -> Option<u64>
+// the least time above `low`, by one search
+pub(crate) fn first_after(times: &[u64], low: u64) -> Option<u64>
     requires sorted { IsNonDecreasing times.now }
     requires within { low ≤ 2 ^ 63 }
     ensures { IsFirstAfter times.now low result }

@@ -103,8 +103,8 @@ impl Window {
         self.closing(self.first_to_reach(from))
     }
 
-    /// The least closing from `from` to `to` ms that `period` ms divide; None exactly where there is none. By the extended
-    /// Euclidean algorithm, however far away it is. `period` is from 1 to 2^48.
+    /// The least closing from `from` to `to` ms that `period` ms divide; None exactly where there is none. By the
+    /// extended Euclidean algorithm, however far away it is. `period` is from 1 to 2^48.
     pub fn next_close_multiple(&self, period: u64, from: u64, to: u64) -> Option<u64>
         requires period_low { 0 < period }
         requires period_high { period ≤ 2 ^ 48 }
