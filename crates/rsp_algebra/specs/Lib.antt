@@ -5,6 +5,5 @@ pub mod Solutions
 pub mod Overfull
 pub mod BasicPatterns
 pub mod Work
-
 -- Words of the way: they link code to definitions, and need no belief
 pub mod Changing

@@ -76,6 +76,8 @@ impl Blocks {
 
     /// The blocks whose last line ends in this piece. Fails only where memory is refused, or the 64-bit number of a line
     /// or block would pass its last value; then, and after `finish`, each later call fails too.
+    ///
+    /// Fed `@tick 5\n@ti` and then `ck 6\n`, it gives the block of `@tick 5` at first and that of `@tick 6` behind it.
     pub fn feed(&mut self, piece: &[u8]) -> Result<Listed<Block>, AllocError>
         ensures document { self.new.document ≡ self.old.document }
         ensures read { OnOk result ((before : List ℕ) → HasRead self.old before → HasRead self.new (before ++ piece.now)) }

@@ -1,10 +1,10 @@
 -- White space and comments at the front of a text, in bytes.
-use Rattle.std.proofs.Common.{◌≡◌, ℕ, suc, ◌+◌, Bool, false, List, ◌∷◌, ◌++◌, length, refl, Some, None, IsUtf8, chars}
+use Rattle.std.proofs.Common.{◌≡◌, ℕ, suc, ◌+◌, Bool, false, List, ◌∷◌, ◌++◌, length, refl, Some, None, IsUtf8, chars, take}
 use Rattle.std.specs.Char.{encode_utf8, len_utf8}
 use Rattle.std.specs.Str.{IsCharBoundary}
 use Rattle.std.proofs.lemmas.List.{nil_from_length}
-use Rattle.std.proofs.lemmas.Str.{chars-nil, chars_past_char}
-use Rattle.rsp_scan.proofs.Fronts.{front_n}
+use Rattle.std.proofs.lemmas.Str.{chars-nil, chars_past_char, scalars-chars}
+use Rattle.rsp_scan.proofs.Fronts.{front_n, scalars-take}
 use Rattle.rsp_scan.proofs.ScannedBytes.{bytes, first_bytes}
 use Rattle.rsp_lex.specs.Tokens.{gap_step, gap_count, gap_bytes}
 
@@ -38,3 +38,9 @@ module _ (comment : Bool) (text rest : List ℕ) (c : ℕ) (whole : IsUtf8 text)
 pub gap_boundary : (text : List ℕ) → IsUtf8 text → IsCharBoundary text (gap_bytes text)
 unfolding gap_bytes
 gap_boundary text whole = (front_n (gap_count false (chars text)) text whole).boundary
+
+pub gap_utf8 : (text : List ℕ) → IsUtf8 text → IsUtf8 (take (gap_bytes text) text)
+unfolding gap_bytes
+gap_utf8 text whole =
+    rw ((front_n (gap_count false (chars text)) text whole).is)
+    (take (gap_count false (chars text)) (chars text), (scalars-take (gap_count false (chars text)) (chars text) (scalars-chars text whole), refl))

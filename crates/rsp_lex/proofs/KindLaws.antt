@@ -1,9 +1,11 @@
 -- The longest token of a kind, as the automaton finds it, and the longest of all.
-use Rattle.std.proofs.Common.{◌≡◌, ℕ, Bool, true, false, List, [], ◌∷◌, refl, IsUtf8, chars, if◌then◌else◌}
+use Rattle.std.proofs.Common.{◌≡◌, ℕ, Bool, true, false, List, [], ◌∷◌, length, take, refl, IsUtf8, chars, if◌then◌else◌}
 use Rattle.std.specs.Prelude.{nat_lt}
 use Rattle.std.specs.Str.{IsCharBoundary}
+use Rattle.std.proofs.lemmas.Str.{scalars-chars}
+use Rattle.rsp_scan.specs.Fronts.{longest_front, longest_up_to}
 use Rattle.rsp_scan.specs.Scans.{scanned_bytes}
-use Rattle.rsp_scan.proofs.Fronts.{front_of}
+use Rattle.rsp_scan.proofs.Fronts.{front_of, scalars-take}
 use Rattle.rsp_scan.proofs.ScannedBytes.{bytes_of_front}
 use Rattle.rsp_lex.specs.declared.token.TokenKind.{TokenKind}
 use Rattle.rsp_lex.specs.declared.token.TokenKind.TheVariants as kind
@@ -18,6 +20,12 @@ front_is kind text = bytes_of_front token_machine (start kind) text
 front_boundary : (kind : TokenKind) (text : List ℕ) → IsUtf8 text → IsCharBoundary text (front_bytes kind text)
 unfolding front_bytes
 front_boundary kind text whole = (front_of (is_token kind) text whole).boundary
+
+front_utf8 : (kind : TokenKind) (text : List ℕ) → IsUtf8 text → IsUtf8 (take (front_bytes kind text) text)
+unfolding front_bytes
+front_utf8 kind text whole =
+    let front = (front_of (is_token kind) text whole).is in
+    rw front (longest_front (is_token kind) (chars text), (scalars-take (longest_up_to (length (chars text)) (is_token kind) (chars text)) (chars text) (scalars-chars text whole), refl))
 
 abbrev IsFrontOf : List ℕ → Front → Type 0
 IsFrontOf text front = front.len ≡ front_bytes front.kind text
@@ -39,3 +47,6 @@ token_is text = among_is (record { kind = kind.Iri; len = front_bytes kind.Iri t
 
 pub token_boundary : (text : List ℕ) → IsUtf8 text → IsCharBoundary text (token_at text).len
 token_boundary text whole = rw (token_is text) (front_boundary (token_at text).kind text whole)
+
+pub token_utf8 : (text : List ℕ) → IsUtf8 text → IsUtf8 (take (token_at text).len text)
+token_utf8 text whole = rw (token_is text) (front_utf8 (token_at text).kind text whole)

@@ -1,3 +1,4 @@
 pub mod KindLaws
 pub mod GapLaws
 pub mod TokenLaws
+pub mod ReachLaws

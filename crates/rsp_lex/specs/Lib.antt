@@ -6,3 +6,5 @@ pub mod Symbols
 pub mod Kinds
 pub mod Tokens
 pub mod Results
+-- Words of the way
+pub mod Reach

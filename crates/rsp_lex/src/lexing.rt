@@ -1,10 +1,12 @@
 // The tokens of a text.
-ghost use Rattle.std.specs.Prelude.{◌≡◌, ◌+◌, ◌≤◌, IfOk, length, drop, List, ◌++◌, ◌∷◌, []};
+ghost use Rattle.std.specs.Prelude.{◌≡◌, ◌+◌, ◌≤◌, IfOk, length, drop, ◌++◌, ◌∷◌, [], nat_lt, if◌then◌else◌};
+ghost use Rattle.rsp_lex.specs.declared.token.TokenKind.TheVariants.{Prefixed};
 ghost use Rattle.rsp_lex.specs.Kinds.{front_bytes};
+ghost use Rattle.rsp_lex.specs.Reach.{NoPrefixed};
 ghost use Rattle.rsp_lex.specs.Tokens as words;
 ghost use Rattle.rsp_lex.specs.Results.{IsLexed};
 
-use crate::machine::front_len;
+use crate::machine::{Reached, front_len, prefixed_front};
 use crate::{LexFault, Token, TokenKind};
 use rsp_terms::Listed;
 use std::alloc::{AllocError, Global};
@@ -27,6 +29,8 @@ pub fn tokens(alloc: Global, text: &str) -> Result<Listed<Token>, LexFault>
     let mut tokens = Vec::new(alloc);
     let mut rest = text;
     let mut at = 0;
+    // no prefixed name begins in so many bytes of the rest: so a run of name characters is looked through once
+    let mut bare: usize = 0;
     let most = text.len() + 1;
     for _ in 0..most {
         let (gap, behind) = behind_gap(rest);
@@ -34,7 +38,7 @@ pub fn tokens(alloc: Global, text: &str) -> Result<Listed<Token>, LexFault>
         if behind.is_empty() {
             return Ok(Listed::from_vec(tokens));
         }
-        let (front, after) = first_token(behind);
+        let (front, further, after) = first_token(behind, bare.saturating_sub(gap));
         if front.len == 0 {
             return Err(LexFault::BadToken { at: start });
         }
@@ -46,6 +50,7 @@ pub fn tokens(alloc: Global, text: &str) -> Result<Listed<Token>, LexFault>
         };
         tokens = pushed(tokens, token)?;
         rest = after;
+        bare = further;
     }
     Err(LexFault::BadToken { at })
 }
@@ -117,25 +122,49 @@ fn is_white(c: char) -> bool
 
 // ---- the longest token
 
-// it and the text behind it
-fn first_token(text: &str) -> (Front, &str)
+// it, and the text behind it, in so many bytes of which no prefixed name begins
+fn first_token(text: &str, bare: usize) -> (Front, usize, &str)
+    requires { NoPrefixed text.now bare }
     ensures token { result.0 ≡ words.token_at text.now }
-    ensures rest { result.1.now ≡ drop result.0.len text.now }
-    ensures bound { result.0.len + length result.1.now ≡ length text.now }
+    ensures bare { NoPrefixed result.2.now result.1 }
+    ensures rest { result.2.now ≡ drop result.0.len text.now }
+    ensures bound { result.0.len + length result.2.now ≡ length text.now }
 {
-    let front = longest(text);
-    (front, &text[front.len..])
+    let prefixed = bare_or_prefixed(text, bare);
+    let front = longest(text, prefixed.len);
+    let after = &text[front.len..];
+    (front, prefixed.read.saturating_sub(front.len), after)
+}
+
+// the longest prefixed name at the front, and how many bytes there are in which none begins
+fn bare_or_prefixed(text: &str, bare: usize) -> Reached
+    requires { NoPrefixed text.now bare }
+    ensures len { result.len ≡ front_bytes Prefixed text.now }
+    ensures bare { NoPrefixed text.now result.read }
+{
+    if 0 < bare {
+        return Reached { len: 0, read: bare };
+    }
+    let prefixed = prefixed_front(text);
+    if prefixed.len == 0 {
+        return prefixed;
+    }
+    Reached {
+        len: prefixed.len,
+        read: 0,
+    }
 }
 
 #[tactic(auto, unfolding(crate::specs::Tokens::token_at))]
-fn longest(text: &str) -> Front
+fn longest(text: &str, prefixed: usize) -> Front
+    requires { prefixed ≡ front_bytes Prefixed text.now }
     ensures { result ≡ words.token_at text.now }
 {
     let best = Front {
         kind: TokenKind::Iri,
         len: front_len(TokenKind::Iri, text),
     };
-    let best = longer(best, TokenKind::Prefixed, text);
+    let best = better(best, TokenKind::Prefixed, prefixed);
     let best = longer(best, TokenKind::Label, text);
     let best = longer(best, TokenKind::Variable, text);
     let best = longer(best, TokenKind::Span, text);
@@ -152,7 +181,12 @@ fn longest(text: &str) -> Front
 fn longer(best: Front, kind: TokenKind, text: &str) -> Front
     ensures { result ≡ words.longer best kind text.now }
 {
-    let len = front_len(kind, text);
+    better(best, kind, front_len(kind, text))
+}
+
+fn better(best: Front, kind: TokenKind, len: usize) -> Front
+    ensures { result ≡ (if nat_lt best.len len then record { kind = kind; len = len } else best) }
+{
     if best.len < len {
         Front { kind, len }
     } else {

@@ -2,7 +2,7 @@
 //!
 //! `tokens` gives at each place behind white space and comments the longest token, of equally long ones that whose kind
 //! stands first in [`TokenKind`], or else the first place at which none begins. A kind is a test of a whole text, by an
-//! automaton on code points; places count bytes.
+//! automaton on code points; places count bytes. Each byte is looked at a bounded number of times.
 //! Above: the readers of queries. Below: what N-Quads and SPARQL write alike, and characters.
 #![tactic(auto)]
 

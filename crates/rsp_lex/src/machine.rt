@@ -2,7 +2,9 @@
 ghost use Rattle.std.specs.Prelude.{◌≡◌, ◌≤◌, length, if◌then◌else◌};
 ghost use Rattle.std.specs.Str.{chars};
 ghost use Rattle.rsp_scan.specs.Scans.{scanned_bytes};
+ghost use Rattle.rsp_lex.specs.declared.token.TokenKind.TheVariants.{Prefixed};
 ghost use Rattle.rsp_lex.specs.Kinds as kinds;
+ghost use Rattle.rsp_lex.specs.Reach.{read_bytes, NoPrefixed};
 
 use crate::TokenKind;
 use crate::names::{
@@ -91,30 +93,47 @@ fn ends(state: State) -> bool
     }
 }
 
+/// How many bytes of a text the longest token has, and how many were read to find it.
+#[derive(Clone, Copy)]
+pub(crate) struct Reached {
+    pub len: usize,
+    pub read: usize,
+}
+
 /// How many bytes the longest token of this kind has that a text begins with; 0 where it begins with none.
 pub(crate) fn front_len(kind: TokenKind, text: &str) -> usize
     ensures value { result ≡ kinds.front_bytes kind text.now }
     ensures bound { result ≤ length text.now }
 {
-    scanned(start(kind), text)
+    scanned(start(kind), text).len
 }
 
-fn scanned(begun: State, text: &str) -> usize
-    ensures value { result ≡ scanned_bytes kinds.token_machine begun (chars text.now) }
-    ensures bound { result ≤ length text.now }
+/// The longest prefixed name that a text begins with. Where there is none, none begins behind any shorter front than
+/// what was read either.
+pub(crate) fn prefixed_front(text: &str) -> Reached
+    ensures len { result.len ≡ kinds.front_bytes Prefixed text.now }
+    ensures none { result.len ≡ 0 → NoPrefixed text.now result.read }
+{
+    scanned(start(TokenKind::Prefixed), text)
+}
+
+fn scanned(begun: State, text: &str) -> Reached
+    ensures len { result.len ≡ scanned_bytes kinds.token_machine begun (chars text.now) }
+    ensures read { result.read ≡ read_bytes kinds.token_machine begun (chars text.now) }
+    ensures bound { result.len ≤ length text.now }
 {
     let mut state = begun;
     let mut read = 0;
-    let mut end = 0;
+    let mut len = 0;
     for character in text.chars() {
         let Some(next) = step(state, character) else {
-            return end;
+            return Reached { len, read };
         };
         state = next;
         read += character.len_utf8();
-        end = furthest(ends(next), read, end);
+        len = furthest(ends(next), read, len);
     }
-    end
+    Reached { len, read }
 }
 
 fn furthest(ends: bool, place: usize, end: usize) -> usize

@@ -40,6 +40,8 @@ pub fn mul(left: &Number, right: &Number) -> Option<Number>
 }
 
 /// The quotient, always a decimal. None exactly where the divisor is 0 or no decimal holds it.
+///
+/// 10 by 3 is 3.333333333333333333, 6 by 2 is the decimal 3, and 1 by 0 is None.
 pub fn div(left: &Number, right: &Number) -> Option<Number>
     ensures { result ≡ quotient left.now right.now }
 {

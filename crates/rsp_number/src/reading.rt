@@ -32,6 +32,8 @@ impl<T> Reading<T> {
 }
 
 /// Reads an integer: an optional sign and digits, at least one. Beyond where its size is past 2^63 - 1.
+///
+/// `integer(b"+007")` is the value 7, `integer(b"9223372036854775808")` is Beyond, and `integer(b"1.0")` isn't of the form.
 pub fn integer(text: &[u8]) -> Reading<IntegerNumber>
     ensures { result ≡ read_integer text.now }
 {
@@ -44,6 +46,9 @@ pub fn integer(text: &[u8]) -> Reading<IntegerNumber>
 
 /// Reads a decimal: an optional sign, and digits with at most one point before, among or behind them, at least one
 /// digit. Beyond where no decimal is exactly what it writes; zeros that alone pad it don't count.
+///
+/// `decimal(b"-012.340")` is the value -12.34, `decimal(b"0.0000000000000000001")` is Beyond, and `decimal(b".")` isn't of
+/// the form.
 pub fn decimal(text: &[u8]) -> Reading<DecimalNumber>
     ensures value { result ≡ read_decimal text.now }
     ensures exact { IsReadExactly text.now result }

@@ -51,6 +51,8 @@ pub fn floor(number: &Number) -> Number
 }
 
 /// The nearest whole number, and of two that are as near the greater.
+///
+/// 2.5 gives 3, -2.5 gives -2, and the integer 7 stays 7.
 pub fn round(number: &Number) -> Number
     ensures { result ≡ rounding round_of number.now }
 {

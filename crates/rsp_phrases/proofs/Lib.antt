@@ -8,3 +8,4 @@ pub mod DepthLaws
 pub mod Drawing
 pub mod DistinctLaws
 pub mod Seeing
+pub mod Loops

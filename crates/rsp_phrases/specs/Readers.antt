@@ -1,5 +1,5 @@
 -- Words of the way: functions on rows of tokens of the same shape as the rules, which the code is proved against.
-use Rattle.std.specs.Prelude.{ℕ, zero, suc, Bool, false, List, [], ◌∷◌, length, ◌-◌, drop, map, cond, Option, None, Some, Result, Ok, Err}
+use Rattle.std.specs.Prelude.{ℕ, zero, suc, Bool, false, List, [], ◌∷◌, ◌++◌, length, ◌-◌, drop, map, cond, Option, None, Some, Result, Ok, Err}
 use Rattle.std.specs.List.{list_any}
 use Rattle.rsp_phrases.specs.Languages.{has, listed, follows}
 
@@ -85,6 +85,11 @@ nested_read rule (suc depth) = rule (nested_read rule depth)
 
 abbrev pub within_itself_read : {T A : Type 0} → (Reader T A → Reader T A) → Reader T A
 within_itself_read rule ts = nested_read rule (suc (length ts)) ts
+
+-- what was read before, and then this
+abbrev pub with_front : {T A : Type 0} → List A → Reading T (List A) → Reading T (List A)
+with_front front (Ok x) = Ok (front ++ x.0, x.1)
+with_front front (Err left) = Err left
 
 unfoldable pub at_most_read : {T A : Type 0} → (T → ℕ) → List ℕ → Reader T A → ℕ → Reader T (List A)
 at_most_read kind kinds r zero = nothing_read []

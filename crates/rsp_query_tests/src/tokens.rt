@@ -176,3 +176,29 @@ fn each_place_has_its_longest_token(rt: HostRuntime) -> Result<(), Fail> {
     }
     Ok(())
 }
+
+// each of 65,536 bytes: a run of names without a colon, brackets, quotes, digits that each begin much and end nothing
+const REPEATED: [(&str, usize, usize); 6] = [
+    ("a.", 32_768, 65_536),
+    ("a-", 32_768, 65_536),
+    ("<a", 32_768, 65_536),
+    (":a. ", 16_384, 32_768),
+    ("\"\"\"a\"#\\x\n", 6_553, 13_106),
+    ("1.1e", 16_384, 16_385),
+];
+
+#[test]
+fn hostile_texts_end_soon(rt: HostRuntime) -> Result<(), Fail> {
+    let alloc = rt.alloc();
+    for (piece, count, wanted) in &REPEATED {
+        let mut text = String::new(alloc);
+        for _ in 0..*count {
+            text.push_str(piece)?;
+        }
+        match tokens(alloc, text.as_str()) {
+            Ok(all) => assert_eq!(rt; all.as_slice().len(), *wanted, "{piece}"),
+            Err(_) => return Err("tokens".into()),
+        }
+    }
+    Ok(())
+}

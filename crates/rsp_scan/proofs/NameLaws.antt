@@ -132,7 +132,7 @@ characters_of inner =
     }
 
 -- characters that a text begins with come first among these
-begins : (ps cs others : List ℕ) → encode_utf8_all cs ≡ encode_utf8_all ps ++ others
+pub begins : (ps cs others : List ℕ) → encode_utf8_all cs ≡ encode_utf8_all ps ++ others
     → (es : List ℕ) × ((cs ≡ ps ++ es) × (encode_utf8_all es ≡ others))
 begins [] cs others is = (cs, (refl, is))
 begins (p ∷ ps) cs others is =

@@ -2,3 +2,4 @@ pub mod Truths
 pub mod WindowLaws
 pub mod WindowRows
 pub mod ContentLaws
+pub mod InstantLaws

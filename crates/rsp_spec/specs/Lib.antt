@@ -2,3 +2,4 @@
 pub mod Windows
 pub mod Faults
 pub mod Written
+pub mod Instants

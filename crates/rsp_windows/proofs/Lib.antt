@@ -1,1 +1,4 @@
 pub mod Closings
+pub mod Divisors
+pub mod Rows
+pub mod SharedClosings

@@ -1,0 +1,2 @@
+-- Words of the way: they link the code to the definitions
+pub mod Congruences

@@ -6,6 +6,7 @@
 //! which makes windows, and the engine, which asks for contents and closings.
 #![tactic(auto)]
 
+mod congruence;
 mod window;
 
 pub use window::Window;

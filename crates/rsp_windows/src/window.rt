@@ -1,8 +1,10 @@
 // One query's windows, by their width, their distance and their first opening.
 
 ghost use Rattle.std.specs.Prelude.{◌≡◌, ℕ, ◌+◌, ◌*◌, ◌^◌, ◌<◌, ◌≤◌, ◌↔◌, IfSome, IsSome};
+ghost use Rattle.rsp_spec.specs.Instants.{ClosesAtMultiple, IsLeastIn};
 ghost use Rattle.rsp_spec.specs.Windows.{IsActive, IsAtMost, IsLastNeeded, IsNeeded, IsNextClosing, IsShape, Shape, active_window, closes_at, closing, opening};
 
+use crate::congruence::next_shared;
 use std::marker::Model;
 
 // 9999-12-31T23:59:59.999Z, in milliseconds since 1970
@@ -99,6 +101,16 @@ impl Window {
         ensures shape { IsShape self.now }
     {
         self.closing(self.first_to_reach(from))
+    }
+
+    /// The least closing from `from` to `to` ms that `period` ms divide; None exactly where there is none. By the extended
+    /// Euclidean algorithm, however far away it is. `period` is from 1 to 2^48.
+    pub fn next_close_multiple(&self, period: u64, from: u64, to: u64) -> Option<u64>
+        requires period_low { 0 < period }
+        requires period_high { period ≤ 2 ^ 48 }
+        ensures { IsLeastIn (ClosesAtMultiple self.now period) from to result }
+    {
+        next_shared(self.origin + self.width, self.slide, period, from, to)
     }
 
     /// The greatest closing among the windows that contain `time` ms: up to this instant an item of that time can be in

@@ -1,6 +1,6 @@
 -- Laws of rules: expressions.
-use Rattle.std.proofs.Common.{◌≡◌, ℕ, ◌+◌, true, false, List, [], ◌∷◌, ◌++◌, refl, Option, Some, None, is_some}
-use Rattle.rsp_phrases.specs.Languages.{mapped, both, optional, many, listed, never}
+use Rattle.std.proofs.Common.{Bool, ◌≡◌, ℕ, ◌+◌, true, false, List, [], ◌∷◌, ◌++◌, refl, Option, Some, None, is_some}
+use Rattle.rsp_phrases.specs.Languages.{both, optional, many, listed, never}
 use Rattle.rsp_phrases.specs.Readers.{Reader, never_read}
 use Rattle.rsp_phrases.proofs.Membership.{apart, apart_none, covered_by, covered_nil, has_left}
 use Rattle.rsp_phrases.proofs.Good.{Good, good_mapped, good_never, listed_as}
@@ -18,9 +18,9 @@ use Rattle.rsp_written.specs.declared.said.Arity.TheVariants as arity
 use Rattle.rsp_written.specs.Kinds.{arity_of}
 use Rattle.rsp_phrases.proofs.TiedLaws.{good_tied}
 use Rattle.rsp_written.specs.Trees.{Expr, variable, iri, constant, bound, count_rows}
-use Rattle.rsp_written.specs.Building.{any_row, all_row, sum_row, product_row, compared_to, one_of, related, with_sign, call_of, aggregate_of, signed_part}
+use Rattle.rsp_written.specs.Building.{any_row, all_row, sum_row, product_row, compared_to, one_of, related, with_sign, call_of, aggregate_of, flagged, signed_part}
 use Rattle.rsp_written.specs.Grammar.{Rule, kind_number, numbers, one, word, sign, expressions, another, bound_call, maybe_third, call_rule, primary, unary_signs, unary, row, product_signs, product_rule, sum_signs, sum_rule, comparisons, membership, relation, and_signs, and_rule, or_signs, or_rule, expression, maybe_distinct, count_rule, folds, aggregate_rule, aggregate_expression, arguments, call_names, function_call}
-use Rattle.rsp_written.specs.Readings.{word_kinds, sign_kinds, suffix_first, another_read, items_read, expressions_read, bound_read, call_first, call_read, primary_read, unary_read, row_read, product_read, sum_read, comparison_read, membership_read, relation_first, relation_read, and_read, or_read, expression_read, maybe_distinct_read, count_read, aggregate_first, aggregate_read, aggregate_expression_read, arguments_read, function_read}
+use Rattle.rsp_written.specs.Readings.{word_kinds, sign_kinds, suffix_first, another_read, items_read, expressions_read, bound_read, call_first, call_read, primary_read, simple_read, unary_read, row_read, product_read, sum_read, comparison_read, membership_read, relation_first, relation_read, and_read, or_read, expression_read, maybe_distinct_read, count_read, aggregate_first, aggregate_read, aggregate_expression_read, arguments_read, function_read}
 use Rattle.rsp_written.proofs.Simple.{G, good_one, good_second_of, good_both, good_behind, good_in_parens, under_second, under_in_parens, good_iri, good_variable, unsigned_first, good_unsigned_literal}
 
 -- ---- which kinds begin an expression, and by which it goes on
@@ -81,7 +81,7 @@ module _ (q : Rule Expr) (s : Reader Said Expr) (first : List Kind) (h : G q s f
   good_arguments arity.Two = good_mapped (λ (v : Expr × Expr). v.0 ∷ v.1 ∷ []) (good_in_parens (good_both h good_another refl) refl)
   good_arguments arity.Three =
       good_mapped (λ (v : Expr × (Expr × Expr)). v.0 ∷ v.1.0 ∷ v.1.1 ∷ [])
-          (good_in_parens (good_both h (good_both good_another good_another refl) refl) refl)
+      (good_in_parens (good_both h (good_both good_another good_another refl) refl) refl)
   good_arguments arity.TwoOrThree =
       good_mapped maybe_third (good_in_parens (good_both h (good_both good_another (good_optional good_another) refl) refl) refl)
   good_arguments arity.Any = good_expressions
@@ -114,7 +114,7 @@ good_row signs make {bp = bp} {gp = gp} h a =
 
 good_primary_plain : (e : Rule Expr) (x : Reader Said Expr) (q : Rule Expr) (s : Reader Said Expr) → G e x [] [] false true → G q s plain_first expr_go false false
     → G (primary e q) (primary_read (numbers []) x s) ([] ++ primary_first) suffix_first false true
-unfolding primary_read
+unfolding primary_read simple_read
 good_primary_plain e x q s he hq =
     good_either he (good_either (good_in_parens hq refl) (good_either (good_call q s plain_first hq refl)
     (good_either (good_mapped iri good_iri) (good_either (good_mapped variable good_variable)
@@ -161,7 +161,7 @@ good_or_plain e x q s he hq =
 
 good_primary_wide : (e : Rule Expr) (x : Reader Said Expr) (q : Rule Expr) (s : Reader Said Expr) → G e x aggregate_first [] false true → G q s wide_first expr_go false false
     → G (primary e q) (primary_read (numbers aggregate_first) x s) (aggregate_first ++ primary_first) suffix_first false true
-unfolding primary_read
+unfolding primary_read simple_read
 good_primary_wide e x q s he hq =
     good_either he (good_either (good_in_parens hq refl) (good_either (good_call q s wide_first hq refl)
     (good_either (good_mapped iri good_iri) (good_either (good_mapped variable good_variable)
@@ -222,7 +222,7 @@ under_arguments arity.One h = under_mapped (λ e. e ∷ []) (under_in_parens h)
 under_arguments arity.Two h = under_mapped (λ (v : Expr × Expr). v.0 ∷ v.1 ∷ []) (under_in_parens (under_tied h (λ v. under_another h)))
 under_arguments arity.Three h =
     under_mapped (λ (v : Expr × (Expr × Expr)). v.0 ∷ v.1.0 ∷ v.1.1 ∷ [])
-        (under_in_parens (under_tied h (λ v. under_tied (under_another h) (λ w. under_another h))))
+    (under_in_parens (under_tied h (λ v. under_tied (under_another h) (λ w. under_another h))))
 under_arguments arity.TwoOrThree h =
     under_mapped maybe_third (under_in_parens (under_tied h (λ v. under_tied (under_another h) (λ w. under_optional (under_another h)))))
 under_arguments arity.Any h = under_expressions h
@@ -230,7 +230,7 @@ under_arguments arity.Any h = under_expressions h
 pub under_call : {n : ℕ} {q q' : Rule Expr} → Under n q q' → Under (n + 1) (call_rule q) (call_rule q')
 under_call {n = n} h =
     under_either (under_same (n + 1) bound_call)
-        (under_mapped call_of (under_tied (under_same (n + 1) (one call_names)) (λ name. under_arguments (arity_of name.kind) h)))
+    (under_mapped call_of (under_tied (under_same (n + 1) (one call_names)) (λ name. under_arguments (arity_of name.kind) h)))
 
 under_row : {n : ℕ} (signs : List Kind) (make : Expr × List (Kind × Expr) → Expr) {p p' : Rule Expr} → Under n p p'
     → Under n (row signs make p) (row signs make p')
@@ -271,7 +271,7 @@ good_expression = good_within_itself (λ q s h. good_or_plain never never_read q
 
 good_maybe_distinct : G maybe_distinct maybe_distinct_read (kind.Word keyword.Distinct ∷ plain_first) expr_go false true
 unfolding maybe_distinct_read
-good_maybe_distinct = good_both (good_optional (good_one (word_kinds keyword.Distinct))) good_expression refl
+good_maybe_distinct = good_mapped flagged (good_both (good_optional (good_one (word_kinds keyword.Distinct))) good_expression refl)
 
 good_count : G count_rule count_read (word_kinds keyword.Count) [] false true
 unfolding count_read
@@ -285,7 +285,7 @@ pub good_aggregate : G aggregate_rule aggregate_read aggregate_first [] false tr
 unfolding aggregate_read
 good_aggregate =
     good_either good_count
-    (good_mapped (λ (v : Said × (Option Said × Expr)). aggregate_of v.0.kind v.1)
+    (good_mapped (λ (v : Said × (Bool × Expr)). aggregate_of v.0.kind v.1)
     (good_both (good_one folds) (good_in_parens good_maybe_distinct refl) refl)) refl refl
 
 pub good_aggregate_expression : G aggregate_expression aggregate_expression_read wide_first expr_go false true

@@ -2,3 +2,4 @@ pub mod Simple
 pub mod Expressions
 pub mod Triples
 pub mod Groups
+mod ReadingRows

@@ -96,8 +96,11 @@ with_sign (Some sign, e) = signed sign.kind e
 abbrev pub call_of : Said × List Expr → Expr
 call_of v = call v.0.kind (exprs_in v.1)
 
-abbrev pub aggregate_of : Kind → Option Said × Expr → Expr
-aggregate_of kind v = aggregate kind (is_some v.0) v.1
+abbrev pub aggregate_of : Kind → Bool × Expr → Expr
+aggregate_of kind v = aggregate kind v.0 v.1
+
+abbrev pub flagged : Option Said × Expr → Bool × Expr
+flagged v = (is_some v.0, v.1)
 
 -- ---- paths
 

@@ -3,7 +3,7 @@
 -- the end the order is that of the grammar. Tokens are what they say: words in any case, IRIs absolute with prefixes
 -- replaced, strings without escapes. What is left out of SPARQL: paths `*` `+` `?` `!`, collections, SERVICE, queries of
 -- other forms, solution modifiers but grouping, and functions named by IRIs.
-use Rattle.std.specs.Prelude.{ℕ, zero, suc, List, [], ◌∷◌, ◌++◌, cond, map, length, Option, None, Some, is_some, codes, nat_le}
+use Rattle.std.specs.Prelude.{Bool, ℕ, zero, suc, List, [], ◌∷◌, ◌++◌, cond, map, length, Option, None, Some, is_some, codes, nat_le}
 use Rattle.std.specs.List.{flat_map}
 use Rattle.std.specs.Str.{bytes_eq}
 use Rattle.std.specs.Str.Parse.{digits_value}
@@ -22,7 +22,7 @@ use Rattle.rsp_written.specs.declared.said.Arity.{Arity}
 use Rattle.rsp_written.specs.declared.said.Arity.TheVariants as arity
 use Rattle.rsp_written.specs.Kinds.{number_of, arity_of}
 use Rattle.rsp_written.specs.Trees.{Expr, variable, iri, constant, bound, count_rows, Way, step, Verb, named, along, Node, variable_node, iri_node, constant_node, label_node, blank_node, described, Properties, Item, shown, computed, Projection, every_name, these, Graph, graph_variable, graph_iri, Element, optional_group, minus_group, union_of, graph_group, window_group, filter, exists, bind, values, Strategy, Policy, profile, reporting, Window, Written}
-use Rattle.rsp_written.specs.Building.{string_term, number_term, signed_term, boolean_term, signed_part, any_row, all_row, sum_row, product_row, Relation, compared_to, one_of, related, with_sign, call_of, aggregate_of, sequence_row, choice_row, turned, rdf_type, property_list, some_properties, elements_in, groups_in, run, sub_select_of, written_of, later, is_nil}
+use Rattle.rsp_written.specs.Building.{string_term, number_term, signed_term, boolean_term, signed_part, any_row, all_row, sum_row, product_row, Relation, compared_to, one_of, related, with_sign, call_of, aggregate_of, flagged, sequence_row, choice_row, turned, rdf_type, property_list, some_properties, elements_in, groups_in, run, sub_select_of, written_of, later, is_nil}
 use Rattle.rsp_written.specs.declared.literals.Suffix.{Suffix}
 use Rattle.rsp_written.specs.declared.literals.Suffix.TheVariants.{InLanguage, OfDatatype}
 
@@ -120,9 +120,9 @@ arguments arity.Any inner = expressions inner
 abbrev pub call_names : List Kind
 call_names = map kind.Word
     (keyword.If ∷ keyword.Coalesce ∷ keyword.SameTerm ∷ keyword.IsIri ∷ keyword.IsUri ∷ keyword.IsBlank ∷ keyword.IsLiteral ∷ keyword.IsNumeric
-        ∷ keyword.Str ∷ keyword.Lang ∷ keyword.Datatype ∷ keyword.Iri ∷ keyword.Uri ∷ keyword.StrDt ∷ keyword.StrLang ∷ keyword.StrLen
-        ∷ keyword.SubStr ∷ keyword.Contains ∷ keyword.StrStarts ∷ keyword.StrEnds ∷ keyword.StrBefore ∷ keyword.StrAfter ∷ keyword.Concat
-        ∷ keyword.LangMatches ∷ keyword.Abs ∷ keyword.Ceil ∷ keyword.Floor ∷ keyword.Round ∷ [])
+    ∷ keyword.Str ∷ keyword.Lang ∷ keyword.Datatype ∷ keyword.Iri ∷ keyword.Uri ∷ keyword.StrDt ∷ keyword.StrLang ∷ keyword.StrLen
+    ∷ keyword.SubStr ∷ keyword.Contains ∷ keyword.StrStarts ∷ keyword.StrEnds ∷ keyword.StrBefore ∷ keyword.StrAfter ∷ keyword.Concat
+    ∷ keyword.LangMatches ∷ keyword.Abs ∷ keyword.Ceil ∷ keyword.Floor ∷ keyword.Round ∷ [])
 
 abbrev pub bound_call : Rule Expr
 bound_call = mapped bound (second_of (word keyword.Bound) (in_parens variable_name))
@@ -199,8 +199,8 @@ expression = within_itself (or_rule never)
 
 -- Aggregate ::= 'COUNT' '(' ('*' | 'DISTINCT'? Expr) ')' | ('SUM' | 'AVG' | 'MIN' | 'MAX') '(' 'DISTINCT'? Expr ')'
 --                                                    [127] Aggregate (without COUNT(DISTINCT *), GROUP_CONCAT, SAMPLE)
-abbrev pub maybe_distinct : Rule (Option Said × Expr)
-maybe_distinct = both (optional (word keyword.Distinct)) expression
+abbrev pub maybe_distinct : Rule (Bool × Expr)
+maybe_distinct = mapped flagged (both (optional (word keyword.Distinct)) expression)
 
 abbrev pub count_rule : Rule Expr
 count_rule =
@@ -213,7 +213,7 @@ folds = map kind.Word (keyword.Sum ∷ keyword.Avg ∷ keyword.Min ∷ keyword.M
 abbrev pub aggregate_rule : Rule Expr
 aggregate_rule =
     either count_rule
-    (mapped (λ (v : Said × (Option Said × Expr)). aggregate_of v.0.kind v.1) (both (one folds) (in_parens maybe_distinct)))
+    (mapped (λ (v : Said × (Bool × Expr)). aggregate_of v.0.kind v.1) (both (one folds) (in_parens maybe_distinct)))
 
 -- AggExpr ::= Expr in which Primary may also be an Aggregate
 abbrev pub aggregate_expression : Rule Expr

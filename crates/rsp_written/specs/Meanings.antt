@@ -1,5 +1,4 @@
 -- Definitions: what the code's trees say.
-use Rattle.std.specs.Prelude.{List, map}
 use Rattle.rsp_written.specs.declared.said.Kind.{Kind}
 use Rattle.rsp_written.specs.declared.expression.Expression.{Expression}
 use Rattle.rsp_written.specs.declared.expression.Operand.{Operand}

@@ -14,7 +14,7 @@ use Rattle.rsp_written.specs.declared.said.Arity.{Arity}
 use Rattle.rsp_written.specs.declared.said.Arity.TheVariants as arity
 use Rattle.rsp_written.specs.Kinds.{arity_of}
 use Rattle.rsp_written.specs.Trees.{Expr, variable, iri, constant, bound, count_rows}
-use Rattle.rsp_written.specs.Building.{string_term, number_term, signed_term, boolean_term, signed_part, any_row, all_row, sum_row, product_row, Relation, compared_to, one_of, related, with_sign, call_of, aggregate_of}
+use Rattle.rsp_written.specs.Building.{string_term, number_term, signed_term, boolean_term, signed_part, any_row, all_row, sum_row, product_row, Relation, compared_to, one_of, related, with_sign, call_of, aggregate_of, flagged}
 use Rattle.rsp_written.specs.declared.literals.Suffix.{Suffix}
 use Rattle.rsp_written.specs.declared.literals.Suffix.TheVariants.{InLanguage, OfDatatype}
 use Rattle.rsp_written.specs.Grammar.{kind_number, numbers, text_of, number_kinds, maybe_third, call_names, unary_signs, product_signs, sum_signs, comparisons, and_signs, or_signs, folds}
@@ -108,7 +108,7 @@ arguments_read arity.One s = mapped_read (λ e. e ∷ []) (in_parens_read s)
 arguments_read arity.Two s = mapped_read (λ (v : Expr × Expr). v.0 ∷ v.1 ∷ []) (in_parens_read (both_read s (another_read s)))
 arguments_read arity.Three s =
     mapped_read (λ (v : Expr × (Expr × Expr)). v.0 ∷ v.1.0 ∷ v.1.1 ∷ [])
-        (in_parens_read (both_read s (both_read (another_read s) (another_read s))))
+    (in_parens_read (both_read s (both_read (another_read s) (another_read s))))
 arguments_read arity.TwoOrThree s =
     mapped_read maybe_third (in_parens_read (both_read s (both_read (another_read s) (maybe_read (sign_kinds symbol.Comma) (another_read s)))))
 arguments_read arity.Any s = expressions_read s
@@ -122,12 +122,15 @@ call_first = word_kinds keyword.Bound ++ call_names
 unfoldable pub call_read : Reader Said Expr → Reader Said Expr
 call_read s = choice_read (word_kinds keyword.Bound) bound_read (function_read s)
 
+unfoldable pub simple_read : Reader Said Expr → Reader Said Expr
+simple_read s =
+    choice_read (sign_kinds symbol.OpenParen) (in_parens_read s) (choice_read call_first (call_read s)
+    (choice_read (kind.Iri ∷ []) (mapped_read iri iri_read) (choice_read (kind.Variable ∷ []) (mapped_read variable variable_read)
+    (mapped_read constant unsigned_literal_read))))
+
 -- `ks`, `x`: the kinds that begin what else may be a Primary, and its reader
 unfoldable pub primary_read : List ℕ → Reader Said Expr → Reader Said Expr → Reader Said Expr
-primary_read ks x s =
-    either_read kind_number ks x (choice_read (sign_kinds symbol.OpenParen) (in_parens_read s) (choice_read call_first (call_read s)
-    (choice_read (kind.Iri ∷ []) (mapped_read iri iri_read) (choice_read (kind.Variable ∷ []) (mapped_read variable variable_read)
-    (mapped_read constant unsigned_literal_read)))))
+primary_read ks x s = either_read kind_number ks x (simple_read s)
 
 unfoldable pub unary_read : List ℕ → Reader Said Expr → Reader Said Expr → Reader Said Expr
 unary_read ks x s = mapped_read with_sign (both_read (maybe_read unary_signs (one_read unary_signs)) (primary_read ks x s))
@@ -169,8 +172,8 @@ or_read ks x s = row_read or_signs any_row (and_read ks x s)
 unfoldable pub expression_read : Reader Said Expr
 expression_read = within_itself_read (or_read [] never_read)
 
-unfoldable pub maybe_distinct_read : Reader Said (Option Said × Expr)
-maybe_distinct_read = both_read (maybe_read (word_kinds keyword.Distinct) (word_read keyword.Distinct)) expression_read
+unfoldable pub maybe_distinct_read : Reader Said (Bool × Expr)
+maybe_distinct_read = mapped_read flagged (both_read (maybe_read (word_kinds keyword.Distinct) (word_read keyword.Distinct)) expression_read)
 
 unfoldable pub count_read : Reader Said Expr
 count_read =
@@ -184,7 +187,7 @@ aggregate_first = word_kinds keyword.Count ++ folds
 unfoldable pub aggregate_read : Reader Said Expr
 aggregate_read =
     choice_read (word_kinds keyword.Count) count_read
-    (mapped_read (λ (v : Said × (Option Said × Expr)). aggregate_of v.0.kind v.1) (both_read (one_read folds) (in_parens_read maybe_distinct_read)))
+    (mapped_read (λ (v : Said × (Bool × Expr)). aggregate_of v.0.kind v.1) (both_read (one_read folds) (in_parens_read maybe_distinct_read)))
 
 unfoldable pub aggregate_expression_read : Reader Said Expr
 aggregate_expression_read = within_itself_read (or_read (numbers aggregate_first) aggregate_read)

@@ -3,4 +3,4 @@ use Rattle.rsp_lex.proofs.KindLaws.{front_is}
 use Rattle.rsp_lex.proofs.machine.front_len.Goals as goal
 
 pub returns-clause-value : goal.returns-clause-value
-returns-clause-value c = rw (c.scanned.ensures.value, c.start.ensures) (sym (front_is c.args.kind c.args.text.now))
+returns-clause-value c = rw (c.scanned.ensures.len, c.start.ensures) (sym (front_is c.args.kind c.args.text.now))
