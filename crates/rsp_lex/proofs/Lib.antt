@@ -3,3 +3,4 @@ pub mod GapLaws
 pub mod TokenLaws
 pub mod ReachLaws
 pub mod EnoughLaws
+pub mod FormLaws
