@@ -28,7 +28,7 @@ pub fn tokens(alloc: Global, text: &str) -> Result<Listed<Token>, LexFault>
     ensures tokens { IsLexed result (words.tokens text.now) }
     // the definition's bound is none: any larger one gives the same
     ensures bound { (most : ℕ) → length text.now < most → words.tokens_from most 0 text.now ≡ words.tokens text.now }
-    // words, integers, variables and tags, in the grammar's words
+    // these kinds, in the grammar's words
     ensures forms { (cs : List ℕ) → HasForm cs }
 {
     all_tokens(alloc, text)
