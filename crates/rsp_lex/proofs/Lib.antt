@@ -2,3 +2,5 @@ pub mod KindLaws
 pub mod GapLaws
 pub mod TokenLaws
 pub mod ReachLaws
+pub mod EnoughLaws
+pub mod FormLaws

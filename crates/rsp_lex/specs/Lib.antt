@@ -4,6 +4,7 @@ pub mod Names
 pub mod Numbers
 pub mod Symbols
 pub mod Kinds
+pub mod Forms
 pub mod Tokens
 pub mod Results
 -- Words of the way

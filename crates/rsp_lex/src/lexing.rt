@@ -1,6 +1,7 @@
 // The tokens of a text.
-ghost use Rattle.std.specs.Prelude.{◌≡◌, ◌+◌, ◌≤◌, IfOk, length, drop, ◌++◌, ◌∷◌, [], nat_lt, if◌then◌else◌};
+ghost use Rattle.std.specs.Prelude.{◌≡◌, ℕ, ◌+◌, ◌≤◌, ◌<◌, IfOk, List, length, drop, ◌++◌, ◌∷◌, [], nat_lt, if◌then◌else◌};
 ghost use Rattle.rsp_lex.specs.declared.token.TokenKind.TheVariants.{Prefixed};
+ghost use Rattle.rsp_lex.specs.Forms.{HasForm};
 ghost use Rattle.rsp_lex.specs.Kinds.{front_bytes};
 ghost use Rattle.rsp_lex.specs.Reach.{NoPrefixed};
 ghost use Rattle.rsp_lex.specs.Tokens as words;
@@ -24,6 +25,16 @@ pub(crate) struct Front {
 /// `tokens(alloc, "?a<1 # note")` are a Variable from 0 to 2, a Symbol from 2 to 3 and an Integer from 3 to 4;
 /// `tokens(alloc, "é")` is `Err(LexFault::BadToken { at: 0 })`.
 pub fn tokens(alloc: Global, text: &str) -> Result<Listed<Token>, LexFault>
+    ensures tokens { IsLexed result (words.tokens text.now) }
+    // the definition's bound is none: any larger one gives the same
+    ensures bound { (most : ℕ) → length text.now < most → words.tokens_from most 0 text.now ≡ words.tokens text.now }
+    // these kinds, in the grammar's words
+    ensures forms { (cs : List ℕ) → HasForm cs }
+{
+    all_tokens(alloc, text)
+}
+
+fn all_tokens(alloc: Global, text: &str) -> Result<Listed<Token>, LexFault>
     ensures { IsLexed result (words.tokens text.now) }
 {
     let mut tokens = Vec::new(alloc);

@@ -4,7 +4,7 @@ use denote.Shadow.{shadow}
 use Rattle.rsp_lex.specs.Tokens as words
 use Rattle.rsp_lex.specs.Reach.{NoPrefixed}
 use Rattle.rsp_lex.proofs.TokenLaws.{onto}
-use Rattle.rsp_lex.proofs.lexing.tokens.Given as goal
+use Rattle.rsp_lex.proofs.lexing.all_tokens.Given as goal
 
 abbrev pub invariant-loop : goal.invariant-loop
 invariant-loop l =
