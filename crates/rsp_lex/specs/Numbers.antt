@@ -81,7 +81,8 @@ span_part _ c = None
 abbrev pub span_digits : Part → ℕ → Option SpanState
 span_digits before c =
     if is_ascii_digit c then Some (span.Digits before)
-    else (if c == byte "S" then Some (span.Behind part.Seconds) else (if c == byte "." then Some span.Point else span_part before c))
+    else (if c == byte "S" then Some (span.Behind part.Seconds)
+    else (if c == byte "." then Some span.Point else span_part before c))
 
 abbrev pub span_behind : Part → ℕ → Option SpanState
 span_behind part.Seconds c = None

@@ -183,6 +183,7 @@ pub record IsFirstRelative (document : ℕ) (line : List ℕ) (column : ℕ) : T
   pub statement : IsStatement document line quad
   pub text : List ℕ
   pub term : Term
-  pub first : find (λ x. is_relative x.1) (terms_in line statement.after_subject statement.after_predicate statement.after_object quad)
+  pub first : find (λ x. is_relative x.1)
+      (terms_in line statement.after_subject statement.after_predicate statement.after_object quad)
       ≡ Some (text, term)
   pub column_is : IsAtColumn line text column

@@ -186,7 +186,8 @@ fn is_relative(term: &Term) -> bool
 
 #[tactic(auto, unfolding(crate::specs::Statements::parts_of))]
 fn parts_of(alloc: Global, document: u32, line: &[u8]) -> Result<Parts, Halt>
-    ensures { MatchResult result (λ parts. lines.parts_of document line.now ≡ Ok parts) (λ halt. Halts halt (lines.parts_of document line.now)) }
+    ensures { MatchResult result (λ parts. lines.parts_of document line.now ≡ Ok parts)
+        (λ halt. Halts halt (lines.parts_of document line.now)) }
 {
     let (subject, rest) = read_part(alloc, Wanted::Node, document, line)?;
     let (predicate, rest) = read_part(alloc, Wanted::Iri, document, rest)?;
@@ -232,7 +233,8 @@ fn read<'a>(
     document: u32,
     text: &'a [u8],
 ) -> Result<Option<(Term, &'a [u8])>, AllocError>
-    ensures { IfOk result (λ r. MatchOption r (reader wanted document text.now ≡ None) (λ x. reader wanted document text.now ≡ Some (x.0, x.1.now))) }
+    ensures { IfOk result (λ r. MatchOption r (reader wanted document text.now ≡ None)
+        (λ x. reader wanted document text.now ≡ Some (x.0, x.1.now))) }
 {
     match wanted {
         Wanted::Node => node(alloc, document, text),
@@ -274,7 +276,8 @@ fn fault_at_end(text: &[u8]) -> Option<usize>
 }
 
 fn fault_behind_dot(here: &[u8]) -> Option<usize>
-    ensures { MatchOption result (lines.is_end here.now ≡ true) (λ left. (lines.is_end here.now ≡ false) × (left ≡ length here.now)) }
+    ensures { MatchOption result (lines.is_end here.now ≡ true)
+        (λ left. (lines.is_end here.now ≡ false) × (left ≡ length here.now)) }
 {
     if is_end(here) { None } else { Some(here.len()) }
 }

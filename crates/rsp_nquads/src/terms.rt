@@ -12,7 +12,8 @@ pub(crate) fn iri_term<'a>(
     alloc: Global,
     text: &'a [u8],
 ) -> Result<Option<(Term, &'a [u8])>, AllocError>
-    ensures { IfOk result (λ r. MatchOption r (part.iri_term text.now ≡ None) (λ x. part.iri_term text.now ≡ Some (x.0, x.1.now))) }
+    ensures { IfOk result (λ r. MatchOption r (part.iri_term text.now ≡ None)
+        (λ x. part.iri_term text.now ≡ Some (x.0, x.1.now))) }
 {
     match iri(alloc, text)? {
         None => Ok(None),
@@ -27,7 +28,8 @@ pub(crate) fn node<'a>(
     document: u32,
     text: &'a [u8],
 ) -> Result<Option<(Term, &'a [u8])>, AllocError>
-    ensures { IfOk result (λ r. MatchOption r (part.node document text.now ≡ None) (λ x. part.node document text.now ≡ Some (x.0, x.1.now))) }
+    ensures { IfOk result (λ r. MatchOption r (part.node document text.now ≡ None)
+        (λ x. part.node document text.now ≡ Some (x.0, x.1.now))) }
 {
     match iri_term(alloc, text)? {
         Some(read) => Ok(Some(read)),
@@ -40,7 +42,8 @@ fn blank<'a>(
     document: u32,
     text: &'a [u8],
 ) -> Result<Option<(Term, &'a [u8])>, AllocError>
-    ensures { IfOk result (λ r. MatchOption r (part.blank document text.now ≡ None) (λ x. part.blank document text.now ≡ Some (x.0, x.1.now))) }
+    ensures { IfOk result (λ r. MatchOption r (part.blank document text.now ≡ None)
+        (λ x. part.blank document text.now ≡ Some (x.0, x.1.now))) }
 {
     match label(alloc, Labels::NQuads, text)? {
         None => Ok(None),
@@ -55,7 +58,8 @@ pub(crate) fn object<'a>(
     document: u32,
     text: &'a [u8],
 ) -> Result<Option<(Term, &'a [u8])>, AllocError>
-    ensures { IfOk result (λ r. MatchOption r (part.object document text.now ≡ None) (λ x. part.object document text.now ≡ Some (x.0, x.1.now))) }
+    ensures { IfOk result (λ r. MatchOption r (part.object document text.now ≡ None)
+        (λ x. part.object document text.now ≡ Some (x.0, x.1.now))) }
 {
     match node(alloc, document, text)? {
         Some(read) => Ok(Some(read)),
@@ -65,7 +69,8 @@ pub(crate) fn object<'a>(
 
 #[tactic(auto, unfolding(crate::specs::Parts::literal))]
 fn literal<'a>(alloc: Global, text: &'a [u8]) -> Result<Option<(Term, &'a [u8])>, AllocError>
-    ensures { IfOk result (λ r. MatchOption r (part.literal text.now ≡ None) (λ x. part.literal text.now ≡ Some (x.0, x.1.now))) }
+    ensures { IfOk result (λ r. MatchOption r (part.literal text.now ≡ None)
+        (λ x. part.literal text.now ≡ Some (x.0, x.1.now))) }
 {
     match string(alloc, Quote::Double, text)? {
         None => Ok(None),
@@ -94,7 +99,8 @@ fn literal_of<'a>(
 
 #[tactic(auto, unfolding(crate::specs::Parts::datatype))]
 fn datatype<'a>(alloc: Global, text: &'a [u8]) -> Result<Option<(Text, &'a [u8])>, AllocError>
-    ensures { IfOk result (λ r. MatchOption r (part.datatype text.now ≡ None) (λ x. part.datatype text.now ≡ Some (x.0, x.1.now))) }
+    ensures { IfOk result (λ r. MatchOption r (part.datatype text.now ≡ None)
+        (λ x. part.datatype text.now ≡ Some (x.0, x.1.now))) }
 {
     let Some(behind) = sign(b'^', text) else {
         return Ok(None);

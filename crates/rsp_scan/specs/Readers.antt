@@ -43,7 +43,9 @@ code_point count text =
 -- UCHAR: `\u` with 4 digits, `\U` with 8
 unfoldable pub uchar : PartReader ℕ
 uchar (c ∷ d ∷ text) =
-    if c == byte "\\" then (if d == byte "u" then code_point 4 text else (if d == byte "U" then code_point 8 text else None)) else None
+    if c == byte "\\"
+    then (if d == byte "u" then code_point 4 text else (if d == byte "U" then code_point 8 text else None))
+    else None
 uchar _ = None
 
 -- ECHAR
@@ -111,7 +113,9 @@ abbrev pub some_of : List ℕ → PartReader (List ℕ)
 some_of front text = if length front == 0 then None else Some (front, behind front text)
 
 unfoldable pub label : Labels → PartReader (List ℕ)
-label labels text = option_and_then (λ inner. some_of (longest_label labels inner) inner) (option_and_then (sign (byte ":")) (sign (byte "_") text))
+label labels text =
+    option_and_then (λ inner. some_of (longest_label labels inner) inner)
+    (option_and_then (sign (byte ":")) (sign (byte "_") text))
 
 -- LANGTAG: `@` and the longest tag behind it
 unfoldable pub tag : PartReader (List ℕ)

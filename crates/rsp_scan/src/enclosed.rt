@@ -52,7 +52,8 @@ impl Kind {
     }
 
     fn escape(self, text: &[u8]) -> Option<(char, &[u8])>
-        ensures { MatchOption result (kinds.escape self text.now ≡ None) (λ x. kinds.escape self text.now ≡ Some (x.0, x.1.now)) }
+        ensures { MatchOption result (kinds.escape self text.now ≡ None)
+            (λ x. kinds.escape self text.now ≡ Some (x.0, x.1.now)) }
     {
         match self {
             Kind::Iri => iri_escape(text),
@@ -63,7 +64,8 @@ impl Kind {
     // the plain characters at the front and the text behind them, where they are UTF-8
     fn run(self, text: &[u8]) -> Option<(&str, &[u8])>
         ensures { MatchOption result (is_utf8 (take_while (kinds.is_plain self) text.now) ≡ false)
-            (λ x. (is_utf8 (take_while (kinds.is_plain self) text.now) ≡ true) × (x.0.now ≡ take_while (kinds.is_plain self) text.now)
+            (λ x. (is_utf8 (take_while (kinds.is_plain self) text.now) ≡ true)
+            × (x.0.now ≡ take_while (kinds.is_plain self) text.now)
             × (x.1.now ≡ part.behind (take_while (kinds.is_plain self) text.now) text.now)) }
     {
         let (run, behind) = text.split_at(self.run_len(text));
@@ -90,7 +92,8 @@ fn is_string_character(quote: Quote, c: u8) -> bool
 /// The IRI at the front of a text, with escapes replaced, and the text behind it.
 #[tactic(auto, unfolding(crate::specs::Readers::enclosed))]
 pub fn iri<'a>(alloc: Global, text: &'a [u8]) -> Result<Option<(Text, &'a [u8])>, AllocError>
-    ensures { IfOk result (λ r. MatchOption r (part.iri text.now ≡ None) (λ x. part.iri text.now ≡ Some (x.0, x.1.now))) }
+    ensures { IfOk result (λ r. MatchOption r (part.iri text.now ≡ None)
+        (λ x. part.iri text.now ≡ Some (x.0, x.1.now))) }
 {
     let Some(inner) = sign(b'<', text) else {
         return Ok(None);
@@ -111,7 +114,8 @@ pub fn string<'a>(
     quote: Quote,
     text: &'a [u8],
 ) -> Result<Option<(Text, &'a [u8])>, AllocError>
-    ensures { IfOk result (λ r. MatchOption r (part.string quote text.now ≡ None) (λ x. part.string quote text.now ≡ Some (x.0, x.1.now))) }
+    ensures { IfOk result (λ r. MatchOption r (part.string quote text.now ≡ None)
+        (λ x. part.string quote text.now ≡ Some (x.0, x.1.now))) }
 {
     let Some(inner) = sign(quote.sign(), text) else {
         return Ok(None);
@@ -157,7 +161,8 @@ fn spelled_onto<'a>(
 ) -> Result<Option<(Text, &'a [u8])>, AllocError>
     ensures { IfOk result (λ r. MatchOption r
         (part.onto (string_bytes begun) (part.spelled most (kinds.is_plain kind) (kinds.escape kind) text.now) ≡ None)
-        (λ x. part.onto (string_bytes begun) (part.spelled most (kinds.is_plain kind) (kinds.escape kind) text.now) ≡ Some (x.0, x.1.now))) }
+        (λ x. part.onto (string_bytes begun) (part.spelled most (kinds.is_plain kind) (kinds.escape kind) text.now)
+        ≡ Some (x.0, x.1.now))) }
 {
     let mut spelled = begun;
     let mut rest = text;

@@ -11,7 +11,8 @@ use rsp_terms::characters::is_iri_character;
 /// An escape in an IRI: a UCHAR that names an IRI character.
 #[tactic(auto, unfolding(crate::specs::Readers::iri_escape))]
 pub(crate) fn iri_escape(text: &[u8]) -> Option<(char, &[u8])>
-    ensures { MatchOption result (part.iri_escape text.now ≡ None) (λ x. part.iri_escape text.now ≡ Some (x.0, x.1.now)) }
+    ensures { MatchOption result (part.iri_escape text.now ≡ None)
+        (λ x. part.iri_escape text.now ≡ Some (x.0, x.1.now)) }
 {
     let (character, rest) = uchar(text)?;
     if is_iri_character(character) {
@@ -24,7 +25,8 @@ pub(crate) fn iri_escape(text: &[u8]) -> Option<(char, &[u8])>
 /// An escape in a string: a UCHAR or an ECHAR.
 #[tactic(auto, unfolding(crate::specs::Readers::string_escape))]
 pub(crate) fn string_escape(text: &[u8]) -> Option<(char, &[u8])>
-    ensures { MatchOption result (part.string_escape text.now ≡ None) (λ x. part.string_escape text.now ≡ Some (x.0, x.1.now)) }
+    ensures { MatchOption result (part.string_escape text.now ≡ None)
+        (λ x. part.string_escape text.now ≡ Some (x.0, x.1.now)) }
 {
     match echar(text) {
         Some(escape) => Some(escape),
@@ -73,7 +75,8 @@ fn uchar(text: &[u8]) -> Option<(char, &[u8])>
 // so many hexadecimal digits that name a Unicode scalar value
 fn code_point(count: usize, text: &[u8]) -> Option<(char, &[u8])>
     requires { count ≤ 8 }
-    ensures { MatchOption result (part.code_point count text.now ≡ None) (λ x. part.code_point count text.now ≡ Some (x.0, x.1.now)) }
+    ensures { MatchOption result (part.code_point count text.now ≡ None)
+        (λ x. part.code_point count text.now ≡ Some (x.0, x.1.now)) }
 {
     if text.len() < count {
         return None;

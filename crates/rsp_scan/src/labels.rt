@@ -50,7 +50,8 @@ pub fn label<'a>(
     labels: Labels,
     text: &'a [u8],
 ) -> Result<Option<(Text, &'a [u8])>, AllocError>
-    ensures { IfOk result (λ r. MatchOption r (part.label labels text.now ≡ None) (λ x. part.label labels text.now ≡ Some (x.0, x.1.now))) }
+    ensures { IfOk result (λ r. MatchOption r (part.label labels text.now ≡ None)
+        (λ x. part.label labels text.now ≡ Some (x.0, x.1.now))) }
 {
     let Some(behind) = sign(b'_', text) else {
         return Ok(None);
@@ -130,7 +131,8 @@ fn further_len(labels: Labels, text: &str) -> usize
 /// The language tag at the front of a text, without `@`, and the text behind it.
 #[tactic(auto, unfolding(crate::specs::Readers::tag))]
 pub fn tag<'a>(alloc: Global, text: &'a [u8]) -> Result<Option<(Text, &'a [u8])>, AllocError>
-    ensures { IfOk result (λ r. MatchOption r (part.tag text.now ≡ None) (λ x. part.tag text.now ≡ Some (x.0, x.1.now))) }
+    ensures { IfOk result (λ r. MatchOption r (part.tag text.now ≡ None)
+        (λ x. part.tag text.now ≡ Some (x.0, x.1.now))) }
 {
     let Some(inner) = sign(b'@', text) else {
         return Ok(None);
