@@ -46,6 +46,12 @@ def empty_lines(size):
     return b"\n" * size
 
 
+def refusals(size):
+    """So many blocks that are refused: wrong directives, bad bodies, late ticks and cancellations, in turn."""
+    kinds = [b"@tick x\n", b"@item <s:a> 5\n<a:1> <p:v> .\n@end\n", b"@tick 4\n", b"@cancel q\n"]
+    return b"@tick 1000\n" + b"".join(kinds[number % 4] for number in range(size))
+
+
 def pairs(size):
     """A report of about so many rows: all pairs of two patterns."""
     side = min(round(size**0.5), 1000)

@@ -1,4 +1,4 @@
--- What may be changed in a set of facts, and what a change of a tree's solutions answers.
+-- Words of the way: what may be changed in a set of facts, and what a change of a tree's solutions answers.
 use Rattle.std.specs.Prelude.{◌≡◌, ◌⊎◌, Bool, true, false, ⊤, Result, Ok, Err, List, ℤ, pos, negsuc}
 use Rattle.std.specs.List.{IsDistinct}
 use Rattle.rsp_multiset.specs.Weights.{weight, times}

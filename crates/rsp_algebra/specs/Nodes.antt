@@ -1,4 +1,4 @@
--- The nodes of an algebra tree (SPARQL 1.1 Query, section 18.2), apart from how the code keeps them.
+-- Definitions: the nodes of an algebra tree (SPARQL 1.1 Query, section 18.2), apart from how the code keeps them.
 use Rattle.std.specs.Prelude.{ℕ, ◌<◌, ⊤, List, [], ◌∷◌, ◌++◌}
 use Rattle.std.specs.List.{AllByRecursion, fold}
 use Rattle.rsp_expr.specs.declared.slot.Slot.{Slot}

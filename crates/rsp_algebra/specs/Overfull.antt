@@ -1,4 +1,4 @@
--- When a tree has too many rows.
+-- Definitions: when a tree has too many rows.
 use Rattle.std.specs.Prelude.{ℕ, Bool, nat_lt, List, [], ◌∷◌, ◌++◌, length}
 use Rattle.std.specs.List.{list_any}
 use Rattle.rsp_multiset.specs.Rows.{Cells}

@@ -9,8 +9,6 @@
 
 mod answer;
 mod building;
-#[cfg(test)]
-mod tests;
 mod tree;
 
 pub use answer::{Answer, Turn};

@@ -23,6 +23,3 @@ pub use item::Item;
 pub use live_query::LiveQuery;
 pub use refused::{EngineFault, Refused};
 pub use report::{Outcome, Report};
-
-#[cfg(test)]
-mod tests;

@@ -1,4 +1,4 @@
--- A change of one fact in a set.
+-- Words of the way: a change of one fact in a set.
 use Rattle.std.specs.Prelude.{◌≡◌, ◌⊎◌, List, ℤ, pos, negsuc}
 use Rattle.rsp_multiset.specs.Weights.{times}
 use Rattle.rsp_terms.specs.declared.statement.Fact.{Fact}

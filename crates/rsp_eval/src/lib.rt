@@ -15,8 +15,6 @@ mod limit;
 mod patterns;
 mod plain;
 mod projecting;
-#[cfg(test)]
-mod tests;
 
 pub use evaluation::evaluate;
 pub use plain::Plain;

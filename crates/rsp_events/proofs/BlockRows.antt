@@ -7,7 +7,8 @@ use Rattle.std.specs.Str.{chars, is_utf8}
 use Rattle.std.specs.Str.Lossy.{utf8_valid_len}
 use Rattle.rsp_text.specs.Digits.{read_u64, has_form, fraction}
 use Rattle.rsp_text.specs.Instants.{instant, is_date, is_time, is_offset}
-use Rattle.rsp_nquads.specs.Parts.{datatype, enclosed, iri_escape, label, literal, literal_of, node, object, sign, spelled, tag, uchar}
+use Rattle.rsp_scan.specs.Readers.{enclosed, iri_escape, label, sign, spelled, tag, uchar}
+use Rattle.rsp_nquads.specs.Parts.{datatype, literal, literal_of, node, object}
 use Rattle.rsp_nquads.specs.Statements.{is_end as is_end_of_line, parts_of, statement_of}
 use Rattle.rsp_nquads.specs.Fields.{absolute_iri}
 use Rattle.rsp_events.specs.declared.event.Content.TheVariants.{Event, Fault}

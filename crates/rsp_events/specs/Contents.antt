@@ -5,7 +5,8 @@ use Rattle.std.specs.Option.{is_some}
 use Rattle.std.specs.Str.{is_utf8}
 use Rattle.rsp_terms.specs.declared.statement.Quad.{Quad}
 use Rattle.rsp_terms.specs.declared.statement.Triple.{Triple}
-use Rattle.rsp_nquads.specs.Statements.{Answer, nothing, statement, bad_statement, relative_iri, statement_of}
+use Rattle.rsp_nquads.specs.Answers.{Answer, nothing, statement, bad_statement, relative_iri}
+use Rattle.rsp_nquads.specs.Statements.{statement_of}
 use Rattle.rsp_events.specs.declared.directives.Directive.{Directive}
 use Rattle.rsp_events.specs.declared.directives.Directive.TheVariants as directive
 use Rattle.rsp_events.specs.declared.event.Event.{Event}

@@ -14,8 +14,6 @@ mod directives;
 mod event;
 mod fields;
 mod lines;
-#[cfg(test)]
-mod tests;
 
 pub use blocks::Blocks;
 pub use event::{Block, BlockFault, Content, Event};

@@ -1,4 +1,4 @@
--- Files by name: pairs of a name and its bytes, of which the first of a name counts.
+-- Definitions: files by name: pairs of a name and its bytes, of which the first of a name counts.
 use Rattle.std.specs.Prelude.{◌≡◌, ℕ, List, [], ◌∷◌, Option, Some, None, Result, MatchResult, IsErr, IsSome, if◌then◌else◌, bytes_eq, ⊤, String, Vec, string_bytes, drop}
 
 -- the bytes of the first file of this name

@@ -1,4 +1,5 @@
 -- What reads, writes and picks do, and what contracts see of the objects.
+-- Definitions: what a reader must believe
 pub mod Reading
 pub mod Writing
 pub mod Files

@@ -1,4 +1,4 @@
--- What contracts see of the objects in memory and over the runtime. `piece` bounds the bytes of a call; `failing`
+-- Definitions: what contracts see of the objects in memory and over the runtime. `piece` bounds the bytes of a call; `failing`
 -- are the numbers of the calls, from 0, that fail, and `calls` is the number of the next.
 use Rattle.std.specs.Prelude.{ℕ, ◌+◌, ◌-◌, ◌^◌, min, Bool, List, ◌==◌, Result, Ok, Err}
 use Rattle.std.specs.List.{list_any}

@@ -1,4 +1,4 @@
--- What a read does to the bytes that a source has left, where it tells them, and to the number of bytes given.
+-- Definitions: what a read does to the bytes that a source has left, where it tells them, and to the number of bytes given.
 use Rattle.std.specs.Prelude.{◌≡◌, ℕ, ◌+◌, ◌-◌, ◌^◌, min, List, take, Option, Result, MatchResult}
 use Rattle.std.specs.Io.KnownBytes.{Consumes, IsAtEnd}
 

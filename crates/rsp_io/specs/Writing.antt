@@ -1,4 +1,4 @@
--- What a write does to the bytes that a sink has taken and to its room, where it tells them.
+-- Definitions: what a write does to the bytes that a sink has taken and to its room, where it tells them.
 use Rattle.std.specs.Prelude.{◌≡◌, ℕ, ◌+◌, List, take, Option, Some, None, Result, MatchResult, ⊤}
 use Rattle.std.specs.Io.KnownBytes.{Appends}
 

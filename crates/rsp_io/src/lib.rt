@@ -24,8 +24,6 @@ mod standard;
 mod steady_shelf;
 mod steady_sink;
 mod steady_source;
-#[cfg(test)]
-mod tests;
 
 pub use failed::Failed;
 pub use memory_shelf::MemoryShelf;

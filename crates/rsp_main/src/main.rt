@@ -1,33 +1,21 @@
 //! The program `rsp`: a continuous query engine over a log of events.
 //!
-//! The call `rsp` does all that the program does, over a source, a shelf and a sink that are handed in. Its contract is
-//! the headline: what it writes for a log is exactly the defined output of the log's bytes, and every other answer has
-//! its cause. `main` makes the real objects and calls it. Below stand the engine, the event log, reports and io.
+//! `main` makes the command line's words and the real input and output, and calls `rsp` of the crate below, which does
+//! all the rest. Its exit status is the number of what `rsp` answers.
 #![tactic(auto)]
 
 ghost use Rattle.std.specs.Prelude.{◌≡◌, ◌<◌};
 
-mod session;
-mod status;
-mod stop;
-mod telling;
-#[cfg(test)]
-mod tests;
-mod top;
-mod words;
-mod writing;
-
+use rsp_call::{Status, rsp};
 use rsp_io::{StdSink, StdSource, SteadyShelf};
 use rsp_steps::Steps;
 use rsp_terms::Text;
-use status::Status;
 use std::alloc::{AllocError, Global};
 use std::marker::Brand;
 use std::process::ExitCode;
 use std::rt::Env;
 use std::sync::ledger::{Blank, Ledger};
 use std::{env, io};
-use top::rsp;
 
 fn main(rt: HostRuntime) -> ExitCode {
     ExitCode::from(run::<HostRuntime, Brand>(&rt, Blank::new(1)) as u8)

@@ -1,4 +1,4 @@
--- Where a test of values decides identity, so does the test of rows of them.
+-- Words of the way: where a test of values decides identity, so does the test of rows of them.
 use Rattle.std.specs.Prelude.{◌≡◌, Bool, Option, Some, None, is_some, unwrap_or, Decides, refl}
 use Rattle.std.specs.Option.{option_eq}
 use Rattle.std.specs.Cmp.Lexicographic.{pointwise_decides}

@@ -1,4 +1,4 @@
--- Multisets (SPARQL 1.1 Query, section 18.3) by how often they hold each value. A list without counts is a multiset
+-- Definitions: multisets (SPARQL 1.1 Query, section 18.3) by how often they hold each value. A list without counts is a multiset
 -- as it stands. A change is a list of entries with signs: how often each value comes in, or, below 0, goes out.
 use Rattle.std.specs.Prelude.{◌≡◌, ◌≢◌, Bool, cond, List, [], ◌∷◌, ℤ, pos, ◌+ℤ◌, ◌*ℤ◌, neg_ℤ, ◌<ℤ◌, negsuc, map, All}
 use Rattle.std.specs.List.{IsDistinct}

@@ -11,8 +11,6 @@ mod changes;
 mod count;
 mod parts;
 mod row;
-#[cfg(test)]
-mod tests;
 
 pub use bag::Bag;
 pub use cell::Cell;

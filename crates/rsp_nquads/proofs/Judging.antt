@@ -3,7 +3,8 @@ use Rattle.std.proofs.Common.{◌≡◌, ℕ, List, Option, Some, None, refl, ap
 use Rattle.std.specs.Option.{option_map, option_map_or}
 use Rattle.rsp_terms.specs.declared.statement.Quad.{Quad}
 use Rattle.rsp_nquads.specs.declared.statements.Part.{Part}
-use Rattle.rsp_nquads.specs.Statements.{Answer, column, statement, relative_iri}
+use Rattle.rsp_nquads.specs.Statements.{column}
+use Rattle.rsp_nquads.specs.Answers.{Answer, statement, relative_iri}
 
 some_same : (m n : ℕ) → Some m ≡ Some n → m ≡ n
 some_same m n h = cc

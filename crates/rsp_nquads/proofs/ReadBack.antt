@@ -13,15 +13,18 @@ use Rattle.rsp_spec.proofs.Truths.{equal_from}
 use Rattle.rsp_terms.specs.declared.term.Term.{Term}
 use Rattle.rsp_terms.specs.declared.term.Term.TheVariants.{Iri, Blank, Literal, Tagged}
 use Rattle.rsp_terms.specs.declared.statement.Quad.{Quad}
-use Rattle.rsp_terms.specs.Terms.{xsd_string, escaped_byte, escaped, iri_text, string_text, printed}
+use Rattle.rsp_terms.specs.Terms.{xsd_string, escaped_byte, escaped_text, iri_text, string_text, printed}
 use Rattle.rsp_terms.specs.Characters.{is_iri_character, is_tag_text}
-use Rattle.rsp_nquads.specs.Parts.{is_scalar}
-use Rattle.rsp_nquads.specs.Grammar.{Piece, plain, short, long, named, written, StandsFor, IsIriPiece, IsStringPiece, IsPieceOf, IsEnclosed, IsIri, IsTag, IsDatatype, IsQualified, IsLiteral, IsIriTerm, IsNode, IsObject, IsGraph, Stands, Says, Rule}
-use Rattle.rsp_nquads.specs.Scans.{accepts, next_of_tag, tag_machine}
-use Rattle.rsp_nquads.specs.Statements.{statement_of, statement}
+use Rattle.rsp_scan.specs.declared.enclosed.Quote.TheVariants.{Double}
+use Rattle.rsp_scan.specs.Enclosed.{Piece, plain, short, long, named, piece_text, StandsFor, IsIriPiece, IsStringPiece, IsPieceOf, IsEnclosed, IsIri, Rule, is_scalar}
+use Rattle.rsp_scan.specs.Names.{IsTag}
+use Rattle.rsp_nquads.specs.Grammar.{IsDatatype, IsQualified, IsLiteral, IsIriTerm, IsNode, IsObject, IsGraph, Stands, Says}
+use Rattle.rsp_scan.specs.Scans.{accepts, next_of_tag, tag_machine}
+use Rattle.rsp_nquads.specs.Statements.{statement_of}
+use Rattle.rsp_nquads.specs.Answers.{statement}
 use Rattle.rsp_nquads.specs.Writing.{line_of, graph_text, IsNotBlank, IsNotBlankIn, HasNoBlank}
-use Rattle.rsp_nquads.proofs.LongestTag.{tag_is}
-use Rattle.rsp_nquads.proofs.Pieces.{texts, values, plains, plain_texts, plain_values, wide_bytes}
+use Rattle.rsp_scan.proofs.LongestTag.{tag_is}
+use Rattle.rsp_scan.proofs.Pieces.{texts, values, plains, plain_texts, plain_values, wide_bytes}
 use Rattle.rsp_nquads.proofs.StatementLaws.{says_from, says_to}
 
 -- ---- IRIs
@@ -67,8 +70,8 @@ piece_of d =
 -- each character has its piece, and an ASCII one is escaped to it
 record Escapes (d : ℕ) : Type 0 where
   stands : StandsFor (piece_of d) d
-  may : IsStringPiece (piece_of d) d
-  text : written (piece_of d) ≡ (if nat_lt d 128 then escaped_byte d else encode_utf8 d)
+  may : (IsStringPiece Double) (piece_of d) d
+  text : piece_text (piece_of d) ≡ (if nat_lt d 128 then escaped_byte d else encode_utf8 d)
 
 ascii_of : (n : ℕ) → n < 128 → (d : ℕ) → d ≡ n → nat_lt d 128 ≡ true
 ascii_of n low d is = grind (arith, nat_tests)
@@ -111,39 +114,39 @@ high_byte b high =
     let f : (b == 13) ≡ false = grind (arith, nat_tests) in
     rw (a, c, d, e, f) refl
 
-escaped-append : (xs ys : List ℕ) → escaped (xs ++ ys) ≡ escaped xs ++ escaped ys
-escaped-append [] ys = refl
-escaped-append (x ∷ xs) ys =
-    ap (λ zs. escaped_byte x ++ zs) (escaped-append xs ys) ∙ sym (append_assoc (escaped_byte x) (escaped xs) (escaped ys))
+escaped_text-append : (xs ys : List ℕ) → escaped_text (xs ++ ys) ≡ escaped_text xs ++ escaped_text ys
+escaped_text-append [] ys = refl
+escaped_text-append (x ∷ xs) ys =
+    ap (λ zs. escaped_byte x ++ zs) (escaped_text-append xs ys) ∙ sym (append_assoc (escaped_byte x) (escaped_text xs) (escaped_text ys))
 
 abbrev AreHigh : List ℕ → Bool
 AreHigh bytes = list_all (λ b. not (nat_lt b 128)) bytes
 
-high_escaped : (bytes : List ℕ) → AreHigh bytes ≡ true → escaped bytes ≡ bytes
+high_escaped : (bytes : List ℕ) → AreHigh bytes ≡ true → escaped_text bytes ≡ bytes
 high_escaped [] h = refl
 high_escaped (b ∷ bs) h = by (nat_lt b 128) refl h (λ more. high_escaped bs more)
   where
-    by : (low : Bool) → nat_lt b 128 ≡ low → (not low && AreHigh bs) ≡ true → (AreHigh bs ≡ true → escaped bs ≡ bs) → escaped (b ∷ bs) ≡ b ∷ bs
+    by : (low : Bool) → nat_lt b 128 ≡ low → (not low && AreHigh bs) ≡ true → (AreHigh bs ≡ true → escaped_text bs ≡ bs) → escaped_text (b ∷ bs) ≡ b ∷ bs
     by true is all more = absurd (true≢false (sym all))
     by false is all more = let high : 128 ≤ b = grind (arith, nat_tests) in rw (high_byte b high, more all) refl
 
 wide : (c : ℕ) → 128 ≤ c → not (nat_lt c 128) ≡ true
 wide c high = let is : nat_lt c 128 ≡ false = grind (arith, nat_tests) in rw is refl
 
-escaped_character : (d : ℕ) → escaped (encode_utf8 d) ≡ (if nat_lt d 128 then escaped_byte d else encode_utf8 d)
+escaped_character : (d : ℕ) → escaped_text (encode_utf8 d) ≡ (if nat_lt d 128 then escaped_byte d else encode_utf8 d)
 escaped_character d = by (nat_lt d 128) refl
   where
-    by : (low : Bool) → nat_lt d 128 ≡ low → escaped (encode_utf8 d) ≡ (if low then escaped_byte d else encode_utf8 d)
+    by : (low : Bool) → nat_lt d 128 ≡ low → escaped_text (encode_utf8 d) ≡ (if low then escaped_byte d else encode_utf8 d)
     by true is = let low : d < 128 = grind (arith, nat_tests) in rw (encode_ascii d low) (append-nil (escaped_byte d))
     by false is = let high : 128 ≤ d = grind (arith, nat_tests) in high_escaped (encode_utf8 d) (wide_bytes (λ b. not (nat_lt b 128)) wide d high)
 
 abbrev pieces_of : List ℕ → List (Piece × ℕ)
 pieces_of ds = map (λ d. (piece_of d, d)) ds
 
-escaped_texts : (ds : List ℕ) → escaped (encode_utf8_all ds) ≡ texts (pieces_of ds)
+escaped_texts : (ds : List ℕ) → escaped_text (encode_utf8_all ds) ≡ texts (pieces_of ds)
 escaped_texts [] = refl
 escaped_texts (d ∷ ds) =
-    escaped-append (encode_utf8 d) (encode_utf8_all ds)
+    escaped_text-append (encode_utf8 d) (encode_utf8_all ds)
     ∙ rw (escaped_character d, ← (escapes d).text, escaped_texts ds) refl
 
 values_of : (ds : List ℕ) → values (pieces_of ds) ≡ encode_utf8_all ds
@@ -153,20 +156,20 @@ values_of (d ∷ ds) = ap (λ ys. encode_utf8 d ++ ys) (values_of ds)
 abbrev AreScalars : List ℕ → Type 0
 AreScalars ds = AllByRecursion (λ d. is_scalar d ≡ true) ds
 
-string_characters : (ps : List (Piece × ℕ)) → AllByRecursion (IsPieceOf IsStringPiece) ps → AreScalars (map (λ x. x.1) ps)
+string_characters : (ps : List (Piece × ℕ)) → AllByRecursion (IsPieceOf (IsStringPiece Double)) ps → AreScalars (map (λ x. x.1) ps)
 string_characters [] each = tt
 string_characters (p ∷ ps) each = (each.0.0, string_characters ps each.1)
 
-string_pieces : (ds : List ℕ) → AreScalars ds → AllByRecursion (IsPieceOf IsStringPiece) (pieces_of ds)
+string_pieces : (ds : List ℕ) → AreScalars ds → AllByRecursion (IsPieceOf (IsStringPiece Double)) (pieces_of ds)
 string_pieces [] each = tt
 string_pieces (d ∷ ds) each = ((each.0, (escapes d).stands, (escapes d).may), string_pieces ds each.1)
 
-string_written : (part lexical : List ℕ) → IsEnclosed IsStringPiece 34 34 part lexical → IsEnclosed IsStringPiece 34 34 (string_text lexical) lexical
+string_written : (part lexical : List ℕ) → IsEnclosed (IsStringPiece Double) 34 34 part lexical → IsEnclosed (IsStringPiece Double) 34 34 (string_text lexical) lexical
 string_written part lexical e =
     record {
       pieces = pieces_of (map (λ x. x.1) e.pieces);
       each = string_pieces (map (λ x. x.1) e.pieces) (string_characters e.pieces e.each);
-      part_is = ap (λ ys. 34 ∷ (ys ++ (34 ∷ []))) (ap escaped e.value_is ∙ escaped_texts (map (λ x. x.1) e.pieces));
+      part_is = ap (λ ys. 34 ∷ (ys ++ (34 ∷ []))) (ap escaped_text e.value_is ∙ escaped_texts (map (λ x. x.1) e.pieces));
       value_is = e.value_is ∙ sym (values_of (map (λ x. x.1) e.pieces));
     }
 
@@ -210,7 +213,7 @@ datatype_written part name after e = record {
   name_is = at_front IsIri (iri_text name) after name (iri_written part name e);
 }
 
-qualified : (qualifier : Rule (List ℕ)) (s q after lexical name : List ℕ) → IsEnclosed IsStringPiece 34 34 s lexical → qualifier q after name
+qualified : (qualifier : Rule (List ℕ)) (s q after lexical name : List ℕ) → IsEnclosed (IsStringPiece Double) 34 34 s lexical → qualifier q after name
     → IsQualified qualifier (string_text lexical ++ q) after lexical name
 qualified qualifier s q after lexical name string_is is = record {
   string = string_text lexical;
@@ -228,8 +231,8 @@ literal_written part rest after (Literal lexical name) e = by (bytes_eq name xsd
     text : Bool → List ℕ
     text b = string_text lexical ++ (if b then [] else codes "^^" ++ iri_text name)
 
-    alone : (s : List ℕ) → IsEnclosed IsStringPiece 34 34 s lexical → IsEnclosed IsStringPiece 34 34 (string_text lexical ++ []) lexical
-    alone s string_is = subst (λ p. IsEnclosed IsStringPiece 34 34 p lexical) (sym (append-nil (string_text lexical))) (string_written s lexical string_is)
+    alone : (s : List ℕ) → IsEnclosed (IsStringPiece Double) 34 34 s lexical → IsEnclosed (IsStringPiece Double) 34 34 (string_text lexical ++ []) lexical
+    alone s string_is = subst (λ p. IsEnclosed (IsStringPiece Double) 34 34 p lexical) (sym (append-nil (string_text lexical))) (string_written s lexical string_is)
 
     by : (b : Bool) → bytes_eq name xsd_string ≡ b → IsLiteral part rest (Literal lexical name)
         → IsLiteral (string_text lexical ++ (if b then [] else codes "^^" ++ iri_text name)) (32 ∷ after) (Literal lexical name)
@@ -281,26 +284,26 @@ graph_written d document text rest (Some name) no_blank e =
 pub read_back : (d document : ℕ) (line : List ℕ) (quad : Quad) → Says d line quad → HasNoBlank quad → Says document (line_of quad) quad
 read_back d document line quad h no_blank =
     let tail = tail_of quad.graph in
+    let s = h.statement in
     record {
-      after_subject = codes " " ++ (printed quad.triple.predicate ++ (codes " " ++ (printed quad.triple.object ++ (graph_text quad.graph ++ codes " ."))));
-      after_predicate = codes " " ++ (printed quad.triple.object ++ (graph_text quad.graph ++ codes " ."));
-      after_object = graph_text quad.graph ++ codes " .";
-      after_graph = codes " .";
-      after_dot = [];
-      subject = at_front (IsNode document) (printed quad.triple.subject) (codes " " ++ (printed quad.triple.predicate ++ (codes " " ++ (printed quad.triple.object ++ (graph_text quad.graph ++ codes " ."))))) quad.triple.subject
-          (node_written d document h.subject.part h.after_subject (codes " " ++ (printed quad.triple.predicate ++ (codes " " ++ (printed quad.triple.object ++ (graph_text quad.graph ++ codes " ."))))) quad.triple.subject no_blank.0 h.subject.is);
-      predicate = behind_space IsIriTerm (printed quad.triple.predicate) (codes " " ++ (printed quad.triple.object ++ (graph_text quad.graph ++ codes " ."))) quad.triple.predicate
-          (iri_term_written h.predicate.part h.after_predicate (codes " " ++ (printed quad.triple.object ++ (graph_text quad.graph ++ codes " ."))) quad.triple.predicate h.predicate.is);
-      object = behind_space (IsObject document) (printed quad.triple.object) (graph_text quad.graph ++ codes " .") quad.triple.object
-          (subst (λ r. IsObject document (printed quad.triple.object) r quad.triple.object) (sym tail.is)
-          (object_written d document h.object.part h.after_object tail.after quad.triple.object no_blank.1 h.object.is));
-      graph = graph_written d document h.after_object h.after_graph quad.graph no_blank.2 h.graph;
-      dot = record { blanks = 32 ∷ []; part = codes "."; are_blanks = refl; text_is = refl; is = refl };
-      ends = record { blanks = []; comment = []; are_blanks = refl; text_is = refl; is_comment = inl refl };
-      absolute_subject = h.absolute_subject;
-      absolute_predicate = h.absolute_predicate;
-      absolute_object = h.absolute_object;
-      absolute_graph = h.absolute_graph;
+      statement = record {
+        after_subject = codes " " ++ (printed quad.triple.predicate ++ (codes " " ++ (printed quad.triple.object ++ (graph_text quad.graph ++ codes " ."))));
+        after_predicate = codes " " ++ (printed quad.triple.object ++ (graph_text quad.graph ++ codes " ."));
+        after_object = graph_text quad.graph ++ codes " .";
+        after_graph = codes " .";
+        after_dot = [];
+        subject = at_front (IsNode document) (printed quad.triple.subject) (codes " " ++ (printed quad.triple.predicate ++ (codes " " ++ (printed quad.triple.object ++ (graph_text quad.graph ++ codes " ."))))) quad.triple.subject
+            (node_written d document s.subject.part s.after_subject (codes " " ++ (printed quad.triple.predicate ++ (codes " " ++ (printed quad.triple.object ++ (graph_text quad.graph ++ codes " ."))))) quad.triple.subject no_blank.0 s.subject.is);
+        predicate = behind_space IsIriTerm (printed quad.triple.predicate) (codes " " ++ (printed quad.triple.object ++ (graph_text quad.graph ++ codes " ."))) quad.triple.predicate
+            (iri_term_written s.predicate.part s.after_predicate (codes " " ++ (printed quad.triple.object ++ (graph_text quad.graph ++ codes " ."))) quad.triple.predicate s.predicate.is);
+        object = behind_space (IsObject document) (printed quad.triple.object) (graph_text quad.graph ++ codes " .") quad.triple.object
+            (subst (λ r. IsObject document (printed quad.triple.object) r quad.triple.object) (sym tail.is)
+            (object_written d document s.object.part s.after_object tail.after quad.triple.object no_blank.1 s.object.is));
+        graph = graph_written d document s.after_object s.after_graph quad.graph no_blank.2 s.graph;
+        dot = record { blanks = 32 ∷ []; part = codes "."; are_blanks = refl; text_is = refl; is = refl };
+        ends = record { blanks = []; comment = []; are_blanks = refl; text_is = refl; is_comment = inl refl };
+      };
+      absolute = h.absolute;
     }
 
 pub says_again : (d : ℕ) (line : List ℕ) (quad : Quad) → statement_of d line ≡ statement quad → HasNoBlank quad → (document : ℕ)

@@ -1,8 +1,8 @@
 -- What a line says, by the grammar: the answers of `statement_of` and the relation `Says` agree.
-use Rattle.std.proofs.Common.{◌≡◌, ℕ, Bool, true, false, cond, List, [], ◌∷◌, ◌++◌, length, take, refl, sym, ap, subst, ◌∙◌, Option, Some, None, Result, Ok, Err, codes, if◌then◌else◌, IsUtf8}
-use Rattle.std.specs.Prelude.{◌&&◌, ◌==◌, ◌⊎◌}
+use Rattle.std.proofs.Common.{◌≡◌, ℕ, Bool, true, false, true≢false, cond, List, map, [], ◌∷◌, ◌++◌, length, take, refl, sym, ap, subst, ◌∙◌, Option, Some, None, Result, Ok, Err, codes, if◌then◌else◌, IsUtf8}
+use Rattle.std.specs.Prelude.{◌&&◌, ◌||◌, ◌==◌, ◌⊎◌}
 use mathlib.Core.Logic.{inl, inr}
-use Rattle.std.specs.List.{prefix_len, find, cons_option}
+use Rattle.std.specs.List.{prefix_len, find, list_any, cons_option}
 use Rattle.std.specs.Option.{option_map, option_map_or}
 use Rattle.std.specs.Str.{is_utf8}
 use Rattle.std.proofs.lemmas.Str.{is_utf8-from_IsUtf8, IsUtf8-from_is_utf8}
@@ -12,14 +12,14 @@ use Rattle.rsp_terms.specs.declared.term.Term.TheVariants.{Iri, Blank, Literal, 
 use Rattle.rsp_terms.specs.declared.statement.Quad.{Quad}
 use Rattle.rsp_nquads.specs.declared.statements.Part.{Part}
 use Rattle.rsp_nquads.specs.declared.statements.Parts.{Parts}
-use Rattle.rsp_nquads.specs.declared.fault.LineFault.{LineFault}
-use Rattle.rsp_nquads.specs.declared.fault.LineFault.TheVariants.{BadStatement, RelativeIri, OutOfMemory}
-use Rattle.rsp_nquads.specs.Parts.{Reader, behind_blanks, is_blank, sign, enclosed, iri_term, label, tag, datatype, node, object}
-use Rattle.rsp_nquads.specs.Grammar.{Stands, IsIriTerm, IsNode, IsObject, IsGraph, IsEnd, IsDot, Says, SaysNothing, IsAbsoluteIn}
-use Rattle.rsp_nquads.specs.Statements.{Answer, nothing, statement, bad_statement, relative_iri, part_of, optional_part, is_end, ends, closes, onward, parts_of, is_relative, quad_of, column, first_relative, answer, statement_of}
-use Rattle.rsp_nquads.specs.Results.{IsAnswer, IsByGrammar, SaysNeither}
-use Rattle.rsp_nquads.proofs.Pieces.{all_run}
-use Rattle.rsp_nquads.proofs.RuleLaws.{sign_found, sign_finds}
+use Rattle.rsp_scan.specs.Readers.{PartReader, sign, enclosed, label, tag}
+use Rattle.rsp_nquads.specs.Parts.{iri_term, datatype, node, object}
+use Rattle.rsp_text.specs.Fronts.{is_blank, behind_blanks}
+use Rattle.rsp_nquads.specs.Grammar.{Stands, IsIriTerm, IsNode, IsObject, IsGraph, IsEnd, IsDot, IsStatement, is_relative, terms_of, terms_in, Says, SaysNothing}
+use Rattle.rsp_nquads.specs.Statements.{part_of, optional_part, is_end, ends, closes, onward, parts_of, quad_of, column, first_relative, judged, answer, statement_of}
+use Rattle.rsp_nquads.specs.Answers.{Answer, nothing, statement, relative_iri}
+use Rattle.rsp_scan.proofs.Pieces.{all_run}
+use Rattle.rsp_scan.proofs.RuleLaws.{sign_found, sign_finds}
 use Rattle.rsp_nquads.proofs.TermLaws.{blank_first, behind_onto, blanks_split, StartsWell, stands_sound, stands_full, stands_behind, IsFree, iri_term_reads, iri_term_starts, node_reads, node_starts, object_sound, object_full, object_starts}
 
 -- ---- one part
@@ -35,19 +35,30 @@ read_same a b xs ys is =
 abbrev term_of : Term → List ℕ → Option (Term × List ℕ)
 term_of term rest = Some (term, rest)
 
-part_found : (reader : Reader Term) (text rest : List ℕ) (part : Part) → part_of reader text ≡ read_as part rest
-    → reader (behind_blanks text) ≡ term_of part.term rest
+abbrev pub at_place : Term → List ℕ → Part
+at_place term text = record { term = term; left = length (behind_blanks text) }
+
+-- a part that was read, beside the place where it stands
+record PartFound (reader : PartReader Term) (text rest : List ℕ) (part : Part) : Type 0 where
+  read : reader (behind_blanks text) ≡ term_of part.term rest
+  place : part ≡ at_place part.term text
+
+part_found : (reader : PartReader Term) (text rest : List ℕ) (part : Part) → part_of reader text ≡ read_as part rest
+    → PartFound reader text rest part
 part_found reader text rest part is = by (reader (behind_blanks text)) refl is
   where
     by : (o : Option (Term × List ℕ)) → reader (behind_blanks text) ≡ o
-        → option_map_or (λ x. read_as (record { term = x.0; left = length (behind_blanks text) }) x.1) o (Err (length (behind_blanks text))) ≡ read_as part rest
-        → reader (behind_blanks text) ≡ term_of part.term rest
+        → option_map_or (λ x. read_as (at_place x.0 text) x.1) o (Err (length (behind_blanks text))) ≡ read_as part rest
+        → PartFound reader text rest part
     by None read is = absurd (cc)
     by (Some x) read is =
-        let same = read_same (record { term = x.0; left = length (behind_blanks text) }) part x.1 rest is in
-        read ∙ (ap (λ r. term_of x.0 r) same.1 ∙ ap (λ (p : Part). term_of p.term rest) same.0)
+        let same = read_same (at_place x.0 text) part x.1 rest is in
+        record {
+          read = read ∙ (ap (λ r. term_of x.0 r) same.1 ∙ ap (λ (p : Part). term_of p.term rest) same.0);
+          place = sym same.0 ∙ ap (λ (p : Part). at_place p.term text) same.0;
+        }
 
-part_finds : (reader : Reader Term) (text rest : List ℕ) (term : Term) → reader (behind_blanks text) ≡ term_of term rest
+part_finds : (reader : PartReader Term) (text rest : List ℕ) (term : Term) → reader (behind_blanks text) ≡ term_of term rest
     → part_of reader text ≡ read_as (record { term = term; left = length (behind_blanks text) }) rest
 part_finds reader text rest term is = rw is refl
 
@@ -90,7 +101,16 @@ end_finds text e =
 dot_starts : StartsWell IsDot
 dot_starts part rest v is = rw is refl
 
-dot_behind : (text rest : List ℕ) → Stands IsDot text rest tt → behind_blanks text ≡ 46 ∷ rest
+pub dot_stands : (text rest : List ℕ) → sign 46 (behind_blanks text) ≡ Some rest → Stands IsDot text rest tt
+dot_stands text rest read = record {
+  blanks = take (prefix_len is_blank text) text;
+  part = 46 ∷ [];
+  are_blanks = all_run is_blank text;
+  text_is = blanks_split text ∙ ap (λ ys. take (prefix_len is_blank text) text ++ ys) (sign_found 46 (behind_blanks text) rest read);
+  is = refl;
+}
+
+pub dot_behind : (text rest : List ℕ) → Stands IsDot text rest tt → behind_blanks text ≡ 46 ∷ rest
 dot_behind text rest s =
     ap behind_blanks s.text_is ∙ (behind_onto s.blanks (s.part ++ rest) s.are_blanks (dot_starts s.part rest tt s.is) ∙ ap (λ p. p ++ rest) s.is)
 
@@ -111,13 +131,7 @@ closed_found text b is = by (sign 46 (behind_blanks text)) refl is
     by None read is = absurd (cc)
     by (Some rest) read is = record {
       rest = rest;
-      dot = record {
-        blanks = take (prefix_len is_blank text) text;
-        part = 46 ∷ [];
-        are_blanks = all_run is_blank text;
-        text_is = blanks_split text ∙ ap (λ ys. take (prefix_len is_blank text) text ++ ys) (sign_found 46 (behind_blanks text) rest read);
-        is = refl;
-      };
+      dot = dot_stands text rest read;
       ends = end_found rest (ended rest (is_end (behind_blanks rest)) refl is);
     }
 
@@ -126,7 +140,7 @@ closed_finds text rest s e = rw (dot_behind text rest s, sign_finds 46 rest, end
 
 -- ---- the graph
 
-abbrev graph_read : List ℕ → Option (Term × List ℕ) → Option Part × List ℕ
+abbrev pub graph_read : List ℕ → Option (Term × List ℕ) → Option Part × List ℕ
 graph_read text o = option_map_or (λ x. (Some (record { term = x.0; left = length (behind_blanks text) }), x.1)) o (None, text)
 
 graph_found : (document : ℕ) (text : List ℕ)
@@ -143,20 +157,29 @@ no_node_at_dot : (document : ℕ) (rest : List ℕ) → node document (46 ∷ re
 unfolding node enclosed label sign
 no_node_at_dot document rest = refl
 
-record GraphRead (document : ℕ) (text rest : List ℕ) (graph : Option Term) : Type 0 where
-  part : Option Part
-  is : optional_part (node document) text ≡ (part, rest)
-  term_is : option_map (λ (p : Part). p.term) part ≡ graph
+abbrev pub graph_at : List ℕ → Option Term → Option Part
+graph_at text graph = option_map (λ term. at_place term text) graph
+
+abbrev term_in : Option Part → Option Term
+term_in part = option_map (λ (p : Part). p.term) part
+
+graph_placed : (document : ℕ) (text : List ℕ) (o : Option (Term × List ℕ)) → (graph_read text o).0 ≡ graph_at text (term_in (graph_read text o).0)
+graph_placed document text None = refl
+graph_placed document text (Some x) = refl
+
+graph_again : (text : List ℕ) (graph : Option Term) → term_in (graph_at text graph) ≡ graph
+graph_again text None = refl
+graph_again text (Some term) = refl
 
 graph_finds : (document : ℕ) (text rest after : List ℕ) (graph : Option Term) → IsGraph document text rest graph → Stands IsDot rest after tt
-    → GraphRead document text rest graph
+    → optional_part (node document) text ≡ (graph_at text graph, rest)
 graph_finds document text rest after None same dot =
     let here = dot_behind text after (subst (λ t. Stands IsDot t after tt) same dot) in
     let none : node document (behind_blanks text) ≡ None = ap (node document) here ∙ no_node_at_dot document after in
-    record { part = None; is = rw (none, same) refl; term_is = refl }
+    rw (none, same) refl
 graph_finds document text rest after (Some term) stands dot =
     let read = stands_full (node document) (IsNode document) (node_reads document) (node_starts document) text rest term stands in
-    record { part = Some (record { term = term; left = length (behind_blanks text) }); is = rw read refl; term_is = refl }
+    rw read refl
 
 -- ---- what may follow an object
 
@@ -210,7 +233,7 @@ not_end text n = rw n.is (by n.kind)
 
 -- ---- all parts
 
-object_stands : (document : ℕ) (text rest : List ℕ) (term : Term) → object document (behind_blanks text) ≡ term_of term rest
+pub object_stands : (document : ℕ) (text rest : List ℕ) (term : Term) → object document (behind_blanks text) ≡ term_of term rest
     → Stands (IsObject document) text rest term
 object_stands document text rest term is =
     let p = object_sound document (behind_blanks text) rest term is in
@@ -229,42 +252,42 @@ object_finds document text rest term free s =
     = ap behind_blanks s.text_is ∙ behind_onto s.blanks (s.part ++ rest) s.are_blanks (object_starts document s.part rest term s.is) in
     ap (object document) here ∙ object_full document s.part rest term free s.is
 
-record PartsRead (document : ℕ) (line : List ℕ) (parts : Parts) : Type 0 where
-  after_subject : List ℕ
-  after_predicate : List ℕ
-  after_object : List ℕ
-  after_graph : List ℕ
-  after_dot : List ℕ
-  subject : Stands (IsNode document) line after_subject parts.subject.term
-  predicate : Stands IsIriTerm after_subject after_predicate parts.predicate.term
-  object : Stands (IsObject document) after_predicate after_object parts.object.term
-  graph : IsGraph document after_object after_graph (option_map (λ (part : Part). part.term) parts.graph)
-  dot : Stands IsDot after_graph after_dot tt
-  ends : IsEnd after_dot
+-- the parts of a quad, each where it stands
+abbrev pub parts_at : (line after_subject after_predicate after_object : List ℕ) → Quad → Parts
+parts_at line after_subject after_predicate after_object quad = record {
+  subject = at_place quad.triple.subject line;
+  predicate = at_place quad.triple.predicate after_subject;
+  object = at_place quad.triple.object after_predicate;
+  graph = graph_at after_object quad.graph;
+}
 
-abbrev given : Part → Part → Part → Option Part → Parts
+pub record PartsRead (document : ℕ) (line : List ℕ) (parts : Parts) : Type 0 where
+  pub statement : IsStatement document line (quad_of parts)
+  pub place : parts ≡ parts_at line statement.after_subject statement.after_predicate statement.after_object (quad_of parts)
+
+abbrev pub given : Part → Part → Part → Option Part → Parts
 given s p o g = record { subject = s; predicate = p; object = o; graph = g }
 
-abbrev last_step : Part → Part → Part → Option Part → Bool → Result Parts ℕ
+abbrev pub last_step : Part → Part → Part → Option Part → Bool → Result Parts ℕ
 last_step s p o g _ = Ok (given s p o g)
 
-abbrev graph_step : ℕ → Part → Part → Part × List ℕ → Result Parts ℕ
+abbrev pub graph_step : ℕ → Part → Part → Part × List ℕ → Result Parts ℕ
 graph_step document s p o =
     onward (closes (optional_part (node document) o.1).1) (last_step s p o.0 (optional_part (node document) o.1).0)
 
-abbrev object_step : ℕ → Part → Part × List ℕ → Result Parts ℕ
+abbrev pub object_step : ℕ → Part → Part × List ℕ → Result Parts ℕ
 object_step document s p = onward (part_of (object document) p.1) (graph_step document s p.0)
 
-abbrev predicate_step : ℕ → Part × List ℕ → Result Parts ℕ
+abbrev pub predicate_step : ℕ → Part × List ℕ → Result Parts ℕ
 predicate_step document s = onward (part_of iri_term s.1) (object_step document s.0)
 
-abbrev all_read : Parts → Result Parts ℕ
+abbrev pub all_read : Parts → Result Parts ℕ
 all_read parts = Ok parts
 
 ok_same : (a b : Parts) → all_read a ≡ all_read b → a ≡ b
 ok_same a b h = cc
 
-parts_found : (document : ℕ) (line : List ℕ) (parts : Parts) → parts_of document line ≡ Ok parts → PartsRead document line parts
+pub parts_found : (document : ℕ) (line : List ℕ) (parts : Parts) → parts_of document line ≡ Ok parts → PartsRead document line parts
 unfolding parts_of
 parts_found document line parts is = by_subject (part_of (node document) line) refl is
   where
@@ -275,19 +298,26 @@ parts_found document line parts is = by_subject (part_of (node document) line) r
     by_end s p o hs hp ho (Ok b) hc is =
         let same = ok_same (given s.0 p.0 o.0 (optional_part (node document) o.1).0) parts is in
         let c = closed_found (optional_part (node document) o.1).1 b hc in
+        let fs = part_found (node document) line s.1 s.0 hs in
+        let fp = part_found iri_term s.1 p.1 p.0 hp in
+        let fo = part_found (object document) p.1 o.1 o.0 ho in
+        let fg = graph_placed document o.1 (node document (behind_blanks o.1)) in
         subst (PartsRead document line) same
         (record {
-          after_subject = s.1;
-          after_predicate = p.1;
-          after_object = o.1;
-          after_graph = (optional_part (node document) o.1).1;
-          after_dot = c.rest;
-          subject = stands_sound (node document) (IsNode document) (node_reads document) line s.1 s.0.term (part_found (node document) line s.1 s.0 hs);
-          predicate = stands_sound iri_term IsIriTerm iri_term_reads s.1 p.1 p.0.term (part_found iri_term s.1 p.1 p.0 hp);
-          object = object_stands document p.1 o.1 o.0.term (part_found (object document) p.1 o.1 o.0 ho);
-          graph = graph_found document o.1;
-          dot = c.dot;
-          ends = c.ends;
+          statement = record {
+            after_subject = s.1;
+            after_predicate = p.1;
+            after_object = o.1;
+            after_graph = (optional_part (node document) o.1).1;
+            after_dot = c.rest;
+            subject = stands_sound (node document) (IsNode document) (node_reads document) line s.1 s.0.term fs.read;
+            predicate = stands_sound iri_term IsIriTerm iri_term_reads s.1 p.1 p.0.term fp.read;
+            object = object_stands document p.1 o.1 o.0.term fo.read;
+            graph = graph_found document o.1;
+            dot = c.dot;
+            ends = c.ends;
+          };
+          place = λ i. given (fs.place i) (fp.place i) (fo.place i) (fg i);
         })
 
     by_object : (s p : Part × List ℕ) → part_of (node document) line ≡ Ok s → part_of iri_term s.1 ≡ Ok p
@@ -304,15 +334,8 @@ parts_found document line parts is = by_subject (part_of (node document) line) r
     by_subject (Err left) hs is = absurd (cc)
     by_subject (Ok s) hs is = by_predicate s hs (part_of iri_term s.1) refl is
 
-record PartsGiven (document : ℕ) (line : List ℕ) (quad : Quad) : Type 0 where
-  parts : Parts
-  is : parts_of document line ≡ Ok parts
-  quad_is : quad_of parts ≡ quad
-
-abbrev at_place : Term → List ℕ → Part
-at_place term text = record { term = term; left = length (behind_blanks text) }
-
-parts_given : (document : ℕ) (line : List ℕ) (quad : Quad) → Says document line quad → PartsGiven document line quad
+pub parts_given : (document : ℕ) (line : List ℕ) (quad : Quad) → (h : IsStatement document line quad)
+    → parts_of document line ≡ all_read (parts_at line h.after_subject h.after_predicate h.after_object quad)
 unfolding parts_of
 parts_given document line quad h =
     let free = graph_free document h.after_object h.after_graph h.after_dot quad.graph h.graph h.dot in
@@ -324,158 +347,169 @@ parts_given document line quad h =
     (object_finds document h.after_predicate h.after_object quad.triple.object free h.object) in
     let g = graph_finds document h.after_object h.after_graph h.after_dot quad.graph h.graph h.dot in
     let c = closed_finds h.after_graph h.after_dot h.dot h.ends in
-    record {
-      parts = given (at_place quad.triple.subject line) (at_place quad.triple.predicate h.after_subject) (at_place quad.triple.object h.after_predicate) g.part;
-      is = rw (s, p, o, g.is, c) refl;
-      quad_is = rw g.term_is refl;
-    }
+    rw (s, p, o, g, c) refl
 
--- ---- absolute IRIs
+pub quad_again : (line after_subject after_predicate after_object : List ℕ) (quad : Quad)
+    → quad_of (parts_at line after_subject after_predicate after_object quad) ≡ quad
+quad_again line after_subject after_predicate after_object quad = λ i. record {
+  triple = quad.triple;
+  graph = graph_again after_object quad.graph i;
+}
 
-find_none : (f : Part → Bool) (x : Part) (xs : List Part) → find f (x ∷ xs) ≡ None → (f x ≡ false) × (find f xs ≡ None)
-find_none f x xs is = by (f x) refl is
+-- ---- relative IRIs
+
+find_map : {X Y : Type 0} (p : Y → Bool) (f : X → Y) (xs : List X) → find p (map f xs) ≡ option_map f (find (λ x. p (f x)) xs)
+find_map p f [] = refl
+find_map p f (x ∷ xs) = by (p (f x)) (find_map p f xs)
   where
-    by : (b : Bool) → f x ≡ b → cond b (Some x) (find f xs) ≡ None → (f x ≡ false) × (find f xs ≡ None)
-    by true test is = absurd (cc)
-    by false test is = (test, is)
+    by : (b : Bool) → find p (map f xs) ≡ option_map f (find (λ y. p (f y)) xs)
+        → cond b (Some (f x)) (find p (map f xs)) ≡ option_map f (cond b (Some x) (find (λ y. p (f y)) xs))
+    by true more = refl
+    by false more = more
 
-abbrev holds_relative : Part → Bool
-holds_relative part = is_relative part.term
+abbrev pub placed : List ℕ × Term → Part
+placed x = at_place x.1 x.0
 
-record AllAbsolute (parts : Parts) : Type 0 where
-  subject : is_relative parts.subject.term ≡ false
-  predicate : is_relative parts.predicate.term ≡ false
-  object : is_relative parts.object.term ≡ false
-  graph : IsAbsoluteIn (option_map (λ (part : Part). part.term) parts.graph)
+abbrev pub holds_relative : List ℕ × Term → Bool
+holds_relative x = is_relative x.1
 
-graph_absolute : (graph : Option Part) → find holds_relative (cons_option graph []) ≡ None → IsAbsoluteIn (option_map (λ (part : Part). part.term) graph)
-graph_absolute None is = tt
-graph_absolute (Some part) is = (find_none holds_relative part [] is).0
+relative_at : (s p o : Term) (g : Option Term) (a b c d : List ℕ)
+    → find (λ part. is_relative part.term) (at_place s a ∷ at_place p b ∷ at_place o c ∷ cons_option (graph_at d g) [])
+    ≡ option_map placed (find holds_relative ((a, s) ∷ (b, p) ∷ (c, o) ∷ cons_option (option_map (λ name. (d, name)) g) []))
+relative_at s p o None a b c d = find_map (λ (part : Part). is_relative part.term) placed ((a, s) ∷ (b, p) ∷ (c, o) ∷ [])
+relative_at s p o (Some name) a b c d =
+    find_map (λ (part : Part). is_relative part.term) placed ((a, s) ∷ (b, p) ∷ (c, o) ∷ (d, name) ∷ [])
 
-absolute_found : (parts : Parts) → first_relative parts ≡ None → AllAbsolute parts
-absolute_found parts is =
-    let s = find_none holds_relative parts.subject (parts.predicate ∷ parts.object ∷ cons_option parts.graph []) is in
-    let p = find_none holds_relative parts.predicate (parts.object ∷ cons_option parts.graph []) s.1 in
-    let o = find_none holds_relative parts.object (cons_option parts.graph []) p.1 in
-    record { subject = s.0; predicate = p.0; object = o.0; graph = graph_absolute parts.graph o.1 }
+-- the first part that holds a relative IRI, by the terms
+pub first_in : (quad : Quad) (a b c d : List ℕ)
+    → first_relative (parts_at a b c d quad) ≡ option_map placed (find holds_relative (terms_in a b c d quad))
+first_in quad a b c d = relative_at quad.triple.subject quad.triple.predicate quad.triple.object quad.graph a b c d
 
-graph_finds_none : (graph : Option Part) → IsAbsoluteIn (option_map (λ (part : Part). part.term) graph) → find holds_relative (cons_option graph []) ≡ None
-graph_finds_none None is = refl
-graph_finds_none (Some part) is = rw is refl
+any_found : {X : Type 0} (p : X → Bool) (xs : List X) → find p xs ≡ None → list_any p xs ≡ false
+any_found p [] h = refl
+any_found p (x ∷ xs) h = by (p x) refl h (any_found p xs)
+  where
+    by : (b : Bool) → p x ≡ b → cond b (Some x) (find p xs) ≡ None → (find p xs ≡ None → list_any p xs ≡ false) → (b || list_any p xs) ≡ false
+    by true is h more = absurd (cc)
+    by false is h more = more h
 
-absolute_finds : (parts : Parts) → AllAbsolute parts → first_relative parts ≡ None
-absolute_finds parts h = rw (h.subject, h.predicate, h.object) (graph_finds_none parts.graph h.graph)
+none_finds : {X : Type 0} (p : X → Bool) (xs : List X) → list_any p xs ≡ false → find p xs ≡ None
+none_finds p [] h = refl
+none_finds p (x ∷ xs) h = by (p x) h (none_finds p xs)
+  where
+    by : (b : Bool) → (b || list_any p xs) ≡ false → (list_any p xs ≡ false → find p xs ≡ None) → cond b (Some x) (find p xs) ≡ None
+    by true h more = absurd (true≢false h)
+    by false h more = more h
+
+any_same : (a b c d : List ℕ) (s p o : Term) (g : Option Term)
+    → list_any holds_relative ((a, s) ∷ (b, p) ∷ (c, o) ∷ cons_option (option_map (λ name. (d, name)) g) [])
+    ≡ list_any is_relative (s ∷ p ∷ o ∷ cons_option g [])
+any_same a b c d s p o None = refl
+any_same a b c d s p o (Some name) = refl
+
+any_in : (a b c d : List ℕ) (quad : Quad) → list_any holds_relative (terms_in a b c d quad) ≡ list_any is_relative (terms_of quad)
+any_in a b c d quad = any_same a b c d quad.triple.subject quad.triple.predicate quad.triple.object quad.graph
+
+pub absolute_found : (a b c d : List ℕ) (quad : Quad) → find holds_relative (terms_in a b c d quad) ≡ None → list_any is_relative (terms_of quad) ≡ false
+absolute_found a b c d quad h = sym (any_in a b c d quad) ∙ any_found holds_relative (terms_in a b c d quad) h
+
+absolute_finds : (a b c d : List ℕ) (quad : Quad) → list_any is_relative (terms_of quad) ≡ false → find holds_relative (terms_in a b c d quad) ≡ None
+absolute_finds a b c d quad h = none_finds holds_relative (terms_in a b c d quad) (any_in a b c d quad ∙ h)
 
 -- ---- lines
 
-statement_same : (a b : Quad) → statement a ≡ statement b → a ≡ b
+pub statement_same : (a b : Quad) → statement a ≡ statement b → a ≡ b
 statement_same a b h = cc
 
-says_parts : (document : ℕ) (line : List ℕ) (parts : Parts) → PartsRead document line parts → AllAbsolute parts → Says document line (quad_of parts)
-says_parts document line parts r a = record {
-  after_subject = r.after_subject;
-  after_predicate = r.after_predicate;
-  after_object = r.after_object;
-  after_graph = r.after_graph;
-  after_dot = r.after_dot;
-  subject = r.subject;
-  predicate = r.predicate;
-  object = r.object;
-  graph = r.graph;
-  dot = r.dot;
-  ends = r.ends;
-  absolute_subject = a.subject;
-  absolute_predicate = a.predicate;
-  absolute_object = a.object;
-  absolute_graph = a.graph;
-}
+-- what is said of a statement, by its first term with a relative IRI
+abbrev pub judged_by : List ℕ → Quad → Option (List ℕ × Term) → Answer
+judged_by line quad found = option_map_or (λ x. relative_iri (column line (length (behind_blanks x.0)))) found (statement quad)
 
-pub says_from : (document : ℕ) (line : List ℕ) (quad : Quad) → statement_of document line ≡ statement quad → Says document line quad
+judged_placed : (line : List ℕ) (quad : Quad) (found : Option (List ℕ × Term))
+    → option_map_or (λ part. relative_iri (column line part.left)) (option_map placed found) (statement quad) ≡ judged_by line quad found
+judged_placed line quad None = refl
+judged_placed line quad (Some x) = refl
+
+pub judged_in : (line : List ℕ) (quad : Quad) (a b c d : List ℕ)
+    → judged line (parts_at a b c d quad) ≡ judged_by line quad (find holds_relative (terms_in a b c d quad))
+judged_in line quad a b c d =
+    ap (λ found. option_map_or (λ part. relative_iri (column line part.left)) found (statement (quad_of (parts_at a b c d quad)))) (first_in quad a b c d)
+    ∙ (ap (λ q. option_map_or (λ part. relative_iri (column line part.left)) (option_map placed (find holds_relative (terms_in a b c d quad))) (statement q))
+    (quad_again a b c d quad)
+    ∙ judged_placed line quad (find holds_relative (terms_in a b c d quad)))
+
+-- a line that isn't blank and no comment
+pub answer_at : (document : ℕ) (line : List ℕ) → is_end (behind_blanks line) ≡ false → statement_of document line ≡ answer line (parts_of document line)
 unfolding statement_of
-says_from document line quad is = by (is_end (behind_blanks line)) refl is
+answer_at document line end = rw end refl
+
+pub nothing_at : (document : ℕ) (line : List ℕ) → is_end (behind_blanks line) ≡ true → statement_of document line ≡ nothing
+unfolding statement_of
+nothing_at document line end = rw end refl
+
+pub statement_goes_on : (document : ℕ) (line : List ℕ) (quad : Quad) → IsStatement document line quad → is_end (behind_blanks line) ≡ false
+statement_goes_on document line quad h =
+    let here = stands_behind (node document) (IsNode document) (node_reads document) (node_starts document) line h.after_subject quad.triple.subject h.subject in
+    not_end (behind_blanks line) (subst Node (sym here) (node_first document h.subject.part h.after_subject quad.triple.subject h.subject.is))
+
+-- the answer to a statement
+pub statement_answer : (document : ℕ) (line : List ℕ) (quad : Quad) (h : IsStatement document line quad)
+    → statement_of document line
+    ≡ judged_by line quad (find holds_relative (terms_in line h.after_subject h.after_predicate h.after_object quad))
+statement_answer document line quad h =
+    answer_at document line (statement_goes_on document line quad h)
+    ∙ (ap (answer line) (parts_given document line quad h) ∙ judged_in line quad line h.after_subject h.after_predicate h.after_object)
+
+-- a line is blank or a comment, has a first fault, or is a statement
+pub data Reading (document : ℕ) (line : List ℕ) : Type 0 where
+  blank : is_end (behind_blanks line) ≡ true → Reading document line
+  fault : (left : ℕ) → is_end (behind_blanks line) ≡ false → parts_of document line ≡ Err left → Reading document line
+  whole : (quad : Quad) → IsStatement document line quad → Reading document line
+
+pub reading : (document : ℕ) (line : List ℕ) → Reading document line
+reading document line = by (is_end (behind_blanks line)) refl (parts_of document line) refl
   where
-    by_fault : (parts : Parts) → parts_of document line ≡ Ok parts → (o : Option Part) → first_relative parts ≡ o
-        → option_map_or (λ part. relative_iri (column line part.left)) o (statement (quad_of parts)) ≡ statement quad → Says document line quad
-    by_fault parts read (Some part) found is = absurd (cc)
-    by_fault parts read None found is =
-        subst (Says document line) (statement_same (quad_of parts) quad is)
-        (says_parts document line parts (parts_found document line parts read) (absolute_found parts found))
-
-    by_parts : (r : Result Parts ℕ) → parts_of document line ≡ r → answer line r ≡ statement quad → Says document line quad
-    by_parts (Err left) read is = absurd (cc)
-    by_parts (Ok parts) read is = by_fault parts read (first_relative parts) refl is
-
-    by : (b : Bool) → is_end (behind_blanks line) ≡ b → (if b then nothing else answer line (parts_of document line)) ≡ statement quad → Says document line quad
-    by true end is = absurd (cc)
-    by false end is = by_parts (parts_of document line) refl is
+    by : (b : Bool) → is_end (behind_blanks line) ≡ b → (r : Result Parts ℕ) → parts_of document line ≡ r → Reading document line
+    by true end r read = blank end
+    by false end (Err left) read = fault left end read
+    by false end (Ok parts) read = whole (quad_of parts) (parts_found document line parts read).statement
 
 pub says_to : (document : ℕ) (line : List ℕ) (quad : Quad) → Says document line quad → statement_of document line ≡ statement quad
-unfolding statement_of
 says_to document line quad h =
-    let g = parts_given document line quad h in
-    let here = stands_behind (node document) (IsNode document) (node_reads document) (node_starts document) line h.after_subject quad.triple.subject h.subject in
-    let end : is_end (behind_blanks line) ≡ false
-    = not_end (behind_blanks line) (subst Node (sym here) (node_first document h.subject.part h.after_subject quad.triple.subject h.subject.is)) in
-    let absolute = absolute_of g.parts quad g.quad_is h in
-    rw (end, g.is, absolute_finds g.parts absolute, g.quad_is) refl
+    let s = h.statement in
+    statement_answer document line quad s
+    ∙ ap (judged_by line quad) (absolute_finds line s.after_subject s.after_predicate s.after_object quad h.absolute)
+
+pub says_from : (document : ℕ) (line : List ℕ) (quad : Quad) → statement_of document line ≡ statement quad → Says document line quad
+says_from document line quad is = by (reading document line)
   where
-    absolute_of : (parts : Parts) (q : Quad) → quad_of parts ≡ q → Says document line q → AllAbsolute parts
-    absolute_of parts q is h =
-        let at : Says document line (quad_of parts) = subst (Says document line) (sym is) h in
-        record {
-          subject = at.absolute_subject;
-          predicate = at.absolute_predicate;
-          object = at.absolute_object;
-          graph = at.absolute_graph;
-        }
+    by_found : (q : Quad) (s : IsStatement document line q) (o : Option (List ℕ × Term))
+        → find holds_relative (terms_in line s.after_subject s.after_predicate s.after_object q) ≡ o → judged_by line q o ≡ statement quad
+        → Says document line quad
+    by_found q s (Some x) found said = absurd (cc)
+    by_found q s None found said =
+        subst (Says document line) (statement_same q quad said)
+        (record { statement = s; absolute = absolute_found line s.after_subject s.after_predicate s.after_object q found })
+
+    by : Reading document line → Says document line quad
+    by (blank end) = absurd (let said = sym (nothing_at document line end) ∙ is in cc)
+    by (fault left end read) = absurd (let said = sym (answer_at document line end ∙ ap (answer line) read) ∙ is in cc)
+    by (whole q s) =
+        by_found q s (find holds_relative (terms_in line s.after_subject s.after_predicate s.after_object q)) refl
+        (sym (statement_answer document line q s) ∙ is)
 
 pub nothing_from : (document : ℕ) (line : List ℕ) → statement_of document line ≡ nothing → SaysNothing line
-unfolding statement_of
-nothing_from document line is = by (is_end (behind_blanks line)) refl is
+nothing_from document line is = by (reading document line)
   where
-    by_fault : (parts : Parts) → (o : Option Part)
-        → option_map_or (λ part. relative_iri (column line part.left)) o (statement (quad_of parts)) ≡ nothing → SaysNothing line
-    by_fault parts (Some part) is = absurd (cc)
-    by_fault parts None is = absurd (cc)
+    by_found : (q : Quad) (o : Option (List ℕ × Term)) → judged_by line q o ≡ nothing → SaysNothing line
+    by_found q (Some x) said = absurd (cc)
+    by_found q None said = absurd (cc)
 
-    by_parts : (r : Result Parts ℕ) → answer line r ≡ nothing → SaysNothing line
-    by_parts (Err left) is = absurd (cc)
-    by_parts (Ok parts) is = by_fault parts (first_relative parts) is
-
-    by : (b : Bool) → is_end (behind_blanks line) ≡ b → (if b then nothing else answer line (parts_of document line)) ≡ nothing → SaysNothing line
-    by true end is = end_found line end
-    by false end is = by_parts (parts_of document line) is
+    by : Reading document line → SaysNothing line
+    by (blank end) = end_found line end
+    by (fault left end read) = absurd (let said = sym (answer_at document line end ∙ ap (answer line) read) ∙ is in cc)
+    by (whole q s) =
+        by_found q (find holds_relative (terms_in line s.after_subject s.after_predicate s.after_object q)) (sym (statement_answer document line q s) ∙ is)
 
 pub nothing_to : (document : ℕ) (line : List ℕ) → SaysNothing line → statement_of document line ≡ nothing
-unfolding statement_of
-nothing_to document line h = rw (end_finds line h) refl
-
--- ---- what the call answers
-
-neither : (document : ℕ) (line : List ℕ) (other : Answer) → statement_of document line ≡ other → ((quad : Quad) → ¬ (statement quad ≡ other)) → ¬ (nothing ≡ other)
-    → SaysNeither document line
-neither document line other is no_quad not_nothing =
-    (λ quad h. no_quad quad (sym (says_to document line quad h) ∙ is), λ h. not_nothing (sym (nothing_to document line h) ∙ is))
-
-bad_is_none : (column : ℕ) (quad : Quad) → ¬ (statement quad ≡ bad_statement column)
-bad_is_none column quad is = cc
-
-bad_is_something : (column : ℕ) → ¬ (nothing ≡ bad_statement column)
-bad_is_something column is = cc
-
-relative_is_none : (column : ℕ) (quad : Quad) → ¬ (statement quad ≡ relative_iri column)
-relative_is_none column quad is = cc
-
-relative_is_something : (column : ℕ) → ¬ (nothing ≡ relative_iri column)
-relative_is_something column is = cc
-
-pub by_grammar : (document : ℕ) (line : List ℕ) (result : Result (Option Quad) LineFault) → IsAnswer result (statement_of document line)
-    → IsByGrammar document line result
-by_grammar document line (Ok None) is = nothing_from document line is
-by_grammar document line (Ok (Some quad)) is =
-    (says_from document line quad is, λ other h. statement_same other quad (sym (says_to document line other h) ∙ is))
-by_grammar document line (Err (BadStatement column)) is =
-    neither document line (bad_statement column) is (bad_is_none column) (bad_is_something column)
-by_grammar document line (Err (RelativeIri column)) is =
-    neither document line (relative_iri column) is (relative_is_none column) (relative_is_something column)
-by_grammar document line (Err OutOfMemory) is = tt
+nothing_to document line h = nothing_at document line (end_finds line h)

@@ -7,8 +7,10 @@ use Rattle.std.specs.Str.Lossy.{utf8_valid_len}
 use Rattle.rsp_terms.specs.declared.term.Term.{Term}
 use Rattle.rsp_terms.specs.declared.term.Term.TheVariants.{Iri, Blank, Literal, Tagged}
 use Rattle.rsp_terms.specs.Terms.{xsd_string}
-use Rattle.rsp_nquads.specs.Parts.{uchar, echar, iri_escape, string_escape, spelled, sign, enclosed, label, tag, datatype, literal_of, literal, node, object}
-use Rattle.rsp_nquads.specs.Statements.{Answer, statement_of, parts_of, is_end, nothing, statement, bad_statement, relative_iri}
+use Rattle.rsp_scan.specs.Readers.{uchar, echar, iri_escape, string_escape, spelled, sign, enclosed, label, tag}
+use Rattle.rsp_nquads.specs.Parts.{datatype, literal_of, literal, node, object}
+use Rattle.rsp_nquads.specs.Statements.{statement_of, parts_of, is_end}
+use Rattle.rsp_nquads.specs.Answers.{Answer, nothing, statement, bad_statement, relative_iri}
 
 -- ---- what is read
 

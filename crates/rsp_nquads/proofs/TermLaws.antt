@@ -1,5 +1,5 @@
 -- Literals and terms: readers and rules.
-use Rattle.std.proofs.Common.{◌≡◌, ℕ, suc, ◌+◌, Bool, true, false, true≢false, List, [], ◌∷◌, ◌++◌, take, refl, sym, ap, subst, ◌∙◌, arith, append_assoc, Option, Some, None}
+use Rattle.std.proofs.Common.{◌≡◌, ℕ, suc, ◌+◌, ◌≤◌, Bool, true, false, true≢false, List, [], ◌∷◌, ◌++◌, length, take, refl, sym, ap, subst, ◌∙◌, arith, append_assoc, length-append, Option, Some, None}
 use Rattle.std.specs.Prelude.{◌&&◌}
 use mathlib.Core.Logic.{inl, inr}
 use Rattle.std.specs.List.{list_all, prefix_len}
@@ -8,11 +8,17 @@ use Rattle.std.proofs.lemmas.List.{take-append-drop}
 use Rattle.rsp_terms.specs.declared.term.Term.{Term}
 use Rattle.rsp_terms.specs.declared.term.Term.TheVariants.{Iri, Blank, Literal, Tagged}
 use Rattle.rsp_terms.specs.Terms.{xsd_string}
-use Rattle.rsp_nquads.specs.Parts.{Reader, is_blank, behind_blanks, told, sign, enclosed, iri, string, label, tag, datatype, literal_of, literal, iri_term, blank, node, object}
-use Rattle.rsp_nquads.specs.Grammar.{Rule, Stands, IsIri, IsString, IsLabel, IsTag, IsDatatype, IsQualified, IsLiteral, IsIriTerm, IsNode, IsObject}
-use Rattle.rsp_nquads.proofs.Pieces.{both_of, all_run}
-use Rattle.rsp_nquads.proofs.RuleLaws.{Reads, sign_found, sign_finds, iri_reads, string_reads}
-use Rattle.rsp_nquads.proofs.NameLaws.{tag_reads, label_reads}
+use Rattle.rsp_scan.specs.Readers.{PartReader, told, sign, enclosed, iri, string, label, tag}
+use Rattle.rsp_nquads.specs.Parts.{datatype, literal_of, literal, iri_term, blank, node, object}
+use Rattle.rsp_text.specs.Fronts.{is_blank, behind_blanks}
+use Rattle.rsp_scan.specs.declared.enclosed.Quote.TheVariants.{Double}
+use Rattle.rsp_scan.specs.declared.labels.Labels.TheVariants.{NQuads}
+use Rattle.rsp_scan.specs.Enclosed.{Rule, IsIri, IsString}
+use Rattle.rsp_scan.specs.Names.{IsLabel, IsTag}
+use Rattle.rsp_nquads.specs.Grammar.{Stands, IsDatatype, IsQualified, IsLiteral, IsIriTerm, IsNode, IsObject}
+use Rattle.rsp_scan.proofs.Pieces.{both_of, all_run}
+use Rattle.rsp_scan.proofs.RuleLaws.{Reads, sign_found, sign_finds, iri_reads, string_reads}
+use Rattle.rsp_scan.proofs.NameLaws.{tag_reads, label_reads}
 
 -- ---- blanks
 
@@ -41,7 +47,7 @@ blanks_split text = sym (take-append-drop (prefix_len is_blank text) text)
 abbrev pub StartsWell : {A : Type 0} → Rule A → Type 0
 StartsWell {A} rule = (part rest : List ℕ) (v : A) → rule part rest v → blank_first (part ++ rest) ≡ false
 
-module _ {A : Type 0} (reader : Reader A) (rule : Rule A) (h : Reads reader rule) where
+module _ {A : Type 0} (reader : PartReader A) (rule : Rule A) (h : Reads reader rule) where
   pub stands_sound : (text rest : List ℕ) (v : A) → reader (behind_blanks text) ≡ Some (v, rest) → Stands rule text rest v
   stands_sound text rest v is =
       let p = h.sound (behind_blanks text) rest v is in
@@ -65,10 +71,10 @@ module _ {A : Type 0} (reader : Reader A) (rule : Rule A) (h : Reads reader rule
 pub iri_starts : StartsWell IsIri
 iri_starts part rest v e = rw e.part_is refl
 
-pub string_starts : StartsWell IsString
+pub string_starts : StartsWell (IsString Double)
 string_starts part rest v e = rw e.part_is refl
 
-label_starts : StartsWell IsLabel
+label_starts : StartsWell (IsLabel NQuads)
 label_starts part rest v e = rw e.part_is refl
 
 tag_starts : StartsWell IsTag
@@ -136,7 +142,7 @@ term_same a b xs ys is =
     (ap (λ (y : Term × List ℕ). y.0) same, ap (λ (y : Term × List ℕ). y.1) same)
 
 -- a text goes on to a part behind blanks
-qualified : (qualifier : Rule (List ℕ)) (s rest lexical name text : List ℕ) → IsString s text lexical → (q : Stands qualifier text rest name)
+qualified : (qualifier : Rule (List ℕ)) (s rest lexical name text : List ℕ) → IsString Double s text lexical → (q : Stands qualifier text rest name)
     → IsQualified qualifier (s ++ (q.blanks ++ q.part)) rest lexical name
 qualified qualifier s rest lexical name text string_is q = record {
   string = s;
@@ -156,7 +162,7 @@ split_again : (s blanks part rest text all : List ℕ) → all ≡ s ++ text →
 split_again s blanks part rest text all first second =
     first ∙ (ap (λ ys. s ++ ys) (second ∙ sym (append_assoc blanks part rest)) ∙ sym (append_assoc s (blanks ++ part) rest))
 
-literal_from : (all s text rest lexical : List ℕ) (term : Term) → all ≡ s ++ text → IsString s text lexical → literal_of lexical text ≡ term_of term rest
+literal_from : (all s text rest lexical : List ℕ) (term : Term) → all ≡ s ++ text → IsString Double s text lexical → literal_of lexical text ≡ term_of term rest
     → (part : List ℕ) × ((all ≡ part ++ rest) × IsLiteral part rest term)
 unfolding literal_of
 literal_from all s text rest lexical term split string_is is =
@@ -189,20 +195,20 @@ literal_from all s text rest lexical term split string_is is =
           s,
           (
             split ∙ ap (λ ys. s ++ ys) same.1,
-            subst (λ y. IsLiteral s rest y) same.0 (inr (refl, subst (λ r. IsString s r lexical) same.1 string_is)),
+            subst (λ y. IsLiteral s rest y) same.0 (inr (refl, subst (λ r. IsString Double s r lexical) same.1 string_is)),
           ),
         )
 
 pub literal_sound : (text rest : List ℕ) (term : Term) → literal text ≡ term_of term rest
     → (part : List ℕ) × ((text ≡ part ++ rest) × IsLiteral part rest term)
 unfolding literal
-literal_sound text rest term is = by (string text) refl is
+literal_sound text rest term is = by (string Double text) refl is
   where
-    by : (o : Option (List ℕ × List ℕ)) → string text ≡ o → option_and_then (λ x. literal_of x.0 x.1) o ≡ term_of term rest
+    by : (o : Option (List ℕ × List ℕ)) → string Double text ≡ o → option_and_then (λ x. literal_of x.0 x.1) o ≡ term_of term rest
         → (part : List ℕ) × ((text ≡ part ++ rest) × IsLiteral part rest term)
     by None read is = absurd (cc)
     by (Some x) read is =
-        let s = string_reads.sound text x.1 x.0 read in
+        let s = (string_reads Double).sound text x.1 x.0 read in
         literal_from text s.0 x.1 rest x.0 term s.1.0 s.1.1 is
 
 -- no datatype and no tag stands behind the blanks
@@ -214,32 +220,93 @@ no_datatype_at_tag : (part rest language : List ℕ) → IsTag part rest languag
 unfolding datatype sign
 no_datatype_at_tag part rest language e = rw e.part_is refl
 
-pub literal_full : (part rest : List ℕ) (term : Term) → IsFree rest → IsLiteral part rest term → literal (part ++ rest) ≡ term_of term rest
+literal_typed : (part rest lexical name : List ℕ) → IsQualified IsDatatype part rest lexical name
+    → literal (part ++ rest) ≡ term_of (Literal lexical name) rest
 unfolding literal literal_of
-literal_full part rest (Iri name) free e = absurd e
-literal_full part rest (Blank number name) free e = absurd e
-literal_full part rest (Literal lexical name) free (inl q) =
+literal_typed part rest lexical name q =
     let split : part ++ rest ≡ q.string ++ (q.behind ++ rest) = ap (λ ys. ys ++ rest) q.part_is ∙ append_assoc q.string q.behind rest in
     rw (
       split,
-      string_reads.full q.string (q.behind ++ rest) lexical q.is_string,
+      (string_reads Double).full q.string (q.behind ++ rest) lexical q.is_string,
       stands_full datatype IsDatatype datatype_reads datatype_starts (q.behind ++ rest) rest name q.name_is,
     )
     refl
-literal_full part rest (Literal lexical name) free (inr e) =
-    rw (string_reads.full part rest lexical e.1, free.no_datatype, free.no_tag, e.0) refl
-literal_full part rest (Tagged lexical language) free q =
+
+literal_tagged : (part rest lexical language : List ℕ) → IsQualified IsTag part rest lexical language
+    → literal (part ++ rest) ≡ term_of (Tagged lexical language) rest
+unfolding literal literal_of
+literal_tagged part rest lexical language q =
     let split : part ++ rest ≡ q.string ++ (q.behind ++ rest) = ap (λ ys. ys ++ rest) q.part_is ∙ append_assoc q.string q.behind rest in
     let behind = stands_behind tag IsTag tag_reads tag_starts (q.behind ++ rest) rest language q.name_is in
     let none : datatype (behind_blanks (q.behind ++ rest)) ≡ None
     = ap datatype behind ∙ no_datatype_at_tag q.name_is.part rest language q.name_is.is in
     rw (
       split,
-      string_reads.full q.string (q.behind ++ rest) lexical q.is_string,
+      (string_reads Double).full q.string (q.behind ++ rest) lexical q.is_string,
       none,
       stands_full tag IsTag tag_reads tag_starts (q.behind ++ rest) rest language q.name_is,
     )
     refl
+
+pub literal_full : (part rest : List ℕ) (term : Term) → IsFree rest → IsLiteral part rest term → literal (part ++ rest) ≡ term_of term rest
+unfolding literal literal_of
+literal_full part rest (Iri name) free e = absurd e
+literal_full part rest (Blank number name) free e = absurd e
+literal_full part rest (Literal lexical name) free (inl q) = literal_typed part rest lexical name q
+literal_full part rest (Literal lexical name) free (inr e) =
+    rw ((string_reads Double).full part rest lexical e.1, free.no_datatype, free.no_tag, e.0) refl
+literal_full part rest (Tagged lexical language) free q = literal_tagged part rest lexical language q
+
+-- what a reader of terms reads leaves no more than this
+pub record LeavesLess (reader : PartReader Term) (text rest : List ℕ) : Type 0 where
+  pub term : Term
+  pub behind : List ℕ
+  pub is : reader text ≡ term_of term behind
+  pub less : length behind ≤ length rest
+
+stands_less : {A : Type 0} (rule : Rule A) (text rest : List ℕ) (v : A) → Stands rule text rest v → length rest ≤ length text
+stands_less rule text rest v s =
+    let all = ap length s.text_is in
+    let first = length-append s.blanks (s.part ++ rest) in
+    let second = length-append s.part rest in
+    omega arith
+
+qualified_less : (lexical text : List ℕ) → LeavesLess (literal_of lexical) text text
+unfolding literal_of
+qualified_less lexical text = by (datatype (behind_blanks text)) refl (tag (behind_blanks text)) refl
+  where
+    by : (d : Option (List ℕ × List ℕ)) → datatype (behind_blanks text) ≡ d → (t : Option (List ℕ × List ℕ)) → tag (behind_blanks text) ≡ t
+        → LeavesLess (literal_of lexical) text text
+    by (Some x) d_is t t_is = record {
+      term = Literal lexical x.0;
+      behind = x.1;
+      is = rw d_is refl;
+      less = stands_less IsDatatype text x.1 x.0 (stands_sound datatype IsDatatype datatype_reads text x.1 x.0 d_is);
+    }
+    by None d_is (Some x) t_is = record {
+      term = Tagged lexical x.0;
+      behind = x.1;
+      is = rw (d_is, t_is) refl;
+      less = stands_less IsTag text x.1 x.0 (stands_sound tag IsTag tag_reads text x.1 x.0 t_is);
+    }
+    by None d_is None t_is = record {
+      term = Literal lexical xsd_string;
+      behind = text;
+      is = rw (d_is, t_is) refl;
+      less = omega arith;
+    }
+
+literal_less : (part rest : List ℕ) (term : Term) → IsLiteral part rest term → LeavesLess literal (part ++ rest) rest
+unfolding literal
+literal_less part rest (Iri name) e = absurd e
+literal_less part rest (Blank number name) e = absurd e
+literal_less part rest (Literal lexical name) (inl q) =
+    record { term = Literal lexical name; behind = rest; is = literal_typed part rest lexical name q; less = omega arith }
+literal_less part rest (Literal lexical name) (inr e) =
+    let more = qualified_less lexical rest in
+    record { term = more.term; behind = more.behind; is = rw ((string_reads Double).full part rest lexical e.1) more.is; less = more.less }
+literal_less part rest (Tagged lexical language) q =
+    record { term = Tagged lexical language; behind = rest; is = literal_tagged part rest lexical language q; less = omega arith }
 
 -- ---- terms of a statement
 
@@ -277,14 +344,14 @@ node_of_iri document part rest (Tagged lexical language) e = absurd e
 
 module _ (document : ℕ) where
   blank_sound : (text rest : List ℕ) (term : Term) → blank document text ≡ term_of term rest → (part : List ℕ) × ((text ≡ part ++ rest) × IsNode document part rest term)
-  blank_sound text rest term is = by (label text) refl is
+  blank_sound text rest term is = by (label NQuads text) refl is
     where
-      by : (o : Option (List ℕ × List ℕ)) → label text ≡ o → told (λ name. Blank document name) o ≡ term_of term rest
+      by : (o : Option (List ℕ × List ℕ)) → label NQuads text ≡ o → told (λ name. Blank document name) o ≡ term_of term rest
           → (part : List ℕ) × ((text ≡ part ++ rest) × IsNode document part rest term)
       by None read is = absurd (cc)
       by (Some x) read is =
           let same = term_same (Blank document x.0) term x.1 rest is in
-          let p = label_reads.sound text rest x.0 (read ∙ ap (λ r. both_of x.0 r) same.1) in
+          let p = (label_reads NQuads).sound text rest x.0 (read ∙ ap (λ r. both_of x.0 r) same.1) in
           (p.0, (p.1.0, subst (λ y. IsNode document p.0 rest y) same.0 (refl, p.1.1)))
 
   node_sound : (text rest : List ℕ) (term : Term) → node document text ≡ term_of term rest → (part : List ℕ) × ((text ≡ part ++ rest) × IsNode document part rest term)
@@ -298,14 +365,14 @@ module _ (document : ℕ) where
           let p = iri_term_sound text rest term (read ∙ is) in
           (p.0, (p.1.0, node_of_iri document p.0 rest term p.1.1))
 
-  no_iri_at_label : (part rest name : List ℕ) → IsLabel part rest name → iri_term (part ++ rest) ≡ None
+  no_iri_at_label : (part rest name : List ℕ) → IsLabel NQuads part rest name → iri_term (part ++ rest) ≡ None
   unfolding enclosed sign
   no_iri_at_label part rest name e = rw e.part_is refl
 
   node_full : (part rest : List ℕ) (term : Term) → IsNode document part rest term → node document (part ++ rest) ≡ term_of term rest
   unfolding node
   node_full part rest (Iri name) e = rw (iri_term_full part rest (Iri name) e) refl
-  node_full part rest (Blank number name) e = rw (no_iri_at_label part rest name e.1, label_reads.full part rest name e.1, e.0) refl
+  node_full part rest (Blank number name) e = rw (no_iri_at_label part rest name e.1, (label_reads NQuads).full part rest name e.1, e.0) refl
   node_full part rest (Literal lexical name) e = absurd e
   node_full part rest (Tagged lexical language) e = absurd e
 
@@ -347,6 +414,16 @@ module _ (document : ℕ) where
       let q = quoted part rest term e in
       let none : node document (part ++ rest) ≡ None = ap (node document) q.1 ∙ no_node q.0 in
       rw (none, literal_full part rest term free e) refl
+
+  -- whatever stands, the reader reads what is no shorter
+  pub object_less : (part rest : List ℕ) (term : Term) → IsObject document part rest term → LeavesLess (object document) (part ++ rest) rest
+  unfolding object
+  object_less part rest term (inl e) = record { term = term; behind = rest; is = rw (node_full part rest term e) refl; less = omega arith }
+  object_less part rest term (inr e) =
+      let q = quoted part rest term e in
+      let none : node document (part ++ rest) ≡ None = ap (node document) q.1 ∙ no_node q.0 in
+      let more = literal_less part rest term e in
+      record { term = more.term; behind = more.behind; is = rw none more.is; less = more.less }
 
   pub object_starts : StartsWell (IsObject document)
   object_starts part rest term (inl e) = node_starts part rest term e

@@ -1,159 +1,22 @@
--- How the parts of a statement are read (RDF 1.1 N-Quads, section 4): each reader gives the value of the part that
--- stands at the front of a text and the text behind it, or nothing where no such part stands there.
---
--- A part is made of characters: nowhere does it hold bytes that aren't UTF-8. Each character that ends a part is ASCII,
--- and no byte of another character is, so bytes tell where a part ends; labels alone are read by code points.
-use Rattle.std.specs.Prelude.{ℕ, zero, suc, Bool, not, ◌&&◌, ◌||◌, ◌==◌, nat_lt, if◌then◌else◌, Option, None, Some, List, [], ◌∷◌, ◌++◌, length, take, drop}
-use Rattle.std.specs.Char.{encode_utf8, is_ascii_hexdigit}
-use Rattle.std.specs.Int.{is_in_range}
-use Rattle.std.specs.List.{list_all, prefix_len, take_while}
-use Rattle.std.specs.Option.{option_map, option_map_or, option_and_then, option_or}
-use Rattle.std.specs.Str.{chars, encode_utf8_all, is_utf8}
-use Rattle.std.specs.Str.Lossy.{utf8_valid_len}
-use Rattle.std.specs.Str.Parse.{digits_value}
+-- Words of the way: how the parts of a statement are read. Each reader gives the value of the part that stands at the
+-- front of a text and the text behind it, or nothing where no such part stands there.
+use Rattle.std.specs.Prelude.{ℕ, Some, List}
+use Rattle.std.specs.Option.{option_and_then, option_or}
+use Rattle.std.specs.Str.{byte}
+use Rattle.rsp_text.specs.Fronts.{behind_blanks}
 use Rattle.rsp_terms.specs.declared.term.Term.{Term}
 use Rattle.rsp_terms.specs.declared.term.Term.TheVariants.{Iri, Blank, Literal, Tagged}
 use Rattle.rsp_terms.specs.Terms.{xsd_string}
-use Rattle.rsp_terms.specs.Characters.{is_iri_character, is_label_text, is_tag_text}
-
--- what reads a part of value A
-abbrev pub Reader : Type 0 → Type 0
-Reader A = List ℕ → Option (A × List ℕ)
-
--- space and tab
-abbrev pub is_blank : ℕ → Bool
-is_blank c = (c == 32) || (c == 9)
-
-abbrev pub behind_blanks : List ℕ → List ℕ
-behind_blanks text = drop (prefix_len is_blank text) text
-
--- the length of the longest front, of at most so many items, that passes a test
-abbrev pub longest_up_to : ℕ → (List ℕ → Bool) → List ℕ → ℕ
-longest_up_to zero test items = 0
-longest_up_to (suc n) test items = if test (take (suc n) items) then suc n else longest_up_to n test items
-
--- the longest front that passes a test, and nothing where none does
-abbrev pub longest_front : (List ℕ → Bool) → List ℕ → List ℕ
-longest_front test items = take (longest_up_to (length items) test items) items
-
--- the text behind a front of it
-abbrev pub behind : List ℕ → List ℕ → List ℕ
-behind front text = drop (length front) text
-
--- the same value, told as another
-abbrev pub told : {A B : Type 0} → (A → B) → Option (A × List ℕ) → Option (B × List ℕ)
-told f read = option_map (λ x. (f x.0, x.1)) read
-
--- ---- escapes: the code point of the character that an escape stands for
-
-abbrev pub is_scalar : ℕ → Bool
-is_scalar c = nat_lt c 0xD800 || is_in_range 0xE000 0x10FFFF c
-
--- so many hexadecimal digits that name a Unicode scalar value
-abbrev pub code_point : ℕ → Reader ℕ
-code_point count text =
-    let digits = take count text in
-    let c = digits_value 16 digits in
-    if (length digits == count) && (list_all is_ascii_hexdigit digits && is_scalar c)
-    then Some (c, drop count text)
-    else None
-
--- UCHAR: `\u` with 4 digits, `\U` with 8
-unfoldable pub uchar : Reader ℕ
-uchar (c ∷ d ∷ text) =
-    if c == 92 then (if d == 117 then code_point 4 text else (if d == 85 then code_point 8 text else None)) else None
-uchar _ = None
-
--- ECHAR: `\` and one of `t b n r f " ' \`
-abbrev pub named_character : ℕ → Option ℕ
-named_character c =
-    if c == 116 then Some 9
-    else (if c == 98 then Some 8
-    else (if c == 110 then Some 10
-    else (if c == 114 then Some 13
-    else (if c == 102 then Some 12
-    else (if (c == 34) || ((c == 39) || (c == 92)) then Some c else None)))))
-
-unfoldable pub echar : Reader ℕ
-echar (c ∷ d ∷ text) = if c == 92 then option_map (λ named. (named, text)) (named_character d) else None
-echar _ = None
-
--- in an IRI a UCHAR must name an IRI character
-unfoldable pub iri_escape : Reader ℕ
-iri_escape text = option_and_then (λ x. if is_iri_character x.0 then Some x else None) (uchar text)
-
-unfoldable pub string_escape : Reader ℕ
-string_escape text = option_or (echar text) (uchar text)
-
--- ---- enclosed parts
-
--- what may stand unescaped in a string: all but `"` `\` line feed and carriage return
-abbrev pub is_string_character : ℕ → Bool
-is_string_character c = not ((c == 34) || ((c == 92) || ((c == 10) || (c == 13))))
-
-abbrev pub onto : List ℕ → Option (List ℕ × List ℕ) → Option (List ℕ × List ℕ)
-onto front read = told (λ others. front ++ others) read
-
--- Plain characters, an escape, plain characters, and so on, as far as they go, with escapes replaced. `most` bounds the
--- number of runs; a text has fewer escapes than bytes.
-unfoldable pub spelled : ℕ → (ℕ → Bool) → Reader ℕ → Reader (List ℕ)
-spelled zero plain escape text = None
-spelled (suc most) plain escape text =
-    let run = take_while plain text in
-    if is_utf8 run
-    then
-    option_map_or
-    (λ x. onto (run ++ encode_utf8 x.0) (spelled most plain escape x.1))
-    (escape (behind run text))
-    (Some (run, behind run text))
-    else None
-
--- one byte of its own
-unfoldable pub sign : ℕ → List ℕ → Option (List ℕ)
-sign c [] = None
-sign c (d ∷ text) = if c == d then Some text else None
-
--- an opening sign, what is spelled, a closing sign
-unfoldable pub enclosed : ℕ → ℕ → (ℕ → Bool) → Reader ℕ → Reader (List ℕ)
-enclosed opening closing plain escape text =
-    option_and_then
-    (λ inner.
-    option_and_then
-    (λ x. option_map (λ rest. (x.0, rest)) (sign closing x.1))
-    (spelled (suc (length inner)) plain escape inner))
-    (sign opening text)
-
--- IRIREF
-abbrev pub iri : Reader (List ℕ)
-iri = enclosed 60 62 is_iri_character iri_escape
-
--- STRING_LITERAL_QUOTE
-abbrev pub string : Reader (List ℕ)
-string = enclosed 34 34 is_string_character string_escape
-
--- ---- labels, tags and literals
-
--- BLANK_NODE_LABEL: `_:` and the longest label behind it
-abbrev pub longest_label : List ℕ → List ℕ
-longest_label text = encode_utf8_all (longest_front is_label_text (chars (take (utf8_valid_len text) text)))
-
--- the part is there where something of it is
-abbrev pub some_of : List ℕ → Reader (List ℕ)
-some_of front text = if length front == 0 then None else Some (front, behind front text)
-
-unfoldable pub label : Reader (List ℕ)
-label text = option_and_then (λ inner. some_of (longest_label inner) inner) (option_and_then (sign 58) (sign 95 text))
-
--- LANGTAG: `@` and the longest tag behind it
-unfoldable pub tag : Reader (List ℕ)
-tag text = option_and_then (λ inner. some_of (longest_front is_tag_text inner) inner) (sign 64 text)
+use Rattle.rsp_scan.specs.declared.enclosed.Quote.TheVariants.{Double}
+use Rattle.rsp_scan.specs.declared.labels.Labels.TheVariants.{NQuads}
+use Rattle.rsp_scan.specs.Readers.{PartReader, told, sign, iri, string, label, tag}
 
 -- `^^`, and an IRI behind blanks
-unfoldable pub datatype : Reader (List ℕ)
-datatype text = option_and_then (λ inner. iri (behind_blanks inner)) (option_and_then (sign 94) (sign 94 text))
+unfoldable pub datatype : PartReader (List ℕ)
+datatype text = option_and_then (λ inner. iri (behind_blanks inner)) (option_and_then (sign (byte "^")) (sign (byte "^") text))
 
 -- the literal of a string: its datatype or tag stands behind blanks; without either it is an xsd:string
-unfoldable pub literal_of : List ℕ → Reader Term
+unfoldable pub literal_of : List ℕ → PartReader Term
 literal_of lexical text =
     option_or
     (told (λ name. Literal lexical name) (datatype (behind_blanks text)))
@@ -161,20 +24,20 @@ literal_of lexical text =
     (told (λ language. Tagged lexical language) (tag (behind_blanks text)))
     (Some (Literal lexical xsd_string, text)))
 
-unfoldable pub literal : Reader Term
-literal text = option_and_then (λ x. literal_of x.0 x.1) (string text)
+unfoldable pub literal : PartReader Term
+literal text = option_and_then (λ x. literal_of x.0 x.1) (string Double text)
 
 -- ---- the terms of a statement
 
-abbrev pub iri_term : Reader Term
+abbrev pub iri_term : PartReader Term
 iri_term text = told (λ name. Iri name) (iri text)
 
-abbrev pub blank : ℕ → Reader Term
-blank document text = told (λ name. Blank document name) (label text)
+abbrev pub blank : ℕ → PartReader Term
+blank document text = told (λ name. Blank document name) (label NQuads text)
 
 -- subjects and graphs
-unfoldable pub node : ℕ → Reader Term
+unfoldable pub node : ℕ → PartReader Term
 node document text = option_or (iri_term text) (blank document text)
 
-unfoldable pub object : ℕ → Reader Term
+unfoldable pub object : ℕ → PartReader Term
 object document text = option_or (node document text) (literal text)

@@ -1,35 +1,29 @@
--- What a line of N-Quads says (RDF 1.1 N-Quads, section 2): nothing, a quad, or a fault with its column.
-use Rattle.std.specs.Prelude.{ℕ, ◌+◌, ◌-◌, Bool, true, false, not, ◌&&◌, ◌==◌, if◌then◌else◌, Option, None, Some, List, [], ◌∷◌, length}
+-- Words of the way: how a line is read, part by part.
+use Rattle.std.specs.Prelude.{ℕ, ◌+◌, ◌-◌, Bool, true, ◌&&◌, ◌==◌, if◌then◌else◌, Option, None, Some, List, [], ◌∷◌, length}
 use Rattle.std.specs.List.{find, cons_option}
 use Rattle.std.specs.Option.{option_map, option_map_or}
-use Rattle.std.specs.Str.{is_utf8}
+use Rattle.std.specs.Str.{byte, is_utf8}
 use Rattle.std.specs.declared.result.Result.{Result}
 use Rattle.std.specs.declared.result.Result.TheVariants.{Ok, Err}
 use Rattle.rsp_terms.specs.declared.term.Term.{Term}
-use Rattle.rsp_terms.specs.declared.term.Term.TheVariants.{Iri, Blank, Literal, Tagged}
 use Rattle.rsp_terms.specs.declared.statement.Quad.{Quad}
-use Rattle.rsp_terms.specs.Characters.{is_absolute}
 use Rattle.rsp_nquads.specs.declared.statements.Part.{Part}
 use Rattle.rsp_nquads.specs.declared.statements.Parts.{Parts}
-use Rattle.rsp_nquads.specs.Parts.{Reader, behind_blanks, sign, iri_term, node, object}
-
--- The column of a bad statement is that of the first byte, behind blanks, at which no wanted part stands. Only a line
--- that is a statement by its grammar has a relative IRI: the column is that of the first part that holds one.
-pub data Answer : Type 0 where
-  nothing : Answer
-  statement : Quad → Answer
-  bad_statement : ℕ → Answer
-  relative_iri : ℕ → Answer
+use Rattle.rsp_scan.specs.Readers.{PartReader, sign}
+use Rattle.rsp_nquads.specs.Parts.{iri_term, node, object}
+use Rattle.rsp_text.specs.Fronts.{behind_blanks}
+use Rattle.rsp_nquads.specs.Grammar.{is_relative}
+use Rattle.rsp_nquads.specs.Answers.{Answer, nothing, statement, bad_statement, relative_iri}
 
 -- The wanted part behind blanks: a term, and how many bytes of the line are left from its first one on. Where it doesn't
 -- stand there, how many bytes are left from there on.
-abbrev pub part_of : Reader Term → List ℕ → Result (Part × List ℕ) ℕ
+abbrev pub part_of : PartReader Term → List ℕ → Result (Part × List ℕ) ℕ
 part_of reader text =
     let here = behind_blanks text in
     option_map_or (λ x. Ok (record { term = x.0; left = length here }, x.1)) (reader here) (Err (length here))
 
 -- the same of a part that may be wanting
-abbrev pub optional_part : Reader Term → List ℕ → Option Part × List ℕ
+abbrev pub optional_part : PartReader Term → List ℕ → Option Part × List ℕ
 optional_part reader text =
     let here = behind_blanks text in
     option_map_or (λ x. (Some (record { term = x.0; left = length here }), x.1)) (reader here) (None, text)
@@ -37,14 +31,14 @@ optional_part reader text =
 -- the line ends here, or a comment goes on to its end
 unfoldable pub is_end : List ℕ → Bool
 is_end [] = true
-is_end (c ∷ text) = (c == 35) && is_utf8 text
+is_end (c ∷ text) = (c == byte "#") && is_utf8 text
 
 -- `.`, and the end behind blanks
 abbrev pub ends : List ℕ → Result Bool ℕ
 ends text = if is_end (behind_blanks text) then Ok true else Err (length (behind_blanks text))
 
 abbrev pub closes : List ℕ → Result Bool ℕ
-closes text = option_map_or ends (sign 46 (behind_blanks text)) (Err (length (behind_blanks text)))
+closes text = option_map_or ends (sign (byte ".") (behind_blanks text)) (Err (length (behind_blanks text)))
 
 -- a reading, and what is read behind it; the first fault stays
 abbrev pub onward : {A B : Type 0} → Result A ℕ → (A → Result B ℕ) → Result B ℕ
@@ -60,13 +54,6 @@ parts_of document line =
     let g = optional_part (node document) o.1 in
     onward (closes g.1) (λ _.
     Ok (record { subject = s.0; predicate = p.0; object = o.0; graph = g.0 })))))
-
--- the term holds an IRI that isn't absolute (RFC 3986, section 4.3): a scheme is ASCII, so bytes tell it
-abbrev pub is_relative : Term → Bool
-is_relative (Iri name) = not (is_absolute name)
-is_relative (Blank document name) = false
-is_relative (Literal lexical name) = not (is_absolute name)
-is_relative (Tagged lexical language) = false
 
 abbrev pub quad_of : Parts → Quad
 quad_of parts = record {

@@ -1,4 +1,4 @@
--- A quad as a line (RDF 1.1 N-Quads, section 2).
+-- Definitions: a quad as a line (RDF 1.1 N-Quads, section 2).
 use Rattle.std.specs.Prelude.{ℕ, ⊤, Option, None, Some, List, [], ◌++◌, codes}
 use Rattle.rsp_terms.specs.declared.term.Term.{Term}
 use Rattle.rsp_terms.specs.declared.term.Term.TheVariants.{Blank}

@@ -1,16 +1,27 @@
-// Fields that are a whole IRI.
-ghost use Rattle.std.specs.Prelude.{◌≡◌, IfOk};
+// Fields that are an IRI and nothing else.
+ghost use Rattle.std.specs.Prelude.{◌≡◌, ◌↔◌, ℕ, List, Some, IfOk};
+ghost use Rattle.rsp_nquads.specs.Grammar.{IsAbsoluteIri};
 ghost use Rattle.rsp_nquads.specs.Fields.{absolute_iri};
 
-use crate::enclosed::iri;
-use crate::statements::is_absolute;
+use rsp_scan::iri;
 use rsp_terms::Text;
+use rsp_terms::characters::is_absolute;
 use std::alloc::{AllocError, Global};
 
 /// The IRI of a field that is an IRIREF (RDF 1.1 N-Quads, section 4) and nothing else, with its escapes replaced; None
 /// exactly where the field isn't that, or the IRI isn't absolute. Fails only where memory is refused.
-#[tactic(auto, unfolding(crate::specs::Fields::absolute_iri))]
+///
+/// `absolute_iri(alloc, b"<x:\u0041>")` is `Ok(Some(name))` with `name.as_str() == "x:A"`; of `<A>` and of `x:A` it is
+/// `Ok(None)`.
 pub fn absolute_iri(alloc: Global, field: &[u8]) -> Result<Option<Text>, AllocError>
+    ensures value { IfOk result (λ name. name ≡ absolute_iri field.now) }
+    ensures grammar { (name : List ℕ) → (absolute_iri field.now ≡ Some name) ↔ IsAbsoluteIri field.now name }
+{
+    whole_iri(alloc, field)
+}
+
+#[tactic(auto, unfolding(crate::specs::Fields::absolute_iri))]
+fn whole_iri(alloc: Global, field: &[u8]) -> Result<Option<Text>, AllocError>
     ensures { IfOk result (λ name. name ≡ absolute_iri field.now) }
 {
     let Some((name, behind)) = iri(alloc, field)? else {
@@ -19,7 +30,7 @@ pub fn absolute_iri(alloc: Global, field: &[u8]) -> Result<Option<Text>, AllocEr
     if !behind.is_empty() {
         return Ok(None);
     }
-    if !is_absolute(name.as_str().as_bytes()) {
+    if !is_absolute(name.as_str()) {
         return Ok(None);
     }
     Ok(Some(name))

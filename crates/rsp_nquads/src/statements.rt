@@ -1,15 +1,18 @@
 // Statements: the parts of a line, and what it says.
-ghost use Rattle.std.specs.Prelude.{◌≡◌, MatchOption, MatchResult, Some, None, Ok, Err, IfOk, true, false, length};
+ghost use Rattle.std.specs.Prelude.{◌≡◌, ℕ, List, MatchOption, MatchResult, Some, None, Ok, Err, IfOk, true, false, length};
 ghost use Rattle.std.specs.Option.{option_map};
-ghost use Rattle.rsp_terms.specs.Characters.{is_absolute, goes_on_to_colon, is_scheme_character};
+ghost use Rattle.rsp_nquads.specs.Grammar.{is_relative};
 ghost use Rattle.rsp_nquads.specs.Parts as part;
 ghost use Rattle.rsp_nquads.specs.Statements as lines;
-ghost use Rattle.rsp_nquads.specs.Results.{reader, IsAnswer, IsByGrammar, Halts};
+ghost use Rattle.rsp_nquads.specs.Results.{reader, Halts};
+ghost use Rattle.rsp_nquads.specs.Answers.{IsAnswer, IsByGrammar, IsTied};
 
 use crate::LineFault;
-use crate::signs::{behind_blanks, is_letter, sign};
 use crate::terms::{iri_term, node, object};
+use rsp_scan::sign;
+use rsp_terms::characters::is_absolute;
 use rsp_terms::{Quad, Term, Triple};
+use rsp_text::behind_blanks;
 use std::alloc::{AllocError, Global};
 use std::str;
 
@@ -57,9 +60,14 @@ impl From<AllocError> for Halt {
 
 /// What a line says: a quad, or nothing in a blank line and in a comment. Its blank nodes are of this document. A line
 /// that says neither is refused, with the column of its first fault (see [`LineFault`]).
+///
+/// `statement(alloc, 1, b"<a:1> <p:v> \"x\" .")` is `Ok(Some(quad))`, `statement(alloc, 1, b"# note")` is `Ok(None)`, and
+/// `statement(alloc, 1, b"<a:1> <p:v> .")` is `Err(LineFault::BadStatement { column: 13 })`.
 pub fn statement(alloc: Global, document: u32, line: &[u8]) -> Result<Option<Quad>, LineFault>
     ensures answer { IsAnswer result (lines.statement_of document line.now) }
     ensures grammar { IsByGrammar document line.now result }
+    // the grammar says the same of every line, read or not
+    ensures every_line { (number : ℕ) (text : List ℕ) → IsTied number text (lines.statement_of number text) }
 {
     said(alloc, document, line)
 }
@@ -166,43 +174,14 @@ fn relative_part(parts: &Parts) -> Option<usize>
 }
 
 fn is_relative(term: &Term) -> bool
-    ensures { result ≡ lines.is_relative term.now }
+    ensures { result ≡ is_relative term.now }
 {
     match term {
-        Term::Iri(name) => !is_absolute(name.as_str().as_bytes()),
+        Term::Iri(name) => !is_absolute(name.as_str()),
         Term::Blank { .. } => false,
-        Term::Literal { datatype, .. } => !is_absolute(datatype.as_str().as_bytes()),
+        Term::Literal { datatype, .. } => !is_absolute(datatype.as_str()),
         Term::Tagged { .. } => false,
     }
-}
-
-pub(crate) fn is_absolute(iri: &[u8]) -> bool
-    ensures { result ≡ is_absolute iri.now }
-{
-    match iri {
-        [] => false,
-        [first, others @ ..] => is_letter(*first) && goes_on_to_colon(others),
-    }
-}
-
-fn goes_on_to_colon(text: &[u8]) -> bool
-    ensures { result ≡ goes_on_to_colon text.now }
-{
-    for c in text {
-        if *c == b':' {
-            return true;
-        }
-        if !is_scheme_character(*c) {
-            return false;
-        }
-    }
-    false
-}
-
-fn is_scheme_character(c: u8) -> bool
-    ensures { result ≡ is_scheme_character c }
-{
-    c.is_ascii_alphanumeric() || c == b'+' || c == b'-' || c == b'.'
 }
 
 #[tactic(auto, unfolding(crate::specs::Statements::parts_of))]

@@ -2,10 +2,9 @@
 ghost use Rattle.std.specs.Prelude.{◌≡◌, MatchOption, Some, None, IfOk};
 ghost use Rattle.rsp_nquads.specs.Parts as part;
 
-use crate::enclosed::{iri, string};
-use crate::labels::{label, tag};
-use crate::signs::{behind_blanks, sign};
+use rsp_scan::{Labels, Quote, iri, label, sign, string, tag};
 use rsp_terms::{Term, Text, XSD_STRING};
+use rsp_text::behind_blanks;
 use std::alloc::{AllocError, Global};
 
 /// An IRI.
@@ -43,7 +42,7 @@ fn blank<'a>(
 ) -> Result<Option<(Term, &'a [u8])>, AllocError>
     ensures { IfOk result (λ r. MatchOption r (part.blank document text.now ≡ None) (λ x. part.blank document text.now ≡ Some (x.0, x.1.now))) }
 {
-    match label(alloc, text)? {
+    match label(alloc, Labels::NQuads, text)? {
         None => Ok(None),
         Some((label, rest)) => Ok(Some((Term::Blank { document, label }, rest))),
     }
@@ -68,7 +67,7 @@ pub(crate) fn object<'a>(
 fn literal<'a>(alloc: Global, text: &'a [u8]) -> Result<Option<(Term, &'a [u8])>, AllocError>
     ensures { IfOk result (λ r. MatchOption r (part.literal text.now ≡ None) (λ x. part.literal text.now ≡ Some (x.0, x.1.now))) }
 {
-    match string(alloc, text)? {
+    match string(alloc, Quote::Double, text)? {
         None => Ok(None),
         Some((lexical, rest)) => Ok(Some(literal_of(alloc, lexical, rest)?)),
     }

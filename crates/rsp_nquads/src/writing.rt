@@ -1,7 +1,8 @@
 // Quads as lines.
 ghost use Rattle.std.specs.Prelude.{◌≡◌, ℕ, List, ◌++◌, ◌∷◌, [], OnOk, OnErr};
 ghost use Rattle.rsp_terms.specs.Terms.{printed};
-ghost use Rattle.rsp_nquads.specs.Statements.{statement_of, statement};
+ghost use Rattle.rsp_nquads.specs.Answers.{statement};
+ghost use Rattle.rsp_nquads.specs.Statements.{statement_of};
 ghost use Rattle.rsp_nquads.specs.Writing.{line_of, graph_text, HasNoBlank};
 
 use rsp_terms::{Quad, Term, print};
@@ -9,6 +10,9 @@ use std::alloc::AllocError;
 
 /// Appends a quad as a line: its printed terms with one space between, then ` .` and a line feed. Fails only where
 /// memory is refused; `out` then holds the bytes that it held before.
+///
+/// The quad that `statement(alloc, 1, b"<a:1><p:v>_:x.")` gives is written as the line `<a:1> <p:v> _:b1xx .`, since the
+/// label of a blank node is printed with the number of its document.
 pub fn write(quad: &Quad, out: &mut Vec<u8>) -> Result<(), AllocError>
     ensures ok { OnOk result (out.new.items ≡ out.old.items ++ (line_of quad.now ++ (10 ∷ []))) }
     ensures err { OnErr result (out.new.items ≡ out.old.items) }

@@ -8,7 +8,7 @@ use Rattle.std.proofs.lemmas.Nat.{le-div, div-add-mod', pow-add}
 use Rattle.std.proofs.Math.Nat.{pow-le-pow_right, mul-add-div_right, mul-le-mul_left, mul-add-mod_self_right, mul_assoc, mul_right_comm, mul-one, mul-div_cancel, div-mul-le_self}
 use Rattle.rsp_number.proofs.Laws.{greatest-or-none}
 use Rattle.rsp_number.proofs.Shortest.{shortest-zeros}
-use Rattle.rsp_number.specs.Decimals.{largest, most_digits, greatest, cut, scale_of, shortest, fit_size}
+use Rattle.rsp_number.specs.Decimals.{largest, most_digits, greatest, cut, scale_of, shortest_form, fit_size}
 
 pub greatest-none : (test : ℕ → Bool) (bound : ℕ) → ((t : ℕ) → t ≤ bound → test t ≡ false) → greatest test bound ≡ None
 unfolding greatest
@@ -85,21 +85,21 @@ scale-last n d fits =
 pub fit-none : (b : Bool) (n d : ℕ) → 0 < d → largest < n / d → None ≡ fit_size b n d
 fit-none b n d positive past =
     let first : cut n d 0 ≡ n / d = ap (λ m. m / d) (mul-one n) in
-    sym (ap (option_map (λ scale. shortest b (cut n d scale) scale)) (scale-none n d positive (rw first past)))
+    sym (ap (option_map (λ scale. shortest_form b (cut n d scale) scale)) (scale-none n d positive (rw first past)))
 
 pub fit-before : (b : Bool) (n d s size rest : ℕ) → 0 < d → s < most_digits → size ≡ cut n d s → rest ≡ n * 10 ^ s % d → size ≤ largest → largest < size * 10 + rest * 10 / d
-    → Some (shortest b size s) ≡ fit_size b n d
+    → Some (shortest_form b size s) ≡ fit_size b n d
 fit-before b n d s size rest positive within size-is rest-is fits past =
     let more = cut-more n d s positive in
     let next : cut n d (s + 1) ≡ size * 10 + rest * 10 / d = rw (size-is, rest-is) more in
-    ap (λ x. Some (shortest b x s)) size-is
-    ∙ sym (ap (option_map (λ scale. shortest b (cut n d scale) scale))
+    ap (λ x. Some (shortest_form b x s)) size-is
+    ∙ sym (ap (option_map (λ scale. shortest_form b (cut n d scale) scale))
     (scale-before n d s positive within (rw (← size-is) fits) (rw next past)))
 
-pub fit-last : (b : Bool) (n d size : ℕ) → size ≡ cut n d most_digits → size ≤ largest → Some (shortest b size most_digits) ≡ fit_size b n d
+pub fit-last : (b : Bool) (n d size : ℕ) → size ≡ cut n d most_digits → size ≤ largest → Some (shortest_form b size most_digits) ≡ fit_size b n d
 fit-last b n d size size-is fits =
-    ap (λ x. Some (shortest b x most_digits)) size-is
-    ∙ sym (ap (option_map (λ scale. shortest b (cut n d scale) scale)) (scale-last n d (rw (← size-is) fits)))
+    ap (λ x. Some (shortest_form b x most_digits)) size-is
+    ∙ sym (ap (option_map (λ scale. shortest_form b (cut n d scale) scale)) (scale-last n d (rw (← size-is) fits)))
 
 pub next-size : (n d s size rest : ℕ) → 0 < d → size ≡ cut n d s → rest ≡ n * 10 ^ s % d → size * 10 + rest * 10 / d ≡ cut n d (s + 1)
 next-size n d s size rest positive size-is rest-is = rw (size-is, rest-is) (sym (cut-more n d s positive))
@@ -124,9 +124,9 @@ whole-cut n d s k size rest positive size-is rest-is none =
     ∙ mul-div_cancel (size * 10 ^ k) positive
 
 pub fit-exact : (b : Bool) (n d s size rest : ℕ) → 0 < d → s ≤ most_digits → size ≡ cut n d s → rest ≡ n * 10 ^ s % d → size ≤ largest → rest ≡ 0
-    → Some (shortest b size s) ≡ fit_size b n d
+    → Some (shortest_form b size s) ≡ fit_size b n d
 fit-exact b n d s size rest positive within size-is rest-is fits none =
     let found = greatest-from (λ scale. nat_le (cut n d scale) largest) most_digits s within (fits-at n d s (rw (← size-is) fits)) in
-    sym (ap (option_map (λ scale. shortest b (cut n d scale) scale)) found.1
-    ∙ ap (λ m. Some (shortest b m (s + found.0))) (whole-cut n d s found.0 size rest positive size-is rest-is none)
+    sym (ap (option_map (λ scale. shortest_form b (cut n d scale) scale)) found.1
+    ∙ ap (λ m. Some (shortest_form b m (s + found.0))) (whole-cut n d s found.0 size rest positive size-is rest-is none)
     ∙ ap Some (shortest-zeros b size s found.0))

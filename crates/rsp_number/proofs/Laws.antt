@@ -5,26 +5,26 @@ use Rattle.std.proofs.lemmas.Int.{unsigned_abs-mul}
 use Rattle.std.proofs.lemmas.Bool.{cases_lt}
 use Rattle.std.proofs.lemmas.Bool.Decides.{nat_tests}
 use Rattle.std.proofs.Math.Nat.{mul-one, mul_right_comm, zero-mul, eq_of_mul-eq-mul_right}
-use Rattle.rsp_number.specs.Decimals.{largest, most_digits, Scaled, IsDecimal, signed, greatest, cut, fit_size, HasValue, IsFitOf}
-use Rattle.rsp_number.specs.Texts.{has_decimal_form, is_negative, unsigned, before_point, behind_point, number_after, exactly, value_or_beyond, read_decimal, IsWritten, IsReadExactly}
+use Rattle.rsp_number.specs.Decimals.{largest, most_digits, Scaled, IsDecimal, with_sign, greatest, cut, fit_size, HasValue, IsFitOf}
+use Rattle.rsp_number.specs.Texts.{has_decimal_form, is_negative, without_sign, before_point, behind_point, number_after, exact_decimal, value_or_beyond, read_decimal, IsWritten, IsReadExactly}
 use Rattle.rsp_number.specs.declared.reading.Reading.{Reading}
 use Rattle.rsp_number.specs.declared.reading.Reading.TheVariants.{NotForm}
 use Rattle.rsp_number.proofs.Shortest.{power-above-zero, unsigned_abs-signed, IsShortest, shortest-form, one-form}
 
-signed-times : (negative : Bool) (size factor : ℕ) → signed negative size *ℤ pos factor ≡ signed negative (size * factor)
+signed-times : (negative : Bool) (size factor : ℕ) → with_sign negative size *ℤ pos factor ≡ with_sign negative (size * factor)
 signed-times false size factor = refl
 signed-times true zero factor = rw (zero-mul factor) refl
 signed-times true (suc size) factor = refl
 
 -- the shortest form has the value
 shortest-value : (negative : Bool) (size scale m s : ℕ) → IsShortest negative size scale m s
-    → HasValue (record { coefficient = signed negative m; scale = s }) negative size scale
+    → HasValue (record { coefficient = with_sign negative m; scale = s }) negative size scale
 shortest-value negative size scale m s form =
-    signed-times negative m (10 ^ scale) ∙ ap (signed negative) form.same ∙ sym (signed-times negative size (10 ^ s))
+    signed-times negative m (10 ^ scale) ∙ ap (with_sign negative) form.same ∙ sym (signed-times negative size (10 ^ s))
 
 -- the shortest form is a decimal where it is within the ranges
 shortest-decimal : (negative : Bool) (size scale m s : ℕ) → IsShortest negative size scale m s → m ≤ largest → s ≤ most_digits
-    → IsDecimal (record { coefficient = signed negative m; scale = s })
+    → IsDecimal (record { coefficient = with_sign negative m; scale = s })
 shortest-decimal negative size scale m s form fits few = record {
   coefficient_fits = rw (unsigned_abs-signed negative m) fits;
   scale_fits = few;
@@ -51,11 +51,11 @@ only-shortest negative size scale m s number form is value =
 -- ---- readings
 
 exactly-form : (negative : Bool) (size scale m s : ℕ) → IsShortest negative size scale m s
-    → exactly negative size scale ≡ cond (nat_le s most_digits && nat_le m largest) (Some (record { coefficient = signed negative m; scale = s })) None
+    → exact_decimal negative size scale ≡ cond (nat_le s most_digits && nat_le m largest) (Some (record { coefficient = with_sign negative m; scale = s })) None
 exactly-form negative size scale m s form = rw (form.is, unsigned_abs-signed negative m) refl
 
 by-ranges : (negative : Bool) (size scale m s : ℕ) (test : Bool) → IsShortest negative size scale m s → (nat_le s most_digits && nat_le m largest) ≡ test
-    → MatchOption (cond test (Some (record { coefficient = signed negative m; scale = s })) None)
+    → MatchOption (cond test (Some (record { coefficient = with_sign negative m; scale = s })) None)
     ((other : Scaled) → IsDecimal other → ¬ HasValue other negative size scale)
     (λ number. IsDecimal number × HasValue number negative size scale)
 by-ranges negative size scale m s true form test =
@@ -70,7 +70,7 @@ by-ranges negative size scale m s false form test = λ other is value.
     within-test s m few fits test = grind (arith, nat_tests)
 
 pub exactly-law : (negative : Bool) (size scale : ℕ)
-    → MatchOption (exactly negative size scale) ((other : Scaled) → IsDecimal other → ¬ HasValue other negative size scale)
+    → MatchOption (exact_decimal negative size scale) ((other : Scaled) → IsDecimal other → ¬ HasValue other negative size scale)
     (λ number. IsDecimal number × HasValue number negative size scale)
 exactly-law negative size scale =
     let form = shortest-form negative size scale in
@@ -170,12 +170,12 @@ read-by-form : (text : List ℕ) (form : Bool) → has_decimal_form text ≡ for
     → IsReadExactly text
     (cond form
     (value_or_beyond
-    (exactly (is_negative text) (number_after 0 (before_point (unsigned text) ++ behind_point (unsigned text)))
-    (length (behind_point (unsigned text)))))
+    (exact_decimal (is_negative text) (number_after 0 (before_point (without_sign text) ++ behind_point (without_sign text)))
+    (length (behind_point (without_sign text)))))
     NotForm)
 read-by-form text true form =
-    from-law text (exactly (is_negative text) (number_after 0 (before_point (unsigned text) ++ behind_point (unsigned text))) (length (behind_point (unsigned text))))
-    (exactly-law (is_negative text) (number_after 0 (before_point (unsigned text) ++ behind_point (unsigned text))) (length (behind_point (unsigned text))))
+    from-law text (exact_decimal (is_negative text) (number_after 0 (before_point (without_sign text) ++ behind_point (without_sign text))) (length (behind_point (without_sign text))))
+    (exactly-law (is_negative text) (number_after 0 (before_point (without_sign text) ++ behind_point (without_sign text))) (length (behind_point (without_sign text))))
   where
     from-law : (text : List ℕ) (number : Option Scaled)
         → MatchOption number ((other : Scaled) → IsDecimal other → ¬ IsWritten text other) (λ d. IsDecimal d × IsWritten text d)

@@ -5,9 +5,9 @@ use Rattle.std.proofs.lemmas.Bool.{cases_order}
 use Rattle.std.proofs.lemmas.Bool.Decides.{nat_tests}
 use Rattle.std.proofs.lemmas.Nat.{pow-add}
 use Rattle.std.proofs.Math.Nat.{mul-div_cancel, mul-one, mul_assoc, mul_right_comm, mul_comm, pow-suc, add-suc, one-le-pow, eq_of_mul-eq-mul_right, mul-mod_left}
-use Rattle.rsp_number.specs.Decimals.{signed, shortest}
+use Rattle.rsp_number.specs.Decimals.{with_sign, shortest_form}
 
-pub unsigned_abs-signed : (negative : Bool) (size : ℕ) → unsigned_abs (signed negative size) ≡ size
+pub unsigned_abs-signed : (negative : Bool) (size : ℕ) → unsigned_abs (with_sign negative size) ≡ size
 unsigned_abs-signed false size = refl
 unsigned_abs-signed true zero = refl
 unsigned_abs-signed true (suc size) = refl
@@ -20,16 +20,16 @@ zero-last size = let none : size * 10 % 10 ≡ 0 = omega arith in grind (arith, 
 not-zero-last : (size : ℕ) → size % 10 ≢ 0 → (size % 10 == 0) ≡ false
 not-zero-last size other = grind (arith, nat_tests)
 
-pub shortest-zero : (negative : Bool) (size scale : ℕ) → shortest negative (size * 10) (suc scale) ≡ shortest negative size scale
+pub shortest-zero : (negative : Bool) (size scale : ℕ) → shortest_form negative (size * 10) (suc scale) ≡ shortest_form negative size scale
 shortest-zero negative size scale =
-    rw (zero-last size) (ap (λ rest. shortest negative rest scale) (mul-div_cancel size (omega arith)))
+    rw (zero-last size) (ap (λ rest. shortest_form negative rest scale) (mul-div_cancel size (omega arith)))
 
 pub shortest-other : (negative : Bool) (size scale : ℕ) → size % 10 ≢ 0
-    → shortest negative size (suc scale) ≡ record { coefficient = signed negative size; scale = suc scale }
+    → shortest_form negative size (suc scale) ≡ record { coefficient = with_sign negative size; scale = suc scale }
 shortest-other negative size scale other = rw (not-zero-last size other) refl
 
-pub shortest-zeros : (negative : Bool) (size scale k : ℕ) → shortest negative (size * 10 ^ k) (scale + k) ≡ shortest negative size scale
-shortest-zeros negative size scale zero = rw (add-zero scale) (ap (λ m. shortest negative m scale) (mul-one size))
+pub shortest-zeros : (negative : Bool) (size scale k : ℕ) → shortest_form negative (size * 10 ^ k) (scale + k) ≡ shortest_form negative size scale
+shortest-zeros negative size scale zero = rw (add-zero scale) (ap (λ m. shortest_form negative m scale) (mul-one size))
 shortest-zeros negative size scale (suc k) =
     rw (add-suc scale k, pow-suc 10 k, ← mul_assoc size (10 ^ k) 10)
     (shortest-zero negative (size * 10 ^ k) (scale + k) ∙ shortest-zeros negative size scale k)
@@ -38,7 +38,7 @@ shortest-zeros negative size scale (suc k) =
 
 -- size / 10 ^ scale in its shortest form, coefficient / 10 ^ digits
 pub record IsShortest (negative : Bool) (size scale coefficient digits : ℕ) : Type 0 where
-  pub is : shortest negative size scale ≡ record { coefficient = signed negative coefficient; scale = digits }
+  pub is : shortest_form negative size scale ≡ record { coefficient = with_sign negative coefficient; scale = digits }
   pub same : coefficient * 10 ^ scale ≡ size * 10 ^ digits
   pub ends : (digits ≡ 0) ⊎ (coefficient % 10 ≢ 0)
   pub smaller : coefficient ≤ size

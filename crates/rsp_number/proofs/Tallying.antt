@@ -44,7 +44,7 @@ decimals-in z u r i d t tally size few is = record {
   whole = λ none.
       let no-more : t ≡ 0 = omega arith in
       let none-before : d ≡ 0 = omega arith in
-      let nothing = within-times u t size in
+      let empty_tally = within-times u t size in
       let old = tally.whole none-before in
       omega (arith, ints);
 }

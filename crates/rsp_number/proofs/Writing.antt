@@ -5,8 +5,8 @@ use Rattle.std.proofs.lemmas.Bool.Decides.{nat_tests}
 use Rattle.std.proofs.lemmas.Bool.{true≢false}
 use Rattle.std.proofs.Math.Seq.{drop-cons}
 use Rattle.rsp_number.proofs.Shortest.{unsigned_abs-signed, shortest-zero, shortest-other}
-use Rattle.rsp_number.specs.Decimals.{largest, most_digits, signed, shortest}
-use Rattle.rsp_number.specs.Texts.{are_digits, is_digit, number_after, exactly}
+use Rattle.rsp_number.specs.Decimals.{largest, most_digits, with_sign, shortest_form}
+use Rattle.rsp_number.specs.Texts.{are_digits, is_digit, number_after, exact_decimal}
 
 pub number-grows : (n : ℕ) (digits : List ℕ) → n ≤ number_after n digits
 number-grows n [] = omega arith
@@ -42,7 +42,7 @@ length-push (digit ∷ rest) last = ap suc (length-push rest last)
 
 -- a zero at the end of the digits behind the point changes nothing
 pub without-zero : (rest : List ℕ) (negative : Bool) (n : ℕ)
-    → shortest negative (number_after n (rest ++ 48 ∷ [])) (length (rest ++ 48 ∷ [])) ≡ shortest negative (number_after n rest) (length rest)
+    → shortest_form negative (number_after n (rest ++ 48 ∷ [])) (length (rest ++ 48 ∷ [])) ≡ shortest_form negative (number_after n rest) (length rest)
 without-zero rest negative n =
     rw (number-append n rest (48 ∷ []), length-push rest 48, add-zero (number_after n rest * 10))
     (shortest-zero negative (number_after n rest) (length rest))
@@ -56,33 +56,33 @@ last-digit size last digit other =
 
 -- another digit at the end is the end
 pub up-to-digit : (rest : List ℕ) (last : ℕ) (negative : Bool) (n : ℕ) → is_digit last ≡ true → last ≢ 48
-    → shortest negative (number_after n (rest ++ last ∷ [])) (length (rest ++ last ∷ []))
-    ≡ record { coefficient = signed negative (number_after n (rest ++ last ∷ [])); scale = length (rest ++ last ∷ []) }
+    → shortest_form negative (number_after n (rest ++ last ∷ [])) (length (rest ++ last ∷ []))
+    ≡ record { coefficient = with_sign negative (number_after n (rest ++ last ∷ [])); scale = length (rest ++ last ∷ []) }
 up-to-digit rest last negative n digit other =
     rw (length-push rest last, number-append n rest (last ∷ []))
     (shortest-other negative _ _ (last-digit (number_after n rest) last digit other))
 
 -- the exact decimal, by its shortest form
-exactly-is : (negative : Bool) (size scale m s : ℕ) → shortest negative size scale ≡ record { coefficient = signed negative m; scale = s }
-    → exactly negative size scale ≡ cond (nat_le s most_digits && nat_le m largest) (Some (record { coefficient = signed negative m; scale = s })) None
+exactly-is : (negative : Bool) (size scale m s : ℕ) → shortest_form negative size scale ≡ record { coefficient = with_sign negative m; scale = s }
+    → exact_decimal negative size scale ≡ cond (nat_le s most_digits && nat_le m largest) (Some (record { coefficient = with_sign negative m; scale = s })) None
 exactly-is negative size scale m s is = rw (is, unsigned_abs-signed negative m) refl
 
-pub exactly-many : (negative : Bool) (size scale m s : ℕ) → shortest negative size scale ≡ shortest negative m s
-    → shortest negative m s ≡ record { coefficient = signed negative m; scale = s } → most_digits < s → None ≡ exactly negative size scale
+pub exactly-many : (negative : Bool) (size scale m s : ℕ) → shortest_form negative size scale ≡ shortest_form negative m s
+    → shortest_form negative m s ≡ record { coefficient = with_sign negative m; scale = s } → most_digits < s → None ≡ exact_decimal negative size scale
 exactly-many negative size scale m s same is many =
     let fails : nat_le s most_digits ≡ false = grind (arith, nat_tests) in
     sym (exactly-is negative size scale m s (same ∙ is) ∙ rw fails refl)
 
-pub exactly-past : (negative : Bool) (size scale m s : ℕ) → shortest negative size scale ≡ shortest negative m s
-    → shortest negative m s ≡ record { coefficient = signed negative m; scale = s } → s ≤ most_digits → (m ≤ largest → ⊥) → None ≡ exactly negative size scale
+pub exactly-past : (negative : Bool) (size scale m s : ℕ) → shortest_form negative size scale ≡ shortest_form negative m s
+    → shortest_form negative m s ≡ record { coefficient = with_sign negative m; scale = s } → s ≤ most_digits → (m ≤ largest → ⊥) → None ≡ exact_decimal negative size scale
 exactly-past negative size scale m s same is few past =
     let fits : nat_le s most_digits ≡ true = grind (arith, nat_tests) in
     let fails : nat_le m largest ≡ false = grind (arith, nat_tests) in
     sym (exactly-is negative size scale m s (same ∙ is) ∙ rw (fits, fails) refl)
 
-pub exactly-some : (negative : Bool) (size scale m s : ℕ) → shortest negative size scale ≡ shortest negative m s
-    → shortest negative m s ≡ record { coefficient = signed negative m; scale = s } → s ≤ most_digits → m ≤ largest
-    → Some (shortest negative m s) ≡ exactly negative size scale
+pub exactly-some : (negative : Bool) (size scale m s : ℕ) → shortest_form negative size scale ≡ shortest_form negative m s
+    → shortest_form negative m s ≡ record { coefficient = with_sign negative m; scale = s } → s ≤ most_digits → m ≤ largest
+    → Some (shortest_form negative m s) ≡ exact_decimal negative size scale
 exactly-some negative size scale m s same is few fit =
     let first : nat_le s most_digits ≡ true = grind (arith, nat_tests) in
     let second : nat_le m largest ≡ true = grind (arith, nat_tests) in
@@ -91,12 +91,12 @@ exactly-some negative size scale m s same is few fit =
 -- the steps of the code that leaves the last zeros out
 
 pub ends-here : (xs rest : List ℕ) (last : ℕ) → xs ≡ rest ++ last ∷ [] → are_digits xs ≡ true → last ≢ 48 → (negative : Bool) (n : ℕ)
-    → shortest negative (number_after n xs) (length xs) ≡ record { coefficient = signed negative (number_after n xs); scale = length xs }
+    → shortest_form negative (number_after n xs) (length xs) ≡ record { coefficient = with_sign negative (number_after n xs); scale = length xs }
 ends-here xs rest last is digits other negative n =
     rw is (up-to-digit rest last negative n ((digits-before rest last (rw is at digits)).1) other)
 
 pub zero-goes : (xs rest : List ℕ) (last : ℕ) → xs ≡ rest ++ last ∷ [] → last ≡ 48 → (negative : Bool) (n : ℕ)
-    → shortest negative (number_after n xs) (length xs) ≡ shortest negative (number_after n rest) (length rest)
+    → shortest_form negative (number_after n xs) (length xs) ≡ shortest_form negative (number_after n rest) (length rest)
 zero-goes xs rest last is zero-last-digit negative n = rw (is, zero-last-digit) (without-zero rest negative n)
 
 pub rest-digits : (xs rest : List ℕ) (last : ℕ) → xs ≡ rest ++ last ∷ [] → are_digits xs ≡ true → are_digits rest ≡ true

@@ -1,4 +1,5 @@
--- Decimals of at most 18 digits after the point, and the decimal that a fraction of whole numbers is cut to.
+-- Definitions: decimals of at most 18 digits after the point, and the decimal that a fraction of whole numbers is cut to
+-- (XML Schema 1.1 part 2, section 3.3.3: a processor may limit the digits of a decimal).
 use Rattle.std.specs.Prelude.{ℕ, zero, suc, ◌*◌, ◌/◌, ◌%◌, ◌^◌, ◌-◌, ◌≤◌, Bool, cond, nat_le, ◌==◌, ℤ, pos, neg_ℤ, unsigned_abs, int_lt, Option, Some, None, option_map, MatchOption, ◌*ℤ◌, ◌<◌, ◌≡◌, ◌≢◌, ◌⊎◌}
 
 -- the greatest size of an integer, and of a decimal's coefficient
@@ -6,8 +7,8 @@ abbrev pub largest : ℕ
 largest = 2 ^ 63 - 1
 
 -- the integer n, where its size is within the range
-abbrev pub held : ℤ → Option ℤ
-held n = cond (nat_le (unsigned_abs n) largest) (Some n) None
+abbrev pub integer_in_range : ℤ → Option ℤ
+integer_in_range n = cond (nat_le (unsigned_abs n) largest) (Some n) None
 
 -- the most digits after the point
 abbrev pub most_digits : ℕ
@@ -25,17 +26,17 @@ pub record IsDecimal (number : Scaled) : Type 0 where
   pub no_trailing_zero : (number.scale ≡ 0) ⊎ (unsigned_abs number.coefficient % 10 ≢ 0)
 
 -- a size with a sign
-abbrev pub signed : Bool → ℕ → ℤ
-signed negative size = cond negative (neg_ℤ (pos size)) (pos size)
+abbrev pub with_sign : Bool → ℕ → ℤ
+with_sign negative size = cond negative (neg_ℤ (pos size)) (pos size)
 
 abbrev pub is_below_zero : ℤ → Bool
 is_below_zero n = int_lt n (pos 0)
 
 -- size / 10 ^ scale as a decimal, under a sign: the zeros that end the digits after the point are dropped
-abbrev pub shortest : Bool → ℕ → ℕ → Scaled
-shortest negative size zero = record { coefficient = signed negative size; scale = 0 }
-shortest negative size (suc scale) =
-    cond (size % 10 == 0) (shortest negative (size / 10) scale) (record { coefficient = signed negative size; scale = suc scale })
+abbrev pub shortest_form : Bool → ℕ → ℕ → Scaled
+shortest_form negative size zero = record { coefficient = with_sign negative size; scale = 0 }
+shortest_form negative size (suc scale) =
+    cond (size % 10 == 0) (shortest_form negative (size / 10) scale) (record { coefficient = with_sign negative size; scale = suc scale })
 
 -- the greatest number up to the bound at which the test holds
 unfoldable pub greatest : (ℕ → Bool) → ℕ → Option ℕ
@@ -53,7 +54,7 @@ scale_of numerator denominator = greatest (λ scale. nat_le (cut numerator denom
 -- The decimal that a size numerator / denominator is cut to, under a sign.
 abbrev pub fit_size : Bool → ℕ → ℕ → Option Scaled
 fit_size negative numerator denominator =
-    option_map (λ scale. shortest negative (cut numerator denominator scale) scale) (scale_of numerator denominator)
+    option_map (λ scale. shortest_form negative (cut numerator denominator scale) scale) (scale_of numerator denominator)
 
 -- The decimal that numerator / denominator is cut to, toward zero.
 abbrev pub fit : ℤ → ℕ → Option Scaled
@@ -63,7 +64,7 @@ fit numerator denominator = fit_size (is_below_zero numerator) (unsigned_abs num
 
 -- the number is size / 10 ^ scale, under a sign
 abbrev pub HasValue : Scaled → Bool → ℕ → ℕ → Type 0
-HasValue number negative size scale = number.coefficient *ℤ pos (10 ^ scale) ≡ signed negative size *ℤ pos (10 ^ number.scale)
+HasValue number negative size scale = number.coefficient *ℤ pos (10 ^ scale) ≡ with_sign negative size *ℤ pos (10 ^ number.scale)
 
 -- the scale is the greatest at which the coefficient of the cut number fits
 pub record IsGreatestScale (numerator denominator scale : ℕ) : Type 0 where

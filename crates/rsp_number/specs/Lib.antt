@@ -1,5 +1,6 @@
+-- Definitions: what a reader must believe
 pub mod Decimals
 pub mod Numbers
-pub mod Tallies
 pub mod Texts
+pub mod Tallies
 pub mod Totals

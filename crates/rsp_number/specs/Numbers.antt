@@ -1,9 +1,10 @@
--- Numbers as fractions of whole numbers, and what each operation on them gives.
+-- Definitions: numbers as fractions of whole numbers, and what each operation on them gives (XPath functions 3.1, sections
+-- 4.2 to 4.4: op:numeric-add to op:numeric-divide, op:numeric-less-than, fn:abs to fn:round).
 use Rattle.std.specs.Prelude.{ℕ, ◌*◌, ◌^◌, Bool, cond, ◌==◌, ℤ, pos, ◌+ℤ◌, ◌-ℤ◌, ◌*ℤ◌, ◌≤ℤ◌, ◌<ℤ◌, neg_ℤ, unsigned_abs, Option, None, option_map}
 use Rattle.std.specs.Int.{int_div_euclid}
 use Rattle.std.specs.Ordering.{int_cmp}
 use Rattle.std.specs.declared.cmp.Ordering.{Ordering}
-use Rattle.rsp_number.specs.Decimals.{held, fit, is_below_zero}
+use Rattle.rsp_number.specs.Decimals.{integer_in_range, fit, is_below_zero}
 use Rattle.rsp_number.specs.declared.number.Number.{Number}
 use Rattle.rsp_number.specs.declared.number.Number.TheVariants.{Integer, Decimal}
 
@@ -60,49 +61,49 @@ round_of x = floor_of (plus x (record { numerator = pos 1; denominator = 2 }))
 
 -- ---- results
 
-abbrev pub whole : ℤ → Option Number
-whole n = option_map Integer (held n)
+abbrev pub integer_result : ℤ → Option Number
+integer_result n = option_map Integer (integer_in_range n)
 
 -- the decimal that a fraction is cut to
-abbrev pub cut_to : Fraction → Option Number
-cut_to x = option_map Decimal (fit x.numerator x.denominator)
+abbrev pub decimal_result : Fraction → Option Number
+decimal_result x = option_map Decimal (fit x.numerator x.denominator)
 
 abbrev pub sum : Number → Number → Option Number
-sum (Integer m) (Integer n) = whole (m +ℤ n)
-sum left right = cut_to (plus (value_of left) (value_of right))
+sum (Integer m) (Integer n) = integer_result (m +ℤ n)
+sum left right = decimal_result (plus (value_of left) (value_of right))
 
 abbrev pub difference : Number → Number → Option Number
-difference (Integer m) (Integer n) = whole (m -ℤ n)
-difference left right = cut_to (plus (value_of left) (opposite (value_of right)))
+difference (Integer m) (Integer n) = integer_result (m -ℤ n)
+difference left right = decimal_result (plus (value_of left) (opposite (value_of right)))
 
 abbrev pub product : Number → Number → Option Number
-product (Integer m) (Integer n) = whole (m *ℤ n)
-product left right = cut_to (times (value_of left) (value_of right))
+product (Integer m) (Integer n) = integer_result (m *ℤ n)
+product left right = decimal_result (times (value_of left) (value_of right))
 
 -- a decimal, also where both numbers are integers
 abbrev pub quotient : Number → Number → Option Number
-quotient left right = cond (is_zero (value_of right)) None (cut_to (times (value_of left) (inverse (value_of right))))
+quotient left right = cond (is_zero (value_of right)) None (decimal_result (times (value_of left) (inverse (value_of right))))
 
 -- ---- results of the kind of their argument
 
-abbrev pub negated : Number → Number
-negated (Integer n) = Integer (neg_ℤ n)
-negated (Decimal d) = Decimal (record { coefficient = neg_ℤ d.coefficient; scale = d.scale })
+abbrev pub negation : Number → Number
+negation (Integer n) = Integer (neg_ℤ n)
+negation (Decimal d) = Decimal (record { coefficient = neg_ℤ d.coefficient; scale = d.scale })
 
-abbrev pub absolute : Number → Number
-absolute (Integer n) = Integer (pos (unsigned_abs n))
-absolute (Decimal d) = Decimal (record { coefficient = pos (unsigned_abs d.coefficient); scale = d.scale })
+abbrev pub absolute_value : Number → Number
+absolute_value (Integer n) = Integer (pos (unsigned_abs n))
+absolute_value (Decimal d) = Decimal (record { coefficient = pos (unsigned_abs d.coefficient); scale = d.scale })
 
 -- a whole number of the decimal's kind; integers are whole
-abbrev pub rounded : (Fraction → ℤ) → Number → Number
-rounded to_whole (Integer n) = Integer n
-rounded to_whole (Decimal d) = Decimal (record { coefficient = to_whole (value_of (Decimal d)); scale = 0 })
+abbrev pub rounding : (Fraction → ℤ) → Number → Number
+rounding to_whole (Integer n) = Integer n
+rounding to_whole (Decimal d) = Decimal (record { coefficient = to_whole (value_of (Decimal d)); scale = 0 })
 
 -- ---- order
 
 -- by cross products, since denominators are above 0
-abbrev pub compared : Number → Number → Ordering
-compared left right =
+abbrev pub comparison : Number → Number → Ordering
+comparison left right =
     let x = value_of left in
     let y = value_of right in
     int_cmp (x.numerator *ℤ pos y.denominator) (y.numerator *ℤ pos x.denominator)

@@ -1,4 +1,4 @@
--- What a total holds.
+-- Definitions: what a total holds.
 use Rattle.std.specs.Prelude.{ℕ, ◌+◌, ◌*◌, ◌%◌, ◌^◌, ◌≤◌, ℤ, unsigned_abs, ◌≡◌}
 use Rattle.rsp_number.specs.Decimals.{largest}
 

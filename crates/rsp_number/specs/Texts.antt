@@ -1,6 +1,7 @@
--- The written forms of integers and decimals, as bytes, and what they read as.
+-- Definitions: the written forms of integers and decimals, as bytes, and what they read as (XML Schema 1.1 part 2, sections
+-- 3.3.3 and 3.4.13).
 use Rattle.std.specs.Prelude.{ℕ, ◌+◌, ◌-◌, ◌*◌, Bool, true, false, cond, not, ◌&&◌, ◌||◌, nat_le, ◌==◌, ℤ, unsigned_abs, List, [], ◌∷◌, ◌++◌, length, Option, Some, None, ◌≡◌}
-use Rattle.rsp_number.specs.Decimals.{largest, most_digits, Scaled, IsDecimal, HasValue, held, signed, shortest}
+use Rattle.rsp_number.specs.Decimals.{largest, most_digits, Scaled, IsDecimal, HasValue, integer_in_range, with_sign, shortest_form}
 use Rattle.rsp_number.specs.declared.reading.Reading.{Reading}
 use Rattle.rsp_number.specs.declared.reading.Reading.TheVariants.{Value, Beyond, NotForm}
 
@@ -18,9 +19,9 @@ is_negative [] = false
 is_negative (byte ∷ rest) = byte == 45
 
 -- the text behind its sign, if it has one
-abbrev pub unsigned : List ℕ → List ℕ
-unsigned [] = []
-unsigned (byte ∷ rest) = cond (is_sign byte) rest (byte ∷ rest)
+abbrev pub without_sign : List ℕ → List ℕ
+without_sign [] = []
+without_sign (byte ∷ rest) = cond (is_sign byte) rest (byte ∷ rest)
 
 abbrev pub are_digits : List ℕ → Bool
 are_digits [] = true
@@ -43,19 +44,19 @@ number_after n (digit ∷ rest) = number_after (n * 10 + (digit - 48)) rest
 
 -- an optional sign and digits, at least one
 abbrev pub has_integer_form : List ℕ → Bool
-has_integer_form text = are_digits (unsigned text) && not (length (unsigned text) == 0)
+has_integer_form text = are_digits (without_sign text) && not (length (without_sign text) == 0)
 
 -- an optional sign, and digits with at most one '.' before, among or behind them, at least one digit
 abbrev pub has_decimal_form : List ℕ → Bool
 has_decimal_form text =
-    are_digits (before_point (unsigned text))
-    && (are_digits (behind_point (unsigned text))
-    && not (length (before_point (unsigned text)) + length (behind_point (unsigned text)) == 0))
+    are_digits (before_point (without_sign text))
+    && (are_digits (behind_point (without_sign text))
+    && not (length (before_point (without_sign text)) + length (behind_point (without_sign text)) == 0))
 
 -- the decimal that is exactly size / 10 ^ scale, under a sign, where one is: its shortest form is within the ranges
-abbrev pub exactly : Bool → ℕ → ℕ → Option Scaled
-exactly negative size scale =
-    let number = shortest negative size scale in
+abbrev pub exact_decimal : Bool → ℕ → ℕ → Option Scaled
+exact_decimal negative size scale =
+    let number = shortest_form negative size scale in
     cond (nat_le number.scale most_digits && nat_le (unsigned_abs number.coefficient) largest) (Some number) None
 
 -- a number of the form is Beyond where there is none
@@ -65,15 +66,15 @@ value_or_beyond (Some value) = Value value
 
 abbrev pub read_integer : List ℕ → Reading ℤ
 read_integer text =
-    cond (has_integer_form text) (value_or_beyond (held (signed (is_negative text) (number_after 0 (unsigned text))))) NotForm
+    cond (has_integer_form text) (value_or_beyond (integer_in_range (with_sign (is_negative text) (number_after 0 (without_sign text))))) NotForm
 
 -- the digits of both sides of the point write the coefficient, and those behind it are counted by the scale
 abbrev pub read_decimal : List ℕ → Reading Scaled
 read_decimal text =
     cond (has_decimal_form text)
     (value_or_beyond
-    (exactly (is_negative text) (number_after 0 (before_point (unsigned text) ++ behind_point (unsigned text)))
-    (length (behind_point (unsigned text)))))
+    (exact_decimal (is_negative text) (number_after 0 (before_point (without_sign text) ++ behind_point (without_sign text)))
+    (length (behind_point (without_sign text)))))
     NotForm
 
 -- ---- what a text reads as, in terms of values
@@ -81,8 +82,8 @@ read_decimal text =
 -- the number is what the text writes
 abbrev pub IsWritten : List ℕ → Scaled → Type 0
 IsWritten text number =
-    HasValue number (is_negative text) (number_after 0 (before_point (unsigned text) ++ behind_point (unsigned text)))
-    (length (behind_point (unsigned text)))
+    HasValue number (is_negative text) (number_after 0 (before_point (without_sign text) ++ behind_point (without_sign text)))
+    (length (behind_point (without_sign text)))
 
 -- A decimal that the text writes, or Beyond where it writes none that there is.
 abbrev pub IsReadExactly : List ℕ → Reading Scaled → Type 0

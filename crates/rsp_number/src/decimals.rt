@@ -1,7 +1,7 @@
 //! Decimals: a coefficient of at most 2^63 - 1 in size over a power of ten, with at most 18 digits after the point.
 
 ghost use Rattle.std.specs.Prelude.{◌≡◌, ◌≤◌, ◌^◌, ◌-◌, ◌*◌, ◌*ℤ◌, neg_ℤ, pos, unsigned_abs};
-ghost use Rattle.rsp_number.specs.Decimals.{largest, most_digits, shortest, IsDecimal};
+ghost use Rattle.rsp_number.specs.Decimals.{largest, most_digits, shortest_form, IsDecimal};
 
 use crate::integers::IntegerNumber;
 use crate::wide::Wide;
@@ -86,7 +86,7 @@ impl DecimalNumber {
     pub(crate) fn shortest(negative: bool, size: u64, scale: u32) -> DecimalNumber
         requires size { size ≤ largest }
         requires scale { scale ≤ most_digits }
-        ensures { result ≡ shortest negative size scale }
+        ensures { result ≡ shortest_form negative size scale }
     {
         let mut rest = size;
         let mut digits = scale;

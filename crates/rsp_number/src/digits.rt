@@ -1,7 +1,7 @@
 //! The parts of a written number.
 
 ghost use Rattle.std.specs.Prelude.{◌≡◌, ◌≤◌, ◌+◌, length, take, drop};
-ghost use Rattle.rsp_number.specs.Texts.{is_negative, unsigned, are_digits, before_point, behind_point};
+ghost use Rattle.rsp_number.specs.Texts.{is_negative, without_sign, are_digits, before_point, behind_point};
 
 /// Whether the text begins with '-'.
 pub(crate) fn is_negative(text: &[u8]) -> bool
@@ -15,7 +15,7 @@ pub(crate) fn is_negative(text: &[u8]) -> bool
 
 /// The text behind its sign, if it has one.
 pub(crate) fn unsigned(text: &[u8]) -> &[u8]
-    ensures { result.now ≡ unsigned text.now }
+    ensures { result.now ≡ without_sign text.now }
 {
     match text {
         [b'+' | b'-', rest @ ..] => rest,

@@ -1,7 +1,7 @@
 //! Integers from -(2^63 - 1) to 2^63 - 1.
 
 ghost use Rattle.std.specs.Prelude.{◌≡◌, ◌≤◌, ◌^◌, ◌+ℤ◌, ◌-ℤ◌, ◌*ℤ◌, ℤ, neg_ℤ, pos, unsigned_abs};
-ghost use Rattle.rsp_number.specs.Decimals.{largest, held, signed, is_below_zero};
+ghost use Rattle.rsp_number.specs.Decimals.{largest, integer_in_range, with_sign, is_below_zero};
 
 use crate::wide::Wide;
 use std::marker::Model;
@@ -28,7 +28,7 @@ impl Model for IntegerNumber {
 impl IntegerNumber {
     /// The integer of this value; None exactly for -2^63, whose size is past 2^63 - 1.
     pub fn new(value: i64) -> Option<IntegerNumber>
-        ensures { result ≡ held value }
+        ensures { result ≡ integer_in_range value }
     {
         if value == i64::MIN {
             None
@@ -79,7 +79,7 @@ impl IntegerNumber {
     /// The integer of this size, negated where `negative`.
     pub(crate) fn signed(negative: bool, size: u64) -> IntegerNumber
         requires { size ≤ largest }
-        ensures { result ≡ signed negative size }
+        ensures { result ≡ with_sign negative size }
     {
         let value = size as i64;
         if negative {
@@ -91,7 +91,7 @@ impl IntegerNumber {
 
     /// The sum; None exactly where its size is past 2^63 - 1.
     pub(crate) fn plus(self, other: IntegerNumber) -> Option<IntegerNumber>
-        ensures { result ≡ held (self +ℤ other) }
+        ensures { result ≡ integer_in_range (self +ℤ other) }
     {
         match self.value.checked_add(other.value) {
             Some(sum) => IntegerNumber::new(sum),
@@ -101,7 +101,7 @@ impl IntegerNumber {
 
     /// The difference; None exactly where its size is past 2^63 - 1.
     pub(crate) fn minus(self, other: IntegerNumber) -> Option<IntegerNumber>
-        ensures { result ≡ held (self -ℤ other) }
+        ensures { result ≡ integer_in_range (self -ℤ other) }
     {
         match self.value.checked_sub(other.value) {
             Some(difference) => IntegerNumber::new(difference),
@@ -111,7 +111,7 @@ impl IntegerNumber {
 
     /// The product; None exactly where its size is past 2^63 - 1.
     pub(crate) fn times(self, other: IntegerNumber) -> Option<IntegerNumber>
-        ensures { result ≡ held (self *ℤ other) }
+        ensures { result ≡ integer_in_range (self *ℤ other) }
     {
         match self.value.checked_mul(other.value) {
             Some(product) => IntegerNumber::new(product),

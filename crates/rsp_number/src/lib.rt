@@ -28,6 +28,3 @@ pub use order::compare;
 pub use reading::{Reading, decimal, integer};
 pub use rounding::{abs, ceil, floor, neg, round};
 pub use total::Total;
-
-#[cfg(test)]
-mod tests;

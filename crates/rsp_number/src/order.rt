@@ -1,7 +1,7 @@
 //! The order of numbers by their values.
 
 ghost use Rattle.std.specs.Prelude.{◌≡◌};
-ghost use Rattle.rsp_number.specs.Numbers.{compared};
+ghost use Rattle.rsp_number.specs.Numbers.{comparison};
 ghost use Rattle.rsp_number.specs.Totals.{units};
 ghost use Rattle.std.specs.Ordering.{int_cmp};
 
@@ -10,7 +10,7 @@ use std::cmp::Ordering;
 
 /// The order of the two values, whatever their kinds.
 pub fn compare(left: &Number, right: &Number) -> Ordering
-    ensures value { result ≡ compared left.now right.now }
+    ensures value { result ≡ comparison left.now right.now }
     ensures units { result ≡ int_cmp (units left.now) (units right.now) }
 {
     left.in_units().compare(right.in_units())

@@ -3,7 +3,7 @@
 ghost use Rattle.std.specs.Prelude.{◌≡◌, ◌≤◌, unsigned_abs};
 ghost use Rattle.rsp_number.specs.Decimals.{largest};
 ghost use Rattle.rsp_number.specs.declared.number.Number.TheVariants.{Decimal};
-ghost use Rattle.rsp_number.specs.Numbers.{value_of, negated, absolute, rounded, IsFloor, floor_of, ceil_of, round_of};
+ghost use Rattle.rsp_number.specs.Numbers.{value_of, negation, absolute_value, rounding, IsFloor, floor_of, ceil_of, round_of};
 
 use crate::decimals::DecimalNumber;
 use crate::integers::IntegerNumber;
@@ -12,7 +12,7 @@ use crate::wide::Wide;
 
 /// The number with the other sign.
 pub fn neg(number: &Number) -> Number
-    ensures { result ≡ negated number.now }
+    ensures { result ≡ negation number.now }
 {
     match number {
         Number::Integer(integer) => Number::Integer(integer.opposite()),
@@ -22,7 +22,7 @@ pub fn neg(number: &Number) -> Number
 
 /// The number without its sign.
 pub fn abs(number: &Number) -> Number
-    ensures { result ≡ absolute number.now }
+    ensures { result ≡ absolute_value number.now }
 {
     match number {
         Number::Integer(integer) => Number::Integer(integer.absolute()),
@@ -32,7 +32,7 @@ pub fn abs(number: &Number) -> Number
 
 /// The least whole number that is not below the number.
 pub fn ceil(number: &Number) -> Number
-    ensures { result ≡ rounded ceil_of number.now }
+    ensures { result ≡ rounding ceil_of number.now }
 {
     match number {
         Number::Integer(integer) => Number::Integer(*integer),
@@ -42,7 +42,7 @@ pub fn ceil(number: &Number) -> Number
 
 /// The greatest whole number that is not above the number.
 pub fn floor(number: &Number) -> Number
-    ensures { result ≡ rounded floor_of number.now }
+    ensures { result ≡ rounding floor_of number.now }
 {
     match number {
         Number::Integer(integer) => Number::Integer(*integer),
@@ -52,7 +52,7 @@ pub fn floor(number: &Number) -> Number
 
 /// The nearest whole number, and of two that are as near the greater.
 pub fn round(number: &Number) -> Number
-    ensures { result ≡ rounded round_of number.now }
+    ensures { result ≡ rounding round_of number.now }
 {
     match number {
         Number::Integer(integer) => Number::Integer(*integer),

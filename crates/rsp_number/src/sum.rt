@@ -1,7 +1,7 @@
 //! Sums in units of 10^-18 that are wider than 128 bits: the whole part and the fraction are kept apart.
 
 ghost use Rattle.std.specs.Prelude.{◌≡◌, ◌≤◌, ◌<◌, ◌*◌, ◌^◌, ◌+ℤ◌, ◌*ℤ◌, ℤ, neg_ℤ, pos, int_div, unsigned_abs};
-ghost use Rattle.rsp_number.specs.Decimals.{largest, held, fit};
+ghost use Rattle.rsp_number.specs.Decimals.{largest, integer_in_range, fit};
 ghost use Rattle.rsp_number.specs.Tallies.{IsWhole};
 
 use crate::decimals::DecimalNumber;
@@ -90,7 +90,7 @@ impl Sum {
     /// The integer that it is; None exactly where its size is past 2^63 - 1.
     pub(crate) fn whole(&self) -> Option<IntegerNumber>
         requires { IsWhole self.now }
-        ensures { result ≡ held (int_div self.now (pos (10 ^ 18))) }
+        ensures { result ≡ integer_in_range (int_div self.now (pos (10 ^ 18))) }
     {
         if self.whole.size() > LARGEST as u128 {
             None

@@ -3,7 +3,7 @@
 ghost use Rattle.std.specs.Prelude.{◌≡◌, ◌≤◌, ◌+◌, ◌*◌, ◌^◌, unsigned_abs};
 ghost use Rattle.rsp_number.specs.Decimals.{largest};
 ghost use Rattle.rsp_number.specs.Tallies.{IsTally, IsWhole, IsWithin};
-ghost use Rattle.rsp_number.specs.Totals.{units, integers_of, decimals_of, nothing, taken, given, value_of_total};
+ghost use Rattle.rsp_number.specs.Totals.{units, integers_of, decimals_of, empty_tally, after_taking, after_giving, value_of_total};
 
 use crate::number::Number;
 use crate::sum::Sum;
@@ -30,7 +30,7 @@ impl Model for Total {
 impl Total {
     /// The sum of no numbers.
     pub fn new() -> Total
-        ensures { result ≡ nothing }
+        ensures { result ≡ empty_tally }
     {
         Total {
             sum: Sum::nothing(),
@@ -42,7 +42,7 @@ impl Total {
     /// Takes the number in, `times` times; at most 2^32 numbers are then in the total.
     pub fn take(&mut self, number: &Number, times: u64)
         requires { self.old.integers + self.old.decimals + times ≤ 2 ^ 32 }
-        ensures total { self.new ≡ taken self.old number.now times }
+        ensures total { self.new ≡ after_taking self.old number.now times }
         ensures range { unsigned_abs (units number.now) ≤ largest * 10 ^ 18 }
     {
         let part = in_units(number).times(times);
@@ -58,9 +58,9 @@ impl Total {
     pub fn give(&mut self, number: &Number, times: u64)
         requires integers { integers_of number.now times ≤ self.old.integers }
         requires decimals { decimals_of number.now times ≤ self.old.decimals }
-        requires within { let after = given self.old number.now times in IsWithin after.sum (after.integers + after.decimals) }
-        requires whole { let after = given self.old number.now times in after.decimals ≡ 0 → IsWhole after.sum }
-        ensures { self.new ≡ given self.old number.now times }
+        requires within { let after = after_giving self.old number.now times in IsWithin after.sum (after.integers + after.decimals) }
+        requires whole { let after = after_giving self.old number.now times in after.decimals ≡ 0 → IsWhole after.sum }
+        ensures { self.new ≡ after_giving self.old number.now times }
     {
         let before = &self.sum;
         let part = in_units(number).times(times).opposite();

@@ -1,8 +1,8 @@
 //! The numbers that digits write.
 
 ghost use Rattle.std.specs.Prelude.{◌≡◌, ◌≤◌, ◌++◌, Bool, true, ℕ, length, SomeIff};
-ghost use Rattle.rsp_number.specs.Decimals.{largest, held, signed, shortest};
-ghost use Rattle.rsp_number.specs.Texts.{are_digits, number_after, exactly};
+ghost use Rattle.rsp_number.specs.Decimals.{largest, integer_in_range, with_sign, shortest_form};
+ghost use Rattle.rsp_number.specs.Texts.{are_digits, number_after, exact_decimal};
 
 use crate::decimals::{DecimalNumber, MOST_DIGITS};
 use crate::integers::{IntegerNumber, LARGEST};
@@ -10,7 +10,7 @@ use crate::integers::{IntegerNumber, LARGEST};
 /// The integer that the digits write, negated where `negative`; None exactly where its size is past 2^63 - 1.
 pub(crate) fn written_integer(negative: bool, digits: &[u8]) -> Option<IntegerNumber>
     requires { are_digits digits.now ≡ true }
-    ensures { result ≡ held (signed negative (number_after 0 digits.now)) }
+    ensures { result ≡ integer_in_range (with_sign negative (number_after 0 digits.now)) }
 {
     match size_after(0, digits) {
         Some(size) => Some(IntegerNumber::signed(negative, size)),
@@ -27,7 +27,7 @@ pub(crate) fn written_decimal(
 ) -> Option<DecimalNumber>
     requires whole { are_digits whole.now ≡ true }
     requires fraction { are_digits fraction.now ≡ true }
-    ensures { result ≡ exactly negative (number_after 0 (whole.now ++ fraction.now)) (length fraction.now) }
+    ensures { result ≡ exact_decimal negative (number_after 0 (whole.now ++ fraction.now)) (length fraction.now) }
 {
     let digits = without_last_zeros(fraction);
     if digits.len() > MOST_DIGITS as usize {
@@ -55,10 +55,10 @@ fn size_of_both(whole: &[u8], fraction: &[u8]) -> Option<u64>
 fn without_last_zeros(fraction: &[u8]) -> &[u8]
     requires { are_digits fraction.now ≡ true }
     ensures digits { are_digits result.now ≡ true }
-    ensures same { (negative : Bool) (n : ℕ) → shortest negative (number_after n fraction.now) (length fraction.now)
-        ≡ shortest negative (number_after n result.now) (length result.now) }
-    ensures shortest { (negative : Bool) (n : ℕ) → shortest negative (number_after n result.now) (length result.now)
-        ≡ record { coefficient = signed negative (number_after n result.now); scale = length result.now } }
+    ensures same { (negative : Bool) (n : ℕ) → shortest_form negative (number_after n fraction.now) (length fraction.now)
+        ≡ shortest_form negative (number_after n result.now) (length result.now) }
+    ensures shortest { (negative : Bool) (n : ℕ) → shortest_form negative (number_after n result.now) (length result.now)
+        ≡ record { coefficient = with_sign negative (number_after n result.now); scale = length result.now } }
 {
     let mut digits = fraction;
     while let Some((last, rest)) = digits.split_last() {

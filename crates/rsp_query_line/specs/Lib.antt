@@ -1,2 +1,3 @@
+-- Definitions: what a reader must believe
 pub mod QueryLine
 pub mod Meaning

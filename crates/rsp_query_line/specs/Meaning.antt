@@ -1,4 +1,4 @@
--- The algebra tree of a query line (SPARQL 1.1 Query, section 18.2): the projection of the join of its patterns.
+-- Definitions: the algebra tree of a query line (SPARQL 1.1 Query, section 18.2): the projection of the join of its patterns.
 use Rattle.std.specs.Prelude.{ℕ, List, length, map}
 use Rattle.std.specs.List.{position_or_len}
 use Rattle.rsp_terms.specs.declared.term.Term.TheVariants.{Iri}

@@ -1,4 +1,4 @@
--- The one form of query text that is built by now: some variables of all rows of 1 to 8 triple patterns over one window
+-- Definitions: the one form of query text that is built by now: some variables of all rows of 1 to 8 triple patterns over one window
 -- of the stream `s:a`, reported where the window closes. It is one line of fields with single spaces between.
 use Rattle.std.specs.Prelude.{ℕ, zero, suc, ◌-◌, ◌*◌, Bool, ◌&&◌, ◌==◌, nat_eq, nat_lt, nat_le, if◌then◌else◌, Option, None, Some, is_some, List, [], ◌∷◌, ◌++◌, length, take, drop, fold, codes, slice_index}
 use Rattle.std.specs.Char.{is_ascii_alphanumeric, is_ascii_digit}

@@ -15,6 +15,3 @@ mod written;
 pub use line::{Line, query_line};
 pub use translation::translated;
 pub use written::{Part, Written};
-
-#[cfg(test)]
-mod tests;

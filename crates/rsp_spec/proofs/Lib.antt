@@ -1,3 +1,4 @@
 pub mod Truths
 pub mod WindowLaws
 pub mod WindowRows
+pub mod ContentLaws

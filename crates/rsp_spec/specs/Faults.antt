@@ -1,4 +1,4 @@
--- Counts of faults: 64-bit numbers that never fall, and that a fault raises until they stand at their type's end.
+-- Definitions: counts of faults: 64-bit numbers that never fall, and that a fault raises until they stand at their type's end.
 use Rattle.std.specs.Prelude.{ℕ, ◌+◌, ◌-◌, ◌^◌, ◌≤◌, min, ⊤, MatchResult, Result}
 
 -- the count rose; one that stands at 2^64 - 1 is taken as one that rose

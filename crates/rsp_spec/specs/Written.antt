@@ -1,4 +1,4 @@
--- What was written of a text, where the bytes that a sink has taken are known.
+-- Definitions: what was written of a text, where the bytes that a sink has taken are known.
 use Rattle.std.specs.Prelude.{◌≡◌, ℕ, List, ◌++◌, Option}
 use Rattle.std.specs.Io.KnownBytes.{Appends}
 

@@ -41,31 +41,3 @@ impl<L: Ledger> Steps<L> {
         self.book.add(&mut self.share, 1);
     }
 }
-
-#[cfg(test)]
-mod tests {
-    use super::*;
-    use std::marker::Brand;
-
-    // what a function that counts from nothing looks like
-    fn two_ticks<L: Ledger>(blank: Blank)
-        requires name { blank.name ≡ L.name }
-        requires parts { blank.parts ≡ L.parts }
-        requires some { 0 < blank.parts }
-    {
-        let mut steps: Steps<L> = Steps::new(blank);
-        ticks_twice(&mut steps);
-    }
-
-    fn ticks_twice<L: Ledger>(steps: &mut Steps<L>)
-        ensures { steps.new ≡ steps.old + 2 }
-    {
-        steps.tick();
-        steps.tick();
-    }
-
-    #[test]
-    fn counts_over_brand() {
-        two_ticks::<Brand>(Blank::new(1));
-    }
-}

@@ -1,4 +1,4 @@
--- The text of a report: its head, the names of its variables, and its rows (SPARQL 1.1 Query Results TSV Format).
+-- Definitions: the text of a report: its head, the names of its variables, and its rows (SPARQL 1.1 Query Results TSV Format).
 use Rattle.std.specs.Prelude.{ℕ, List, [], ◌∷◌, ◌++◌, length, map, codes}
 use Rattle.std.specs.List.{join_with_byte}
 use Rattle.std.specs.Fmt.{decimal}

@@ -1,4 +1,4 @@
--- Rows of a report (SPARQL 1.1 Query Results TSV Format, section 4) and their order.
+-- Definitions: rows of a report (SPARQL 1.1 Query Results TSV Format, section 4) and their order.
 use Rattle.std.specs.Prelude.{ℕ, Bool, if◌then◌else◌, List, [], ◌∷◌, Option, Some, None, map}
 use Rattle.std.specs.List.{join_with_byte}
 use Rattle.std.specs.Ordering.{nat_cmp, is_gt}

@@ -8,8 +8,6 @@
 mod listing;
 mod operator;
 mod order;
-#[cfg(test)]
-mod tests;
 mod text;
 
 pub use listing::rows_of;

@@ -7,7 +7,7 @@ use Rattle.std.proofs.lemmas.Grind.{get_or_default_zero}
 use Rattle.std.specs.List.{list_all, slice_split, All}
 use Rattle.std.proofs.lemmas.List.Splits.{slice_split_none, slice_split_at}
 use Rattle.rsp_spec.proofs.Truths.{differs}
-use Rattle.rsp_terms.specs.Characters.{is_scheme_character, goes_on_to_colon, is_absolute, is_label_start, is_label_character, is_label_text, last_of, is_run_of, are_subtags, is_tag_text}
+use Rattle.rsp_terms.specs.Characters.{is_label_start, is_label_character, is_label_text, last_of, is_run_of, are_subtags, is_tag_text}
 
 pub chars_of_empty : (bytes : List ℕ) → length bytes ≡ 0 → chars bytes ≡ []
 chars_of_empty bytes none = ap chars (nil_from_length bytes none) ∙ chars-nil
@@ -19,18 +19,6 @@ ends_label last others = list_all is_label_character others && not (last_of last
 module _ (text rest : List ℕ) (c : ℕ) (whole : IsUtf8 text) (parts : text ≡ encode_utf8 c ++ rest) where
   step : chars text ≡ c ∷ chars rest
   step = chars_past_char text rest c whole parts
-
-  pub colon_here : c ≡ 58 → goes_on_to_colon (chars text) ≡ true
-  colon_here is = rw (step, is)
-
-  pub colon_later : c ≢ 58 → is_scheme_character c ≡ true → goes_on_to_colon (chars text) ≡ goes_on_to_colon (chars rest)
-  colon_later other in_scheme = rw (step, differs c 58 other, in_scheme)
-
-  pub no_colon : c ≢ 58 → is_scheme_character c ≡ false → goes_on_to_colon (chars text) ≡ false
-  no_colon other outside = rw (step, differs c 58 other, outside)
-
-  pub letter_first : is_ascii_alphabetic c ≡ true → is_absolute (chars text) ≡ goes_on_to_colon (chars rest)
-  letter_first is = rw (step, is)
 
   pub label_later : (last : ℕ) → is_label_character c ≡ true → ends_label last (chars text) ≡ ends_label c (chars rest)
   label_later last passes = rw (step, passes)

@@ -11,7 +11,7 @@ use Rattle.std.specs.Str.{bytes_eq}
 use Rattle.std.specs.Str.Parse.{AllDigits}
 use Rattle.rsp_terms.specs.declared.term.Term.{Term}
 use Rattle.rsp_terms.specs.declared.term.Term.TheVariants.{Iri, Blank, Literal, Tagged}
-use Rattle.rsp_terms.specs.Terms.{printed, iri_text, string_text, escaped, escaped_byte, datatype_text, xsd_string, IsNumbered}
+use Rattle.rsp_terms.specs.Terms.{printed, iri_text, string_text, escaped_text, escaped_byte, datatype_text, xsd_string, HasShortNumber}
 
 abbrev head : List ℕ → ℕ
 head [] = 0
@@ -38,19 +38,19 @@ read false (c ∷ bytes) = cond (c == 34) ([], bytes) (cond (c == 92) (read true
 read-escaped_byte : (byte : ℕ) (bytes : List ℕ) → read false (escaped_byte byte ++ bytes) ≡ put byte (read false bytes)
 read-escaped_byte byte bytes = grind (arith, nat_tests)
 
-read-escaped : (lexical rest : List ℕ) → read false (escaped lexical ++ 34 ∷ rest) ≡ (lexical, rest)
-read-escaped [] rest = refl
-read-escaped (byte ∷ lexical) rest =
-    ap (read false) (append_assoc (escaped_byte byte) (escaped lexical) (34 ∷ rest))
-    ∙ read-escaped_byte byte (escaped lexical ++ 34 ∷ rest)
-    ∙ ap (put byte) (read-escaped lexical rest)
+read-escaped_text : (lexical rest : List ℕ) → read false (escaped_text lexical ++ 34 ∷ rest) ≡ (lexical, rest)
+read-escaped_text [] rest = refl
+read-escaped_text (byte ∷ lexical) rest =
+    ap (read false) (append_assoc (escaped_byte byte) (escaped_text lexical) (34 ∷ rest))
+    ∙ read-escaped_byte byte (escaped_text lexical ++ 34 ∷ rest)
+    ∙ ap (put byte) (read-escaped_text lexical rest)
 
 pub strings : (lexical rest other more : List ℕ) → string_text lexical ++ rest ≡ string_text other ++ more → (lexical ≡ other) × (rest ≡ more)
 strings lexical rest other more same =
-    let left = append_assoc (escaped lexical) (34 ∷ []) rest in
-    let right = append_assoc (escaped other) (34 ∷ []) more in
+    let left = append_assoc (escaped_text lexical) (34 ∷ []) rest in
+    let right = append_assoc (escaped_text other) (34 ∷ []) more in
     let both : (lexical, rest) ≡ (other, more) =
-    sym (read-escaped lexical rest) ∙ ap (read false) (sym left ∙ ap tail same ∙ right) ∙ read-escaped other more in
+    sym (read-escaped_text lexical rest) ∙ ap (read false) (sym left ∙ ap tail same ∙ right) ∙ read-escaped_text other more in
     (ap (λ (p : List ℕ × List ℕ). p.0) both, ap (λ (p : List ℕ × List ℕ). p.1) both)
 
 pub iris : (iri other : List ℕ) → iri_text iri ≡ iri_text other → iri ≡ other
@@ -105,7 +105,7 @@ blanks document number label other fits too same =
     (decimal_is_IsNumeral number small_too).0.1 same in
     (decimal_injective document number small small_too both.0, both.1)
 
-pub same_from_printed : (term other : Term) → IsNumbered term → IsNumbered other → printed term ≡ printed other → term ≡ other
+pub same_from_printed : (term other : Term) → HasShortNumber term → HasShortNumber other → printed term ≡ printed other → term ≡ other
 same_from_printed (Iri text) (Iri other) is as_well same = ap Iri (iris text other same)
 same_from_printed (Blank document label) (Blank number other) is as_well same =
     let both = blanks document number label other is as_well (ap (λ text. tail (tail (tail text))) same) in

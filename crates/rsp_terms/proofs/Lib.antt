@@ -2,3 +2,4 @@ mod CharacterRows
 pub mod CharacterSteps
 pub mod Injective
 mod TermRows
+pub mod Schemes

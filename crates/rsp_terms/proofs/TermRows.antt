@@ -2,7 +2,7 @@
 use Rattle.std.specs.Prelude.{◌≡◌, ◌∷◌, [], refl, codes}
 use Rattle.rsp_terms.specs.declared.term.Term.TheVariants.{Iri, Blank, Literal, Tagged}
 use Rattle.std.specs.Fmt.{digits}
-use Rattle.rsp_terms.specs.Terms.{printed, escaped, xsd_string}
+use Rattle.rsp_terms.specs.Terms.{printed, escaped_text, xsd_string}
 
 -- RDF 1.1 N-Quads, example 2
 pub iri_stands_between_brackets : printed (Iri (codes "http://example.org/#spiderman")) ≡ codes "<http://example.org/#spiderman>"
@@ -24,6 +24,6 @@ pub language_stands_behind : printed (Tagged (codes "That") (codes "en-GB"))
 language_stands_behind = refl
 
 -- five characters are escaped, U+0007 and `'` aren't
-pub five_are_escaped : escaped (34 ∷ 92 ∷ 9 ∷ 10 ∷ 13 ∷ 7 ∷ 39 ∷ [])
+pub five_are_escaped : escaped_text (34 ∷ 92 ∷ 9 ∷ 10 ∷ 13 ∷ 7 ∷ 39 ∷ [])
     ≡ 92 ∷ 34 ∷ 92 ∷ 92 ∷ 92 ∷ 116 ∷ 92 ∷ 110 ∷ 92 ∷ 114 ∷ 7 ∷ 39 ∷ []
 five_are_escaped = refl

@@ -1,3 +1,5 @@
-pub mod Terms
+-- Definitions
 pub mod Characters
+pub mod Terms
+-- Words of the way
 pub mod Same

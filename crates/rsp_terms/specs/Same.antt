@@ -1,4 +1,4 @@
--- The derived tests of equality decide identity: terms, triples, quads and facts that test equal are the same.
+-- Words of the way: the derived tests of equality decide identity: terms, triples, quads and facts that test equal are the same.
 use Rattle.std.specs.Prelude.{◌≡◌, Bool, true, false, ◌&&◌, Decides, refl}
 use Rattle.std.specs.Cmp.{unsigned_Decides}
 use Rattle.std.specs.Cmp.Lexicographic.{bytes_decides}

@@ -1,6 +1,6 @@
--- How terms are printed (RDF 1.1 N-Quads, section 2).
+-- Definitions: how terms are printed (RDF 1.1 N-Quads, section 2).
 use Rattle.std.specs.Prelude.{ℕ, ◌==◌, ◌<◌, ◌^◌, ⊤, List, [], ◌∷◌, ◌++◌, if◌then◌else◌, codes}
-use Rattle.std.specs.Str.{bytes_eq}
+use Rattle.std.specs.Str.{byte, bytes_eq}
 use Rattle.std.specs.Fmt.{decimal}
 use Rattle.rsp_terms.specs.declared.term.Term.{Term}
 use Rattle.rsp_terms.specs.declared.term.Term.TheVariants.{Iri, Blank, Literal, Tagged}
@@ -12,25 +12,25 @@ xsd_string = codes "http://www.w3.org/2001/XMLSchema#string"
 -- a byte of a lexical form: `"` `\` tab, line feed and carriage return by an escape (ECHAR), each other as it is.
 -- So no text has a tab or a line feed of a lexical form in it, and a row of texts can be told apart.
 abbrev pub escaped_byte : ℕ → List ℕ
-escaped_byte byte =
-    if byte == 34 then codes "\\\""
-    else if byte == 92 then codes "\\\\"
-    else if byte == 9 then codes "\\t"
-    else if byte == 10 then codes "\\n"
-    else if byte == 13 then codes "\\r"
-    else byte ∷ []
+escaped_byte b =
+    if b == byte "\"" then codes "\\\""
+    else if b == byte "\\" then codes "\\\\"
+    else if b == byte "\t" then codes "\\t"
+    else if b == byte "\n" then codes "\\n"
+    else if b == byte "\r" then codes "\\r"
+    else b ∷ []
 
-abbrev pub escaped : List ℕ → List ℕ
-escaped [] = []
-escaped (byte ∷ bytes) = escaped_byte byte ++ escaped bytes
+abbrev pub escaped_text : List ℕ → List ℕ
+escaped_text [] = []
+escaped_text (b ∷ bytes) = escaped_byte b ++ escaped_text bytes
 
 -- an IRI stands between `<` and `>`
 abbrev pub iri_text : List ℕ → List ℕ
-iri_text iri = 60 ∷ (iri ++ (62 ∷ []))
+iri_text iri = codes "<" ++ (iri ++ codes ">")
 
 -- a string stands between quotation marks
 abbrev pub string_text : List ℕ → List ℕ
-string_text lexical = 34 ∷ (escaped lexical ++ (34 ∷ []))
+string_text lexical = codes "\"" ++ (escaped_text lexical ++ codes "\"")
 
 -- `^^` and the datatype, unless that is xsd:string
 abbrev pub datatype_text : List ℕ → List ℕ
@@ -44,8 +44,8 @@ printed (Literal lexical datatype) = string_text lexical ++ datatype_text dataty
 printed (Tagged lexical language) = string_text lexical ++ (codes "@" ++ language)
 
 -- the number of a blank node's document has 32 bits, as it has in every term of a program
-abbrev pub IsNumbered : Term → Type 0
-IsNumbered (Iri text) = ⊤
-IsNumbered (Blank document label) = document < 2 ^ 32
-IsNumbered (Literal lexical datatype) = ⊤
-IsNumbered (Tagged lexical language) = ⊤
+abbrev pub HasShortNumber : Term → Type 0
+HasShortNumber (Iri text) = ⊤
+HasShortNumber (Blank document label) = document < 2 ^ 32
+HasShortNumber (Literal lexical datatype) = ⊤
+HasShortNumber (Tagged lexical language) = ⊤

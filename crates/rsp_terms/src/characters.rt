@@ -28,35 +28,47 @@ pub fn is_iri_character(character: char) -> bool
 }
 
 /// Whether the text begins with a scheme (RFC 3986, section 3.1): a letter, then letters, digits, `+`, `-` and `.`,
-/// then `:`.
+/// then `:`. A scheme is ASCII, so bytes tell it as characters do.
 pub fn is_absolute(text: &str) -> bool
-    ensures { result ≡ is_absolute (chars text.now) }
+    ensures bytes { result ≡ is_absolute text.now }
+    ensures characters { result ≡ is_absolute (chars text.now) }
 {
-    let mut characters = text.chars();
-    match characters.next() {
-        None => false,
-        Some(first) => first.is_ascii_alphabetic() && goes_on_to_colon(characters.as_str()),
+    begins_with_scheme(text.as_bytes())
+}
+
+fn begins_with_scheme(text: &[u8]) -> bool
+    ensures { result ≡ is_absolute text.now }
+{
+    match text {
+        [] => false,
+        [first, others @ ..] => is_letter(*first) && goes_on_to_colon(others),
     }
 }
 
-fn goes_on_to_colon(text: &str) -> bool
-    ensures { result ≡ goes_on_to_colon (chars text.now) }
+fn goes_on_to_colon(text: &[u8]) -> bool
+    ensures { result ≡ goes_on_to_colon text.now }
 {
-    for character in text.chars() {
-        if character == ':' {
+    for c in text {
+        if *c == b':' {
             return true;
         }
-        if !is_scheme_character(character) {
+        if !is_scheme_character(*c) {
             return false;
         }
     }
     false
 }
 
-fn is_scheme_character(character: char) -> bool
-    ensures { result ≡ is_scheme_character character }
+fn is_letter(c: u8) -> bool
+    ensures { result ≡ is_ascii_alphabetic c }
 {
-    character.is_ascii_alphanumeric() || matches!(character, '+' | '-' | '.')
+    c.is_ascii_alphabetic()
+}
+
+fn is_scheme_character(c: u8) -> bool
+    ensures { result ≡ is_scheme_character c }
+{
+    c.is_ascii_alphanumeric() || c == b'+' || c == b'-' || c == b'.'
 }
 
 /// Whether the text can follow `_:` as a whole label of a blank node.

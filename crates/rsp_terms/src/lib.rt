@@ -12,8 +12,6 @@ mod listed;
 mod printing;
 mod statement;
 mod term;
-#[cfg(test)]
-mod tests;
 mod text;
 
 pub use characters::{is_iri, is_label, is_tag};

@@ -1,7 +1,7 @@
 // How terms are printed.
 ghost use Rattle.std.specs.Prelude.{◌≡◌, ◌++◌, codes, OnOk, OnErr};
 ghost use Rattle.std.specs.Fmt.{decimal};
-ghost use Rattle.rsp_terms.specs.Terms.{printed, iri_text, string_text, escaped, escaped_byte, datatype_text, IsNumbered};
+ghost use Rattle.rsp_terms.specs.Terms.{printed, iri_text, string_text, escaped_text, escaped_byte, datatype_text, HasShortNumber};
 
 use crate::Term;
 use itoa::Buffer;
@@ -17,7 +17,7 @@ pub const XSD_STRING: &str = "http://www.w3.org/2001/XMLSchema#string";
 pub fn print(term: &Term, out: &mut Vec<u8>) -> Result<(), AllocError>
     ensures ok { OnOk result (out.new.items ≡ out.old.items ++ printed term.now) }
     ensures err { OnErr result (out.new.items ≡ out.old.items) }
-    ensures injective { (other : _) → IsNumbered other → printed other ≡ printed term.now → other ≡ term.now }
+    ensures injective { (other : _) → HasShortNumber other → printed other ≡ printed term.now → other ≡ term.now }
 {
     let before = out.len();
     let printed = push_term(term, out);
@@ -30,7 +30,7 @@ pub fn print(term: &Term, out: &mut Vec<u8>) -> Result<(), AllocError>
 fn push_term(term: &Term, out: &mut Vec<u8>) -> Result<(), AllocError>
     ensures ok { OnOk result (out.new.items ≡ out.old.items ++ printed term.now) }
     ensures begun { (rest : _) × (out.new.items ≡ out.old.items ++ rest) }
-    ensures numbered { IsNumbered term.now }
+    ensures numbered { HasShortNumber term.now }
 {
     match term {
         Term::Iri(text) => push_iri(text.as_str(), out),
@@ -114,7 +114,7 @@ fn push_string(lexical: &str, out: &mut Vec<u8>) -> Result<(), AllocError>
 }
 
 fn push_escaped(bytes: &[u8], out: &mut Vec<u8>) -> Result<(), AllocError>
-    ensures ok { OnOk result (out.new.items ≡ out.old.items ++ escaped bytes.now) }
+    ensures ok { OnOk result (out.new.items ≡ out.old.items ++ escaped_text bytes.now) }
     ensures begun { (rest : _) × (out.new.items ≡ out.old.items ++ rest) }
 {
     for byte in bytes {

@@ -1,6 +1,7 @@
--- Instants as ISO 8601 and XML Schema's dateTime write them (XML Schema Part 2, section 3.2.7.1), in milliseconds.
+-- Definitions: instants as ISO 8601 and XML Schema's dateTime write them (XML Schema Part 2, section 3.2.7.1), in milliseconds.
 use Rattle.std.specs.Prelude.{ℕ, ◌+◌, ◌*◌, Bool, ◌&&◌, ◌||◌, ◌==◌, nat_le, nat_eq, if◌then◌else◌, Option, None, Some, List, length, take, drop, codes, slice_index, ℤ, pos, negsuc, neg_ℤ, ◌+ℤ◌, ◌-ℤ◌, ◌*ℤ◌}
 use Rattle.std.specs.Cmp.Lexicographic.{pointwise}
+use Rattle.std.specs.Str.{byte}
 use Rattle.jiff_core.specs.Calendar.{days_from_civil, days_in_month}
 use Rattle.rsp_spec.specs.Windows.{last_instant}
 use Rattle.rsp_text.specs.Digits.{has_form, number, fraction, thousandths}
@@ -47,7 +48,7 @@ is_offset text =
 abbrev pub minutes_ahead : List ℕ → ℤ
 minutes_ahead text =
     if is_utc text then pos 0
-    else (if slice_index text 0 == 45 then neg_ℤ (pos (minutes text)) else pos (minutes text))
+    else (if slice_index text 0 == byte "-" then neg_ℤ (pos (minutes text)) else pos (minutes text))
 
 -- a number of milliseconds since 1970 that is an instant
 abbrev pub since_1970 : ℤ → Option ℕ

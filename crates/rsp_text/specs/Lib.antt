@@ -1,3 +1,5 @@
+-- Definitions
+pub mod Fronts
 pub mod Digits
 pub mod Instants
 pub mod Spans

@@ -1,13 +1,16 @@
 // Numbers in decimal digits, and texts of fixed form.
 ghost use Rattle.std.specs.Prelude.{◌≡◌, ◌≤◌, ◌+◌, ◌^◌, ◌<◌, IsTrue, Some, None, if◌then◌else◌, length, take, drop, nat_lt};
 ghost use Rattle.std.specs.Char.{is_ascii_digit};
-ghost use Rattle.std.specs.List.{list_all, prefix_len};
+ghost use Rattle.std.specs.List.{list_all};
 ghost use Rattle.std.specs.Str.Parse.{digits_value};
 ghost use Rattle.rsp_text.specs.Digits as form;
 
+use crate::fronts::{is_digit, leading_digits};
 use std::str;
 
 /// A number of 1 to 20 digits; None exactly where the text isn't that or the number is past 2^64 - 1.
+///
+/// `read_u64(b"0042")` is `Some(42)`; `read_u64(b"+42")` and `read_u64(b"18446744073709551616")` are None.
 #[tactic(auto, unfolding(crate::specs::Digits::read_u64))]
 pub fn read_u64(text: &[u8]) -> Option<u64>
     ensures { result ≡ form.read_u64 text.now }
@@ -16,12 +19,6 @@ pub fn read_u64(text: &[u8]) -> Option<u64>
         return None;
     }
     value_of(text)
-}
-
-fn is_digit(c: u8) -> bool
-    ensures { result ≡ is_ascii_digit c }
-{
-    c.is_ascii_digit()
 }
 
 fn are_digits(text: &[u8]) -> bool
@@ -91,22 +88,6 @@ fn is_written_like(c: u8, model: u8) -> bool
     } else {
         model == c
     }
-}
-
-/// The digits at the front.
-pub(crate) fn leading_digits(text: &[u8]) -> &[u8]
-    ensures value { result.now ≡ form.leading_digits text.now }
-    ensures bound { length result.now ≤ length text.now }
-    ensures digits { IsTrue (list_all is_ascii_digit result.now) }
-{
-    &text[..digit_count(text)]
-}
-
-fn digit_count(text: &[u8]) -> usize
-    ensures value { result ≡ prefix_len is_ascii_digit text.now }
-    ensures bound { result ≤ length text.now }
-{
-    text.iter().take_while(|c| is_digit(**c)).count()
 }
 
 /// `.` and the digits behind it, at the front; nothing where no `.` stands there.

@@ -15,6 +15,9 @@ const LAST_INSTANT: i64 = 253_402_300_799_999;
 /// An instant as XML Schema's dateTime writes it, in ms since 1970; None exactly where the text isn't of the form
 /// `YYYY-MM-DDThh:mm:ss`, then optionally `.` and 1 to 9 digits, then `Z`, `+hh:mm` or `-hh:mm`, where the calendar
 /// hasn't the day, where a number is out of range, or before 1970 or after 9999. Digits after the third are cut off.
+///
+/// `instant(b"1970-01-02T00:00:00Z")` is `Some(86_400_000)`, as is `instant(b"1970-01-02T01:00:00+01:00")`;
+/// `instant(b"2023-02-29T00:00:00Z")` is None.
 #[tactic(auto, unfolding(crate::specs::Instants::instant))]
 pub fn instant(text: &[u8]) -> Option<u64>
     ensures { result ≡ words.instant text.now }

@@ -7,13 +7,12 @@
 
 mod cursor;
 mod digits;
+mod fronts;
 mod instants;
 mod spans;
 
 pub use cursor::Cursor;
 pub use digits::read_u64;
+pub use fronts::{behind_blanks, is_blank, leading_digits};
 pub use instants::instant;
 pub use spans::span;
-
-#[cfg(test)]
-mod tests;

@@ -6,7 +6,8 @@ ghost use Rattle.std.specs.Str.Parse.{digits_value};
 ghost use Rattle.rsp_text.specs.Digits as form;
 ghost use Rattle.rsp_text.specs.Spans as length_of;
 
-use crate::digits::{fraction, leading_digits, thousandths, value_of};
+use crate::digits::{fraction, thousandths, value_of};
+use crate::fronts::leading_digits;
 
 // as many milliseconds as to the end of the year 9999
 const LONGEST: u64 = 253_402_300_799_999;
@@ -15,6 +16,8 @@ const LONGEST: u64 = 253_402_300_799_999;
 /// form `P`, then optionally `nD`, then optionally `T` with at least one of `nH`, `nM` and `nS` in this order, with at
 /// least one part in all, or where the span is longer than from 1970 to the end of 9999. The seconds may have `.` and
 /// digits, of which those after the third are cut off.
+///
+/// `span(b"P1DT2H")` is `Some(93_600_000)`, `span(b"PT0.5S")` is `Some(500)`; `span(b"P1M")` and `span(b"PT")` are None.
 #[tactic(auto, unfolding(crate::specs::Spans::span))]
 pub fn span(text: &[u8]) -> Option<u64>
     ensures { result ≡ length_of.span text.now }

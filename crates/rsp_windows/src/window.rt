@@ -1,7 +1,7 @@
 //! One query's windows, by their width, their distance and their first opening.
 
 ghost use Rattle.std.specs.Prelude.{◌≡◌, ℕ, ◌+◌, ◌*◌, ◌^◌, ◌<◌, ◌≤◌, ◌↔◌, IfSome, IsSome};
-ghost use Rattle.rsp_spec.specs.Windows.{IsActive, IsShape, Shape, active, closes_at, closing, opening};
+ghost use Rattle.rsp_spec.specs.Windows.{IsActive, IsAtMost, IsLastNeeded, IsNeeded, IsNextClosing, IsShape, Shape, active, closes_at, closing, opening};
 
 use std::marker::Model;
 
@@ -91,8 +91,47 @@ impl Window {
         (t - first_closing) % self.slide == 0
     }
 
-    // the first window that closes at t or later
-    fn first_to_reach(&self, t: u64) -> u64
+    /// The least closing at `from` ms or later. `from` is at most 2^48; the closing is less than 2^50.
+    pub fn next_close(&self, from: u64) -> u64
+        requires { from ≤ 2 ^ 48 }
+        ensures next { IsNextClosing self.now from result }
+        ensures within { result < 2 ^ 50 }
+        ensures shape { IsShape self.now }
+    {
+        self.closing(self.first_to_reach(from))
+    }
+
+    /// The greatest closing among the windows that contain `time` ms: up to this instant an item of that time can be in
+    /// a content. None where no window contains it. `time` is at most 2^48.
+    pub fn last_needed(&self, time: u64) -> Option<u64>
+        requires { time ≤ 2 ^ 48 }
+        ensures last { IsLastNeeded self.now time result }
+        ensures needed { (from : ℕ) → IsNeeded self.now time from ↔ IsAtMost from result }
+        ensures within { IfSome result (λ last. last < 2 ^ 50) }
+        ensures shape { IsShape self.now }
+    {
+        if time <= self.origin {
+            return None;
+        }
+        let closing = self.closing(self.last_to_open(time));
+        if closing < time { None } else { Some(closing) }
+    }
+
+    // the last window that opens before t
+    fn last_to_open(&self, t: u64) -> u64
+        requires high { t ≤ 2 ^ 48 }
+        requires begun { self.now.origin < t }
+        ensures opens { opening self.now result < t }
+        ensures last { (k : ℕ) → opening self.now k < t → k ≤ result }
+        ensures within { result * self.now.slide ≤ t }
+        ensures shape { IsShape self.now }
+    {
+        (t - 1 - self.origin) / self.slide
+    }
+
+    /// The number of the first window that closes at `t` ms or later: items up to its opening are in no content from `t`
+    /// on. `t` is at most 2^48. The number can be handed to `opening` and `closing`.
+    pub fn first_to_reach(&self, t: u64) -> u64
         requires { t ≤ 2 ^ 48 }
         ensures reaches { t ≤ closing self.now result }
         ensures first { (k : ℕ) → k < result → closing self.now k < t }

@@ -1,6 +1,6 @@
 use Rattle.std.proofs.Common.{IsUtf8, rules, sym}
 use Rattle.std.proofs.lemmas.Str.{is_utf8-from_IsUtf8}
-use Rattle.rsp_nquads.proofs.Spelling.{not_utf8}
+use Rattle.rsp_scan.proofs.Spelling.{not_utf8}
 use Rattle.rsp_nquads.proofs.statements.is_utf8.Goals as goal
 
 pub returns-in-Ok : goal.returns-in-Ok

@@ -1,5 +1,6 @@
 use Rattle.std.proofs.Common.{◌∙◌, sym, ap}
-use Rattle.rsp_nquads.specs.Statements.{first_relative, quad_of, relative_iri, statement}
+use Rattle.rsp_nquads.specs.Statements.{first_relative, quad_of}
+use Rattle.rsp_nquads.specs.Answers.{relative_iri, statement}
 use Rattle.rsp_nquads.proofs.Judging.{judged_some, judged_none}
 use Rattle.rsp_nquads.proofs.statements.judged.Goals as goal
 

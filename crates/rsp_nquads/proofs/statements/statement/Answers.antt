@@ -1,5 +1,8 @@
-use Rattle.rsp_nquads.proofs.StatementLaws.{by_grammar}
+use Rattle.rsp_nquads.proofs.TiedLaws.{by_grammar, tied}
 use Rattle.rsp_nquads.proofs.statements.statement.Goals as goal
 
 pub returns-clause-grammar : goal.returns-clause-grammar
 returns-clause-grammar c = by_grammar c.args.document c.args.line.now c.said.result c.said.ensures
+
+pub returns-clause-every_line : goal.returns-clause-every_line
+returns-clause-every_line c = λ number text. tied number text

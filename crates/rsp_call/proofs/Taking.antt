@@ -1,0 +1,101 @@
+-- Blocks, taken one behind another.
+use Rattle.std.proofs.Common.{◌≡◌, ℕ, ◌≤◌, Bool, false, ◌||◌, IsTrue, List, [], ◌∷◌, ◌++◌, refl, sym, ◌∙◌, ap, append_assoc, arith, length}
+use Rattle.std.proofs.lemmas.List.{append-nil}
+use Rattle.rsp_events.specs.declared.event.Block.{Block}
+use Rattle.rsp_events.specs.Instants.{AllTimed, IsTimed}
+use Rattle.rsp_engine.specs.World.{World}
+use Rattle.rsp_engine.specs.Stands.{State, Stands, is_idle}
+use Rattle.rsp_call.specs.declared.stop.Stop.{Stop}
+use Rattle.rsp_call.specs.Output.{text_from, world_from, refused_from, content_text, content_world, content_refused}
+use Rattle.rsp_call.specs.Sinks.{Seen, Wrote, Stops}
+use Rattle.rsp_call.proofs.Writings.{wrote_nothing, wrote_more, stops_behind, stops_before_more}
+use Rattle.rsp_call.proofs.Folding.{or-assoc, or-false}
+
+-- some of the blocks are taken
+pub record Took (world : World) (all rest : List Block) (engine : State) (known : Bool) (before now : Seen) : Type 0 where
+  pub here : World
+  pub done : List ℕ
+  pub stands : Stands engine here []
+  pub text : text_from world all ≡ done ++ text_from here rest
+  pub world_after : world_from world all ≡ world_from here rest
+  pub refused : refused_from world all ≡ (known || refused_from here rest)
+  pub wrote : Wrote before now done
+
+pub record Taking (engine_before : State) (before : Seen) (faults_before : ℕ) (all : List Block) (engine : State) (now : Seen) (faults : ℕ) (rest : List Block) (known : Bool) : Type 0 where
+  pub idle : IsTrue (is_idle engine)
+  pub timed : AllTimed rest
+  pub took : (world : World) → Stands engine_before world [] → Took world all rest engine known before now
+  pub risen : faults_before ≤ faults
+
+-- none is taken yet
+pub taking_none : (engine : State) (sink : Seen) (faults : ℕ) (all rest : List Block) → rest ≡ all → IsTrue (is_idle engine) → AllTimed all → Taking engine sink faults all engine sink faults rest false
+taking_none engine sink faults all rest is idle timed =
+    record {
+      idle = idle;
+      timed = rw is timed;
+      took =
+          λ world stands.
+          record {
+            here = world;
+            done = [];
+            stands = stands;
+            text = rw is refl;
+            world_after = rw is refl;
+            refused = rw is refl;
+            wrote = wrote_nothing sink;
+          };
+      risen = omega arith;
+    }
+
+-- one block more
+took_more : (world : World) (all rest more : List Block) (block : Block) (engine after : State) (known this : Bool) (before mid now : Seen) → Took world all rest engine known before mid → rest ≡ block ∷ more → ((w : World) → Stands engine w [] → Wrote mid now (content_text w block.number block.content)) → ((w : World) → Stands engine w [] → (this ≡ content_refused w block.content) × Stands after (content_world w block.content) []) → Took world all more after (known || this) before now
+took_more world all rest more block engine after known this before mid now took is text stands =
+    let here = took.here in
+    let first = content_text here block.number block.content in
+    let next = content_world here block.content in
+    let told = stands here took.stands in
+    record {
+      here = next;
+      done = took.done ++ first;
+      stands = told.1;
+      text = took.text ∙ (ap (λ bs. took.done ++ text_from here bs) is ∙ sym (append_assoc took.done first (text_from next more)));
+      world_after = took.world_after ∙ ap (world_from here) is;
+      refused =
+          took.refused
+          ∙ (ap (λ bs. known || refused_from here bs) is
+          ∙ (ap (λ some. known || (some || refused_from next more)) (sym told.0)
+          ∙ sym (or-assoc known this (refused_from next more))));
+      wrote = wrote_more before mid now _ _ took.wrote (text here took.stands);
+    }
+
+pub taking_more : (engine_before : State) (before : Seen) (faults_before : ℕ) (all : List Block) (engine : State) (mid : Seen) (faults_mid : ℕ) (rest : List Block) (known : Bool) (block : Block) (more : List Block) (after : State) (now : Seen) (faults : ℕ) (this : Bool) → Taking engine_before before faults_before all engine mid faults_mid rest known → rest ≡ block ∷ more → IsTrue (is_idle after) → ((w : World) → Stands engine w [] → Wrote mid now (content_text w block.number block.content)) → ((w : World) → Stands engine w [] → (this ≡ content_refused w block.content) × Stands after (content_world w block.content) []) → faults_mid ≤ faults → Taking engine_before before faults_before all after now faults more (known || this)
+taking_more engine_before before faults_before all engine mid faults_mid rest known block more after now faults this taking is idle text stands risen =
+    let timed : AllTimed (block ∷ more) = rw is at taking.timed in
+    record {
+      idle = idle;
+      timed = timed.1;
+      took = λ world at. took_more world all rest more block engine after known this before mid now (taking.took world at) is text stands;
+      risen = omega (arith, taking.risen, risen);
+    }
+
+pub next_timed : (rest : List Block) (block : Block) (more : List Block) → AllTimed rest → rest ≡ block ∷ more → IsTimed block.content
+next_timed rest block more timed is = let all : AllTimed (block ∷ more) = rw is at timed in all.0
+
+-- all are taken
+pub took_all : (world : World) (all rest : List Block) (engine : State) (known : Bool) (before now : Seen) → Took world all rest engine known before now → rest ≡ [] → Wrote before now (text_from world all) × (known ≡ refused_from world all) × Stands engine (world_from world all) []
+took_all world all rest engine known before now took is =
+    let text : text_from world all ≡ took.done = took.text ∙ (ap (λ bs. took.done ++ text_from took.here bs) is ∙ append-nil took.done) in
+    let same : world_from world all ≡ took.here = took.world_after ∙ ap (world_from took.here) is in
+    let told : refused_from world all ≡ known = took.refused ∙ (ap (λ bs. known || refused_from took.here bs) is ∙ or-false known) in
+    (rw text took.wrote, sym told, rw same took.stands)
+
+-- a block that stopped stops them all
+pub took_stops : (world : World) (all rest more : List Block) (block : Block) (engine : State) (known : Bool) (before mid now : Seen) (why : Stop) → Took world all rest engine known before mid → rest ≡ block ∷ more → ((w : World) → Stands engine w [] → Stops mid now (content_text w block.number block.content) why) → Stops before now (text_from world all) why
+took_stops world all rest more block engine known before mid now why took is stops =
+    let all_text = took.text ∙ ap (λ bs. took.done ++ text_from took.here bs) is in
+    rw all_text (stops_behind before mid now took.done _ why took.wrote (stops_before_more mid now _ _ why (stops took.here took.stands)))
+
+-- a list of which no item is to come is empty
+pub none_to_come : (items : List Block) (count : ℕ) → count ≡ length items → count ≡ 0 → items ≡ []
+none_to_come [] count is none = refl
+none_to_come (item ∷ items) count is none = absurd (omega (arith, is, none))

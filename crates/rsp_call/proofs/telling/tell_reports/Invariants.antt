@@ -1,0 +1,17 @@
+use Rattle.rsp_engine.specs.Stands.{instants_left}
+use Rattle.rsp_call.specs.Sinks.{seen}
+use Rattle.rsp_call.proofs.Tellings.{Telling}
+use Rattle.rsp_call.proofs.telling.tell_reports.Given as goal
+
+abbrev pub invariant-reports : goal.invariant-reports
+invariant-reports g l =
+    Telling
+    l.initial.engine
+    (seen (g.K.Sink.taken l.initial.out) (g.K.Sink.room l.initial.out))
+    (g.K.Sink.faults l.initial.out)
+    l.engine
+    (seen (g.K.Sink.taken l.out) (g.K.Sink.room l.out))
+    (g.K.Sink.faults l.out)
+
+abbrev pub decreases-reports : goal.decreases-reports
+decreases-reports g l = instants_left l.engine

@@ -1,0 +1,22 @@
+use Rattle.std.proofs.Common.{◌-◌, ◌+◌}
+use Rattle.rsp_call.specs.Sinks.{seen}
+use Rattle.rsp_call.specs.Answers.{source_seen, most_bytes}
+use Rattle.rsp_call.proofs.Going.{Going}
+use Rattle.rsp_call.proofs.top.read_log.Given as goal
+
+abbrev pub invariant-reads : goal.invariant-reads
+invariant-reads g l =
+    Going
+    (source_seen (g.S.Source.left l.initial.input) (g.S.Source.given l.initial.input) (g.S.Source.faults l.initial.input) (g.S.Source.sure l.initial.input))
+    (seen (g.K.Sink.taken l.initial.out) (g.K.Sink.room l.initial.out))
+    (g.K.Sink.faults l.initial.out)
+    (source_seen (g.S.Source.left l.input) (g.S.Source.given l.input) (g.S.Source.faults l.input) (g.S.Source.sure l.input))
+    (seen (g.K.Sink.taken l.out) (g.K.Sink.room l.out))
+    (g.K.Sink.faults l.out)
+    l.session.blocks
+    l.session.engine
+    l.session.refused
+    l.taken
+
+abbrev pub decreases-reads : goal.decreases-reads
+decreases-reads g l = most_bytes + 1 - l.taken

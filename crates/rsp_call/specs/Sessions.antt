@@ -1,0 +1,35 @@
+-- Where a session stands that has read some bytes of a log.
+use Rattle.std.specs.Prelude.{◌≡◌, ℕ, Bool, List, [], ◌++◌, Result, MatchResult, ⊤}
+use Rattle.rsp_events.specs.Blocks.{Reader, HasRead}
+use Rattle.rsp_engine.specs.World.{empty_world}
+use Rattle.rsp_engine.specs.Stands.{State, Stands}
+use Rattle.rsp_call.specs.Output.{log_whole, world_from, refused_from, whole_text, output, has_refusal}
+use Rattle.rsp_call.specs.Sinks.{Seen, Wrote, Stops, Ends}
+use Rattle.rsp_call.specs.declared.stop.Stop.{Stop}
+
+-- these bytes were read; the engine stands for the world that their whole blocks make; and it is known whether one of
+-- these was refused
+pub record IsAt (reader : Reader) (engine : State) (known : Bool) (bytes : List ℕ) : Type 0 where
+  pub document : reader.document ≡ 1
+  pub read : HasRead reader bytes
+  pub stands : Stands engine (world_from empty_world (log_whole bytes)) []
+  pub refused : known ≡ refused_from empty_world (log_whole bytes)
+
+-- the text that more bytes add was written
+pub record Adds (before now : Seen) (bytes piece : List ℕ) : Type 0 where
+  pub text : List ℕ
+  pub added : whole_text (bytes ++ piece) ≡ whole_text bytes ++ text
+  pub wrote : Wrote before now text
+
+-- the session stopped on the way through the text that the rest of the log adds
+pub record Breaks (before now : Seen) (bytes rest : List ℕ) (why : Stop) : Type 0 where
+  pub text : List ℕ
+  pub added : output (bytes ++ rest) ≡ whole_text bytes ++ text
+  pub stops : Stops before now text why
+
+-- the text that the end of the log adds was written, or the session stopped on the way
+pub record Closes (before now : Seen) (bytes : List ℕ) (result : Result Bool Stop) : Type 0 where
+  pub text : List ℕ
+  pub added : output bytes ≡ whole_text bytes ++ text
+  pub ends : Ends before now text result
+  pub refused : MatchResult result (λ refused. refused ≡ has_refusal bytes) (λ _. ⊤)

@@ -1,0 +1,148 @@
+// A log that is worked off as its pieces come.
+ghost use Rattle.std.specs.Prelude.{◌≡◌, ◌||◌, ◌++◌, IsTrue, IfOk, OnOk, IfErr, List, ℕ, [], false};
+ghost use Rattle.rsp_events.specs.declared.event.Block.{Block};
+ghost use Rattle.rsp_events.specs.Instants.{AllTimed};
+ghost use Rattle.rsp_engine.specs.World.{World};
+ghost use Rattle.rsp_engine.specs.Stands.{Stands, is_idle};
+ghost use Rattle.rsp_call.specs.Output.{log_blocks, log_whole, text_from, world_from, refused_from};
+ghost use Rattle.rsp_call.specs.Sinks.{CausedBy, Ends, seen};
+ghost use Rattle.rsp_call.specs.Sessions.{IsAt, Adds, Breaks, Closes};
+
+use crate::stop::Stop;
+use crate::telling::take_content;
+use rsp_engine::Engine;
+use rsp_eval::Plain;
+use rsp_events::{Block, Blocks};
+use rsp_io::Sink;
+use rsp_steps::Steps;
+use rsp_terms::Listed;
+use std::alloc::{AllocError, Global};
+use std::sync::ledger::Ledger;
+
+// The log's document number.
+const LOG: u32 = 1;
+
+/// The reader of the log's blocks, the engine, and whether some block was refused.
+#[derive(Drop)]
+pub struct Session {
+    alloc: Global,
+    blocks: Blocks,
+    engine: Engine<Plain>,
+    refused: bool,
+}
+
+impl Session {
+    /// A session that has read nothing. Takes no memory.
+    pub fn new(alloc: Global) -> Session
+        ensures at { IsAt result.blocks result.engine result.refused [] }
+        ensures idle { IsTrue (is_idle result.engine) }
+        ensures prefix { (bytes more : List ℕ) → (rest : List Block) × (log_blocks (bytes ++ more) ≡ log_whole bytes ++ rest) }
+    {
+        Session {
+            alloc,
+            blocks: Blocks::new(alloc, LOG),
+            engine: Engine::new(alloc),
+            refused: false,
+        }
+    }
+
+    /// Works off the blocks that end in this piece of the log, and writes what they give.
+    pub fn work<K: Sink, L: Ledger>(
+        &mut self,
+        piece: &[u8],
+        out: &mut K,
+        steps: &mut Steps<L>,
+    ) -> Result<(), Stop>
+        requires { IsTrue (is_idle self.old.engine) }
+        ensures idle { OnOk result (IsTrue (is_idle self.new.engine)) }
+        ensures ok { OnOk result ((bytes : List ℕ) → IsAt self.old.blocks self.old.engine self.old.refused bytes
+            → IsAt self.new.blocks self.new.engine self.new.refused (bytes ++ piece.now)
+            × Adds
+            (seen (K.taken out.old) (K.room out.old)) (seen (K.taken out.new) (K.room out.new))
+            bytes piece.now) }
+        ensures err { IfErr result (λ why. (bytes more : List ℕ) → IsAt self.old.blocks self.old.engine self.old.refused bytes
+            → Breaks
+            (seen (K.taken out.old) (K.room out.old)) (seen (K.taken out.new) (K.room out.new))
+            bytes (piece.now ++ more) why) }
+        ensures cause { CausedBy (K.faults out.old) (K.faults out.new) result }
+    {
+        match self.blocks.feed(piece) {
+            Ok(given) => match take_blocks(self.alloc, &mut self.engine, given, out, steps) {
+                Ok(refused) => {
+                    self.refused = either(self.refused, refused);
+                    Ok(())
+                }
+                Err(stop) => Err(stop),
+            },
+            Err(AllocError) => Err(Stop::Memory),
+        }
+    }
+
+    /// Works off the block that the end of the log ends, where there is one, and writes what it gives. The answer is
+    /// whether some block of the log was refused.
+    pub fn finish<K: Sink, L: Ledger>(
+        &mut self,
+        out: &mut K,
+        steps: &mut Steps<L>,
+    ) -> Result<bool, Stop>
+        requires { IsTrue (is_idle self.old.engine) }
+        ensures closes { (bytes : List ℕ) → IsAt self.old.blocks self.old.engine self.old.refused bytes
+            → Closes
+            (seen (K.taken out.old) (K.room out.old)) (seen (K.taken out.new) (K.room out.new))
+            bytes result }
+        ensures cause { CausedBy (K.faults out.old) (K.faults out.new) result }
+    {
+        match self.blocks.finish() {
+            Ok(Some(block)) => {
+                match take_content(
+                    self.alloc,
+                    &mut self.engine,
+                    block.number,
+                    block.content,
+                    out,
+                    steps,
+                ) {
+                    Ok(refused) => Ok(either(self.refused, refused)),
+                    Err(stop) => Err(stop),
+                }
+            }
+            Ok(None) => Ok(self.refused),
+            Err(AllocError) => Err(Stop::Memory),
+        }
+    }
+}
+
+fn either(a: bool, b: bool) -> bool
+    ensures { result ≡ (a || b) }
+{
+    a || b
+}
+
+// Works off blocks in order. The answer is whether some block was refused.
+fn take_blocks<K: Sink, L: Ledger>(
+    alloc: Global,
+    engine: &mut Engine<Plain>,
+    blocks: Listed<Block>,
+    out: &mut K,
+    steps: &mut Steps<L>,
+) -> Result<bool, Stop>
+    requires idle { IsTrue (is_idle engine.old) }
+    requires instants { AllTimed blocks }
+    ensures idle { OnOk result (IsTrue (is_idle engine.new)) }
+    ensures text { (world : World) → Stands engine.old world []
+        → Ends
+        (seen (K.taken out.old) (K.room out.old)) (seen (K.taken out.new) (K.room out.new))
+        (text_from world blocks) result }
+    ensures stands { IfOk result (λ refused. (world : World) → Stands engine.old world []
+        → (refused ≡ refused_from world blocks) × Stands engine.new (world_from world blocks) []) }
+    ensures cause { CausedBy (K.faults out.old) (K.faults out.new) result }
+{
+    let mut refused = false;
+    for block in blocks.into_vec() {
+        match take_content(alloc, engine, block.number, block.content, out, steps) {
+            Ok(this) => refused = either(refused, this),
+            Err(stop) => return Err(stop),
+        }
+    }
+    Ok(refused)
+}

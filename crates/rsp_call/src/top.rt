@@ -1,0 +1,125 @@
+// The top call.
+ghost use Rattle.std.specs.Prelude.{◌≡◌, ◌++◌, IsTrue, true, false, List, ℕ, []};
+ghost use Rattle.rsp_events.specs.declared.event.Block.{Block};
+ghost use Rattle.rsp_engine.specs.Stands.{is_idle};
+ghost use Rattle.rsp_call.specs.Output.{log_blocks, log_whole};
+ghost use Rattle.rsp_call.specs.Sessions.{IsAt};
+ghost use Rattle.rsp_call.specs.Words.{ask_for_events};
+ghost use Rattle.rsp_call.specs.Sinks.{seen};
+ghost use Rattle.rsp_call.specs.Answers.{source_seen, AnswersLog, AnswersUsage, HasWriteCause, status_of};
+
+use crate::session::Session;
+use crate::status::Status;
+use crate::stop::Stop;
+use crate::words::are_events;
+use crate::writing::write_whole;
+use rsp_io::{Failed, Shelf, Sink, Source};
+use rsp_steps::Steps;
+use rsp_terms::Text;
+use std::alloc::Global;
+use std::sync::ledger::Ledger;
+
+// The most bytes of standard input, and the bytes of one read.
+const MOST_BYTES: u64 = 1 << 40;
+
+const READ_BYTES: usize = 1 << 14;
+
+const USAGE: &str =
+    "usage: rsp events [--json] | run [--json] [--store FILE] QUERY STREAM=FILE.. | check QUERY | gen COUNT\n";
+
+/// Does all that the program does, by its words without its name.
+///
+/// On `events` it reads the log from `input` to its end and writes what the log gives to `out`: reports and refusals.
+/// On all other words it reads nothing, takes no memory and writes the usage line.
+pub fn rsp<S: Source, H: Shelf, K: Sink, L: Ledger>(
+    alloc: Global,
+    words: &[Text],
+    input: &mut S,
+    shelf: &mut H,
+    out: &mut K,
+    steps: &mut Steps<L>,
+) -> Status
+    ensures log { ask_for_events words.now ≡ true
+        → AnswersLog (source_seen (S.left input.old) (S.given input.old) (S.faults input.old) (S.sure input.old))
+        (source_seen (S.left input.new) (S.given input.new) (S.faults input.new) (S.sure input.new))
+        (seen (K.taken out.old) (K.room out.old)) (seen (K.taken out.new) (K.room out.new)) result }
+    ensures usage { ask_for_events words.now ≡ false
+        → AnswersUsage
+        (seen (K.taken out.old) (K.room out.old)) (seen (K.taken out.new) (K.room out.new))
+        result }
+    ensures unread { ask_for_events words.now ≡ false → input.new ≡ input.old }
+    ensures shelf { shelf.new ≡ shelf.old }
+    ensures cause { HasWriteCause (K.faults out.old) (K.faults out.new) result }
+{
+    let _ = shelf;
+    if are_events(words) {
+        return events(alloc, input, out, steps);
+    }
+    match write_whole(out, USAGE.as_bytes()) {
+        Ok(()) => Status::Usage,
+        Err(Failed) => Status::WriteFault,
+    }
+}
+
+// Reads the log to its end and works it off.
+fn events<S: Source, K: Sink, L: Ledger>(
+    alloc: Global,
+    input: &mut S,
+    out: &mut K,
+    steps: &mut Steps<L>,
+) -> Status
+    ensures log { AnswersLog (source_seen (S.left input.old) (S.given input.old) (S.faults input.old) (S.sure input.old))
+        (source_seen (S.left input.new) (S.given input.new) (S.faults input.new) (S.sure input.new))
+        (seen (K.taken out.old) (K.room out.old)) (seen (K.taken out.new) (K.room out.new)) result }
+    ensures cause { HasWriteCause (K.faults out.old) (K.faults out.new) result }
+{
+    let mut session = Session::new(alloc);
+    read_log(&mut session, input, out, steps)
+}
+
+// Works off the log a piece at a time. The session is the caller's, so that no return here drops it.
+fn read_log<S: Source, K: Sink, L: Ledger>(
+    session: &mut Session,
+    input: &mut S,
+    out: &mut K,
+    steps: &mut Steps<L>,
+) -> Status
+    requires at { IsAt session.old.blocks session.old.engine session.old.refused [] }
+    requires idle { IsTrue (is_idle session.old.engine) }
+    requires prefix { (bytes more : List ℕ) → (rest : List Block) × (log_blocks (bytes ++ more) ≡ log_whole bytes ++ rest) }
+    ensures log { AnswersLog (source_seen (S.left input.old) (S.given input.old) (S.faults input.old) (S.sure input.old))
+        (source_seen (S.left input.new) (S.given input.new) (S.faults input.new) (S.sure input.new))
+        (seen (K.taken out.old) (K.room out.old)) (seen (K.taken out.new) (K.room out.new)) result }
+    ensures cause { HasWriteCause (K.faults out.old) (K.faults out.new) result }
+{
+    let mut buffer = [0u8; READ_BYTES];
+    let mut taken = 0;
+    'reads: loop {
+        match input.read(&mut buffer[..]) {
+            Ok(0) => return status_of(session.finish(out, steps)),
+            Ok(read) => {
+                taken += read as u64;
+                if MOST_BYTES < taken {
+                    return Status::TooLong;
+                }
+                match session.work(buffer.split_at(read).0, out, steps) {
+                    Ok(()) => {}
+                    Err(stop) => return status_of(Err(stop)),
+                }
+            }
+            Err(Failed) => return Status::ReadFault,
+        }
+    }
+}
+
+// how the work on a log ended, as a status
+fn status_of(worked: Result<bool, Stop>) -> Status
+    ensures { result ≡ status_of worked }
+{
+    match worked {
+        Ok(false) => Status::Done,
+        Ok(true) => Status::DoneWithRefusals,
+        Err(Stop::Memory) => Status::OutOfMemory,
+        Err(Stop::Write) => Status::WriteFault,
+    }
+}

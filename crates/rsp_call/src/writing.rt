@@ -1,0 +1,41 @@
+// Writing a text to a sink, whole.
+ghost use Rattle.std.specs.Prelude.{MatchResult};
+ghost use Rattle.rsp_spec.specs.Faults.{HasCause};
+ghost use Rattle.rsp_call.specs.Sinks.{CausedBy, Ends, seen, Wrote, WriteFailed};
+
+use crate::stop::Stop;
+use rsp_io::{Failed, Sink};
+
+/// Writes a text, however many calls that takes. Fails where a write fails.
+pub fn write_whole<K: Sink>(out: &mut K, text: &[u8]) -> Result<(), Failed>
+    ensures text { MatchResult result
+        (λ _. Wrote
+        (seen (K.taken out.old) (K.room out.old)) (seen (K.taken out.new) (K.room out.new))
+        text.now)
+        (λ _. WriteFailed
+        (seen (K.taken out.old) (K.room out.old)) (seen (K.taken out.new) (K.room out.new))
+        text.now) }
+    ensures cause { HasCause (K.faults out.old) (K.faults out.new) result }
+{
+    let mut written = 0;
+    'pieces: while written < text.len() {
+        match out.write(text.split_at(written).1) {
+            Ok(n) => written += n,
+            Err(Failed) => return Err(Failed),
+        }
+    }
+    Ok(())
+}
+
+/// Writes a text of a log's work, whole. Stops where a write fails.
+pub fn write_all<K: Sink>(out: &mut K, text: &[u8]) -> Result<(), Stop>
+    ensures text { Ends
+        (seen (K.taken out.old) (K.room out.old)) (seen (K.taken out.new) (K.room out.new))
+        text.now result }
+    ensures cause { CausedBy (K.faults out.old) (K.faults out.new) result }
+{
+    match write_whole(out, text) {
+        Ok(()) => Ok(()),
+        Err(Failed) => Err(Stop::Write),
+    }
+}

@@ -1,0 +1,5 @@
+pub mod Differing
+pub mod FormRows
+pub mod LiteralRows
+pub mod ReadBack
+pub mod Sizes

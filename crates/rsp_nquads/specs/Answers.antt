@@ -1,0 +1,39 @@
+-- Definitions: what a line says: nothing, a quad, or a fault with its column.
+use Rattle.std.specs.Prelude.{◌≡◌, ◌↔◌, ℕ, ⊤, Option, None, Some, List, Ok, Err, Result}
+use Rattle.rsp_terms.specs.declared.statement.Quad.{Quad}
+use Rattle.rsp_nquads.specs.declared.fault.LineFault.{LineFault}
+use Rattle.rsp_nquads.specs.declared.fault.LineFault.TheVariants.{BadStatement, RelativeIri, OutOfMemory}
+use Rattle.rsp_nquads.specs.Grammar.{Says, SaysNothing, IsFirstFault, IsFirstRelative}
+
+pub data Answer : Type 0 where
+  nothing : Answer
+  statement : Quad → Answer
+  bad_statement : ℕ → Answer
+  relative_iri : ℕ → Answer
+
+-- the line has this answer by the grammar, and no other
+pub record IsTied (document : ℕ) (line : List ℕ) (answer : Answer) : Type 0 where
+  pub says_nothing : (answer ≡ nothing) ↔ SaysNothing line
+  pub says : (quad : Quad) → (answer ≡ statement quad) ↔ Says document line quad
+  pub first_fault : (column : ℕ) → (answer ≡ bad_statement column) ↔ IsFirstFault document line column
+  pub first_relative : (column : ℕ) → (answer ≡ relative_iri column) ↔ IsFirstRelative document line column
+
+-- the result is this answer; want of memory alone is free
+abbrev pub IsAnswer : Result (Option Quad) LineFault → Answer → Type 0
+IsAnswer (Ok None) answer = answer ≡ nothing
+IsAnswer (Ok (Some quad)) answer = answer ≡ statement quad
+IsAnswer (Err (BadStatement column)) answer = answer ≡ bad_statement column
+IsAnswer (Err (RelativeIri column)) answer = answer ≡ relative_iri column
+IsAnswer (Err OutOfMemory) answer = ⊤
+
+-- a refused line says no quad, and not nothing either
+abbrev pub SaysNeither : ℕ → List ℕ → Type 0
+SaysNeither document line = ((quad : Quad) → ¬ (Says document line quad)) × ¬ (SaysNothing line)
+
+-- the result in the grammar's words
+abbrev pub IsByGrammar : ℕ → List ℕ → Result (Option Quad) LineFault → Type 0
+IsByGrammar document line (Ok None) = SaysNothing line
+IsByGrammar document line (Ok (Some quad)) = Says document line quad × ((other : Quad) → Says document line other → other ≡ quad)
+IsByGrammar document line (Err OutOfMemory) = ⊤
+IsByGrammar document line (Err (BadStatement column)) = SaysNeither document line × IsFirstFault document line column
+IsByGrammar document line (Err (RelativeIri column)) = SaysNeither document line × IsFirstRelative document line column

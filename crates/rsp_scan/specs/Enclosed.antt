@@ -1,0 +1,92 @@
+-- Definitions: IRIs and strings as they are written: characters and escapes between two signs (RDF 1.1 N-Quads, section 4;
+-- SPARQL 1.1, section 19.8).
+--
+-- A part is made of characters: nowhere does it hold bytes that aren't UTF-8.
+use Rattle.std.specs.Prelude.{◌≡◌, ℕ, Bool, true, not, ◌||◌, ◌==◌, nat_lt, ⊤, List, [], ◌∷◌, ◌++◌, map, length, codes, if◌then◌else◌, Option, None, Some}
+use Rattle.std.specs.Char.{encode_utf8, is_ascii_hexdigit}
+use Rattle.std.specs.Int.{is_in_range}
+use Rattle.std.specs.List.{list_all, concat, AllByRecursion}
+use Rattle.std.specs.Str.{encode_utf8_all, byte}
+use Rattle.std.specs.Str.Parse.{digits_value}
+use Rattle.rsp_terms.specs.Characters.{is_iri_character}
+use Rattle.rsp_scan.specs.declared.enclosed.Quote.{Quote}
+use Rattle.rsp_scan.specs.declared.enclosed.Quote.TheVariants.{Double, Single}
+
+-- a rule: the bytes of a part, those that follow it, and its value
+abbrev pub Rule : Type 0 → Type 1
+Rule A = List ℕ → List ℕ → A → Type 0
+
+-- ---- characters of IRIs and strings
+
+abbrev pub is_scalar : ℕ → Bool
+is_scalar c = nat_lt c 0xD800 || is_in_range 0xE000 0x10FFFF c
+
+abbrev pub quote_sign : Quote → ℕ
+quote_sign Double = byte "\""
+quote_sign Single = byte "'"
+
+-- what may stand unescaped in a string: all but its quote, `\`, line feed and carriage return
+abbrev pub is_string_character : Quote → ℕ → Bool
+is_string_character quote c = not ((c == quote_sign quote) || ((c == byte "\\") || ((c == byte "\n") || (c == byte "\r"))))
+
+pub data Piece : Type 0 where
+  plain : ℕ → Piece  -- a character as it is
+  short : List ℕ → Piece  -- UCHAR: `\u` and its digits
+  long : List ℕ → Piece  -- UCHAR: `\U` and its digits
+  named : ℕ → Piece  -- ECHAR: `\` and a character
+
+abbrev pub piece_text : Piece → List ℕ
+piece_text (plain c) = encode_utf8 c
+piece_text (short digits) = codes "\\u" ++ digits
+piece_text (long digits) = codes "\\U" ++ digits
+piece_text (named c) = codes "\\" ++ (c ∷ [])
+
+-- so many hexadecimal digits that write this number
+abbrev pub IsHexadecimal : ℕ → List ℕ → ℕ → Type 0
+IsHexadecimal count digits c = (length digits ≡ count) × (list_all is_ascii_hexdigit digits ≡ true) × (digits_value 16 digits ≡ c)
+
+-- ECHAR: `\` and one of `t b n r f " ' \`
+abbrev pub named_character : ℕ → Option ℕ
+named_character c =
+    if c == byte "t" then Some (byte "\t")
+    else (if c == byte "b" then Some 8
+    else (if c == byte "n" then Some (byte "\n")
+    else (if c == byte "r" then Some (byte "\r")
+    else (if c == byte "f" then Some 12
+    else (if (c == byte "\"") || ((c == byte "'") || (c == byte "\\")) then Some c else None)))))
+
+-- the piece stands for this character
+abbrev pub StandsFor : Piece → ℕ → Type 0
+StandsFor (plain c) d = c ≡ d
+StandsFor (short digits) d = IsHexadecimal 4 digits d
+StandsFor (long digits) d = IsHexadecimal 8 digits d
+StandsFor (named c) d = named_character c ≡ Some d
+
+-- in an IRI, an IRI character as it is or as UCHAR
+abbrev pub IsIriPiece : Piece → ℕ → Type 0
+IsIriPiece (named c) d = ⊥
+IsIriPiece _ d = is_iri_character d ≡ true
+
+-- in a string, a string character as it is, or any as UCHAR or ECHAR
+abbrev pub IsStringPiece : Quote → Piece → ℕ → Type 0
+IsStringPiece quote (plain c) d = is_string_character quote d ≡ true
+IsStringPiece quote _ d = ⊤
+
+-- a piece beside the character that it stands for, a Unicode scalar value
+abbrev pub IsPieceOf : (Piece → ℕ → Type 0) → Piece × ℕ → Type 0
+IsPieceOf may x = (is_scalar x.1 ≡ true) × StandsFor x.0 x.1 × may x.0 x.1
+
+-- pieces between an opening and a closing sign; the value is their characters in UTF-8
+pub record IsEnclosed (may : Piece → ℕ → Type 0) (opening closing : ℕ) (part value : List ℕ) : Type 0 where
+  pub pieces : List (Piece × ℕ)
+  pub each : AllByRecursion (IsPieceOf may) pieces
+  pub part_is : part ≡ opening ∷ (concat (map (λ x. piece_text x.0) pieces) ++ (closing ∷ []))
+  pub value_is : value ≡ encode_utf8_all (map (λ x. x.1) pieces)
+
+-- IRIREF
+abbrev pub IsIri : Rule (List ℕ)
+IsIri part rest name = IsEnclosed IsIriPiece (byte "<") (byte ">") part name
+
+-- STRING_LITERAL_QUOTE; SPARQL 1.1, section 19.8, STRING_LITERAL1 and STRING_LITERAL2
+abbrev pub IsString : Quote → Rule (List ℕ)
+IsString quote part rest lexical = IsEnclosed (IsStringPiece quote) (quote_sign quote) (quote_sign quote) part lexical

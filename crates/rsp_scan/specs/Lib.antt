@@ -1,0 +1,7 @@
+-- Definitions
+pub mod Enclosed
+pub mod Names
+-- Words of the way
+pub mod Readers
+pub mod Kinds
+pub mod Scans

@@ -1,0 +1,176 @@
+// IRIs and strings: characters and escapes between two signs.
+ghost use Rattle.std.specs.Prelude.{◌≡◌, ◌≤◌, MatchOption, Some, None, IfOk, length, suc, true, false};
+ghost use Rattle.std.specs.List.{take_while, prefix_len};
+ghost use Rattle.std.specs.Str.{is_utf8};
+ghost use Rattle.std.specs.String.{string_bytes};
+ghost use Rattle.rsp_scan.specs.Enclosed.{quote_sign, is_string_character as string_character};
+ghost use Rattle.rsp_scan.specs.Kinds as kinds;
+ghost use Rattle.rsp_scan.specs.Readers as part;
+
+use crate::escapes::{iri_escape, string_escape};
+use crate::signs::sign;
+use rsp_terms::Text;
+use std::alloc::{AllocError, Global};
+use std::str;
+
+/// The sign that a string stands between.
+#[derive(Clone, Copy)]
+pub enum Quote {
+    /// `"`
+    Double,
+    /// `'`
+    Single,
+}
+
+impl Quote {
+    fn sign(self) -> u8
+        ensures { result ≡ quote_sign self }
+    {
+        match self {
+            Quote::Double => b'"',
+            Quote::Single => b'\'',
+        }
+    }
+}
+
+/// What is enclosed.
+#[derive(Clone, Copy)]
+pub(crate) enum Kind {
+    Iri,
+    String(Quote),
+}
+
+impl Kind {
+    fn is_plain(self, c: u8) -> bool
+        ensures { result ≡ kinds.is_plain self c }
+    {
+        match self {
+            Kind::Iri =>
+                !matches!(c, 0..=b' ' | b'"' | b'<' | b'>' | b'\\' | b'^' | b'`' | b'{'..=b'}'),
+            Kind::String(quote) => is_string_character(quote, c),
+        }
+    }
+
+    fn escape(self, text: &[u8]) -> Option<(char, &[u8])>
+        ensures { MatchOption result (kinds.escape self text.now ≡ None) (λ x. kinds.escape self text.now ≡ Some (x.0, x.1.now)) }
+    {
+        match self {
+            Kind::Iri => iri_escape(text),
+            Kind::String(_) => string_escape(text),
+        }
+    }
+
+    // the plain characters at the front and the text behind them, where they are UTF-8
+    fn run(self, text: &[u8]) -> Option<(&str, &[u8])>
+        ensures { MatchOption result (is_utf8 (take_while (kinds.is_plain self) text.now) ≡ false)
+            (λ x. (is_utf8 (take_while (kinds.is_plain self) text.now) ≡ true) × (x.0.now ≡ take_while (kinds.is_plain self) text.now)
+            × (x.1.now ≡ part.behind (take_while (kinds.is_plain self) text.now) text.now)) }
+    {
+        let (run, behind) = text.split_at(self.run_len(text));
+        match str::from_utf8(run) {
+            Ok(characters) => Some((characters, behind)),
+            Err(_) => None,
+        }
+    }
+
+    fn run_len(self, text: &[u8]) -> usize
+        ensures value { result ≡ prefix_len (kinds.is_plain self) text.now }
+        ensures bound { result ≤ length text.now }
+    {
+        text.iter().take_while(|c| self.is_plain(**c)).count()
+    }
+}
+
+fn is_string_character(quote: Quote, c: u8) -> bool
+    ensures { result ≡ string_character quote c }
+{
+    c != quote.sign() && !matches!(c, b'\\' | b'\n' | b'\r')
+}
+
+/// The IRI at the front of a text, with escapes replaced, and the text behind it.
+#[tactic(auto, unfolding(crate::specs::Readers::enclosed))]
+pub fn iri<'a>(alloc: Global, text: &'a [u8]) -> Result<Option<(Text, &'a [u8])>, AllocError>
+    ensures { IfOk result (λ r. MatchOption r (part.iri text.now ≡ None) (λ x. part.iri text.now ≡ Some (x.0, x.1.now))) }
+{
+    let Some(inner) = sign(b'<', text) else {
+        return Ok(None);
+    };
+    match spelled(alloc, Kind::Iri, inner)? {
+        None => Ok(None),
+        Some((value, rest)) => match sign(b'>', rest) {
+            None => Ok(None),
+            Some(rest) => Ok(Some((value, rest))),
+        },
+    }
+}
+
+/// The string of this quote at the front of a text, with escapes replaced, and the text behind it.
+#[tactic(auto, unfolding(crate::specs::Readers::enclosed))]
+pub fn string<'a>(
+    alloc: Global,
+    quote: Quote,
+    text: &'a [u8],
+) -> Result<Option<(Text, &'a [u8])>, AllocError>
+    ensures { IfOk result (λ r. MatchOption r (part.string quote text.now ≡ None) (λ x. part.string quote text.now ≡ Some (x.0, x.1.now))) }
+{
+    let Some(inner) = sign(quote.sign(), text) else {
+        return Ok(None);
+    };
+    match spelled(alloc, Kind::String(quote), inner)? {
+        None => Ok(None),
+        Some((value, rest)) => match sign(quote.sign(), rest) {
+            None => Ok(None),
+            Some(rest) => Ok(Some((value, rest))),
+        },
+    }
+}
+
+// Plain characters and escapes as far as they go. A text without escapes is copied once.
+fn spelled<'a>(
+    alloc: Global,
+    kind: Kind,
+    text: &'a [u8],
+) -> Result<Option<(Text, &'a [u8])>, AllocError>
+    ensures { IfOk result (λ r. MatchOption r
+        (part.spelled (suc (length text.now)) (kinds.is_plain kind) (kinds.escape kind) text.now ≡ None)
+        (λ x. part.spelled (suc (length text.now)) (kinds.is_plain kind) (kinds.escape kind) text.now ≡ Some (x.0, x.1.now))) }
+{
+    let Some((characters, behind)) = kind.run(text) else {
+        return Ok(None);
+    };
+    match kind.escape(behind) {
+        None => Ok(Some((Text::new(alloc, characters)?, behind))),
+        Some((character, rest)) => {
+            let mut begun = String::from_str(alloc, characters)?;
+            begun.push(character)?;
+            spelled_onto(alloc, kind, text.len(), begun, rest)
+        }
+    }
+}
+
+fn spelled_onto<'a>(
+    alloc: Global,
+    kind: Kind,
+    most: usize,
+    begun: String,
+    text: &'a [u8],
+) -> Result<Option<(Text, &'a [u8])>, AllocError>
+    ensures { IfOk result (λ r. MatchOption r
+        (part.onto (string_bytes begun) (part.spelled most (kinds.is_plain kind) (kinds.escape kind) text.now) ≡ None)
+        (λ x. part.onto (string_bytes begun) (part.spelled most (kinds.is_plain kind) (kinds.escape kind) text.now) ≡ Some (x.0, x.1.now))) }
+{
+    let mut spelled = begun;
+    let mut rest = text;
+    for _ in 0..most {
+        let Some((characters, behind)) = kind.run(rest) else {
+            return Ok(None);
+        };
+        spelled.push_str(characters)?;
+        let Some((character, next)) = kind.escape(behind) else {
+            return Ok(Some((Text::new(alloc, spelled.as_str())?, behind)));
+        };
+        spelled.push(character)?;
+        rest = next;
+    }
+    Ok(None)
+}

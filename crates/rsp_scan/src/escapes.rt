@@ -1,0 +1,123 @@
+// Escapes: the character that one stands for, and the text behind it.
+ghost use Rattle.std.specs.Prelude.{◌≡◌, ◌≤◌, ◌<◌, MatchOption, Some, None, length, IsTrue};
+ghost use Rattle.std.specs.Char.{is_ascii_hexdigit};
+ghost use Rattle.std.specs.List.{list_all};
+ghost use Rattle.std.specs.Str.Parse.{digits_value};
+ghost use Rattle.rsp_scan.specs.Enclosed.{named_character};
+ghost use Rattle.rsp_scan.specs.Readers as part;
+
+use rsp_terms::characters::is_iri_character;
+
+/// An escape in an IRI: a UCHAR that names an IRI character.
+#[tactic(auto, unfolding(crate::specs::Readers::iri_escape))]
+pub(crate) fn iri_escape(text: &[u8]) -> Option<(char, &[u8])>
+    ensures { MatchOption result (part.iri_escape text.now ≡ None) (λ x. part.iri_escape text.now ≡ Some (x.0, x.1.now)) }
+{
+    let (character, rest) = uchar(text)?;
+    if is_iri_character(character) {
+        Some((character, rest))
+    } else {
+        None
+    }
+}
+
+/// An escape in a string: a UCHAR or an ECHAR.
+#[tactic(auto, unfolding(crate::specs::Readers::string_escape))]
+pub(crate) fn string_escape(text: &[u8]) -> Option<(char, &[u8])>
+    ensures { MatchOption result (part.string_escape text.now ≡ None) (λ x. part.string_escape text.now ≡ Some (x.0, x.1.now)) }
+{
+    match echar(text) {
+        Some(escape) => Some(escape),
+        None => uchar(text),
+    }
+}
+
+#[tactic(auto, unfolding(crate::specs::Readers::echar))]
+fn echar(text: &[u8]) -> Option<(char, &[u8])>
+    ensures { MatchOption result (part.echar text.now ≡ None) (λ x. part.echar text.now ≡ Some (x.0, x.1.now)) }
+{
+    let [b'\\', name, rest @ ..] = text else {
+        return None;
+    };
+    let character = named_character(*name)?;
+    Some((character, rest))
+}
+
+fn named_character(name: u8) -> Option<char>
+    ensures { result ≡ named_character name }
+{
+    match name {
+        b't' => Some('\t'),
+        b'b' => Some('\u{8}'),
+        b'n' => Some('\n'),
+        b'r' => Some('\r'),
+        b'f' => Some('\u{C}'),
+        b'"' => Some('"'),
+        b'\'' => Some('\''),
+        b'\\' => Some('\\'),
+        _ => None,
+    }
+}
+
+#[tactic(auto, unfolding(crate::specs::Readers::uchar))]
+fn uchar(text: &[u8]) -> Option<(char, &[u8])>
+    ensures { MatchOption result (part.uchar text.now ≡ None) (λ x. part.uchar text.now ≡ Some (x.0, x.1.now)) }
+{
+    match text {
+        [b'\\', b'u', rest @ ..] => code_point(4, rest),
+        [b'\\', b'U', rest @ ..] => code_point(8, rest),
+        _ => None,
+    }
+}
+
+// so many hexadecimal digits that name a Unicode scalar value
+fn code_point(count: usize, text: &[u8]) -> Option<(char, &[u8])>
+    requires { count ≤ 8 }
+    ensures { MatchOption result (part.code_point count text.now ≡ None) (λ x. part.code_point count text.now ≡ Some (x.0, x.1.now)) }
+{
+    if text.len() < count {
+        return None;
+    }
+    let (digits, rest) = text.split_at(count);
+    if !are_hexadecimal(digits) {
+        return None;
+    }
+    let character = char::from_u32(value_of(digits))?;
+    Some((character, rest))
+}
+
+fn are_hexadecimal(digits: &[u8]) -> bool
+    ensures { result ≡ list_all is_ascii_hexdigit digits.now }
+{
+    digits.iter().all(|c| is_hexadecimal(*c))
+}
+
+fn is_hexadecimal(c: u8) -> bool
+    ensures { result ≡ is_ascii_hexdigit c }
+{
+    c.is_ascii_hexdigit()
+}
+
+fn value_of(digits: &[u8]) -> u32
+    requires few { length digits.now ≤ 8 }
+    requires digits { IsTrue (list_all is_ascii_hexdigit digits.now) }
+    ensures { result ≡ digits_value 16 digits.now }
+{
+    let mut value = 0;
+    for digit in digits {
+        value = 16 * value + digit_value(*digit);
+    }
+    value
+}
+
+fn digit_value(digit: u8) -> u32
+    requires { IsTrue (is_ascii_hexdigit digit) }
+    ensures value { result ≡ Rattle.std.specs.Char.digit_value digit }
+    ensures bound { result < 16 }
+{
+    match digit {
+        b'0'..=b'9' => u32::from(digit - b'0'),
+        b'A'..=b'F' => u32::from(digit - b'A') + 10,
+        _ => u32::from(digit - b'a') + 10,
+    }
+}

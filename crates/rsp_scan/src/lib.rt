@@ -1,0 +1,16 @@
+//! Parts that N-Quads and SPARQL write alike, at the front of a text: IRIs in brackets and strings between quotes, with
+//! their escapes replaced, labels of blank nodes, language tags.
+//!
+//! Each call gives the value of the part that stands there and the text behind it, and None exactly where none stands.
+//! The quote of a string and the characters of a label are arguments. Above: the readers of statements and of queries.
+//! Below: texts and their characters.
+#![tactic(auto)]
+
+mod enclosed;
+mod escapes;
+mod labels;
+mod signs;
+
+pub use enclosed::{Quote, iri, string};
+pub use labels::{Labels, label, tag};
+pub use signs::sign;
