@@ -1,5 +1,10 @@
-//! A query as it is written: what each token says, and the tree of a text as its grammar has it, with names in place of
-//! numbers and each row of signs as one list.
+//! A query as it is written: what each token says, the grammar of queries over that, and the tree of a text, with names in
+//! place of numbers and each row of signs as one list.
+//!
+//! The specs have the grammar in one file, a definition for each rule, and for each rule the function on rows of tokens
+//! that reads it; the proofs have each rule's law, that this function gives the one value of an expansion or stops at
+//! exactly the first token that can't stand. The code reads single tokens, names and literals so. Above: the readers of
+//! expressions, of triples and of groups. Below: terms, and `rsp_phrases`.
 #![tactic(auto)]
 
 mod expression;
