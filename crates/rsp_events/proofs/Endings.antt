@@ -10,7 +10,8 @@ use Rattle.std.proofs.lemmas.Bool.Decides.{nat_tests}
 use Rattle.rsp_events.specs.declared.begun.Ending.{Ending}
 use Rattle.rsp_events.specs.declared.begun.BegunLine.TheVariants as begun
 use Rattle.rsp_events.specs.Begun.{begun_line_of, ending_of}
-use Rattle.rsp_events.specs.Lines.{is_blank, is_end, most_bytes}
+use Rattle.rsp_text.specs.Fronts.{is_blank}
+use Rattle.rsp_events.specs.Lines.{is_end, most_bytes}
 
 regrouped : (p q b : Bool) → (p && (q && (b && true))) ≡ ((p && q) && b)
 regrouped true true true = refl

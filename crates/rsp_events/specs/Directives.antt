@@ -4,6 +4,7 @@
 use Rattle.std.specs.Prelude.{ℕ, Bool, ◌&&◌, ◌||◌, not, ◌==◌, nat_le, if◌then◌else◌, Option, None, Some, List, [], ◌∷◌, length, drop, filter, codes, bytes_eq}
 use Rattle.std.specs.Char.{is_ascii_alphanumeric}
 use Rattle.std.specs.List.{list_all, slice_split}
+use Rattle.std.specs.Str.{byte}
 use Rattle.std.specs.Option.{option_map, option_and_then, option_or}
 use Rattle.rsp_spec.specs.Windows.{last_instant}
 use Rattle.rsp_text.specs.Digits.{read_u64}
@@ -11,7 +12,8 @@ use Rattle.rsp_text.specs.Instants.{instant}
 use Rattle.rsp_nquads.specs.Fields.{absolute_iri}
 use Rattle.rsp_events.specs.declared.directives.Directive.{Directive}
 use Rattle.rsp_events.specs.declared.directives.Directive.TheVariants.{Register, Cancel, Item, Tick, Insert, Delete}
-use Rattle.rsp_events.specs.Lines.{is_blank, first_field}
+use Rattle.rsp_text.specs.Fronts.{is_blank}
+use Rattle.rsp_events.specs.Lines.{first_field}
 
 -- ---- fields
 
@@ -34,7 +36,7 @@ two_fields (first ∷ more) = option_map (λ second. (first, second)) (only_fiel
 
 -- a letter, a digit, `_` or `-`
 abbrev pub is_name_character : ℕ → Bool
-is_name_character c = is_ascii_alphanumeric c || ((c == 95) || (c == 45))
+is_name_character c = is_ascii_alphanumeric c || ((c == byte "_") || (c == byte "-"))
 
 -- a query's name: 1 to 64 of these
 unfoldable pub is_name : List ℕ → Bool

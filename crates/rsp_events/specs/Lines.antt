@@ -1,7 +1,9 @@
 -- Definitions: the lines of the event log, and which of them begin and end a block.
 use Rattle.std.specs.Prelude.{ℕ, ◌≢◌, ◌+◌, Bool, true, false, ◌&&◌, ◌||◌, not, ◌==◌, nat_lt, if◌then◌else◌, List, [], ◌∷◌, drop, length, codes, nat_eq, bytes_eq, sum_by}
 use Rattle.std.specs.List.{AllByRecursion, list_any, list_all, slice_split, starts_with, before_first}
+use Rattle.std.specs.Str.{byte}
 use Rattle.std.specs.Str.Lines.{strip_carriage_return}
+use Rattle.rsp_text.specs.Fronts.{is_blank}
 
 -- a line: its number in the text, from 1, its bytes before the line feed, and whether a line feed ends it, which only
 -- the last line may lack
@@ -49,14 +51,10 @@ sizes_of lines = sum_by size_of lines
 abbrev pub is_long : Line → Bool
 is_long line = nat_lt most_bytes (length line.bytes)
 
--- a space or a tab
-abbrev pub is_blank : ℕ → Bool
-is_blank c = (c == 32) || (c == 9)
-
 -- a line that is passed over between blocks: blanks alone, or one that begins with `#`
 unfoldable pub is_passed : List ℕ → Bool
 is_passed [] = true
-is_passed (c ∷ cs) = (c == 35) || list_all is_blank (c ∷ cs)
+is_passed (c ∷ cs) = (c == byte "#") || list_all is_blank (c ∷ cs)
 
 -- what stands before the first blank
 abbrev pub first_field : List ℕ → List ℕ

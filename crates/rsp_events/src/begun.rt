@@ -7,8 +7,9 @@ ghost use Rattle.rsp_events.specs.Lines.{Line};
 ghost use Rattle.rsp_events.specs.declared.begun.HeldLine.TheVariants as held;
 ghost use Rattle.rsp_events.specs.declared.begun.BegunBlock.TheVariants as begun;
 
-use crate::lines::{is_blank, is_end};
+use crate::lines::is_end;
 use rsp_terms::Listed;
+use rsp_text::is_blank;
 use std::alloc::{AllocError, Global};
 
 // The most bytes of a block.

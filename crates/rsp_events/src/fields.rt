@@ -1,13 +1,12 @@
 // Fields: what stands between blanks; names and times.
-ghost use Rattle.std.specs.Prelude.{◌≡◌, ◌∷◌, ◌==◌, [], ◌≤◌, not, Some, None, IfOk, MatchOption, length, drop};
-ghost use Rattle.std.specs.List.{list_all, prefix_len};
+ghost use Rattle.std.specs.Prelude.{◌≡◌, ◌∷◌, ◌==◌, [], not, Some, None, IfOk, MatchOption, length};
+ghost use Rattle.std.specs.List.{list_all};
 ghost use Rattle.std.specs.Str.{IsAscii};
 ghost use Rattle.rsp_events.specs.Directives as form;
-ghost use Rattle.rsp_events.specs.Lines.{is_blank};
 
-use crate::lines::{first_blank, is_blank};
+use crate::lines::first_blank;
 use rsp_terms::Text;
-use rsp_text::{instant, read_u64};
+use rsp_text::{behind_blanks, instant, read_u64};
 use std::alloc::{AllocError, Global};
 use std::str;
 
@@ -58,20 +57,6 @@ fn next_field(text: &[u8]) -> Option<(&[u8], &[u8])>
         return None;
     }
     Some(text.split_at(first_blank(text)))
-}
-
-// the text without the blanks at its front
-fn behind_blanks(text: &[u8]) -> &[u8]
-    ensures { result.now ≡ drop (prefix_len is_blank text.now) text.now }
-{
-    &text[blanks(text)..]
-}
-
-fn blanks(text: &[u8]) -> usize
-    ensures value { result ≡ prefix_len is_blank text.now }
-    ensures bound { result ≤ length text.now }
-{
-    text.iter().take_while(|c| is_blank(**c)).count()
 }
 
 // ---- names and times

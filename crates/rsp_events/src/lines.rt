@@ -1,7 +1,10 @@
 // Lines: which are passed over, which have a body, which end one.
 ghost use Rattle.std.specs.Prelude.{◌≡◌, ◌≤◌, bytes_eq, length};
 ghost use Rattle.std.specs.List.{list_all, position_or_len};
+ghost use Rattle.rsp_text.specs.Fronts.{is_blank};
 ghost use Rattle.rsp_events.specs.Lines as text;
+
+use rsp_text::is_blank;
 
 /// Whether these are the same bytes.
 pub(crate) fn same(left: &[u8], right: &[u8]) -> bool
@@ -10,15 +13,8 @@ pub(crate) fn same(left: &[u8], right: &[u8]) -> bool
     left == right
 }
 
-/// Whether a character is a space or a tab.
-pub(crate) fn is_blank(c: u8) -> bool
-    ensures { result ≡ text.is_blank c }
-{
-    c == b' ' || c == b'\t'
-}
-
 fn all_blank(line: &[u8]) -> bool
-    ensures { result ≡ list_all text.is_blank line.now }
+    ensures { result ≡ list_all is_blank line.now }
 {
     line.iter().all(|c| is_blank(*c))
 }
@@ -65,7 +61,7 @@ pub(crate) fn first_field(line: &[u8]) -> &[u8]
 
 /// Where the first blank stands, or the line's length.
 pub(crate) fn first_blank(line: &[u8]) -> usize
-    ensures place { result ≡ position_or_len text.is_blank line.now }
+    ensures place { result ≡ position_or_len is_blank line.now }
     ensures bound { result ≤ length line.now }
 {
     line.iter().take_while(|c| !is_blank(**c)).count()

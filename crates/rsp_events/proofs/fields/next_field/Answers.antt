@@ -1,7 +1,7 @@
 use Rattle.std.proofs.Common.{◌≡◌, length, arith}
 use Rattle.std.specs.Prelude.{◌≢◌}
 use Rattle.std.proofs.lemmas.Bool.Decides.{nat_tests}
-use Rattle.rsp_events.specs.Lines.{is_blank}
+use Rattle.rsp_text.specs.Fronts.{is_blank}
 use Rattle.rsp_events.proofs.Parted.{next_part, no_part}
 use Rattle.rsp_events.proofs.fields.next_field.Goals as goal
 
