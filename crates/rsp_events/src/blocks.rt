@@ -74,8 +74,7 @@ impl Blocks {
         }
     }
 
-    /// The blocks whose last line ends in this piece: `feed(b"@tick 5\n@tick")` gives block 1, a tick at 5 ms, and keeps
-    /// what stands behind it. Fails only where memory is refused, or the 64-bit number of a line
+    /// The blocks whose last line ends in this piece. Fails only where memory is refused, or the 64-bit number of a line
     /// or block would pass its last value; then, and after `finish`, each later call fails too.
     ///
     /// Fed `@tick 5\n@ti` and then `ck 6\n`, it gives the block of `@tick 5` at first and that of `@tick 6` behind it.
