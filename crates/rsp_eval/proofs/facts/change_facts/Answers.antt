@@ -11,5 +11,5 @@ pub loop-index-preserved : goal.loop-index-preserved
 loop-index-preserved c =
     record {
       set = c.in_ok-change_fact.ensures.set;
-      changed_rows = next_taken _ _ _ _ _ _ _ _ c.counted_at-by.ensures.rest c.in_ok-change_fact.ensures.changed c.loop-index.invariant.changed;
+      changed = next_taken _ _ _ _ _ _ _ _ c.counted_at-by.ensures.rest c.in_ok-change_fact.ensures.changed c.loop-index.invariant.changed;
     }

@@ -9,7 +9,7 @@ abbrev pub invariant-loop-index : goal.invariant-loop-index
 invariant-loop-index l =
     record {
       set : IsSet l.facts.keys;
-      changed_rows : (q : Fact)
+      changed : (q : Fact)
           → times fact_eq l.facts.keys q +ℤ weight fact_eq (drop l.index l.changes) q
           ≡ times fact_eq l.initial.facts.keys q +ℤ weight fact_eq l.changes q;
     }
