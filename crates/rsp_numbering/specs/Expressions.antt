@@ -1,0 +1,178 @@
+-- Definitions: expressions with numbers in place of names, and their aggregates apart.
+use Rattle.std.specs.Prelude.{ℕ, Bool, false, List, [], ◌∷◌, ◌++◌, Option, None, Some}
+use Rattle.rsp_terms.specs.declared.term.Term.TheVariants as term
+use Rattle.rsp_expr.specs.Formulas.{Formula, Formulas, Aggregation, no_formula, formula_then}
+use Rattle.rsp_expr.specs.Formulas as formula
+use Rattle.rsp_expr.specs.declared.function.Sign.{Sign}
+use Rattle.rsp_expr.specs.declared.function.Sign.TheVariants as sign
+use Rattle.rsp_expr.specs.declared.function.Function.{Function}
+use Rattle.rsp_expr.specs.declared.function.Function.TheVariants as function
+use Rattle.rsp_expr.specs.declared.aggregate.Kind.{Kind}
+use Rattle.rsp_expr.specs.declared.aggregate.Kind.TheVariants as fold
+use Rattle.rsp_written.specs.declared.said.Keyword.TheVariants as keyword
+use Rattle.rsp_written.specs.declared.said.Symbol.TheVariants as symbol
+use Rattle.rsp_written.specs.declared.said.Kind.TheVariants as kind
+use Rattle.rsp_written.specs.declared.said.Kind as token
+use Rattle.rsp_written.specs.Trees.{Expr, variable, iri, constant, any_of, all_of, compared, member, sum, product, signed, bound, call, count_rows, aggregate, Exprs, no_expr, expr_then, Operands, no_operand, operand_then}
+use Rattle.rsp_numbering.specs.Naming.{Scope, Before, number, behind, named}
+use Rattle.rsp_numbering.specs.Naming as naming
+
+-- ---- the words and signs of the grammar; of a token that can't stand there, whichever
+
+abbrev pub sign_of : token.Kind → Sign
+sign_of (kind.Symbol symbol.NotEqual) = sign.NotEqual
+sign_of (kind.Symbol symbol.Less) = sign.Less
+sign_of (kind.Symbol symbol.Greater) = sign.Greater
+sign_of (kind.Symbol symbol.LessEqual) = sign.LessEqual
+sign_of (kind.Symbol symbol.GreaterEqual) = sign.GreaterEqual
+sign_of (kind.Symbol symbol.Plus) = sign.Add
+sign_of (kind.Symbol symbol.Minus) = sign.Subtract
+sign_of (kind.Symbol symbol.Star) = sign.Multiply
+sign_of (kind.Symbol symbol.Slash) = sign.Divide
+sign_of _ = sign.Equal
+
+abbrev pub function_of : token.Kind → Function
+function_of (kind.Word keyword.If) = function.If
+function_of (kind.Word keyword.Coalesce) = function.Coalesce
+function_of (kind.Word keyword.SameTerm) = function.SameTerm
+function_of (kind.Word keyword.IsIri) = function.IsIri
+function_of (kind.Word keyword.IsUri) = function.IsUri
+function_of (kind.Word keyword.IsBlank) = function.IsBlank
+function_of (kind.Word keyword.IsLiteral) = function.IsLiteral
+function_of (kind.Word keyword.IsNumeric) = function.IsNumeric
+function_of (kind.Word keyword.Lang) = function.Lang
+function_of (kind.Word keyword.Datatype) = function.Datatype
+function_of (kind.Word keyword.Iri) = function.Iri
+function_of (kind.Word keyword.Uri) = function.Uri
+function_of (kind.Word keyword.StrDt) = function.StrDt
+function_of (kind.Word keyword.StrLang) = function.StrLang
+function_of (kind.Word keyword.StrLen) = function.StrLen
+function_of (kind.Word keyword.SubStr) = function.Substr
+function_of (kind.Word keyword.Contains) = function.Contains
+function_of (kind.Word keyword.StrStarts) = function.StrStarts
+function_of (kind.Word keyword.StrEnds) = function.StrEnds
+function_of (kind.Word keyword.StrBefore) = function.StrBefore
+function_of (kind.Word keyword.StrAfter) = function.StrAfter
+function_of (kind.Word keyword.Concat) = function.Concat
+function_of (kind.Word keyword.LangMatches) = function.LangMatches
+function_of (kind.Word keyword.Abs) = function.Abs
+function_of (kind.Word keyword.Ceil) = function.Ceil
+function_of (kind.Word keyword.Floor) = function.Floor
+function_of (kind.Word keyword.Round) = function.Round
+function_of _ = function.Str
+
+abbrev pub fold_of : token.Kind → Kind
+fold_of (kind.Word keyword.Sum) = fold.Sum
+fold_of (kind.Word keyword.Avg) = fold.Avg
+fold_of (kind.Word keyword.Min) = fold.Min
+fold_of (kind.Word keyword.Max) = fold.Max
+fold_of _ = fold.Count
+
+-- ---- what stands before the place behind an expression. An aggregate comes before its argument.
+
+abbrev mutual
+  pub behind_expr : List Scope → Before → Expr → Before
+  behind_expr at before (variable x) = behind before (named at x)
+  behind_expr at before (iri x) = before
+  behind_expr at before (constant t) = before
+  behind_expr at before (any_of parts) = behind_exprs at before parts
+  behind_expr at before (all_of parts) = behind_exprs at before parts
+  behind_expr at before (compared s left right) = behind_expr at (behind_expr at before left) right
+  behind_expr at before (member negated item items) = behind_exprs at (behind_expr at before item) items
+  behind_expr at before (sum first others) = behind_operands at (behind_expr at before first) others
+  behind_expr at before (product first others) = behind_operands at (behind_expr at before first) others
+  behind_expr at before (signed s part) = behind_expr at before part
+  behind_expr at before (bound x) = behind before (named at x)
+  behind_expr at before (call f arguments) = behind_exprs at before arguments
+  behind_expr at before count_rows = behind before (naming.aggregate before)
+  behind_expr at before (aggregate k distinct argument) = behind_expr at (behind before (naming.aggregate before)) argument
+
+  pub behind_exprs : List Scope → Before → Exprs → Before
+  behind_exprs at before no_expr = before
+  behind_exprs at before (expr_then e more) = behind_exprs at (behind_expr at before e) more
+
+  pub behind_operands : List Scope → Before → Operands → Before
+  behind_operands at before no_operand = before
+  behind_operands at before (operand_then s e more) = behind_operands at (behind_expr at before e) more
+
+-- ---- the formula of an expression; an aggregate is the variable that stands for it
+
+abbrev pub signed_formula : token.Kind → Formula → Formula
+signed_formula (kind.Symbol symbol.Minus) part = formula.opposite part
+signed_formula (kind.Symbol symbol.Plus) part = formula.plus part
+signed_formula _ part = formula.negation part
+
+abbrev mutual
+  pub numbered_expr : List Scope → Before → Expr → Formula
+  numbered_expr at before (variable x) = formula.variable (number before (named at x))
+  numbered_expr at before (iri x) = formula.constant (term.Iri x)
+  numbered_expr at before (constant t) = formula.constant t
+  numbered_expr at before (any_of parts) = formula.disjunction (numbered_exprs at before parts)
+  numbered_expr at before (all_of parts) = formula.conjunction (numbered_exprs at before parts)
+  numbered_expr at before (compared s left right) =
+      formula.comparison (sign_of s) (numbered_expr at before left) (numbered_expr at (behind_expr at before left) right)
+  numbered_expr at before (member negated item items) =
+      formula.membership negated (numbered_expr at before item) (numbered_exprs at (behind_expr at before item) items)
+  numbered_expr at before (sum first others) =
+      numbered_row at (behind_expr at before first) (numbered_expr at before first) others
+  numbered_expr at before (product first others) =
+      numbered_row at (behind_expr at before first) (numbered_expr at before first) others
+  numbered_expr at before (signed s part) = signed_formula s (numbered_expr at before part)
+  numbered_expr at before (bound x) = formula.bound (number before (named at x))
+  numbered_expr at before (call f arguments) = formula.call (function_of f) (numbered_exprs at before arguments)
+  numbered_expr at before count_rows = formula.variable (number before (naming.aggregate before))
+  numbered_expr at before (aggregate k distinct argument) = formula.variable (number before (naming.aggregate before))
+
+  pub numbered_exprs : List Scope → Before → Exprs → Formulas
+  numbered_exprs at before no_expr = no_formula
+  numbered_exprs at before (expr_then e more) =
+      formula_then (numbered_expr at before e) (numbered_exprs at (behind_expr at before e) more)
+
+  -- a row of signs, from the left
+  pub numbered_row : List Scope → Before → Formula → Operands → Formula
+  numbered_row at before left no_operand = left
+  numbered_row at before left (operand_then s e more) =
+      numbered_row at (behind_expr at before e) (formula.arithmetic (sign_of s) left (numbered_expr at before e)) more
+
+-- ---- the aggregates of an expression, each with its variable
+
+abbrev mutual
+  pub aggregates_of : List Scope → Before → Expr → List (ℕ × Aggregation)
+  aggregates_of at before (variable x) = []
+  aggregates_of at before (iri x) = []
+  aggregates_of at before (constant t) = []
+  aggregates_of at before (any_of parts) = aggregates_among at before parts
+  aggregates_of at before (all_of parts) = aggregates_among at before parts
+  aggregates_of at before (compared s left right) =
+      aggregates_of at before left ++ aggregates_of at (behind_expr at before left) right
+  aggregates_of at before (member negated item items) =
+      aggregates_of at before item ++ aggregates_among at (behind_expr at before item) items
+  aggregates_of at before (sum first others) =
+      aggregates_of at before first ++ aggregates_in_row at (behind_expr at before first) others
+  aggregates_of at before (product first others) =
+      aggregates_of at before first ++ aggregates_in_row at (behind_expr at before first) others
+  aggregates_of at before (signed s part) = aggregates_of at before part
+  aggregates_of at before (bound x) = []
+  aggregates_of at before (call f arguments) = aggregates_among at before arguments
+  aggregates_of at before count_rows =
+      (number before (naming.aggregate before), record { kind = fold.Count; distinct = false; argument = None }) ∷ []
+  aggregates_of at before (aggregate k distinct argument) =
+      (
+        number before (naming.aggregate before),
+        record {
+          kind = fold_of k;
+          distinct = distinct;
+          argument = Some (numbered_expr at (behind before (naming.aggregate before)) argument);
+        },
+      )
+      ∷ []
+
+  pub aggregates_among : List Scope → Before → Exprs → List (ℕ × Aggregation)
+  aggregates_among at before no_expr = []
+  aggregates_among at before (expr_then e more) =
+      aggregates_of at before e ++ aggregates_among at (behind_expr at before e) more
+
+  pub aggregates_in_row : List Scope → Before → Operands → List (ℕ × Aggregation)
+  aggregates_in_row at before no_operand = []
+  aggregates_in_row at before (operand_then s e more) =
+      aggregates_of at before e ++ aggregates_in_row at (behind_expr at before e) more

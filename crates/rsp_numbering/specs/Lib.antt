@@ -1,0 +1,7 @@
+-- Definitions
+pub mod Naming
+pub mod Expressions
+pub mod Triples
+pub mod Selections
+pub mod Clauses
+pub mod Limits

@@ -1,0 +1,212 @@
+-- Definitions: what is counted of a query as it is written, and the first limit that it passes.
+use Rattle.std.specs.Prelude.{ℕ, zero, suc, ◌+◌, ◌-◌, Bool, true, false, ◌||◌, ◌&&◌, not, cond, nat_lt, nat_le, List, [], ◌∷◌, ◌++◌, Option, None, Some, map, is_some, length, sum}
+use Rattle.std.specs.List.{list_any}
+use Rattle.std.specs.Option.{option_to_list}
+use Rattle.rsp_text.specs.Spans.{span}
+use Rattle.rsp_query.specs.Paths.{Way, Ways}
+use Rattle.rsp_query.specs.Paths as path
+use Rattle.rsp_query.specs.Groups as query
+use Rattle.rsp_query.specs.Groups.{Part, Parts, Groups, Selection}
+use Rattle.rsp_written.specs.Trees as written
+use Rattle.rsp_written.specs.Trees.{Expr, Exprs, Operands, Element, Elements, Item, Projection, Selected, Written}
+use Rattle.rsp_numbering.specs.Naming.{Before}
+use Rattle.rsp_numbering.specs.Selections.{behind_selected, selected_of, items_in}
+use Rattle.rsp_numbering.specs.Clauses.{nothing}
+use Rattle.rsp_numbering.specs.declared.limit.LimitName.{LimitName}
+use Rattle.rsp_numbering.specs.declared.limit.LimitName.TheVariants as limit
+
+-- ---- operators, calls and aggregates: each sign counts, so `a || b || c` has two
+
+abbrev mutual
+  pub operators : Expr → ℕ
+  operators (written.variable x) = 0
+  operators (written.iri x) = 0
+  operators (written.constant t) = 0
+  operators (written.any_of parts) = operators_between parts
+  operators (written.all_of parts) = operators_between parts
+  operators (written.compared s left right) = suc (operators left + operators right)
+  operators (written.member negated item items) = suc (operators item + operators_among items)
+  operators (written.sum first others) = operators first + operators_behind others
+  operators (written.product first others) = operators first + operators_behind others
+  operators (written.signed s part) = suc (operators part)
+  operators (written.bound x) = 1
+  operators (written.call f arguments) = suc (operators_among arguments)
+  operators written.count_rows = 1
+  operators (written.aggregate k distinct argument) = suc (operators argument)
+
+  pub operators_among : Exprs → ℕ
+  operators_among written.no_expr = 0
+  operators_among (written.expr_then e more) = operators e + operators_among more
+
+  -- of parts with a sign between
+  pub operators_between : Exprs → ℕ
+  operators_between written.no_expr = 0
+  operators_between (written.expr_then e more) = operators e + operators_following more
+
+  pub operators_following : Exprs → ℕ
+  operators_following written.no_expr = 0
+  operators_following (written.expr_then e more) = suc (operators e + operators_following more)
+
+  pub operators_behind : Operands → ℕ
+  operators_behind written.no_operand = 0
+  operators_behind (written.operand_then s e more) = suc (operators e + operators_behind more)
+
+abbrev pub item_operators : Item → ℕ
+item_operators (written.shown x) = 0
+item_operators (written.computed e x) = operators e
+
+abbrev pub having_operators : Option Expr → ℕ
+having_operators None = 0
+having_operators (Some e) = operators e
+
+abbrev mutual
+  pub element_operators : Element → ℕ
+  element_operators (written.triples subject properties) = 0
+  element_operators (written.optional_group body) = group_operators body
+  element_operators (written.minus_group body) = group_operators body
+  element_operators (written.union_of groups) = groups_operators groups
+  element_operators (written.graph_group name place body) = group_operators body
+  element_operators (written.window_group name place body) = group_operators body
+  element_operators (written.filter e) = operators e
+  element_operators (written.exists negated place body) = group_operators body
+  element_operators (written.bind e x) = operators e
+  element_operators (written.values names rows) = 0
+  element_operators (written.sub_select inner) = select_operators inner
+
+  pub group_operators : Elements → ℕ
+  group_operators written.no_element = 0
+  group_operators (written.element_then element more) = element_operators element + group_operators more
+
+  pub groups_operators : written.Groups → ℕ
+  groups_operators written.no_group = 0
+  groups_operators (written.group_then group more) = group_operators group + groups_operators more
+
+  pub select_operators : Selected → ℕ
+  select_operators (written.selected distinct projection body keys having) =
+      (sum (map item_operators (items_in projection)) + group_operators body)
+      + (sum (map item_operators keys) + having_operators having)
+
+-- ---- triple patterns, one for each step of a path, and the `/` of paths
+
+abbrev mutual
+  pub steps : Way → ℕ
+  steps (path.step s) = 1
+  steps (path.inverse way) = steps way
+  steps (path.sequence ways) = steps_among ways
+  steps (path.choice ways) = steps_among ways
+
+  pub steps_among : Ways → ℕ
+  steps_among path.no_way = 0
+  steps_among (path.way_then way more) = steps way + steps_among more
+
+abbrev mutual
+  pub slashes : Way → ℕ
+  slashes (path.step s) = 0
+  slashes (path.inverse way) = slashes way
+  slashes (path.sequence ways) = slashes_between ways
+  slashes (path.choice ways) = slashes_among ways
+
+  pub slashes_among : Ways → ℕ
+  slashes_among path.no_way = 0
+  slashes_among (path.way_then way more) = slashes way + slashes_among more
+
+  pub slashes_between : Ways → ℕ
+  slashes_between path.no_way = 0
+  slashes_between (path.way_then way more) = slashes way + slashes_following more
+
+  pub slashes_following : Ways → ℕ
+  slashes_following path.no_way = 0
+  slashes_following (path.way_then way more) = suc (slashes way + slashes_following more)
+
+-- ---- over all parts of a query, at every depth
+
+-- what a part counts by itself
+abbrev pub triple_steps : Part → ℕ
+triple_steps (query.triple subject verb object) = steps verb
+triple_steps _ = 0
+
+abbrev pub triple_slashes : Part → ℕ
+triple_slashes (query.triple subject verb object) = slashes verb
+triple_slashes _ = 0
+
+abbrev pub one_unless_triple : Part → ℕ
+one_unless_triple (query.triple subject verb object) = 0
+one_unless_triple _ = 1
+
+abbrev pub rows_of_values : Part → ℕ
+rows_of_values (query.values variables rows) = length rows
+rows_of_values _ = 0
+
+abbrev mutual
+  pub counted : (Part → ℕ) → Part → ℕ
+  counted f (query.triple subject verb object) = f (query.triple subject verb object)
+  counted f (query.optional body) = f (query.optional body) + counted_group f body
+  counted f (query.minus body) = f (query.minus body) + counted_group f body
+  counted f (query.union groups) = f (query.union groups) + counted_groups f groups
+  counted f (query.graph name place body) = f (query.graph name place body) + counted_group f body
+  counted f (query.window name place body) = f (query.window name place body) + counted_group f body
+  counted f (query.filter e) = f (query.filter e)
+  counted f (query.exists negated place body) = f (query.exists negated place body) + counted_group f body
+  counted f (query.bind v e) = f (query.bind v e)
+  counted f (query.values variables rows) = f (query.values variables rows)
+  counted f (query.sub inner) = f (query.sub inner) + counted_select f inner
+
+  pub counted_group : (Part → ℕ) → Parts → ℕ
+  counted_group f query.no_part = 0
+  counted_group f (query.part_then part more) = counted f part + counted_group f more
+
+  pub counted_groups : (Part → ℕ) → Groups → ℕ
+  counted_groups f query.no_group = 0
+  counted_groups f (query.group_then group more) = counted_group f group + counted_groups f more
+
+  pub counted_select : (Part → ℕ) → Selection → ℕ
+  counted_select f (query.selection distinct star items body grouped keys having aggregates) = counted_group f body
+
+-- ---- spans
+
+-- a span from 1 ms to the last instant
+abbrev pub is_span : List ℕ → Bool
+is_span text = is_some_positive (span text) where
+  is_some_positive : Option ℕ → Bool
+  is_some_positive None = false
+  is_some_positive (Some n) = nat_lt 0 n
+
+abbrev pub window_spans : written.Window → List (List ℕ)
+window_spans w = w.range ∷ option_to_list w.slide
+
+abbrev pub periods : written.Policy → List (List ℕ)
+periods written.no_policy = []
+periods (written.profile name) = []
+periods (written.reporting strategies tick) = flat strategies where
+  flat : List written.Strategy → List (List ℕ)
+  flat [] = []
+  flat (s ∷ more) = option_to_list s.period ++ flat more
+
+abbrev pub spans_of_windows : List written.Window → List (List ℕ)
+spans_of_windows [] = []
+spans_of_windows (w ∷ more) = window_spans w ++ spans_of_windows more
+
+abbrev pub spans_of : Written → List (List ℕ)
+spans_of w = periods w.policy ++ spans_of_windows w.windows
+
+-- ---- the first limit that is passed
+
+abbrev pub first_passed : List (Bool × LimitName) → Option LimitName
+first_passed [] = None
+first_passed (x ∷ more) = cond x.0 (Some x.1) (first_passed more)
+
+abbrev pub limit_of : Written → Option LimitName
+limit_of w =
+    let before = behind_selected [] nothing w.select in
+    let select = selected_of [] nothing w.select in
+    first_passed
+    (
+      (nat_lt 16 (length w.windows), limit.Windows)
+      ∷ (list_any (λ text. not (is_span text)) (spans_of w), limit.Span)
+      ∷ (nat_lt 64 (length before.variables + counted_select triple_slashes select), limit.Variables)
+      ∷ (nat_lt 64 (counted_select triple_steps select), limit.Patterns)
+      ∷ (nat_lt 512 (select_operators w.select), limit.Operators)
+      ∷ (nat_lt 256 (counted_select one_unless_triple select), limit.Elements)
+      ∷ (nat_lt 4096 (counted_select rows_of_values select), limit.Rows)
+      ∷ []
+    )

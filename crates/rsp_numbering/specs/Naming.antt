@@ -1,0 +1,75 @@
+-- Definitions: the variables of a query and their numbers, by the first place in the text.
+use Rattle.std.specs.Prelude.{ℕ, suc, Bool, true, false, ◌&&◌, ◌==◌, cond, List, [], ◌∷◌, ◌++◌, codes, length, map}
+use Rattle.std.specs.List.{list_any, position_or_len}
+use Rattle.std.specs.Str.{bytes_eq}
+use Rattle.rsp_numbering.specs.declared.variable.Variable.{Variable}
+use Rattle.rsp_numbering.specs.declared.variable.Variable.TheVariants as variable
+use Rattle.rsp_written.specs.Trees.{Item, shown, computed, Projection, every_name, these}
+
+abbrev pub is_same : Variable → Variable → Bool
+is_same (variable.Name m x) (variable.Name n y) = (m == n) && bytes_eq x y
+is_same (variable.Label x) (variable.Label y) = bytes_eq x y
+is_same (variable.Bracket m) (variable.Bracket n) = m == n
+is_same (variable.Aggregate m) (variable.Aggregate n) = m == n
+is_same _ _ = false
+
+-- a SELECT, and what it projects
+pub record Scope : Type 0 where
+  pub number : ℕ
+  pub projection : Projection
+
+abbrev pub shown_name : Item → List ℕ
+shown_name (shown x) = x
+shown_name (computed e x) = x
+
+abbrev pub projects : Projection → List ℕ → Bool
+projects every_name x = true
+projects (these items) x = list_any (bytes_eq x) (map shown_name items)
+
+-- The SELECT that a name belongs to, of those that stand round a place, the innermost first: what one projects it shares
+-- with the SELECT round it (SPARQL 1.1 Query, section 12).
+abbrev pub owner : List Scope → List ℕ → ℕ
+owner [] x = 0
+owner (here ∷ []) x = here.number
+owner (here ∷ (outer ∷ more)) x = cond (projects here.projection x) (owner (outer ∷ more) x) here.number
+
+abbrev pub named : List Scope → List ℕ → Variable
+named at x = variable.Name (owner at x) x
+
+-- what stands before a place of the text: how many SELECTs begin there, and the variables by their numbers
+pub record Before : Type 0 where
+  pub selects : ℕ
+  pub variables : List Variable
+
+-- the number of a variable: it has one, or gets the next
+abbrev pub number : Before → Variable → ℕ
+number before v = position_or_len (is_same v) before.variables
+
+-- behind a place where the variable is named
+abbrev pub behind : Before → Variable → Before
+behind before v = record {
+  selects = before.selects;
+  variables = cond (list_any (is_same v) before.variables) before.variables (before.variables ++ (v ∷ []));
+}
+
+-- a blank node in brackets and an aggregate are new wherever they stand
+abbrev pub bracket : Before → Variable
+bracket before = variable.Bracket (length before.variables)
+
+abbrev pub aggregate : Before → Variable
+aggregate before = variable.Aggregate (length before.variables)
+
+-- behind the word SELECT
+abbrev pub behind_select : Before → Before
+behind_select before = record { selects = suc before.selects; variables = before.variables }
+
+-- within a SELECT that begins here
+abbrev pub within : Before → Projection → List Scope → List Scope
+within before projection at = record { number = before.selects; projection = projection } ∷ at
+
+-- what a variable is called; what has no name in the text is called by what no variable can be
+abbrev pub variable_text : Variable → List ℕ
+variable_text (variable.Name n x) = x
+variable_text (variable.Label x) = codes "_:" ++ x
+variable_text (variable.Bracket n) = codes "[]"
+variable_text (variable.Aggregate n) = codes "()"

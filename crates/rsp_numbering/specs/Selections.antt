@@ -1,0 +1,167 @@
+-- Definitions: groups and SELECTs with numbers in place of names (SPARQL 1.1 Query, sections 11, 12 and 18.2.2).
+use Rattle.std.specs.Prelude.{ℕ, Bool, true, false, ◌||◌, not, List, [], ◌∷◌, ◌++◌, Option, None, Some, map, is_some}
+use Rattle.rsp_terms.specs.declared.term.Term.{Term}
+use Rattle.rsp_terms.specs.declared.term.Term.TheVariants as term
+use Rattle.rsp_expr.specs.declared.slot.Slot.{Slot}
+use Rattle.rsp_expr.specs.declared.slot.Slot.TheVariants as slot
+use Rattle.rsp_expr.specs.Formulas.{Formula, Aggregation}
+use Rattle.rsp_query.specs.Groups.{Part, optional, minus, union, graph, window, filter, exists, bind, values, sub, Parts, parts_in, Groups, no_group, group_then, Selection, selection}
+use Rattle.rsp_query.specs.Groups as query
+use Rattle.rsp_written.specs.Trees as written
+use Rattle.rsp_written.specs.Trees.{Element, Elements, no_element, element_then, Item, shown, computed, Projection, every_name, these, Graph, graph_variable, graph_iri, Selected, selected}
+use Rattle.rsp_numbering.specs.Naming.{Scope, Before, number, behind, behind_select, within}
+use Rattle.rsp_numbering.specs.Naming as naming
+use Rattle.rsp_numbering.specs.Expressions.{behind_expr, numbered_expr, aggregates_of}
+use Rattle.rsp_numbering.specs.Triples.{triples_of, behind_triples}
+
+-- ---- items and keys: an expression comes before its name
+
+abbrev pub behind_item : List Scope → Before → Item → Before
+behind_item at before (shown x) = behind before (naming.named at x)
+behind_item at before (computed e x) = behind (behind_expr at before e) (naming.named at x)
+
+abbrev pub item_of : List Scope → Before → Item → query.Item
+item_of at before (shown x) = record { variable = number before (naming.named at x); formula = None }
+item_of at before (computed e x) =
+    record { variable = number (behind_expr at before e) (naming.named at x); formula = Some (numbered_expr at before e) }
+
+abbrev pub item_aggregates : List Scope → Before → Item → List (ℕ × Aggregation)
+item_aggregates at before (shown x) = []
+item_aggregates at before (computed e x) = aggregates_of at before e
+
+abbrev pub behind_items : List Scope → Before → List Item → Before
+behind_items at before [] = before
+behind_items at before (item ∷ more) = behind_items at (behind_item at before item) more
+
+abbrev pub items_of : List Scope → Before → List Item → List query.Item
+items_of at before [] = []
+items_of at before (item ∷ more) = item_of at before item ∷ items_of at (behind_item at before item) more
+
+abbrev pub items_aggregates : List Scope → Before → List Item → List (ℕ × Aggregation)
+items_aggregates at before [] = []
+items_aggregates at before (item ∷ more) =
+    item_aggregates at before item ++ items_aggregates at (behind_item at before item) more
+
+abbrev pub items_in : Projection → List Item
+items_in every_name = []
+items_in (these items) = items
+
+abbrev pub is_star : Projection → Bool
+is_star every_name = true
+is_star (these items) = false
+
+-- ---- HAVING
+
+abbrev pub behind_having : List Scope → Before → Option written.Expr → Before
+behind_having at before None = before
+behind_having at before (Some e) = behind_expr at before e
+
+abbrev pub having_of : List Scope → Before → Option written.Expr → Option Formula
+having_of at before None = None
+having_of at before (Some e) = Some (numbered_expr at before e)
+
+abbrev pub having_aggregates : List Scope → Before → Option written.Expr → List (ℕ × Aggregation)
+having_aggregates at before None = []
+having_aggregates at before (Some e) = aggregates_of at before e
+
+-- ---- names of GRAPH, and VALUES
+
+abbrev pub behind_graph : List Scope → Before → Graph → Before
+behind_graph at before (graph_variable x) = behind before (naming.named at x)
+behind_graph at before (graph_iri x) = before
+
+abbrev pub graph_of : List Scope → Before → Graph → Slot
+graph_of at before (graph_variable x) = slot.Variable (number before (naming.named at x))
+graph_of at before (graph_iri x) = slot.Constant (term.Iri x)
+
+abbrev pub behind_names : List Scope → Before → List (List ℕ) → Before
+behind_names at before [] = before
+behind_names at before (x ∷ more) = behind_names at (behind before (naming.named at x)) more
+
+abbrev pub numbers_of : List Scope → Before → List (List ℕ) → List ℕ
+numbers_of at before [] = []
+numbers_of at before (x ∷ more) = number before (naming.named at x) ∷ numbers_of at (behind before (naming.named at x)) more
+
+-- ---- behind elements and SELECTs
+
+-- a SELECT begins, and its items are read
+abbrev pub behind_clause : List Scope → Before → Projection → Before
+behind_clause at before projection = behind_items (within before projection at) (behind_select before) (items_in projection)
+
+abbrev mutual
+  pub behind_element : List Scope → Before → Element → Before
+  behind_element at before (written.triples subject properties) = behind_triples at before subject properties
+  behind_element at before (written.optional_group body) = behind_elements at before body
+  behind_element at before (written.minus_group body) = behind_elements at before body
+  behind_element at before (written.union_of groups) = behind_groups at before groups
+  behind_element at before (written.graph_group name place body) = behind_elements at (behind_graph at before name) body
+  behind_element at before (written.window_group name place body) = behind_elements at before body
+  behind_element at before (written.filter e) = behind_expr at before e
+  behind_element at before (written.exists negated place body) = behind_elements at before body
+  behind_element at before (written.bind e x) = behind (behind_expr at before e) (naming.named at x)
+  behind_element at before (written.values names rows) = behind_names at before names
+  behind_element at before (written.sub_select inner) = behind_selected at before inner
+
+  pub behind_elements : List Scope → Before → Elements → Before
+  behind_elements at before no_element = before
+  behind_elements at before (element_then element more) = behind_elements at (behind_element at before element) more
+
+  pub behind_groups : List Scope → Before → written.Groups → Before
+  behind_groups at before written.no_group = before
+  behind_groups at before (written.group_then group more) = behind_groups at (behind_elements at before group) more
+
+  pub behind_selected : List Scope → Before → Selected → Before
+  behind_selected at before (selected distinct projection body keys having) =
+      behind_having (within before projection at)
+      (behind_items (within before projection at)
+      (behind_elements (within before projection at) (behind_clause at before projection) body)
+      keys)
+      having
+
+-- ---- elements and SELECTs
+
+abbrev pub is_grouped : List query.Item → Option Formula → List (ℕ × Aggregation) → Bool
+is_grouped [] None [] = false
+is_grouped keys having aggregates = true
+
+-- a SELECT of its parts
+abbrev pub selection_of : Bool → Projection → List query.Item → Parts → List query.Item → Option Formula → List (ℕ × Aggregation) → Selection
+selection_of distinct projection items body keys having aggregates =
+    selection distinct (is_star projection) items body (is_grouped keys having aggregates) keys having aggregates
+
+abbrev mutual
+  pub parts_of : List Scope → Before → Element → List Part
+  parts_of at before (written.triples subject properties) = triples_of at before subject properties
+  parts_of at before (written.optional_group body) = optional (parts_in (group_of at before body)) ∷ []
+  parts_of at before (written.minus_group body) = minus (parts_in (group_of at before body)) ∷ []
+  parts_of at before (written.union_of groups) = union (groups_of at before groups) ∷ []
+  parts_of at before (written.graph_group name place body) =
+      graph (graph_of at before name) place (parts_in (group_of at (behind_graph at before name) body)) ∷ []
+  parts_of at before (written.window_group name place body) = window name place (parts_in (group_of at before body)) ∷ []
+  parts_of at before (written.filter e) = filter (numbered_expr at before e) ∷ []
+  parts_of at before (written.exists negated place body) = exists negated place (parts_in (group_of at before body)) ∷ []
+  parts_of at before (written.bind e x) =
+      bind (number (behind_expr at before e) (naming.named at x)) (numbered_expr at before e) ∷ []
+  parts_of at before (written.values names rows) = values (numbers_of at before names) rows ∷ []
+  parts_of at before (written.sub_select inner) = sub (selected_of at before inner) ∷ []
+
+  pub group_of : List Scope → Before → Elements → List Part
+  group_of at before no_element = []
+  group_of at before (element_then element more) =
+      parts_of at before element ++ group_of at (behind_element at before element) more
+
+  pub groups_of : List Scope → Before → written.Groups → Groups
+  groups_of at before written.no_group = no_group
+  groups_of at before (written.group_then group more) =
+      group_then (parts_in (group_of at before group)) (groups_of at (behind_elements at before group) more)
+
+  pub selected_of : List Scope → Before → Selected → Selection
+  selected_of at before (selected distinct projection body keys having) =
+      let inside = within before projection at in
+      let behind_items_of_it = behind_clause at before projection in
+      let behind_body = behind_elements inside behind_items_of_it body in
+      let behind_keys = behind_items inside behind_body keys in
+      selection_of distinct projection (items_of inside (behind_select before) (items_in projection))
+      (parts_in (group_of inside behind_items_of_it body)) (items_of inside behind_body keys)
+      (having_of inside behind_keys having)
+      (items_aggregates inside (behind_select before) (items_in projection) ++ having_aggregates inside behind_keys having)

@@ -1,0 +1,12 @@
+//! From the query as it is written to the query as the algebra takes it: names become numbers, rows of signs become nodes,
+//! and limits are counted.
+//!
+//! So far this crate has the definitions alone, with the types that they speak of. Above: the reader of query texts. Below: both
+//! trees.
+#![tactic(auto)]
+
+mod limit;
+mod variable;
+
+pub use limit::LimitName;
+pub use variable::Variable;
