@@ -49,18 +49,18 @@ numbered : selected_of [] nothing outer
     (record { variable = 0; formula = None } ∷ record { variable = 2; formula = Some (formula.variable 1) } ∷ [])
     (parts_in
     (
-      triple 0 (codes "a:p") 3
-      ∷ triple 3 (codes "a:q") 4
-      ∷ query.union
-      (query.group_then
-      (parts_in
-      (query.sub
-      (query.selection false false
-      (record { variable = 4; formula = None } ∷ record { variable = 5; formula = None } ∷ [])
-      (parts_in (triple 4 (codes "a:r") 5 ∷ triple 6 (codes "a:r") 5 ∷ [])) false [] None [])
-      ∷ []))
-      query.no_group)
-      ∷ []
+    triple 0 (codes "a:p") 3
+    ∷ triple 3 (codes "a:q") 4
+    ∷ query.union
+    (query.group_then
+    (parts_in
+    (query.sub
+    (query.selection false false
+    (record { variable = 4; formula = None } ∷ record { variable = 5; formula = None } ∷ [])
+    (parts_in (triple 4 (codes "a:r") 5 ∷ triple 6 (codes "a:r") 5 ∷ [])) false [] None [])
+    ∷ []))
+    query.no_group)
+    ∷ []
     ))
     true (record { variable = 0; formula = None } ∷ []) None
     ((1, record { kind = fold.Count; distinct = false; argument = None }) ∷ [])

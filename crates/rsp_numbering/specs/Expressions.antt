@@ -156,15 +156,14 @@ abbrev mutual
   aggregates_of at before (call f arguments) = aggregates_among at before arguments
   aggregates_of at before count_rows =
       (number before (naming.aggregate before), record { kind = fold.Count; distinct = false; argument = None }) ∷ []
-  aggregates_of at before (aggregate k distinct argument) =
-      (
-        number before (naming.aggregate before),
-        record {
-          kind = fold_of k;
-          distinct = distinct;
-          argument = Some (numbered_expr at (behind before (naming.aggregate before)) argument);
-        },
-      )
+  aggregates_of at before (aggregate k distinct argument) = (
+    number before (naming.aggregate before),
+    record {
+      kind = fold_of k;
+      distinct = distinct;
+      argument = Some (numbered_expr at (behind before (naming.aggregate before)) argument);
+    },
+  )
       ∷ []
 
   pub aggregates_among : List Scope → Before → Exprs → List (ℕ × Aggregation)

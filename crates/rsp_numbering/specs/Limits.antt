@@ -201,12 +201,12 @@ limit_of w =
     let select = selected_of [] nothing w.select in
     first_passed
     (
-      (nat_lt 16 (length w.windows), limit.Windows)
-      ∷ (list_any (λ text. not (is_span text)) (spans_of w), limit.Span)
-      ∷ (nat_lt 64 (length before.variables + counted_select triple_slashes select), limit.Variables)
-      ∷ (nat_lt 64 (counted_select triple_steps select), limit.Patterns)
-      ∷ (nat_lt 512 (select_operators w.select), limit.Operators)
-      ∷ (nat_lt 256 (counted_select one_unless_triple select), limit.Elements)
-      ∷ (nat_lt 4096 (counted_select rows_of_values select), limit.Rows)
-      ∷ []
+    (nat_lt 16 (length w.windows), limit.Windows)
+    ∷ (list_any (λ text. not (is_span text)) (spans_of w), limit.Span)
+    ∷ (nat_lt 64 (length before.variables + counted_select triple_slashes select), limit.Variables)
+    ∷ (nat_lt 64 (counted_select triple_steps select), limit.Patterns)
+    ∷ (nat_lt 512 (select_operators w.select), limit.Operators)
+    ∷ (nat_lt 256 (counted_select one_unless_triple select), limit.Elements)
+    ∷ (nat_lt 4096 (counted_select rows_of_values select), limit.Rows)
+    ∷ []
     )
