@@ -1,5 +1,5 @@
 -- Definitions: what stands before the group of a query: stream operator, policy and windows (RSP-QL), and the whole query.
-use Rattle.std.specs.Prelude.{ℕ, Bool, true, false, List, [], ◌∷◌, Option, None, Some, map, unwrap_or}
+use Rattle.std.specs.Prelude.{ℕ, Bool, true, false, List, [], Option, None, Some, map, unwrap_or}
 use Rattle.rsp_spec.specs.Windows.{Shape}
 use Rattle.rsp_text.specs.Spans.{span}
 use Rattle.rsp_report.specs.declared.words.Strategy as report

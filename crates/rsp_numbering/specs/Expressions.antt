@@ -1,5 +1,5 @@
 -- Definitions: expressions with numbers in place of names, and their aggregates apart.
-use Rattle.std.specs.Prelude.{ℕ, Bool, false, List, [], ◌∷◌, ◌++◌, Option, None, Some}
+use Rattle.std.specs.Prelude.{ℕ, false, List, [], ◌∷◌, ◌++◌, None, Some}
 use Rattle.rsp_terms.specs.declared.term.Term.TheVariants as term
 use Rattle.rsp_expr.specs.Formulas.{Formula, Formulas, Aggregation, no_formula, formula_then}
 use Rattle.rsp_expr.specs.Formulas as formula

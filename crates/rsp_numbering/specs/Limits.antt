@@ -1,5 +1,5 @@
 -- Definitions: what is counted of a query as it is written, and the first limit that it passes.
-use Rattle.std.specs.Prelude.{ℕ, zero, suc, ◌+◌, ◌-◌, Bool, true, false, ◌||◌, ◌&&◌, not, cond, nat_lt, nat_le, List, [], ◌∷◌, ◌++◌, Option, None, Some, map, is_some, length, sum}
+use Rattle.std.specs.Prelude.{ℕ, suc, ◌+◌, Bool, false, not, cond, nat_lt, List, [], ◌∷◌, ◌++◌, Option, None, Some, map, length, sum}
 use Rattle.std.specs.List.{list_any}
 use Rattle.std.specs.Option.{option_to_list}
 use Rattle.rsp_text.specs.Spans.{span}
@@ -9,7 +9,6 @@ use Rattle.rsp_query.specs.Groups as query
 use Rattle.rsp_query.specs.Groups.{Part, Parts, Groups, Selection}
 use Rattle.rsp_written.specs.Trees as written
 use Rattle.rsp_written.specs.Trees.{Expr, Exprs, Operands, Element, Elements, Item, Projection, Selected, Written}
-use Rattle.rsp_numbering.specs.Naming.{Before}
 use Rattle.rsp_numbering.specs.Selections.{behind_selected, selected_of, items_in}
 use Rattle.rsp_numbering.specs.Clauses.{nothing}
 use Rattle.rsp_numbering.specs.declared.limit.LimitName.{LimitName}

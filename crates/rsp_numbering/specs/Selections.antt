@@ -1,6 +1,5 @@
 -- Definitions: groups and SELECTs with numbers in place of names (SPARQL 1.1 Query, sections 11, 12 and 18.2.2).
-use Rattle.std.specs.Prelude.{ℕ, Bool, true, false, ◌||◌, not, List, [], ◌∷◌, ◌++◌, Option, None, Some, map, is_some}
-use Rattle.rsp_terms.specs.declared.term.Term.{Term}
+use Rattle.std.specs.Prelude.{ℕ, Bool, true, false, List, [], ◌∷◌, ◌++◌, Option, None, Some}
 use Rattle.rsp_terms.specs.declared.term.Term.TheVariants as term
 use Rattle.rsp_expr.specs.declared.slot.Slot.{Slot}
 use Rattle.rsp_expr.specs.declared.slot.Slot.TheVariants as slot

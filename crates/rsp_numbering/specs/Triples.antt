@@ -1,6 +1,6 @@
 -- Definitions: triples with numbers in place of names, in the order of SPARQL 1.1 Query, section 4.1.4: a triple is made where
 -- its object begins, and the triples of an object in brackets follow it; those of a subject in brackets come before its own.
-use Rattle.std.specs.Prelude.{ℕ, List, [], ◌∷◌, ◌++◌}
+use Rattle.std.specs.Prelude.{List, [], ◌∷◌, ◌++◌}
 use Rattle.rsp_terms.specs.declared.term.Term.TheVariants as term
 use Rattle.rsp_expr.specs.declared.slot.Slot.{Slot}
 use Rattle.rsp_expr.specs.declared.slot.Slot.TheVariants as slot
