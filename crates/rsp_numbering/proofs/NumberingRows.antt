@@ -10,7 +10,7 @@ use Rattle.rsp_query.specs.Groups.{parts_in}
 use Rattle.rsp_written.specs.Trees.{Node, Verb, Properties, Elements, Selected, Way, variable_node, described, along, step, sequence, way_then, no_way, node_then, no_node, property_then, no_property, shown, computed, count_rows, these, every_name, triples, union_of, group_then, no_group, element_then, no_element, sub_select, selected, variable, any_of, expr_then, no_expr}
 use Rattle.rsp_numbering.specs.Naming.{variable_text}
 use Rattle.rsp_numbering.specs.Selections.{behind_selected, selected_of}
-use Rattle.rsp_numbering.specs.Clauses.{nothing}
+use Rattle.rsp_numbering.specs.Naming.{nothing}
 use Rattle.rsp_numbering.specs.Limits.{operators, steps, slashes}
 
 to : List ℕ → Node → Properties

@@ -14,7 +14,7 @@ use Rattle.rsp_written.specs.declared.said.Keyword.TheVariants as keyword
 use Rattle.rsp_written.specs.declared.said.Kind.TheVariants as kind
 use Rattle.rsp_written.specs.declared.said.Kind as token
 use Rattle.rsp_written.specs.Trees as written
-use Rattle.rsp_numbering.specs.Naming.{Before, variable_text}
+use Rattle.rsp_numbering.specs.Naming.{nothing, variable_text}
 use Rattle.rsp_numbering.specs.Selections.{behind_selected, selected_of}
 
 -- the milliseconds of a span's text; 0 where there are too many
@@ -65,10 +65,6 @@ shape_of words w = record {
 
 abbrev pub clause_of : PolicyWords → written.Window → WindowClause
 clause_of words w = record { name = w.name; stream = w.stream; window = shape_of words w; at = w.at }
-
--- before the text
-abbrev pub nothing : Before
-nothing = record { selects = 0; variables = [] }
 
 -- the query that the text is, where it is within limits
 abbrev pub query_of : written.Written → Registered

@@ -10,7 +10,7 @@ use Rattle.rsp_query.specs.Groups.{Part, Parts, Groups, Selection}
 use Rattle.rsp_written.specs.Trees as written
 use Rattle.rsp_written.specs.Trees.{Expr, Exprs, Operands, Element, Elements, Item, Projection, Selected, Written}
 use Rattle.rsp_numbering.specs.Selections.{behind_selected, selected_of, items_in}
-use Rattle.rsp_numbering.specs.Clauses.{nothing}
+use Rattle.rsp_numbering.specs.Naming.{nothing}
 use Rattle.rsp_numbering.specs.declared.limit.LimitName.{LimitName}
 use Rattle.rsp_numbering.specs.declared.limit.LimitName.TheVariants as limit
 

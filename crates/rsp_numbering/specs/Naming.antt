@@ -1,17 +1,21 @@
 -- Definitions: the variables of a query and their numbers, by the first place in the text.
-use Rattle.std.specs.Prelude.{ℕ, suc, Bool, true, false, ◌&&◌, ◌==◌, cond, List, [], ◌∷◌, ◌++◌, codes, length, map}
+use Rattle.std.specs.Prelude.{ℕ, suc, Bool, true, cond, List, [], ◌∷◌, ◌++◌, codes, length, map}
 use Rattle.std.specs.List.{list_any, position_or_len}
 use Rattle.std.specs.Str.{bytes_eq}
 use Rattle.rsp_numbering.specs.declared.variable.Variable.{Variable}
 use Rattle.rsp_numbering.specs.declared.variable.Variable.TheVariants as variable
+use Rattle.rsp_numbering.specs.contracts.variable.VariablePartialEq.TheImpl.{ghosts as derived}
 use Rattle.rsp_written.specs.Trees.{Item, shown, computed, Projection, every_name, these}
 
+-- the same case with the same parts
 abbrev pub is_same : Variable → Variable → Bool
-is_same (variable.Name m x) (variable.Name n y) = (m == n) && bytes_eq x y
-is_same (variable.Label x) (variable.Label y) = bytes_eq x y
-is_same (variable.Bracket m) (variable.Bracket n) = m == n
-is_same (variable.Aggregate m) (variable.Aggregate n) = m == n
-is_same _ _ = false
+is_same = derived.eq
+
+abbrev pub name : ℕ → List ℕ → Variable
+name select x = variable.Name select x
+
+abbrev pub label : List ℕ → Variable
+label x = variable.Label x
 
 -- a SELECT, and what it projects
 pub record Scope : Type 0 where
@@ -34,23 +38,30 @@ owner (here ∷ []) x = here.number
 owner (here ∷ (outer ∷ more)) x = cond (projects here.projection x) (owner (outer ∷ more) x) here.number
 
 abbrev pub named : List Scope → List ℕ → Variable
-named at x = variable.Name (owner at x) x
+named at x = name (owner at x) x
 
 -- what stands before a place of the text: how many SELECTs begin there, and the variables by their numbers
 pub record Before : Type 0 where
   pub selects : ℕ
   pub variables : List Variable
 
+-- before the text
+abbrev pub nothing : Before
+nothing = record { selects = 0; variables = [] }
+
 -- the number of a variable: it has one, or gets the next
+abbrev pub place_of : List Variable → Variable → ℕ
+place_of variables v = position_or_len (is_same v) variables
+
 abbrev pub number : Before → Variable → ℕ
-number before v = position_or_len (is_same v) before.variables
+number before v = place_of before.variables v
 
 -- behind a place where the variable is named
+abbrev pub with_variable : List Variable → Variable → List Variable
+with_variable variables v = cond (list_any (is_same v) variables) variables (variables ++ (v ∷ []))
+
 abbrev pub behind : Before → Variable → Before
-behind before v = record {
-  selects = before.selects;
-  variables = cond (list_any (is_same v) before.variables) before.variables (before.variables ++ (v ∷ []));
-}
+behind before v = record { selects = before.selects; variables = with_variable before.variables v }
 
 -- a blank node in brackets and an aggregate are new wherever they stand
 abbrev pub bracket : Before → Variable

@@ -5,8 +5,10 @@
 //! trees.
 #![tactic(auto)]
 
+mod before;
 mod limit;
 mod variable;
 
+pub use before::Before;
 pub use limit::LimitName;
 pub use variable::Variable;

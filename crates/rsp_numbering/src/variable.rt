@@ -2,7 +2,7 @@
 use rsp_terms::Text;
 
 /// What is a variable in a query's text (SPARQL 1.1 Query, sections 4.1.3, 4.1.4, 11 and 12).
-#[derive(Drop)]
+#[derive(PartialEq, Eq, Hash, Drop)]
 pub enum Variable {
     /// A name of one SELECT, which is known by how many SELECTs begin before it.
     Name { select: usize, name: Text },

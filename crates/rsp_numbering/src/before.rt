@@ -1,0 +1,96 @@
+// What stands before a place of a query's text.
+ghost use Rattle.std.specs.Prelude.{◌≡◌, IfOk, OnOk, [], length};
+ghost use Rattle.rsp_numbering.specs.Naming as naming;
+
+use crate::Variable;
+use indexmap::IndexSet;
+use rsp_terms::Text;
+use std::alloc::{AllocError, Global};
+use std::marker::Model;
+
+/// What stands before a place of a query's text: how many SELECTs begin there, and the variables by their numbers, which
+/// go by the first place.
+#[derive(Drop)]
+pub struct Before {
+    selects: usize,
+    variables: IndexSet<Variable>,
+}
+
+impl Model for Before {
+    ghost use Rattle.rsp_numbering.specs.Naming.{Before as Seen};
+
+    ghost Value = { Seen };
+
+    ghost view = { λ b. record { selects = b.selects; variables = b.variables.keys } };
+}
+
+impl Before {
+    /// The place before the text.
+    pub fn new(alloc: Global) -> Before
+        ensures { result ≡ naming.nothing }
+    {
+        Before {
+            selects: 0,
+            variables: IndexSet::new(alloc),
+        }
+    }
+
+    /// The number of a name of this SELECT; it gets one where it has none. Fails only where memory is refused.
+    pub fn name(&mut self, select: usize, name: &Text) -> Result<usize, AllocError>
+        ensures number { IfOk result (λ n. n ≡ naming.number self.old (naming.name select name.now)) }
+        ensures behind { OnOk result (self.new ≡ naming.behind self.old (naming.name select name.now)) }
+    {
+        let name = name.share()?;
+        number_of(&mut self.variables, Variable::Name { select, name })
+    }
+
+    /// The number of a label.
+    pub fn label(&mut self, label: &Text) -> Result<usize, AllocError>
+        ensures number { IfOk result (λ n. n ≡ naming.number self.old (naming.label label.now)) }
+        ensures behind { OnOk result (self.new ≡ naming.behind self.old (naming.label label.now)) }
+    {
+        let label = label.share()?;
+        number_of(&mut self.variables, Variable::Label(label))
+    }
+
+    /// The number of a blank node in brackets, which is new.
+    pub fn bracket(&mut self) -> Result<usize, AllocError>
+        ensures number { IfOk result (λ n. n ≡ naming.number self.old (naming.bracket self.old)) }
+        ensures behind { OnOk result (self.new ≡ naming.behind self.old (naming.bracket self.old)) }
+    {
+        let number = self.variables.len();
+        number_of(&mut self.variables, Variable::Bracket(number))
+    }
+
+    /// The number of an aggregate, which is new.
+    pub fn aggregate(&mut self) -> Result<usize, AllocError>
+        ensures number { IfOk result (λ n. n ≡ naming.number self.old (naming.aggregate self.old)) }
+        ensures behind { OnOk result (self.new ≡ naming.behind self.old (naming.aggregate self.old)) }
+    {
+        let number = self.variables.len();
+        number_of(&mut self.variables, Variable::Aggregate(number))
+    }
+
+    /// Goes behind the word SELECT, and gives how many stand before it.
+    pub fn select(&mut self) -> Result<usize, AllocError>
+        ensures number { IfOk result (λ n. n ≡ self.old.selects) }
+        ensures behind { OnOk result (self.new ≡ naming.behind_select self.old) }
+    {
+        let number = self.selects;
+        self.selects = number.checked_add(1).ok_or(AllocError)?;
+        Ok(number)
+    }
+}
+
+fn number_of(
+    variables: &mut IndexSet<Variable>,
+    variable: Variable,
+) -> Result<usize, AllocError>
+    ensures number { IfOk result (λ n. n ≡ naming.place_of variables.old.keys variable) }
+    ensures behind { OnOk result (variables.new.keys ≡ naming.with_variable variables.old.keys variable) }
+{
+    match variables.insert_full(variable) {
+        Ok((number, _)) => Ok(number),
+        Err(_) => Err(AllocError),
+    }
+}
