@@ -9,6 +9,7 @@ use Rattle.rsp_expr.specs.declared.function.Function.{Function}
 use Rattle.rsp_expr.specs.declared.function.Function.TheVariants as function
 use Rattle.rsp_expr.specs.declared.aggregate.Kind.{Kind}
 use Rattle.rsp_expr.specs.declared.aggregate.Kind.TheVariants as fold
+use Rattle.rsp_written.specs.declared.said.Keyword.{Keyword}
 use Rattle.rsp_written.specs.declared.said.Keyword.TheVariants as keyword
 use Rattle.rsp_written.specs.declared.said.Symbol.TheVariants as symbol
 use Rattle.rsp_written.specs.declared.said.Kind.TheVariants as kind
@@ -31,34 +32,38 @@ sign_of (kind.Symbol symbol.Star) = sign.Multiply
 sign_of (kind.Symbol symbol.Slash) = sign.Divide
 sign_of _ = sign.Equal
 
+abbrev pub function_of_keyword : Keyword → Function
+function_of_keyword keyword.If = function.If
+function_of_keyword keyword.Coalesce = function.Coalesce
+function_of_keyword keyword.SameTerm = function.SameTerm
+function_of_keyword keyword.IsIri = function.IsIri
+function_of_keyword keyword.IsUri = function.IsUri
+function_of_keyword keyword.IsBlank = function.IsBlank
+function_of_keyword keyword.IsLiteral = function.IsLiteral
+function_of_keyword keyword.IsNumeric = function.IsNumeric
+function_of_keyword keyword.Lang = function.Lang
+function_of_keyword keyword.Datatype = function.Datatype
+function_of_keyword keyword.Iri = function.Iri
+function_of_keyword keyword.Uri = function.Uri
+function_of_keyword keyword.StrDt = function.StrDt
+function_of_keyword keyword.StrLang = function.StrLang
+function_of_keyword keyword.StrLen = function.StrLen
+function_of_keyword keyword.SubStr = function.Substr
+function_of_keyword keyword.Contains = function.Contains
+function_of_keyword keyword.StrStarts = function.StrStarts
+function_of_keyword keyword.StrEnds = function.StrEnds
+function_of_keyword keyword.StrBefore = function.StrBefore
+function_of_keyword keyword.StrAfter = function.StrAfter
+function_of_keyword keyword.Concat = function.Concat
+function_of_keyword keyword.LangMatches = function.LangMatches
+function_of_keyword keyword.Abs = function.Abs
+function_of_keyword keyword.Ceil = function.Ceil
+function_of_keyword keyword.Floor = function.Floor
+function_of_keyword keyword.Round = function.Round
+function_of_keyword _ = function.Str
+
 abbrev pub function_of : token.Kind → Function
-function_of (kind.Word keyword.If) = function.If
-function_of (kind.Word keyword.Coalesce) = function.Coalesce
-function_of (kind.Word keyword.SameTerm) = function.SameTerm
-function_of (kind.Word keyword.IsIri) = function.IsIri
-function_of (kind.Word keyword.IsUri) = function.IsUri
-function_of (kind.Word keyword.IsBlank) = function.IsBlank
-function_of (kind.Word keyword.IsLiteral) = function.IsLiteral
-function_of (kind.Word keyword.IsNumeric) = function.IsNumeric
-function_of (kind.Word keyword.Lang) = function.Lang
-function_of (kind.Word keyword.Datatype) = function.Datatype
-function_of (kind.Word keyword.Iri) = function.Iri
-function_of (kind.Word keyword.Uri) = function.Uri
-function_of (kind.Word keyword.StrDt) = function.StrDt
-function_of (kind.Word keyword.StrLang) = function.StrLang
-function_of (kind.Word keyword.StrLen) = function.StrLen
-function_of (kind.Word keyword.SubStr) = function.Substr
-function_of (kind.Word keyword.Contains) = function.Contains
-function_of (kind.Word keyword.StrStarts) = function.StrStarts
-function_of (kind.Word keyword.StrEnds) = function.StrEnds
-function_of (kind.Word keyword.StrBefore) = function.StrBefore
-function_of (kind.Word keyword.StrAfter) = function.StrAfter
-function_of (kind.Word keyword.Concat) = function.Concat
-function_of (kind.Word keyword.LangMatches) = function.LangMatches
-function_of (kind.Word keyword.Abs) = function.Abs
-function_of (kind.Word keyword.Ceil) = function.Ceil
-function_of (kind.Word keyword.Floor) = function.Floor
-function_of (kind.Word keyword.Round) = function.Round
+function_of (kind.Word w) = function_of_keyword w
 function_of _ = function.Str
 
 abbrev pub fold_of : token.Kind → Kind

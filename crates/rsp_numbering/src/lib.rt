@@ -8,6 +8,7 @@
 mod before;
 mod limit;
 mod variable;
+mod words;
 
 pub use before::Before;
 pub use limit::LimitName;
