@@ -9,10 +9,14 @@
 
 mod expression;
 mod literals;
+mod node;
+mod path;
 mod reading;
 mod said;
 
 pub use expression::{Expression, Operand};
 pub use literals::{Suffix, literal, unsigned_literal};
+pub use node::{Node, Property, Subject, Verb};
+pub use path::Path;
 pub use reading::{Halt, first_is, first_is_among, iri, one, sign, variable, word};
 pub use said::{Arity, Keyword, Kind, Said, Symbol};
