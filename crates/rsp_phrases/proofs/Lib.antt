@@ -9,3 +9,4 @@ pub mod Drawing
 pub mod DistinctLaws
 pub mod Seeing
 pub mod Loops
+pub mod Gathering
