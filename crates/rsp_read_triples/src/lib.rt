@@ -5,6 +5,9 @@
 //! `.`, `;`, `,`, `/` and `|` are read by loops. Below: `rsp_written`, which has the grammar. Above: the reader of groups.
 #![tactic(auto)]
 
+mod nodes;
 mod paths;
+mod property_list;
 
-pub use paths::path;
+pub use paths::{path, verb};
+pub use property_list::properties;

@@ -6,14 +6,14 @@ ghost use Rattle.rsp_read_triples.specs.Within.{path_within};
 ghost use Rattle.rsp_written.specs.Building.{choice_row, rdf_type, sequence_row};
 ghost use Rattle.rsp_written.specs.Gives.{Gives};
 ghost use Rattle.rsp_written.specs.Grammar.{kind_number, numbers};
-ghost use Rattle.rsp_written.specs.Meanings.{way_of};
+ghost use Rattle.rsp_written.specs.Meanings.{way_of, verb_of};
 ghost use Rattle.rsp_written.specs.Readings.{choice_read, in_parens_read, repeated_read, sign_kinds, sign_read};
 ghost use Rattle.rsp_written.specs.Trees.{inverse, step};
 ghost use Rattle.rsp_written.specs.TripleReadings as readings;
 ghost use Rattle.rsp_written.specs.declared.said.Symbol.TheVariants as symbol;
 
 use rsp_terms::Text;
-use rsp_written::{Halt, Keyword, Kind, Path, Said, Symbol, first_is, first_is_among, iri, sign, word};
+use rsp_written::{Halt, Keyword, Kind, Path, Said, Symbol, Verb, first_is, first_is_among, iri, sign, variable, word};
 use std::alloc::{AllocError, Global};
 
 fn rdf_type(alloc: Global) -> Result<Text, AllocError>
@@ -201,4 +201,27 @@ pub fn path(alloc: Global, tokens: &[Said]) -> Result<(Path, &[Said]), Halt>
 {
     let depth = tokens.len() + 1;
     path_at(depth, alloc, tokens)
+}
+
+/// A verb: a variable, or a path.
+#[tactic(auto, unfolding(rsp_written::specs::TripleReadings::verb_read))]
+pub fn verb(alloc: Global, tokens: &[Said]) -> Result<(Verb, &[Said]), Halt>
+    ensures { Gives (λ x. (verb_of x.0, x.1.now)) result (readings.verb_read tokens.now) }
+{
+    if first_is(Kind::Variable, tokens) {
+        let (name, rest) = variable(tokens)?;
+        Ok((Verb::Named(name), rest))
+    } else {
+        let (path, rest) = path(alloc, tokens)?;
+        Ok((Verb::Along(path), rest))
+    }
+}
+
+/// Whether a verb begins here.
+pub fn begins_verb(tokens: &[Said]) -> bool
+    ensures { result ≡ starts kind_number (numbers readings.verb_first) tokens.now }
+{
+    let caret = Kind::Symbol(Symbol::Caret);
+    let paren = Kind::Symbol(Symbol::OpenParen);
+    first_is_among(&[Kind::Variable, caret, Kind::Iri, Kind::Word(Keyword::A), paren], tokens)
 }
