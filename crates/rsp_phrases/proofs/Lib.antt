@@ -10,3 +10,4 @@ pub mod DistinctLaws
 pub mod Seeing
 pub mod Loops
 pub mod Gathering
+pub mod Dots
