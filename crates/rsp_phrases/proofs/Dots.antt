@@ -74,8 +74,8 @@ module _ {T A B : Type 0} (kind : T → ℕ) (marks kinds : List ℕ) (d : Reade
       go : (x : Reading T A) → r behind ≡ x → gathered single front x ≡ Ok (all, rest)
           → gathered as_read all (parts (end - (counter + 1)) rest) ≡ whole
       go (Ok x) e same =
-          let pair : (front ++ (x.0 ∷ []), x.1) ≡ (all, rest) = cc in
           let count : end - counter ≡ suc (end - (counter + 1)) = omega (arith, below) in
+          let pair : (front ++ (x.0 ∷ []), x.1) ≡ (all, rest) = cc in
           ap (λ (y : List A × List T). gathered as_read y.0 (parts (end - (counter + 1)) y.1)) (sym pair)
           ∙ sym (one_more (end - (counter + 1)) front w x.0 ts behind x.1 is mark goes e)
           ∙ ap (λ k. gathered as_read front (parts k ts)) (sym count)

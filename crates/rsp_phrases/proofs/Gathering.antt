@@ -56,8 +56,8 @@ more_at {T = T} {A = A} {B = B} {make = make} {make_all = make_all} g kind kinds
     go : (x : Reading T A) → r ts ≡ x → gathered make front x ≡ Ok (all, rest)
         → gathered make_all all (at_most_read kind kinds r (end - (counter + 1)) rest) ≡ whole
     go (Ok x) e same =
-        let pair : (front ++ make x.0, x.1) ≡ (all, rest) = cc in
         let count : end - counter ≡ suc (end - (counter + 1)) = omega (arith, below) in
+        let pair : (front ++ make x.0, x.1) ≡ (all, rest) = cc in
         ap (λ (y : List B × List T). gathered make_all y.0 (at_most_read kind kinds r (end - (counter + 1)) y.1)) (sym pair)
         ∙ sym (one_more g kind kinds r (end - (counter + 1)) front x.0 ts x.1 is e)
         ∙ ap (λ k. gathered make_all front (at_most_read kind kinds r k ts)) (sym count)

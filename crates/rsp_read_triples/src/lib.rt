@@ -8,6 +8,8 @@
 mod nodes;
 mod paths;
 mod property_list;
+mod subjects;
 
 pub use paths::{path, verb};
 pub use property_list::properties;
+pub use subjects::{begins_triples, triples};
