@@ -9,3 +9,5 @@ pub mod Drawing
 pub mod DistinctLaws
 pub mod Seeing
 pub mod Loops
+pub mod Gathering
+pub mod Dots

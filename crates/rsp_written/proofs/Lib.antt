@@ -1,4 +1,5 @@
 pub mod Simple
+pub mod Halting
 pub mod Expressions
 pub mod Triples
 pub mod Groups

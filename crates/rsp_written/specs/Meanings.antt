@@ -1,12 +1,26 @@
 -- Definitions: what the code's trees say.
+use Rattle.std.specs.Prelude.{List, map}
 use Rattle.rsp_written.specs.declared.said.Kind.{Kind}
 use Rattle.rsp_written.specs.declared.expression.Expression.{Expression}
 use Rattle.rsp_written.specs.declared.expression.Operand.{Operand}
 use Rattle.rsp_written.specs.declared.expression.Expression.TheOpen.{Expression-F, Operand-F}
 use Rattle.rsp_written.specs.declared.expression.Expression.TheOpen as layer
 use Rattle.rsp_written.specs.declared.expression.Expression.TheFolds.{fold-Expression, fold-Operand}
-use Rattle.rsp_written.specs.Trees.{Expr, variable, iri, constant, any_of, all_of, compared, member, sum, product, signed, bound, call, count_rows, aggregate}
-use Rattle.rsp_written.specs.Building.{exprs_in, operands_in}
+use Rattle.rsp_written.specs.declared.path.Path.{Path}
+use Rattle.rsp_written.specs.declared.path.Path.TheOpen.{Path-F}
+use Rattle.rsp_written.specs.declared.path.Path.TheOpen as path_layer
+use Rattle.rsp_written.specs.declared.path.Path.TheFolds.{fold-Path}
+use Rattle.rsp_written.specs.declared.node.Verb.{Verb}
+use Rattle.rsp_written.specs.declared.node.Verb.TheVariants as verb
+use Rattle.rsp_written.specs.declared.node.Node.{Node}
+use Rattle.rsp_written.specs.declared.node.Property.{Property}
+use Rattle.rsp_written.specs.declared.node.Node.TheOpen.{Node-F, Property-F}
+use Rattle.rsp_written.specs.declared.node.Node.TheOpen as node_layer
+use Rattle.rsp_written.specs.declared.node.Node.TheFolds.{fold-Node, fold-Property}
+use Rattle.rsp_written.specs.declared.node.Subject.{Subject}
+use Rattle.rsp_written.specs.Trees as trees
+use Rattle.rsp_written.specs.Trees.{Expr, variable, iri, constant, any_of, all_of, compared, member, sum, product, signed, bound, call, count_rows, aggregate, Way, step, inverse, sequence, choice, named, along, variable_node, iri_node, constant_node, label_node, blank_node, described, Properties}
+use Rattle.rsp_written.specs.Building.{exprs_in, operands_in, ways_in, nodes_in, properties_in}
 
 -- a node of the code's tree whose parts are trees already
 abbrev pub expr_step : Expression-F Expr (Kind × Expr) → Expr
@@ -34,3 +48,43 @@ expr_of = fold-Expression Expr (Kind × Expr) expr_step operand_step
 
 abbrev pub operand_of : Operand → Kind × Expr
 operand_of = fold-Operand Expr (Kind × Expr) expr_step operand_step
+
+-- ---- paths
+
+abbrev pub way_step : Path-F Way → Way
+way_step (path_layer.Step name) = step name
+way_step (path_layer.Inverse inner) = inverse inner.value
+way_step (path_layer.Sequence parts) = sequence (ways_in parts.items)
+way_step (path_layer.Choice parts) = choice (ways_in parts.items)
+
+abbrev pub way_of : Path → Way
+way_of = fold-Path Way way_step
+
+-- ---- triples
+
+abbrev pub verb_of : Verb → trees.Verb
+verb_of (verb.Named name) = named name
+verb_of (verb.Along path) = along (way_of path)
+
+abbrev pub node_step : Node-F trees.Node (trees.Verb × List trees.Node) → trees.Node
+node_step (node_layer.Variable name) = variable_node name
+node_step (node_layer.Iri name) = iri_node name
+node_step (node_layer.Constant term) = constant_node term
+node_step (node_layer.Label name) = label_node name
+node_step node_layer.Blank = blank_node
+node_step (node_layer.Described properties) = described (properties_in properties.items)
+
+abbrev pub property_step : Property-F trees.Node (trees.Verb × List trees.Node) → trees.Verb × List trees.Node
+property_step property = (verb_of property.verb, property.objects.items)
+
+abbrev pub node_of : Node → trees.Node
+node_of = fold-Node trees.Node (trees.Verb × List trees.Node) node_step property_step
+
+abbrev pub property_of : Property → trees.Verb × List trees.Node
+property_of = fold-Property trees.Node (trees.Verb × List trees.Node) node_step property_step
+
+abbrev pub properties_of : List Property → Properties
+properties_of properties = properties_in (map property_of properties)
+
+abbrev pub subject_of : Subject → trees.Node × Properties
+subject_of subject = (node_of subject.node, properties_of subject.properties.items)

@@ -8,11 +8,19 @@
 #![tactic(auto)]
 
 mod expression;
+mod group;
 mod literals;
+mod node;
+mod path;
 mod reading;
+mod registration;
 mod said;
 
 pub use expression::{Expression, Operand};
+pub use group::{Element, GraphName, Item, Projection, Select, Values};
 pub use literals::{Suffix, literal, unsigned_literal};
+pub use node::{Node, Property, Subject, Verb};
+pub use path::Path;
 pub use reading::{Halt, first_is, first_is_among, iri, one, sign, variable, word};
+pub use registration::{Policy, Registration, Strategy, Window};
 pub use said::{Arity, Keyword, Kind, Said, Symbol};
