@@ -1,7 +1,7 @@
 -- Definitions: expressions with numbers in place of names, and their aggregates apart.
-use Rattle.std.specs.Prelude.{ℕ, false, List, [], ◌∷◌, ◌++◌, None, Some}
+use Rattle.std.specs.Prelude.{ℕ, Bool, false, List, [], ◌∷◌, ◌++◌, Option, None, Some}
 use Rattle.rsp_terms.specs.declared.term.Term.TheVariants as term
-use Rattle.rsp_expr.specs.Formulas.{Formula, Formulas, Aggregation, no_formula, formula_then}
+use Rattle.rsp_expr.specs.Formulas.{Formula, Aggregation, formulas_in}
 use Rattle.rsp_expr.specs.Formulas as formula
 use Rattle.rsp_expr.specs.declared.function.Sign.{Sign}
 use Rattle.rsp_expr.specs.declared.function.Sign.TheVariants as sign
@@ -107,76 +107,82 @@ signed_formula (kind.Symbol symbol.Minus) part = formula.opposite part
 signed_formula (kind.Symbol symbol.Plus) part = formula.plus part
 signed_formula _ part = formula.negation part
 
+-- a row of signs, from the left
+abbrev pub from_left : Formula → List (Sign × Formula) → Formula
+from_left left [] = left
+from_left left (x ∷ more) = from_left (formula.arithmetic x.0 left x.1) more
+
 abbrev mutual
   pub numbered_expr : List Scope → Before → Expr → Formula
   numbered_expr at before (variable x) = formula.variable (number before (named at x))
   numbered_expr at before (iri x) = formula.constant (term.Iri x)
   numbered_expr at before (constant t) = formula.constant t
-  numbered_expr at before (any_of parts) = formula.disjunction (numbered_exprs at before parts)
-  numbered_expr at before (all_of parts) = formula.conjunction (numbered_exprs at before parts)
+  numbered_expr at before (any_of parts) = formula.disjunction (formulas_in (numbered_exprs at before parts))
+  numbered_expr at before (all_of parts) = formula.conjunction (formulas_in (numbered_exprs at before parts))
   numbered_expr at before (compared s left right) =
       formula.comparison (sign_of s) (numbered_expr at before left) (numbered_expr at (behind_expr at before left) right)
   numbered_expr at before (member negated item items) =
-      formula.membership negated (numbered_expr at before item) (numbered_exprs at (behind_expr at before item) items)
+      formula.membership negated (numbered_expr at before item)
+      (formulas_in (numbered_exprs at (behind_expr at before item) items))
   numbered_expr at before (sum first others) =
-      numbered_row at (behind_expr at before first) (numbered_expr at before first) others
+      from_left (numbered_expr at before first) (numbered_operands at (behind_expr at before first) others)
   numbered_expr at before (product first others) =
-      numbered_row at (behind_expr at before first) (numbered_expr at before first) others
+      from_left (numbered_expr at before first) (numbered_operands at (behind_expr at before first) others)
   numbered_expr at before (signed s part) = signed_formula s (numbered_expr at before part)
   numbered_expr at before (bound x) = formula.bound (number before (named at x))
-  numbered_expr at before (call f arguments) = formula.call (function_of f) (numbered_exprs at before arguments)
+  numbered_expr at before (call f arguments) = formula.call (function_of f) (formulas_in (numbered_exprs at before arguments))
   numbered_expr at before count_rows = formula.variable (number before (naming.aggregate before))
   numbered_expr at before (aggregate k distinct argument) = formula.variable (number before (naming.aggregate before))
 
-  pub numbered_exprs : List Scope → Before → Exprs → Formulas
-  numbered_exprs at before no_expr = no_formula
+  pub numbered_exprs : List Scope → Before → Exprs → List Formula
+  numbered_exprs at before no_expr = []
   numbered_exprs at before (expr_then e more) =
-      formula_then (numbered_expr at before e) (numbered_exprs at (behind_expr at before e) more)
+      numbered_expr at before e ∷ numbered_exprs at (behind_expr at before e) more
 
-  -- a row of signs, from the left
-  pub numbered_row : List Scope → Before → Formula → Operands → Formula
-  numbered_row at before left no_operand = left
-  numbered_row at before left (operand_then s e more) =
-      numbered_row at (behind_expr at before e) (formula.arithmetic (sign_of s) left (numbered_expr at before e)) more
+  pub numbered_operands : List Scope → Before → Operands → List (Sign × Formula)
+  numbered_operands at before no_operand = []
+  numbered_operands at before (operand_then s e more) =
+      (sign_of s, numbered_expr at before e) ∷ numbered_operands at (behind_expr at before e) more
 
--- ---- the aggregates of an expression, each with its variable
+-- ---- the aggregates so far, and behind them those of an expression, each with its variable
+
+abbrev pub numbered_aggregate : ℕ → Kind → Bool → Option Formula → ℕ × Aggregation
+numbered_aggregate number kind distinct argument = (number, record { kind = kind; distinct = distinct; argument = argument })
 
 abbrev mutual
-  pub aggregates_of : List Scope → Before → Expr → List (ℕ × Aggregation)
-  aggregates_of at before (variable x) = []
-  aggregates_of at before (iri x) = []
-  aggregates_of at before (constant t) = []
-  aggregates_of at before (any_of parts) = aggregates_among at before parts
-  aggregates_of at before (all_of parts) = aggregates_among at before parts
-  aggregates_of at before (compared s left right) =
-      aggregates_of at before left ++ aggregates_of at (behind_expr at before left) right
-  aggregates_of at before (member negated item items) =
-      aggregates_of at before item ++ aggregates_among at (behind_expr at before item) items
-  aggregates_of at before (sum first others) =
-      aggregates_of at before first ++ aggregates_in_row at (behind_expr at before first) others
-  aggregates_of at before (product first others) =
-      aggregates_of at before first ++ aggregates_in_row at (behind_expr at before first) others
-  aggregates_of at before (signed s part) = aggregates_of at before part
-  aggregates_of at before (bound x) = []
-  aggregates_of at before (call f arguments) = aggregates_among at before arguments
-  aggregates_of at before count_rows =
-      (number before (naming.aggregate before), record { kind = fold.Count; distinct = false; argument = None }) ∷ []
-  aggregates_of at before (aggregate k distinct argument) = (
-    number before (naming.aggregate before),
-    record {
-      kind = fold_of k;
-      distinct = distinct;
-      argument = Some (numbered_expr at (behind before (naming.aggregate before)) argument);
-    },
-  )
+  pub with_aggregates : List Scope → Before → List (ℕ × Aggregation) → Expr → List (ℕ × Aggregation)
+  with_aggregates at before those (variable x) = those
+  with_aggregates at before those (iri x) = those
+  with_aggregates at before those (constant t) = those
+  with_aggregates at before those (any_of parts) = with_aggregates_of_all at before those parts
+  with_aggregates at before those (all_of parts) = with_aggregates_of_all at before those parts
+  with_aggregates at before those (compared s left right) =
+      with_aggregates at (behind_expr at before left) (with_aggregates at before those left) right
+  with_aggregates at before those (member negated item items) =
+      with_aggregates_of_all at (behind_expr at before item) (with_aggregates at before those item) items
+  with_aggregates at before those (sum first others) =
+      with_aggregates_of_row at (behind_expr at before first) (with_aggregates at before those first) others
+  with_aggregates at before those (product first others) =
+      with_aggregates_of_row at (behind_expr at before first) (with_aggregates at before those first) others
+  with_aggregates at before those (signed s part) = with_aggregates at before those part
+  with_aggregates at before those (bound x) = those
+  with_aggregates at before those (call f arguments) = with_aggregates_of_all at before those arguments
+  with_aggregates at before those count_rows =
+      those ++ (numbered_aggregate (number before (naming.aggregate before)) fold.Count false None ∷ [])
+  with_aggregates at before those (aggregate k distinct argument) =
+      those
+      ++ (
+      numbered_aggregate (number before (naming.aggregate before)) (fold_of k) distinct
+      (Some (numbered_expr at (behind before (naming.aggregate before)) argument))
       ∷ []
+      )
 
-  pub aggregates_among : List Scope → Before → Exprs → List (ℕ × Aggregation)
-  aggregates_among at before no_expr = []
-  aggregates_among at before (expr_then e more) =
-      aggregates_of at before e ++ aggregates_among at (behind_expr at before e) more
+  pub with_aggregates_of_all : List Scope → Before → List (ℕ × Aggregation) → Exprs → List (ℕ × Aggregation)
+  with_aggregates_of_all at before those no_expr = those
+  with_aggregates_of_all at before those (expr_then e more) =
+      with_aggregates_of_all at (behind_expr at before e) (with_aggregates at before those e) more
 
-  pub aggregates_in_row : List Scope → Before → Operands → List (ℕ × Aggregation)
-  aggregates_in_row at before no_operand = []
-  aggregates_in_row at before (operand_then s e more) =
-      aggregates_of at before e ++ aggregates_in_row at (behind_expr at before e) more
+  pub with_aggregates_of_row : List Scope → Before → List (ℕ × Aggregation) → Operands → List (ℕ × Aggregation)
+  with_aggregates_of_row at before those no_operand = those
+  with_aggregates_of_row at before those (operand_then s e more) =
+      with_aggregates_of_row at (behind_expr at before e) (with_aggregates at before those e) more

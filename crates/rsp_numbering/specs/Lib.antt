@@ -5,3 +5,5 @@ pub mod Triples
 pub mod Selections
 pub mod Clauses
 pub mod Limits
+-- Words of the way
+pub mod Seeing

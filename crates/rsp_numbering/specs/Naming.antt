@@ -26,9 +26,12 @@ abbrev pub shown_name : Item → List ℕ
 shown_name (shown x) = x
 shown_name (computed e x) = x
 
+abbrev pub is_shown : List Item → List ℕ → Bool
+is_shown items x = list_any (λ item. bytes_eq (shown_name item) x) items
+
 abbrev pub projects : Projection → List ℕ → Bool
 projects every_name x = true
-projects (these items) x = list_any (bytes_eq x) (map shown_name items)
+projects (these items) x = is_shown items x
 
 -- The SELECT that a name belongs to, of those that stand round a place, the innermost first: what one projects it shares
 -- with the SELECT round it (SPARQL 1.1 Query, section 12).
@@ -74,9 +77,12 @@ aggregate before = variable.Aggregate (length before.variables)
 abbrev pub behind_select : Before → Before
 behind_select before = record { selects = suc before.selects; variables = before.variables }
 
+abbrev pub scope : ℕ → Projection → List Scope → List Scope
+scope number projection at = record { number = number; projection = projection } ∷ at
+
 -- within a SELECT that begins here
 abbrev pub within : Before → Projection → List Scope → List Scope
-within before projection at = record { number = before.selects; projection = projection } ∷ at
+within before projection at = scope before.selects projection at
 
 -- what a variable is called; what has no name in the text is called by what no variable can be
 abbrev pub variable_text : Variable → List ℕ

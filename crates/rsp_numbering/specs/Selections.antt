@@ -10,8 +10,8 @@ use Rattle.rsp_written.specs.Trees as written
 use Rattle.rsp_written.specs.Trees.{Element, Elements, no_element, element_then, Item, shown, computed, Projection, every_name, these, Graph, graph_variable, graph_iri, Selected, selected}
 use Rattle.rsp_numbering.specs.Naming.{Scope, Before, number, behind, behind_select, within}
 use Rattle.rsp_numbering.specs.Naming as naming
-use Rattle.rsp_numbering.specs.Expressions.{behind_expr, numbered_expr, aggregates_of}
-use Rattle.rsp_numbering.specs.Triples.{triples_of, behind_triples}
+use Rattle.rsp_numbering.specs.Expressions.{behind_expr, numbered_expr, with_aggregates}
+use Rattle.rsp_numbering.specs.Triples.{with_triples, behind_triples}
 
 -- ---- items and keys: an expression comes before its name
 
@@ -24,9 +24,9 @@ item_of at before (shown x) = record { variable = number before (naming.named at
 item_of at before (computed e x) =
     record { variable = number (behind_expr at before e) (naming.named at x); formula = Some (numbered_expr at before e) }
 
-abbrev pub item_aggregates : List Scope → Before → Item → List (ℕ × Aggregation)
-item_aggregates at before (shown x) = []
-item_aggregates at before (computed e x) = aggregates_of at before e
+abbrev pub with_item_aggregates : List Scope → Before → List (ℕ × Aggregation) → Item → List (ℕ × Aggregation)
+with_item_aggregates at before those (shown x) = those
+with_item_aggregates at before those (computed e x) = with_aggregates at before those e
 
 abbrev pub behind_items : List Scope → Before → List Item → Before
 behind_items at before [] = before
@@ -36,10 +36,10 @@ abbrev pub items_of : List Scope → Before → List Item → List query.Item
 items_of at before [] = []
 items_of at before (item ∷ more) = item_of at before item ∷ items_of at (behind_item at before item) more
 
-abbrev pub items_aggregates : List Scope → Before → List Item → List (ℕ × Aggregation)
-items_aggregates at before [] = []
-items_aggregates at before (item ∷ more) =
-    item_aggregates at before item ++ items_aggregates at (behind_item at before item) more
+abbrev pub with_items_aggregates : List Scope → Before → List (ℕ × Aggregation) → List Item → List (ℕ × Aggregation)
+with_items_aggregates at before those [] = those
+with_items_aggregates at before those (item ∷ more) =
+    with_items_aggregates at (behind_item at before item) (with_item_aggregates at before those item) more
 
 abbrev pub items_in : Projection → List Item
 items_in every_name = []
@@ -59,9 +59,9 @@ abbrev pub having_of : List Scope → Before → Option written.Expr → Option 
 having_of at before None = None
 having_of at before (Some e) = Some (numbered_expr at before e)
 
-abbrev pub having_aggregates : List Scope → Before → Option written.Expr → List (ℕ × Aggregation)
-having_aggregates at before None = []
-having_aggregates at before (Some e) = aggregates_of at before e
+abbrev pub with_having_aggregates : List Scope → Before → List (ℕ × Aggregation) → Option written.Expr → List (ℕ × Aggregation)
+with_having_aggregates at before those None = those
+with_having_aggregates at before those (Some e) = with_aggregates at before those e
 
 -- ---- names of GRAPH, and VALUES
 
@@ -129,30 +129,33 @@ selection_of distinct projection items body keys having aggregates =
     selection distinct (is_star projection) items body (is_grouped keys having aggregates) keys having aggregates
 
 abbrev mutual
-  pub parts_of : List Scope → Before → Element → List Part
-  parts_of at before (written.triples subject properties) = triples_of at before subject properties
-  parts_of at before (written.optional_group body) = optional (parts_in (group_of at before body)) ∷ []
-  parts_of at before (written.minus_group body) = minus (parts_in (group_of at before body)) ∷ []
-  parts_of at before (written.union_of groups) = union (groups_of at before groups) ∷ []
-  parts_of at before (written.graph_group name place body) =
-      graph (graph_of at before name) place (parts_in (group_of at (behind_graph at before name) body)) ∷ []
-  parts_of at before (written.window_group name place body) = window name place (parts_in (group_of at before body)) ∷ []
-  parts_of at before (written.filter e) = filter (numbered_expr at before e) ∷ []
-  parts_of at before (written.exists negated place body) = exists negated place (parts_in (group_of at before body)) ∷ []
-  parts_of at before (written.bind e x) =
-      bind (number (behind_expr at before e) (naming.named at x)) (numbered_expr at before e) ∷ []
-  parts_of at before (written.values names rows) = values (numbers_of at before names) rows ∷ []
-  parts_of at before (written.sub_select inner) = sub (selected_of at before inner) ∷ []
+  -- the parts so far, and behind them those of an element
+  pub with_element : List Scope → Before → List Part → Element → List Part
+  with_element at before those (written.triples subject properties) = with_triples at before those subject properties
+  with_element at before those (written.optional_group body) = those ++ (optional (parts_in (with_elements at before [] body)) ∷ [])
+  with_element at before those (written.minus_group body) = those ++ (minus (parts_in (with_elements at before [] body)) ∷ [])
+  with_element at before those (written.union_of groups) = those ++ (union (groups_of at before groups) ∷ [])
+  with_element at before those (written.graph_group name place body) =
+      those ++ (graph (graph_of at before name) place (parts_in (with_elements at (behind_graph at before name) [] body)) ∷ [])
+  with_element at before those (written.window_group name place body) =
+      those ++ (window name place (parts_in (with_elements at before [] body)) ∷ [])
+  with_element at before those (written.filter e) = those ++ (filter (numbered_expr at before e) ∷ [])
+  with_element at before those (written.exists negated place body) =
+      those ++ (exists negated place (parts_in (with_elements at before [] body)) ∷ [])
+  with_element at before those (written.bind e x) =
+      those ++ (bind (number (behind_expr at before e) (naming.named at x)) (numbered_expr at before e) ∷ [])
+  with_element at before those (written.values names rows) = those ++ (values (numbers_of at before names) rows ∷ [])
+  with_element at before those (written.sub_select inner) = those ++ (sub (selected_of at before inner) ∷ [])
 
-  pub group_of : List Scope → Before → Elements → List Part
-  group_of at before no_element = []
-  group_of at before (element_then element more) =
-      parts_of at before element ++ group_of at (behind_element at before element) more
+  pub with_elements : List Scope → Before → List Part → Elements → List Part
+  with_elements at before those no_element = those
+  with_elements at before those (element_then element more) =
+      with_elements at (behind_element at before element) (with_element at before those element) more
 
   pub groups_of : List Scope → Before → written.Groups → Groups
   groups_of at before written.no_group = no_group
   groups_of at before (written.group_then group more) =
-      group_then (parts_in (group_of at before group)) (groups_of at (behind_elements at before group) more)
+      group_then (parts_in (with_elements at before [] group)) (groups_of at (behind_elements at before group) more)
 
   pub selected_of : List Scope → Before → Selected → Selection
   selected_of at before (selected distinct projection body keys having) =
@@ -161,6 +164,7 @@ abbrev mutual
       let behind_body = behind_elements inside behind_items_of_it body in
       let behind_keys = behind_items inside behind_body keys in
       selection_of distinct projection (items_of inside (behind_select before) (items_in projection))
-      (parts_in (group_of inside behind_items_of_it body)) (items_of inside behind_body keys)
+      (parts_in (with_elements inside behind_items_of_it [] body)) (items_of inside behind_body keys)
       (having_of inside behind_keys having)
-      (items_aggregates inside (behind_select before) (items_in projection) ++ having_aggregates inside behind_keys having)
+      (with_having_aggregates inside behind_keys
+      (with_items_aggregates inside (behind_select before) [] (items_in projection)) having)

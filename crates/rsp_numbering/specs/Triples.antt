@@ -4,14 +4,13 @@ use Rattle.std.specs.Prelude.{List, [], ◌∷◌, ◌++◌}
 use Rattle.rsp_terms.specs.declared.term.Term.TheVariants as term
 use Rattle.rsp_expr.specs.declared.slot.Slot.{Slot}
 use Rattle.rsp_expr.specs.declared.slot.Slot.TheVariants as slot
-use Rattle.rsp_query.specs.Paths.{Way, Ways}
+use Rattle.rsp_query.specs.Paths.{Way, ways_in}
 use Rattle.rsp_query.specs.Paths as path
 use Rattle.rsp_query.specs.Groups.{Part, triple}
 use Rattle.rsp_written.specs.Trees as written
 use Rattle.rsp_written.specs.Trees.{Verb, named, along, Node, variable_node, iri_node, constant_node, label_node, blank_node, described, Nodes, no_node, node_then, Properties, no_property, property_then}
-use Rattle.rsp_numbering.specs.Naming.{Scope, Before, number, behind, bracket}
+use Rattle.rsp_numbering.specs.Naming.{Scope, Before, number, behind, bracket, label}
 use Rattle.rsp_numbering.specs.Naming as naming
-use Rattle.rsp_numbering.specs.declared.variable.Variable.TheVariants as variable
 
 -- ---- paths, which name no variable
 
@@ -19,12 +18,12 @@ abbrev mutual
   pub path_of : written.Way → Way
   path_of (written.step x) = path.step (slot.Constant (term.Iri x))
   path_of (written.inverse way) = path.inverse (path_of way)
-  path_of (written.sequence ways) = path.sequence (paths_of ways)
-  path_of (written.choice ways) = path.choice (paths_of ways)
+  path_of (written.sequence ways) = path.sequence (ways_in (paths_of ways))
+  path_of (written.choice ways) = path.choice (ways_in (paths_of ways))
 
-  pub paths_of : written.Ways → Ways
-  paths_of written.no_way = path.no_way
-  paths_of (written.way_then way more) = path.way_then (path_of way) (paths_of more)
+  pub paths_of : written.Ways → List Way
+  paths_of written.no_way = []
+  paths_of (written.way_then way more) = path_of way ∷ paths_of more
 
 abbrev pub verb_of : List Scope → Before → Verb → Way
 verb_of at before (named x) = path.step (slot.Variable (number before (naming.named at x)))
@@ -40,59 +39,72 @@ abbrev pub slot_of : List Scope → Before → Node → Slot
 slot_of at before (variable_node x) = slot.Variable (number before (naming.named at x))
 slot_of at before (iri_node x) = slot.Constant (term.Iri x)
 slot_of at before (constant_node t) = slot.Constant t
-slot_of at before (label_node x) = slot.Variable (number before (variable.Label x))
+slot_of at before (label_node x) = slot.Variable (number before (label x))
 slot_of at before blank_node = slot.Variable (number before (bracket before))
 slot_of at before (described properties) = slot.Variable (number before (bracket before))
 
+-- behind a node, or the bracket that opens it
+abbrev pub behind_slot : List Scope → Before → Node → Before
+behind_slot at before (variable_node x) = behind before (naming.named at x)
+behind_slot at before (iri_node x) = before
+behind_slot at before (constant_node t) = before
+behind_slot at before (label_node x) = behind before (label x)
+behind_slot at before blank_node = behind before (bracket before)
+behind_slot at before (described properties) = behind before (bracket before)
+
 abbrev mutual
-  pub behind_node : List Scope → Before → Node → Before
-  behind_node at before (variable_node x) = behind before (naming.named at x)
-  behind_node at before (iri_node x) = before
-  behind_node at before (constant_node t) = before
-  behind_node at before (label_node x) = behind before (variable.Label x)
-  behind_node at before blank_node = behind before (bracket before)
-  behind_node at before (described properties) = behind_properties at (behind before (bracket before)) properties
+  -- behind what stands in a node's brackets
+  pub behind_inner : List Scope → Before → Node → Before
+  behind_inner at before (variable_node x) = before
+  behind_inner at before (iri_node x) = before
+  behind_inner at before (constant_node t) = before
+  behind_inner at before (label_node x) = before
+  behind_inner at before blank_node = before
+  behind_inner at before (described properties) = behind_properties at before properties
 
   pub behind_nodes : List Scope → Before → Nodes → Before
   behind_nodes at before no_node = before
-  behind_nodes at before (node_then node more) = behind_nodes at (behind_node at before node) more
+  behind_nodes at before (node_then node more) = behind_nodes at (behind_inner at (behind_slot at before node) node) more
 
   pub behind_properties : List Scope → Before → Properties → Before
   behind_properties at before no_property = before
   behind_properties at before (property_then verb objects more) =
       behind_properties at (behind_nodes at (behind_verb at before verb) objects) more
 
--- ---- triples
+-- ---- triples, behind the parts so far
 
 abbrev mutual
-  -- those within a node in brackets
-  pub inner_triples : List Scope → Before → Node → List Part
-  inner_triples at before (variable_node x) = []
-  inner_triples at before (iri_node x) = []
-  inner_triples at before (constant_node t) = []
-  inner_triples at before (label_node x) = []
-  inner_triples at before blank_node = []
-  inner_triples at before (described properties) =
-      property_triples at (behind before (bracket before)) (slot.Variable (number before (bracket before))) properties
+  -- those in a node's brackets; the node has this slot
+  pub with_inner : List Scope → Before → List Part → Slot → Node → List Part
+  with_inner at before those subject (variable_node x) = those
+  with_inner at before those subject (iri_node x) = those
+  with_inner at before those subject (constant_node t) = those
+  with_inner at before those subject (label_node x) = those
+  with_inner at before those subject blank_node = those
+  with_inner at before those subject (described properties) = with_properties at before those subject properties
 
   -- of a subject and a verb, one for each object
-  pub object_triples : List Scope → Before → Slot → Way → Nodes → List Part
-  object_triples at before subject verb no_node = []
-  object_triples at before subject verb (node_then node more) =
-      triple subject verb (slot_of at before node)
-      ∷ (inner_triples at before node ++ object_triples at (behind_node at before node) subject verb more)
+  pub with_objects : List Scope → Before → List Part → Slot → Way → Nodes → List Part
+  with_objects at before those subject verb no_node = those
+  with_objects at before those subject verb (node_then node more) =
+      with_objects at (behind_inner at (behind_slot at before node) node)
+      (with_inner at (behind_slot at before node) (those ++ (triple subject verb (slot_of at before node) ∷ [])) (slot_of at before node) node)
+      subject verb more
 
   -- of a subject
-  pub property_triples : List Scope → Before → Slot → Properties → List Part
-  property_triples at before subject no_property = []
-  property_triples at before subject (property_then verb objects more) =
-      object_triples at (behind_verb at before verb) subject (verb_of at before verb) objects
-      ++ property_triples at (behind_nodes at (behind_verb at before verb) objects) subject more
+  pub with_properties : List Scope → Before → List Part → Slot → Properties → List Part
+  with_properties at before those subject no_property = those
+  with_properties at before those subject (property_then verb objects more) =
+      with_properties at (behind_nodes at (behind_verb at before verb) objects)
+      (with_objects at (behind_verb at before verb) those subject (verb_of at before verb) objects)
+      subject more
 
-abbrev pub triples_of : List Scope → Before → Node → Properties → List Part
-triples_of at before subject properties =
-    inner_triples at before subject
-    ++ property_triples at (behind_node at before subject) (slot_of at before subject) properties
+-- of a subject with what stands in its brackets
+abbrev pub with_triples : List Scope → Before → List Part → Node → Properties → List Part
+with_triples at before those node properties =
+    with_properties at (behind_inner at (behind_slot at before node) node)
+    (with_inner at (behind_slot at before node) those (slot_of at before node) node)
+    (slot_of at before node) properties
 
 abbrev pub behind_triples : List Scope → Before → Node → Properties → Before
-behind_triples at before subject properties = behind_properties at (behind_node at before subject) properties
+behind_triples at before node properties = behind_properties at (behind_inner at (behind_slot at before node) node) properties

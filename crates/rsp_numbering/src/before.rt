@@ -82,10 +82,7 @@ impl Before {
     }
 }
 
-fn number_of(
-    variables: &mut IndexSet<Variable>,
-    variable: Variable,
-) -> Result<usize, AllocError>
+fn number_of(variables: &mut IndexSet<Variable>, variable: Variable) -> Result<usize, AllocError>
     ensures number { IfOk result (λ n. n ≡ naming.place_of variables.old.keys variable) }
     ensures behind { OnOk result (variables.new.keys ≡ naming.with_variable variables.old.keys variable) }
 {

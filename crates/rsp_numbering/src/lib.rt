@@ -6,10 +6,15 @@
 #![tactic(auto)]
 
 mod before;
+mod expressions;
 mod limit;
+mod paths;
+mod scopes;
+mod triples;
 mod variable;
 mod words;
 
 pub use before::Before;
 pub use limit::LimitName;
+pub use scopes::Scope;
 pub use variable::Variable;

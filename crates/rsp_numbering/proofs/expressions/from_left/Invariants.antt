@@ -1,0 +1,10 @@
+use Rattle.std.proofs.Common.{◌≡◌}
+use Rattle.rsp_expr.specs.Formulas.{formula_of}
+use Rattle.rsp_numbering.specs.Expressions.{from_left}
+use Rattle.rsp_numbering.specs.Seeing.{signed_formulas}
+use Rattle.rsp_numbering.proofs.expressions.from_left.Given as goal
+
+abbrev pub invariant-loop-sign : goal.invariant-loop-sign
+invariant-loop-sign l =
+    from_left (formula_of l.left) (signed_formulas l.sign-iterator.rest.items)
+    ≡ from_left (formula_of l.fn.first) (signed_formulas l.fn.operands.items)

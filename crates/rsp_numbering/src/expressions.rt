@@ -1,0 +1,228 @@
+// Expressions with numbers in place of names.
+ghost use Rattle.std.specs.Prelude.{◌≡◌, ◌++◌, ◌∷◌, [], IfOk, OnOk, map};
+ghost use Rattle.rsp_expr.specs.Formulas.{arithmetic, formula_of, maybe_formula};
+ghost use Rattle.rsp_written.specs.Building.{exprs_in, operands_in};
+ghost use Rattle.rsp_written.specs.Meanings.{expr_of, operand_of};
+ghost use Rattle.rsp_numbering.specs.Expressions as numbered;
+ghost use Rattle.rsp_numbering.specs.Naming as naming;
+ghost use Rattle.rsp_numbering.specs.Seeing.{aggregations_of, scopes_of, signed_formulas};
+
+use crate::Before;
+use crate::scopes::{Scope, number_of};
+use crate::words::{fold_of, function_of, sign_of};
+use rsp_expr::{Aggregate, Expression, Kind as Fold, Sign};
+use rsp_terms::Term;
+use rsp_written as written;
+use rsp_written::{Kind, Operand, Symbol};
+use std::alloc::{AllocError, Global};
+
+/// The expression with numbers in place of names; its aggregates are put behind those that are there. Fails only where
+/// memory is refused.
+#[cycle(numbering)]
+pub(crate) fn numbered(
+    alloc: Global,
+    at: &[Scope<'_>],
+    before: &mut Before,
+    aggregates: &mut Vec<(usize, Aggregate)>,
+    expression: &written::Expression,
+) -> Result<Expression, AllocError>
+    ensures formula { IfOk result (λ e. formula_of e ≡ numbered.numbered_expr (scopes_of at.now) before.old (expr_of expression.now)) }
+    ensures behind { OnOk result (before.new ≡ numbered.behind_expr (scopes_of at.now) before.old (expr_of expression.now)) }
+    ensures aggregates { OnOk result (aggregations_of aggregates.new.items
+        ≡ numbered.with_aggregates (scopes_of at.now) before.old (aggregations_of aggregates.old.items) (expr_of expression.now)) }
+{
+    match expression {
+        written::Expression::Variable(name) => Ok(Expression::Variable(number_of(
+            at, before, name,
+        )?)),
+        written::Expression::Iri(name) => Ok(Expression::Constant(Term::Iri(name.share()?))),
+        written::Expression::Constant(term) => Ok(Expression::Constant(term.share()?)),
+        written::Expression::AnyOf(parts) => {
+            Ok(Expression::Or(all(alloc, at, before, aggregates, parts)?))
+        }
+        written::Expression::AllOf(parts) => {
+            Ok(Expression::And(all(alloc, at, before, aggregates, parts)?))
+        }
+        written::Expression::Compared { sign, left, right } => {
+            let left = boxed(alloc, at, before, aggregates, left)?;
+            let right = boxed(alloc, at, before, aggregates, right)?;
+            let sign = sign_of(*sign);
+            Ok(Expression::Compare { sign, left, right })
+        }
+        written::Expression::Member {
+            negated,
+            item,
+            list,
+        } => {
+            let item = boxed(alloc, at, before, aggregates, item)?;
+            let list = all(alloc, at, before, aggregates, list)?;
+            Ok(Expression::Member {
+                negated: *negated,
+                item,
+                list,
+            })
+        }
+        written::Expression::Sum { first, rest } => {
+            let first = numbered(alloc, at, before, aggregates, first)?;
+            let rest = operands(alloc, at, before, aggregates, rest)?;
+            from_left(alloc, first, rest)
+        }
+        written::Expression::Product { first, rest } => {
+            let first = numbered(alloc, at, before, aggregates, first)?;
+            let rest = operands(alloc, at, before, aggregates, rest)?;
+            from_left(alloc, first, rest)
+        }
+        written::Expression::Signed { sign, part } => {
+            let part = boxed(alloc, at, before, aggregates, part)?;
+            Ok(signed(*sign, part))
+        }
+        written::Expression::Bound(name) => Ok(Expression::Bound(number_of(at, before, name)?)),
+        written::Expression::Call {
+            function,
+            arguments,
+        } => Ok(Expression::Call {
+            function: function_of(*function),
+            arguments: all(alloc, at, before, aggregates, arguments)?,
+        }),
+        written::Expression::CountRows => {
+            let number = before.aggregate()?;
+            put_aggregate(aggregates, number, Fold::Count, false, None)?;
+            Ok(Expression::Variable(number))
+        }
+        written::Expression::Aggregate {
+            kind,
+            distinct,
+            argument,
+        } => {
+            let number = before.aggregate()?;
+            let mut within = Vec::new(alloc);
+            let argument = numbered(alloc, at, before, &mut within, argument)?;
+            put_aggregate(
+                aggregates,
+                number,
+                fold_of(*kind),
+                *distinct,
+                Some(argument),
+            )?;
+            Ok(Expression::Variable(number))
+        }
+    }
+}
+
+#[cycle(numbering)]
+fn boxed(
+    alloc: Global,
+    at: &[Scope<'_>],
+    before: &mut Before,
+    aggregates: &mut Vec<(usize, Aggregate)>,
+    expression: &written::Expression,
+) -> Result<Box<Expression>, AllocError>
+    ensures formula { IfOk result (λ e. formula_of e.value ≡ numbered.numbered_expr (scopes_of at.now) before.old (expr_of expression.now)) }
+    ensures behind { OnOk result (before.new ≡ numbered.behind_expr (scopes_of at.now) before.old (expr_of expression.now)) }
+    ensures aggregates { OnOk result (aggregations_of aggregates.new.items
+        ≡ numbered.with_aggregates (scopes_of at.now) before.old (aggregations_of aggregates.old.items) (expr_of expression.now)) }
+{
+    let expression = numbered(alloc, at, before, aggregates, expression)?;
+    Ok(Box::new(alloc, expression)?)
+}
+
+#[cycle(numbering)]
+fn all(
+    alloc: Global,
+    at: &[Scope<'_>],
+    before: &mut Before,
+    aggregates: &mut Vec<(usize, Aggregate)>,
+    expressions: &[written::Expression],
+) -> Result<Vec<Expression>, AllocError>
+    ensures formulas { IfOk result (λ es. map formula_of es.items
+        ≡ numbered.numbered_exprs (scopes_of at.now) before.old (exprs_in (map expr_of expressions.now))) }
+    ensures behind { OnOk result (before.new ≡ numbered.behind_exprs (scopes_of at.now) before.old (exprs_in (map expr_of expressions.now))) }
+    ensures aggregates { OnOk result (aggregations_of aggregates.new.items
+        ≡ numbered.with_aggregates_of_all (scopes_of at.now) before.old (aggregations_of aggregates.old.items) (exprs_in (map expr_of expressions.now))) }
+{
+    let mut made = Vec::new(alloc);
+    for expression in expressions {
+        made.push(numbered(alloc, at, before, aggregates, expression)?)?;
+    }
+    Ok(made)
+}
+
+// what stands behind the signs of a row
+#[cycle(numbering)]
+fn operands(
+    alloc: Global,
+    at: &[Scope<'_>],
+    before: &mut Before,
+    aggregates: &mut Vec<(usize, Aggregate)>,
+    written: &[Operand],
+) -> Result<Vec<(Sign, Expression)>, AllocError>
+    ensures formulas { IfOk result (λ made. signed_formulas made.items
+        ≡ numbered.numbered_operands (scopes_of at.now) before.old (operands_in (map operand_of written.now))) }
+    ensures behind { OnOk result (before.new ≡ numbered.behind_operands (scopes_of at.now) before.old (operands_in (map operand_of written.now))) }
+    ensures aggregates { OnOk result (aggregations_of aggregates.new.items
+        ≡ numbered.with_aggregates_of_row (scopes_of at.now) before.old (aggregations_of aggregates.old.items) (operands_in (map operand_of written.now))) }
+{
+    let mut made = Vec::new(alloc);
+    for operand in written {
+        let part = numbered(alloc, at, before, aggregates, &operand.part)?;
+        made.push((sign_of(operand.sign), part))?;
+    }
+    Ok(made)
+}
+
+// a row of signs, from the left
+fn from_left(
+    alloc: Global,
+    first: Expression,
+    operands: Vec<(Sign, Expression)>,
+) -> Result<Expression, AllocError>
+    ensures { IfOk result (λ e. formula_of e ≡ numbered.from_left (formula_of first) (signed_formulas operands.items)) }
+{
+    let mut left = first;
+    for (sign, right) in operands {
+        left = joined(alloc, sign, left, right)?;
+    }
+    Ok(left)
+}
+
+fn joined(
+    alloc: Global,
+    sign: Sign,
+    left: Expression,
+    right: Expression,
+) -> Result<Expression, AllocError>
+    ensures { IfOk result (λ e. formula_of e ≡ arithmetic sign (formula_of left) (formula_of right)) }
+{
+    let left = Box::new(alloc, left)?;
+    let right = Box::new(alloc, right)?;
+    Ok(Expression::Arithmetic { sign, left, right })
+}
+
+fn signed(sign: Kind, part: Box<Expression>) -> Expression
+    ensures { formula_of result ≡ numbered.signed_formula sign (formula_of part.value) }
+{
+    match sign {
+        Kind::Symbol(Symbol::Minus) => Expression::Negate(part),
+        Kind::Symbol(Symbol::Plus) => Expression::Plus(part),
+        _ => Expression::Not(part),
+    }
+}
+
+fn put_aggregate(
+    aggregates: &mut Vec<(usize, Aggregate)>,
+    number: usize,
+    kind: Fold,
+    distinct: bool,
+    argument: Option<Expression>,
+) -> Result<(), AllocError>
+    ensures { OnOk result (aggregations_of aggregates.new.items
+        ≡ aggregations_of aggregates.old.items ++ (numbered.numbered_aggregate number kind distinct (maybe_formula argument) ∷ [])) }
+{
+    let aggregate = Aggregate {
+        kind,
+        distinct,
+        argument,
+    };
+    aggregates.push((number, aggregate))?;
+    Ok(())
+}
