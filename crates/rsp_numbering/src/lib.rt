@@ -7,6 +7,7 @@
 
 mod before;
 mod expressions;
+mod items;
 mod limit;
 mod paths;
 mod scopes;
