@@ -1,11 +1,18 @@
--- Words of the way: the code's scopes and aggregates as the definitions have them.
+-- Words of the way: the code's scopes, aggregates and branches as the definitions have them.
 use Rattle.std.specs.Prelude.{ℕ, List, map}
 use Rattle.rsp_expr.specs.declared.aggregate.Aggregate.{Aggregate}
 use Rattle.rsp_expr.specs.declared.expression.Expression.{Expression}
 use Rattle.rsp_expr.specs.declared.function.Sign.{Sign}
 use Rattle.rsp_expr.specs.Formulas.{Aggregation, Formula, formula_of}
 use Rattle.rsp_query.specs.Groups.{numbered_aggregation}
-use Rattle.rsp_written.specs.GroupMeanings.{projection_of}
+use Rattle.std.specs.formers.vec.Vec.{mapped}
+use Rattle.std.specs.Prelude.{Vec}
+use Rattle.std.specs.Global.{Global}
+use Rattle.rsp_query.specs.declared.select.Element.{Element}
+use Rattle.rsp_query.specs.Groups.{Part, part_of}
+use Rattle.rsp_written.specs.declared.group.Element as written
+use Rattle.rsp_written.specs.Trees as trees
+use Rattle.rsp_written.specs.GroupMeanings.{element_of, projection_of}
 use Rattle.rsp_numbering.specs.declared.scopes.Scope as code
 use Rattle.rsp_numbering.specs.Naming.{Scope}
 
@@ -23,3 +30,9 @@ signed_formula x = (x.0, formula_of x.1)
 
 abbrev pub signed_formulas : List (Sign × Expression) → List (Sign × Formula)
 signed_formulas parts = map signed_formula parts
+
+abbrev pub branches_of : List (Vec Element Global) → List (List Part)
+branches_of branches = map (λ branch. branch.items) (map (mapped part_of) branches)
+
+abbrev pub written_branches_of : List (Vec written.Element Global) → List (List trees.Element)
+written_branches_of branches = map (λ branch. branch.items) (map (mapped element_of) branches)

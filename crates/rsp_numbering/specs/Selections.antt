@@ -4,7 +4,7 @@ use Rattle.rsp_terms.specs.declared.term.Term.TheVariants as term
 use Rattle.rsp_expr.specs.declared.slot.Slot.{Slot}
 use Rattle.rsp_expr.specs.declared.slot.Slot.TheVariants as slot
 use Rattle.rsp_expr.specs.Formulas.{Formula, Aggregation}
-use Rattle.rsp_query.specs.Groups.{Part, optional, minus, union, graph, window, filter, exists, bind, values, sub, Parts, parts_in, Groups, no_group, group_then, Selection, selection}
+use Rattle.rsp_query.specs.Groups.{Part, optional, minus, union, graph, window, filter, exists, bind, values, sub, Parts, parts_in, groups_in, Selection, selection}
 use Rattle.rsp_query.specs.Groups as query
 use Rattle.rsp_written.specs.Trees as written
 use Rattle.rsp_written.specs.Trees.{Element, Elements, no_element, element_then, Item, shown, computed, Projection, every_name, these, Graph, graph_variable, graph_iri, Selected, selected}
@@ -83,9 +83,8 @@ numbers_of at before (x ∷ more) = number before (naming.named at x) ∷ number
 
 -- ---- behind elements and SELECTs
 
--- a SELECT begins, and its items are read
-abbrev pub behind_clause : List Scope → Before → Projection → Before
-behind_clause at before projection = behind_items (within before projection at) (behind_select before) (items_in projection)
+abbrev pub projection_of : Selected → Projection
+projection_of (selected distinct projection body keys having) = projection
 
 abbrev mutual
   pub behind_element : List Scope → Before → Element → Before
@@ -99,7 +98,8 @@ abbrev mutual
   behind_element at before (written.exists negated place body) = behind_elements at before body
   behind_element at before (written.bind e x) = behind (behind_expr at before e) (naming.named at x)
   behind_element at before (written.values names rows) = behind_names at before names
-  behind_element at before (written.sub_select inner) = behind_selected at before inner
+  behind_element at before (written.sub_select inner) =
+      behind_within (within before (projection_of inner) at) (behind_select before) inner
 
   pub behind_elements : List Scope → Before → Elements → Before
   behind_elements at before no_element = before
@@ -109,13 +109,15 @@ abbrev mutual
   behind_groups at before written.no_group = before
   behind_groups at before (written.group_then group more) = behind_groups at (behind_elements at before group) more
 
-  pub behind_selected : List Scope → Before → Selected → Before
-  behind_selected at before (selected distinct projection body keys having) =
-      behind_having (within before projection at)
-      (behind_items (within before projection at)
-      (behind_elements (within before projection at) (behind_clause at before projection) body)
-      keys)
+  -- behind a SELECT, from behind its word on
+  pub behind_within : List Scope → Before → Selected → Before
+  behind_within at before (selected distinct projection body keys having) =
+      behind_having at
+      (behind_items at (behind_elements at (behind_items at before (items_in projection)) body) keys)
       having
+
+abbrev pub behind_selected : List Scope → Before → Selected → Before
+behind_selected at before s = behind_within (within before (projection_of s) at) (behind_select before) s
 
 -- ---- elements and SELECTs
 
@@ -134,7 +136,7 @@ abbrev mutual
   with_element at before those (written.triples subject properties) = with_triples at before those subject properties
   with_element at before those (written.optional_group body) = those ++ (optional (parts_in (with_elements at before [] body)) ∷ [])
   with_element at before those (written.minus_group body) = those ++ (minus (parts_in (with_elements at before [] body)) ∷ [])
-  with_element at before those (written.union_of groups) = those ++ (union (groups_of at before groups) ∷ [])
+  with_element at before those (written.union_of groups) = those ++ (union (groups_in (groups_of at before groups)) ∷ [])
   with_element at before those (written.graph_group name place body) =
       those ++ (graph (graph_of at before name) place (parts_in (with_elements at (behind_graph at before name) [] body)) ∷ [])
   with_element at before those (written.window_group name place body) =
@@ -145,26 +147,28 @@ abbrev mutual
   with_element at before those (written.bind e x) =
       those ++ (bind (number (behind_expr at before e) (naming.named at x)) (numbered_expr at before e) ∷ [])
   with_element at before those (written.values names rows) = those ++ (values (numbers_of at before names) rows ∷ [])
-  with_element at before those (written.sub_select inner) = those ++ (sub (selected_of at before inner) ∷ [])
+  with_element at before those (written.sub_select inner) =
+      those ++ (sub (selected_within (within before (projection_of inner) at) (behind_select before) inner) ∷ [])
 
   pub with_elements : List Scope → Before → List Part → Elements → List Part
   with_elements at before those no_element = those
   with_elements at before those (element_then element more) =
       with_elements at (behind_element at before element) (with_element at before those element) more
 
-  pub groups_of : List Scope → Before → written.Groups → Groups
-  groups_of at before written.no_group = no_group
+  pub groups_of : List Scope → Before → written.Groups → List (List Part)
+  groups_of at before written.no_group = []
   groups_of at before (written.group_then group more) =
-      group_then (parts_in (with_elements at before [] group)) (groups_of at (behind_elements at before group) more)
+      with_elements at before [] group ∷ groups_of at (behind_elements at before group) more
 
-  pub selected_of : List Scope → Before → Selected → Selection
-  selected_of at before (selected distinct projection body keys having) =
-      let inside = within before projection at in
-      let behind_items_of_it = behind_clause at before projection in
-      let behind_body = behind_elements inside behind_items_of_it body in
-      let behind_keys = behind_items inside behind_body keys in
-      selection_of distinct projection (items_of inside (behind_select before) (items_in projection))
-      (parts_in (with_elements inside behind_items_of_it [] body)) (items_of inside behind_body keys)
-      (having_of inside behind_keys having)
-      (with_having_aggregates inside behind_keys
-      (with_items_aggregates inside (behind_select before) [] (items_in projection)) having)
+  -- a SELECT, from behind its word on
+  pub selected_within : List Scope → Before → Selected → Selection
+  selected_within at before (selected distinct projection body keys having) =
+      let behind_clause = behind_items at before (items_in projection) in
+      let behind_body = behind_elements at behind_clause body in
+      let behind_keys = behind_items at behind_body keys in
+      selection_of distinct projection (items_of at before (items_in projection))
+      (parts_in (with_elements at behind_clause [] body)) (items_of at behind_body keys) (having_of at behind_keys having)
+      (with_having_aggregates at behind_keys (with_items_aggregates at before [] (items_in projection)) having)
+
+abbrev pub selected_of : List Scope → Before → Selected → Selection
+selected_of at before s = selected_within (within before (projection_of s) at) (behind_select before) s

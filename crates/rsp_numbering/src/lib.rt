@@ -7,6 +7,7 @@
 
 mod before;
 mod expressions;
+mod groups;
 mod items;
 mod limit;
 mod paths;

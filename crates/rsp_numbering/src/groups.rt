@@ -1,0 +1,229 @@
+// Groups and SELECTs with numbers in place of names.
+ghost use Rattle.std.specs.Prelude.{◌≡◌, ◌++◌, ◌∷◌, [], IfOk, OnOk, map};
+ghost use Rattle.rsp_query.specs.Groups as query;
+ghost use Rattle.rsp_written.specs.Building.{elements_in, groups_in};
+ghost use Rattle.rsp_written.specs.GroupMeanings as written;
+ghost use Rattle.rsp_numbering.specs.Naming as naming;
+ghost use Rattle.rsp_numbering.specs.Seeing.{branches_of, scopes_of, written_branches_of};
+ghost use Rattle.rsp_numbering.specs.Selections as numbered;
+
+use crate::Before;
+use crate::items::{
+    graph_of, having_of, is_grouped, keys_of, numbers_of, plain, projected, rows_of,
+};
+use crate::scopes::{Scope, number_of, within};
+use crate::triples::put_triples;
+use rsp_query::{Element, Select};
+use rsp_written::Values;
+use std::alloc::{AllocError, Global};
+
+// puts an element's parts behind those that are there
+#[cycle(groups)]
+fn put_element<'s>(
+    alloc: Global,
+    at: &[Scope<'s>],
+    before: &mut Before,
+    element: &'s rsp_written::Element,
+    parts: &mut Vec<Element>,
+) -> Result<(), AllocError>
+    ensures parts { OnOk result (map query.part_of parts.new.items
+        ≡ numbered.with_element (scopes_of at.now) before.old (map query.part_of parts.old.items) (written.element_of element.now)) }
+    ensures behind { OnOk result (before.new ≡ numbered.behind_element (scopes_of at.now) before.old (written.element_of element.now)) }
+{
+    match element {
+        rsp_written::Element::Triples(subject) => { put_triples(alloc, at, before, subject, parts) }
+        rsp_written::Element::Optional(body) => {
+            let body = group(alloc, at, before, body)?;
+            put(parts, Element::Optional(body))
+        }
+        rsp_written::Element::Minus(body) => {
+            let body = group(alloc, at, before, body)?;
+            put(parts, Element::Minus(body))
+        }
+        rsp_written::Element::Union(branches) => {
+            let branches = groups(alloc, at, before, branches)?;
+            put(parts, Element::Union(branches))
+        }
+        rsp_written::Element::Graph {
+            name,
+            at: place,
+            body,
+        } => {
+            let name = graph_of(at, before, name)?;
+            let body = group(alloc, at, before, body)?;
+            let at = *place;
+            put(parts, Element::Graph { name, at, body })
+        }
+        rsp_written::Element::Window {
+            name,
+            at: place,
+            body,
+        } => {
+            let body = group(alloc, at, before, body)?;
+            let name = name.share()?;
+            let at = *place;
+            put(parts, Element::Window { name, at, body })
+        }
+        rsp_written::Element::Filter(expression) => {
+            let expression = plain(alloc, at, before, expression)?;
+            put(parts, Element::Filter(expression))
+        }
+        rsp_written::Element::Exists {
+            negated,
+            at: place,
+            body,
+        } => {
+            let body = group(alloc, at, before, body)?;
+            let negated = *negated;
+            let at = *place;
+            put(parts, Element::Exists { negated, at, body })
+        }
+        rsp_written::Element::Bind { expression, name } => {
+            let expression = plain(alloc, at, before, expression)?;
+            let variable = number_of(at, before, name)?;
+            put(
+                parts,
+                Element::Bind {
+                    variable,
+                    expression,
+                },
+            )
+        }
+        rsp_written::Element::Values(block) => put_values(alloc, at, before, block, parts),
+        rsp_written::Element::Sub(inner) => {
+            let inner = select(alloc, at, before, inner)?;
+            put(parts, Element::Sub(Box::new(alloc, inner)?))
+        }
+    }
+}
+
+fn put(parts: &mut Vec<Element>, part: Element) -> Result<(), AllocError>
+    ensures { OnOk result (map query.part_of parts.new.items ≡ map query.part_of parts.old.items ++ (query.part_of part ∷ [])) }
+{
+    parts.push(part)?;
+    Ok(())
+}
+
+fn put_values(
+    alloc: Global,
+    at: &[Scope<'_>],
+    before: &mut Before,
+    block: &Values,
+    parts: &mut Vec<Element>,
+) -> Result<(), AllocError>
+    ensures parts { OnOk result (map query.part_of parts.new.items
+        ≡ numbered.with_element (scopes_of at.now) before.old (map query.part_of parts.old.items) (written.values_of block.now)) }
+    ensures behind { OnOk result (before.new ≡ numbered.behind_element (scopes_of at.now) before.old (written.values_of block.now)) }
+{
+    let variables = numbers_of(alloc, at, before, &block.variables)?;
+    let rows = rows_of(alloc, &block.rows)?;
+    put(parts, Element::Values { variables, rows })
+}
+
+#[cycle(groups)]
+fn put_elements<'s>(
+    alloc: Global,
+    at: &[Scope<'s>],
+    before: &mut Before,
+    elements: &'s [rsp_written::Element],
+    parts: &mut Vec<Element>,
+) -> Result<(), AllocError>
+    ensures parts { OnOk result (map query.part_of parts.new.items
+        ≡ numbered.with_elements (scopes_of at.now) before.old (map query.part_of parts.old.items) (elements_in (map written.element_of elements.now))) }
+    ensures behind { OnOk result (before.new ≡ numbered.behind_elements (scopes_of at.now) before.old (elements_in (map written.element_of elements.now))) }
+{
+    for element in elements {
+        put_element(alloc, at, before, element, parts)?;
+    }
+    Ok(())
+}
+
+#[cycle(groups)]
+fn group<'s>(
+    alloc: Global,
+    at: &[Scope<'s>],
+    before: &mut Before,
+    elements: &'s [rsp_written::Element],
+) -> Result<Vec<Element>, AllocError>
+    ensures parts { IfOk result (λ parts. map query.part_of parts.items
+        ≡ numbered.with_elements (scopes_of at.now) before.old [] (elements_in (map written.element_of elements.now))) }
+    ensures behind { OnOk result (before.new ≡ numbered.behind_elements (scopes_of at.now) before.old (elements_in (map written.element_of elements.now))) }
+{
+    let mut parts = Vec::new(alloc);
+    put_elements(alloc, at, before, elements, &mut parts)?;
+    Ok(parts)
+}
+
+#[cycle(groups)]
+fn groups<'s>(
+    alloc: Global,
+    at: &[Scope<'s>],
+    before: &mut Before,
+    branches: &'s [Vec<rsp_written::Element>],
+) -> Result<Vec<Vec<Element>>, AllocError>
+    ensures groups { IfOk result (λ made. branches_of made.items
+        ≡ numbered.groups_of (scopes_of at.now) before.old (groups_in (written_branches_of branches.now))) }
+    ensures behind { OnOk result (before.new ≡ numbered.behind_groups (scopes_of at.now) before.old (groups_in (written_branches_of branches.now))) }
+{
+    let mut made = Vec::new(alloc);
+    for branch in branches {
+        made.push(group(alloc, at, before, branch)?)?;
+    }
+    Ok(made)
+}
+
+/// A SELECT with numbers in place of names. Fails only where memory is refused.
+#[cycle(groups)]
+pub(crate) fn select<'s>(
+    alloc: Global,
+    at: &[Scope<'s>],
+    before: &mut Before,
+    select: &'s rsp_written::Select,
+) -> Result<Select, AllocError>
+    ensures selection { IfOk result (λ made. query.selection_of made
+        ≡ numbered.selected_of (scopes_of at.now) before.old (written.select_of select.now)) }
+    ensures behind { OnOk result (before.new ≡ numbered.behind_selected (scopes_of at.now) before.old (written.select_of select.now)) }
+{
+    let number = before.select()?;
+    let inside = within(alloc, number, &select.projection, at)?;
+    select_within(alloc, &inside, before, select)
+}
+
+// behind the word SELECT, with its scope among the others
+#[cycle(groups)]
+fn select_within<'s>(
+    alloc: Global,
+    at: &[Scope<'s>],
+    before: &mut Before,
+    select: &'s rsp_written::Select,
+) -> Result<Select, AllocError>
+    ensures selection { IfOk result (λ made. query.selection_of made
+        ≡ numbered.selected_within (scopes_of at.now) before.old (written.select_of select.now)) }
+    ensures behind { OnOk result (before.new ≡ numbered.behind_within (scopes_of at.now) before.old (written.select_of select.now)) }
+{
+    let mut aggregates = Vec::new(alloc);
+    let items = projected(alloc, at, before, &mut aggregates, &select.projection)?;
+    let body = group(alloc, at, before, &select.body)?;
+    let keys = keys_of(alloc, at, before, &select.keys)?;
+    let having = having_of(alloc, at, before, &mut aggregates, &select.having)?;
+    let grouped = is_grouped(&keys, &having, &aggregates);
+    Ok(Select {
+        distinct: select.distinct,
+        star: is_star(&select.projection),
+        items,
+        body,
+        grouped,
+        keys,
+        having,
+        aggregates,
+    })
+}
+
+fn is_star(projection: &rsp_written::Projection) -> bool
+    ensures { result ≡ numbered.is_star (written.projection_of projection.now) }
+{
+    match projection {
+        rsp_written::Projection::Every => true,
+        rsp_written::Projection::These(_) => false,
+    }
+}
