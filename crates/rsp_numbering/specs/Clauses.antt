@@ -21,13 +21,18 @@ use Rattle.rsp_numbering.specs.Selections.{behind_selected, selected_of}
 abbrev pub milliseconds : List ℕ → ℕ
 milliseconds text = unwrap_or (span text) 0
 
+abbrev pub period_of : Option (List ℕ) → ℕ
+period_of None = 0
+period_of (Some text) = milliseconds text
+
+abbrev pub strategy_by : token.Kind → ℕ → report.Strategy
+strategy_by (kind.Word keyword.Change) period = strategy.Change
+strategy_by (kind.Word keyword.NonEmpty) period = strategy.NonEmpty
+strategy_by (kind.Word keyword.Every) period = strategy.Every period
+strategy_by _ period = strategy.Close
+
 abbrev pub strategy_of : written.Strategy → report.Strategy
-strategy_of s = by s.kind (unwrap_or s.period []) where
-  by : token.Kind → List ℕ → report.Strategy
-  by (kind.Word keyword.Change) period = strategy.Change
-  by (kind.Word keyword.NonEmpty) period = strategy.NonEmpty
-  by (kind.Word keyword.Every) period = strategy.Every (milliseconds period)
-  by _ period = strategy.Close
+strategy_of s = strategy_by s.kind (period_of s.period)
 
 abbrev pub is_tuple : token.Kind → Bool
 is_tuple (kind.Word keyword.Tuple) = true

@@ -1,8 +1,7 @@
 -- Definitions: what is counted of a query as it is written, and the first limit that it passes.
-use Rattle.std.specs.Prelude.{ℕ, suc, ◌+◌, Bool, false, not, cond, nat_lt, List, [], ◌∷◌, ◌++◌, Option, None, Some, map, length, sum}
-use Rattle.std.specs.List.{list_any}
-use Rattle.std.specs.Option.{option_to_list}
-use Rattle.rsp_text.specs.Spans.{span}
+use Rattle.std.specs.Prelude.{ℕ, suc, ◌+◌, Bool, true, ◌&&◌, cond, nat_lt, nat_le, List, [], ◌∷◌, Option, None, Some, map, unwrap_or, length, sum}
+use Rattle.std.specs.List.{list_all}
+use Rattle.rsp_spec.specs.Windows.{last_instant}
 use Rattle.rsp_query.specs.Paths.{Way, Ways}
 use Rattle.rsp_query.specs.Paths as path
 use Rattle.rsp_query.specs.Groups as query
@@ -11,6 +10,7 @@ use Rattle.rsp_written.specs.Trees as written
 use Rattle.rsp_written.specs.Trees.{Expr, Exprs, Operands, Element, Elements, Item, Projection, Selected, Written}
 use Rattle.rsp_numbering.specs.Selections.{behind_selected, selected_of, items_in}
 use Rattle.rsp_numbering.specs.Naming.{nothing}
+use Rattle.rsp_numbering.specs.Clauses.{milliseconds}
 use Rattle.rsp_numbering.specs.declared.limit.LimitName.{LimitName}
 use Rattle.rsp_numbering.specs.declared.limit.LimitName.TheVariants as limit
 
@@ -161,51 +161,47 @@ abbrev mutual
   pub counted_select : (Part → ℕ) → Selection → ℕ
   counted_select f (query.selection distinct star items body grouped keys having aggregates) = counted_group f body
 
--- ---- spans
+-- ---- spans and instants
 
 -- a span from 1 ms to the last instant
 abbrev pub is_span : List ℕ → Bool
-is_span text = is_some_positive (span text) where
-  is_some_positive : Option ℕ → Bool
-  is_some_positive None = false
-  is_some_positive (Some n) = nat_lt 0 n
+is_span text = nat_lt 0 (milliseconds text)
 
-abbrev pub window_spans : written.Window → List (List ℕ)
-window_spans w = w.range ∷ option_to_list w.slide
+abbrev pub is_span_or_none : Option (List ℕ) → Bool
+is_span_or_none None = true
+is_span_or_none (Some text) = is_span text
 
-abbrev pub periods : written.Policy → List (List ℕ)
-periods written.no_policy = []
-periods (written.profile name) = []
-periods (written.reporting strategies tick) = flat strategies where
-  flat : List written.Strategy → List (List ℕ)
-  flat [] = []
-  flat (s ∷ more) = option_to_list s.period ++ flat more
+-- the grammar has no START past the last instant
+abbrev pub is_within : written.Window → Bool
+is_within w = is_span w.range && (is_span_or_none w.slide && nat_le (unwrap_or w.origin 0) last_instant)
 
-abbrev pub spans_of_windows : List written.Window → List (List ℕ)
-spans_of_windows [] = []
-spans_of_windows (w ∷ more) = window_spans w ++ spans_of_windows more
+abbrev pub is_periodic : written.Strategy → Bool
+is_periodic s = is_span_or_none s.period
 
-abbrev pub spans_of : Written → List (List ℕ)
-spans_of w = periods w.policy ++ spans_of_windows w.windows
+abbrev pub has_periods : written.Policy → Bool
+has_periods written.no_policy = true
+has_periods (written.profile name) = true
+has_periods (written.reporting strategies tick) = list_all is_periodic strategies
+
+abbrev pub has_spans : Written → Bool
+has_spans w = has_periods w.policy && list_all is_within w.windows
 
 -- ---- the first limit that is passed
 
-abbrev pub first_passed : List (Bool × LimitName) → Option LimitName
-first_passed [] = None
-first_passed (x ∷ more) = cond x.0 (Some x.1) (first_passed more)
+abbrev pub over : ℕ → ℕ → LimitName → Option LimitName → Option LimitName
+over most n name more = cond (nat_lt most n) (Some name) more
+
+abbrev pub passed_by_counts : ℕ → Selection → ℕ → Option LimitName
+passed_by_counts variables select signs =
+    over 64 (variables + counted_select triple_slashes select) limit.Variables
+    (over 64 (counted_select triple_steps select) limit.Patterns
+    (over 512 signs limit.Operators
+    (over 256 (counted_select one_unless_triple select) limit.Elements
+    (over 4096 (counted_select rows_of_values select) limit.Rows None))))
 
 abbrev pub limit_of : Written → Option LimitName
 limit_of w =
-    let before = behind_selected [] nothing w.select in
-    let select = selected_of [] nothing w.select in
-    first_passed
-    (
-    (nat_lt 16 (length w.windows), limit.Windows)
-    ∷ (list_any (λ text. not (is_span text)) (spans_of w), limit.Span)
-    ∷ (nat_lt 64 (length before.variables + counted_select triple_slashes select), limit.Variables)
-    ∷ (nat_lt 64 (counted_select triple_steps select), limit.Patterns)
-    ∷ (nat_lt 512 (select_operators w.select), limit.Operators)
-    ∷ (nat_lt 256 (counted_select one_unless_triple select), limit.Elements)
-    ∷ (nat_lt 4096 (counted_select rows_of_values select), limit.Rows)
-    ∷ []
-    )
+    over 16 (length w.windows) limit.Windows
+    (cond (has_spans w)
+    (passed_by_counts (length (behind_selected [] nothing w.select).variables) (selected_of [] nothing w.select) (select_operators w.select))
+    (Some limit.Span))

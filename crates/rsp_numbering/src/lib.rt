@@ -6,6 +6,7 @@
 #![tactic(auto)]
 
 mod before;
+mod clauses;
 mod expressions;
 mod groups;
 mod items;

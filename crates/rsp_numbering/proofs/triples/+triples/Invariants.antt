@@ -1,4 +1,4 @@
-use Rattle.std.proofs.Common.{◌≡◌, ◌++◌, map, drop}
+use Rattle.std.proofs.Common.{◌≡◌, map, drop}
 use Rattle.rsp_query.specs.Groups.{part_of}
 use Rattle.rsp_query.specs.Paths.{way_of}
 use Rattle.rsp_written.specs.Building.{nodes_in}
