@@ -14,7 +14,7 @@ cell_text (Some term) = term_text term
 
 -- the texts of the cells, with tabs between
 abbrev pub row_text : Cells Term → List ℕ
-row_text row = join_with_byte 9 (map cell_text row)
+row_text row = join_with_byte (byte "\t") (map cell_text row)
 
 -- the first row's text stands behind the second's in the order of bytes
 abbrev pub stands_behind : Cells Term → Cells Term → Bool

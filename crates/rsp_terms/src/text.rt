@@ -1,5 +1,6 @@
 // Shared text.
 ghost use Rattle.std.specs.Prelude.{◌≡◌, IfOk};
+ghost use Rattle.std.specs.Str.{IsAscii};
 
 use std::alloc::{AllocError, Global};
 use std::cmp::Ordering;
@@ -7,6 +8,7 @@ use std::fmt;
 use std::hash::{Hash, Hasher};
 use std::marker::Model;
 use std::rc::RcStr;
+use std::str;
 
 /// A text that can be shared without a copy of its bytes. Texts compare by their bytes.
 #[derive(Drop)]
@@ -30,6 +32,17 @@ impl Text {
     {
         let shared = RcStr::from_str(alloc, text)?;
         Ok(Text { shared })
+    }
+
+    /// A text of ASCII characters, from their bytes. Fails only where memory is refused.
+    pub fn from_ascii(alloc: Global, bytes: &[u8]) -> Result<Text, AllocError>
+        requires { IsAscii bytes.now }
+        ensures { IfOk result (λ made. made ≡ bytes.now) }
+    {
+        match str::from_utf8(bytes) {
+            Ok(text) => Text::new(alloc, text),
+            Err(_) => unreachable!(),
+        }
     }
 
     /// The characters.
