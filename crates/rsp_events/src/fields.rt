@@ -5,7 +5,7 @@ ghost use Rattle.rsp_events.specs.Directives as form;
 
 use crate::lines::first_blank;
 use rsp_spec::LAST_INSTANT;
-use rsp_terms::Text;
+use rsp_terms::{Text, ascii_text};
 use rsp_text::{behind_blanks, instant, read_u64};
 use std::alloc::{AllocError, Global};
 
@@ -64,7 +64,7 @@ pub(crate) fn name_of(alloc: Global, field: &[u8]) -> Result<Option<Text>, Alloc
     if !is_name(field) {
         return Ok(None);
     }
-    Ok(Some(Text::from_ascii(alloc, field)?))
+    Ok(Some(ascii_text(alloc, field)?))
 }
 
 #[tactic(auto, unfolding(crate::specs::Directives::is_name))]

@@ -9,7 +9,7 @@ ghost use Rattle.rsp_terms.specs.Characters.{is_iri_text};
 ghost use Rattle.rsp_query_line.specs.QueryLine as form;
 
 use crate::Part;
-use rsp_terms::{Listed, Text, is_iri};
+use rsp_terms::{Listed, Text, ascii_text, is_iri};
 use rsp_text::{leading_digits, read_u64};
 use std::alloc::{AllocError, Global};
 
@@ -112,7 +112,7 @@ pub fn name_of(alloc: Global, field: &[u8]) -> Result<Option<Text>, AllocError>
     if *mark != b'?' || name.len() < 1 || 16 < name.len() || !is_alphanumeric(name) {
         return Ok(None);
     }
-    Ok(Some(Text::from_ascii(alloc, name)?))
+    Ok(Some(ascii_text(alloc, name)?))
 }
 
 fn is_alphanumeric(name: &[u8]) -> bool
@@ -140,7 +140,7 @@ fn iri_of_ascii(alloc: Global, inner: &[u8]) -> Result<Option<Text>, AllocError>
     requires { IsAscii inner.now }
     ensures { IfOk result (λ iri. iri ≡ (if is_iri_text (chars inner.now) then Some inner.now else None)) }
 {
-    let text = Text::from_ascii(alloc, inner)?;
+    let text = ascii_text(alloc, inner)?;
     if !is_iri(text.as_str()) {
         return Ok(None);
     }

@@ -1,6 +1,7 @@
 -- Definitions: rows of a report (SPARQL 1.1 Query Results TSV Format, section 4) and their order.
 use Rattle.std.specs.Prelude.{ℕ, Bool, if◌then◌else◌, List, [], ◌∷◌, Option, Some, None, map}
 use Rattle.std.specs.List.{join_with_byte}
+use Rattle.std.specs.Str.{byte}
 use Rattle.std.specs.Ordering.{nat_cmp, is_gt}
 use Rattle.std.specs.Cmp.Lexicographic.{slice_cmp}
 use Rattle.rsp_multiset.specs.Rows.{Cells}

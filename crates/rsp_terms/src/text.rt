@@ -34,17 +34,6 @@ impl Text {
         Ok(Text { shared })
     }
 
-    /// A text of ASCII characters, from their bytes. Fails only where memory is refused.
-    pub fn from_ascii(alloc: Global, bytes: &[u8]) -> Result<Text, AllocError>
-        requires { IsAscii bytes.now }
-        ensures { IfOk result (λ made. made ≡ bytes.now) }
-    {
-        match str::from_utf8(bytes) {
-            Ok(text) => Text::new(alloc, text),
-            Err(_) => unreachable!(),
-        }
-    }
-
     /// The characters.
     pub fn as_str(&self) -> &str
         ensures { result.now ≡ self.now }
@@ -58,6 +47,17 @@ impl Text {
     {
         let shared = self.shared.clone()?;
         Ok(Text { shared })
+    }
+}
+
+/// A text of ASCII characters, from their bytes. Fails only where memory is refused.
+pub fn ascii_text(alloc: Global, bytes: &[u8]) -> Result<Text, AllocError>
+    requires { IsAscii bytes.now }
+    ensures { IfOk result (λ text. text ≡ bytes.now) }
+{
+    match str::from_utf8(bytes) {
+        Ok(text) => Text::new(alloc, text),
+        Err(_) => unreachable!(),
     }
 }
 
