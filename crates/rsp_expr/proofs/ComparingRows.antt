@@ -3,8 +3,8 @@ use Rattle.std.specs.Prelude.{◌≡◌, ℕ, true, false, Some, None, List, [],
 use Rattle.std.specs.Str.{chars}
 use Rattle.rsp_terms.specs.declared.term.Term.{Term}
 use Rattle.rsp_terms.specs.declared.term.Term.TheVariants.{Iri, Literal, Tagged}
-use Rattle.rsp_literals.specs.Booleans.{boolean_literal}
-use Rattle.rsp_literals.specs.Strings.{string_literal}
+use Rattle.rsp_expr.specs.BooleanValues.{boolean_literal}
+use Rattle.rsp_expr.specs.Strings.{string_literal}
 use Rattle.rsp_expr.specs.Comparing.{equality, comparison, membership}
 use Rattle.rsp_expr.specs.declared.function.Sign.TheVariants as sign
 

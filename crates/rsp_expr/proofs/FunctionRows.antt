@@ -5,8 +5,8 @@ use Rattle.std.specs.Str.{chars}
 use Rattle.rsp_number.specs.Decimals.{greatest}
 use Rattle.rsp_terms.specs.declared.term.Term.{Term}
 use Rattle.rsp_terms.specs.declared.term.Term.TheVariants.{Iri, Blank, Literal, Tagged}
-use Rattle.rsp_literals.specs.Booleans.{boolean_literal}
-use Rattle.rsp_literals.specs.Strings.{string_literal}
+use Rattle.rsp_expr.specs.BooleanValues.{boolean_literal}
+use Rattle.rsp_expr.specs.Strings.{string_literal}
 use Rattle.rsp_expr.specs.Functions.{call_value, arithmetic}
 use Rattle.rsp_expr.specs.declared.function.Function.TheVariants as function
 use Rattle.rsp_expr.specs.declared.function.Sign.TheVariants as sign

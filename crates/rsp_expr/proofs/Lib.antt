@@ -1,9 +1,7 @@
+pub mod FormRows
+pub mod LiteralRows
 pub mod BooleanRows
 pub mod ComparingRows
 pub mod FunctionRows
-pub mod JoinedTexts
 pub mod OrderRows
-pub mod OtherLengths
 pub mod AggregateRows
-pub mod TermOrder
-pub mod TwoTerms

@@ -4,7 +4,7 @@ use Rattle.std.specs.Fmt.{digits}
 use Rattle.std.specs.declared.cmp.Ordering.TheVariants.{Less, Equal}
 use Rattle.rsp_terms.specs.declared.term.Term.{Term}
 use Rattle.rsp_terms.specs.declared.term.Term.TheVariants.{Iri, Blank, Literal}
-use Rattle.rsp_literals.specs.Strings.{string_literal}
+use Rattle.rsp_expr.specs.Strings.{string_literal}
 use Rattle.rsp_expr.specs.Order.{order, term_order}
 
 abbrev integer : List ℕ → Term

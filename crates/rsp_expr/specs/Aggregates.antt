@@ -12,7 +12,7 @@ use Rattle.rsp_number.specs.declared.number.Number.{Number}
 use Rattle.rsp_number.specs.declared.number.Number.TheVariants.{Integer}
 use Rattle.rsp_terms.specs.declared.term.Term.{Term}
 use Rattle.rsp_terms.specs.Same.{term_eq}
-use Rattle.rsp_literals.specs.Forms.{number_of}
+use Rattle.rsp_expr.specs.Forms.{number_of}
 use Rattle.rsp_expr.specs.Errors.{value_of_both, all_values}
 use Rattle.rsp_expr.specs.Formulas.{Formula, Aggregation}
 use Rattle.rsp_expr.specs.Functions.{numeral_result}

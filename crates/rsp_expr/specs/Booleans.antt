@@ -2,7 +2,7 @@
 use Rattle.std.specs.Prelude.{Bool, true, false, not, Option, Some, None, option_map, List, [], ◌∷◌}
 use Rattle.std.specs.Option.{option_and_then}
 use Rattle.rsp_terms.specs.declared.term.Term.{Term}
-use Rattle.rsp_literals.specs.Booleans.{boolean_value, boolean_literal}
+use Rattle.rsp_expr.specs.BooleanValues.{boolean_value, boolean_literal}
 
 -- `||`
 abbrev pub logical_or : Option Bool → Option Bool → Option Bool

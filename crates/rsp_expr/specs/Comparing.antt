@@ -11,9 +11,9 @@ use Rattle.rsp_strings.specs.CodePoints as code_points
 use Rattle.rsp_terms.specs.declared.term.Term.{Term}
 use Rattle.rsp_terms.specs.declared.term.Term.TheVariants.{Iri, Blank, Literal, Tagged}
 use Rattle.rsp_terms.specs.Same.{term_eq}
-use Rattle.rsp_literals.specs.Booleans.{boolean_of}
-use Rattle.rsp_literals.specs.Forms.{number_of}
-use Rattle.rsp_literals.specs.Strings.{string_of, is_inexact}
+use Rattle.rsp_expr.specs.BooleanValues.{boolean_of}
+use Rattle.rsp_expr.specs.Forms.{number_of}
+use Rattle.rsp_expr.specs.Strings.{string_of, is_inexact}
 use Rattle.rsp_expr.specs.Booleans.{disjunction_of, logical_not}
 use Rattle.rsp_expr.specs.Errors.{value_of_both}
 use Rattle.rsp_expr.specs.declared.function.Sign.{Sign}

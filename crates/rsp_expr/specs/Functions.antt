@@ -14,10 +14,10 @@ use Rattle.rsp_terms.specs.declared.term.Term.{Term}
 use Rattle.rsp_terms.specs.declared.term.Term.TheVariants.{Iri, Blank, Literal, Tagged}
 use Rattle.rsp_terms.specs.Characters.{is_iri_text, is_tag_text}
 use Rattle.rsp_terms.specs.Same.{term_eq}
-use Rattle.rsp_literals.specs.Booleans.{boolean_literal}
-use Rattle.rsp_literals.specs.Forms.{number_of}
-use Rattle.rsp_literals.specs.Numerals.{numeral_literal}
-use Rattle.rsp_literals.specs.Strings.{string_of, string_literal, is_inexact}
+use Rattle.rsp_expr.specs.BooleanValues.{boolean_literal}
+use Rattle.rsp_expr.specs.Forms.{number_of}
+use Rattle.rsp_expr.specs.Numerals.{numeral_literal}
+use Rattle.rsp_expr.specs.Strings.{string_of, string_literal, is_inexact}
 use Rattle.rsp_expr.specs.Booleans.{truth_of, boolean_result}
 use Rattle.rsp_expr.specs.Comparing.{is_literal}
 use Rattle.rsp_expr.specs.Errors.{value_of_both, all_values, first_value}

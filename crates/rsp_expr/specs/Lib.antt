@@ -1,4 +1,9 @@
 -- Definitions:
+pub mod Datatypes
+pub mod Forms
+pub mod Numerals
+pub mod BooleanValues
+pub mod Strings
 pub mod Formulas
 pub mod Errors
 pub mod Booleans
@@ -7,5 +12,3 @@ pub mod Functions
 pub mod Values
 pub mod Order
 pub mod Aggregates
--- Words of the way:
-pub mod Operands

@@ -8,7 +8,7 @@ use Rattle.rsp_number.specs.Numbers.{comparison}
 use Rattle.rsp_terms.specs.declared.term.Term.{Term}
 use Rattle.rsp_terms.specs.declared.term.Term.TheVariants.{Iri, Blank}
 use Rattle.rsp_terms.specs.Terms.{term_text}
-use Rattle.rsp_literals.specs.Forms.{number_of}
+use Rattle.rsp_expr.specs.Forms.{number_of}
 
 -- unbound, then blank nodes, IRIs, literals that have a number, other literals
 abbrev pub term_rank : Term → ℕ

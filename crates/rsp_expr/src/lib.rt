@@ -1,27 +1,19 @@
 //! Expressions of queries (SPARQL 1.1 Query, section 17): what stands in FILTER, BIND, HAVING and behind SELECT, the
-//! slots of triple patterns, and aggregates.
+//! slots of triple patterns, and aggregates; and the definitions of what they mean.
 //!
-//! Contracts see an [`Expression`] by its formula, a plain tree of the specs. Above: the grammar and the algebra. Below:
-//! terms and rows.
+//! Contracts see an [`Expression`] by its formula, a plain tree of the specs. The calls that find values stand in
+//! crates of their own, so that the grammar and the algebra, which stand on this one, don't wait for them. Below: terms,
+//! rows, numbers and texts.
 #![tactic(auto)]
 
 mod aggregate;
-mod comparing;
-mod concatenation;
-mod evaluation;
+mod datatypes;
 mod expression;
 mod function;
-mod functions;
-mod literals;
-mod operand;
-mod order;
 mod slot;
-mod texts;
 
 pub use aggregate::{Aggregate, Kind};
-pub use evaluation::{truth, value};
+pub use datatypes::{Datatype, WholeType};
 pub use expression::Expression;
 pub use function::{Function, Sign};
-pub use order::compare_terms;
-pub use rsp_literals::{number_of, term_of};
 pub use slot::Slot;

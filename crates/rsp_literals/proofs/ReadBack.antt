@@ -14,9 +14,9 @@ use Rattle.rsp_number.specs.declared.reading.Reading.TheVariants.{Value, NotForm
 use Rattle.rsp_number.specs.declared.number.Number.{Number}
 use Rattle.rsp_number.specs.declared.number.Number.TheVariants as number
 use Rattle.rsp_terms.specs.declared.term.Term.{Term}
-use Rattle.rsp_literals.specs.declared.datatypes.WholeType.TheVariants.{Integer}
-use Rattle.rsp_literals.specs.Forms.{reading_map, value_in, whole_number, whole_reading, number_of}
-use Rattle.rsp_literals.specs.Numerals.{sign_text, last_digits, fraction_text, numeral_literal}
+use Rattle.rsp_expr.specs.declared.datatypes.WholeType.TheVariants.{Integer}
+use Rattle.rsp_expr.specs.Forms.{reading_map, value_in, whole_number, whole_reading, number_of}
+use Rattle.rsp_expr.specs.Numerals.{sign_text, last_digits, fraction_text, numeral_literal}
 
 -- ---- digits
 

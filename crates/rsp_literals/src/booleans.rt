@@ -1,10 +1,11 @@
 // Booleans and boolean values.
 ghost use Rattle.std.specs.Prelude.{◌≡◌, Some, IfOk};
 ghost use Rattle.rsp_number.specs.Numbers.{value_of, is_zero};
-ghost use Rattle.rsp_literals.specs.Booleans.{boolean_reading, typed_boolean, boolean_of, is_filled, numeric_value, typed_value, boolean_value, boolean_literal};
+ghost use Rattle.rsp_expr.specs.BooleanValues.{boolean_reading, typed_boolean, boolean_of, is_filled, numeric_value, typed_value, boolean_value, boolean_literal};
 
-use crate::datatypes::{Datatype, XSD_BOOLEAN, datatype_of};
+use crate::datatypes::{XSD_BOOLEAN, datatype_of};
 use crate::forms::numeric_reading;
+use rsp_expr::Datatype;
 use rsp_number::{Number, Reading};
 use rsp_terms::{Term, Text};
 use std::alloc::{AllocError, Global};

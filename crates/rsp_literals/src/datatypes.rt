@@ -1,7 +1,8 @@
 // The datatypes that expressions know.
 ghost use Rattle.std.specs.Prelude.{◌≡◌};
-ghost use Rattle.rsp_literals.specs.Datatypes.{type_in, unsigned_types, whole_types, other_types, datatype_of, least_of, greatest_of};
+ghost use Rattle.rsp_expr.specs.Datatypes.{type_in, unsigned_types, whole_types, other_types, datatype_of, least_of, greatest_of};
 
+use rsp_expr::{Datatype, WholeType};
 use rsp_terms::XSD_STRING;
 
 /// The datatype of an integer's literal.
@@ -44,83 +45,42 @@ const XSD_UNSIGNED_SHORT: &str = "http://www.w3.org/2001/XMLSchema#unsignedShort
 
 const XSD_UNSIGNED_BYTE: &str = "http://www.w3.org/2001/XMLSchema#unsignedByte";
 
-/// A type of whole numbers: `xsd:integer`, or one of the twelve that are derived from it.
-#[derive(Clone, Copy, PartialEq, Eq, Debug)]
-pub enum WholeType {
-    Integer,
-    NonPositiveInteger,
-    NegativeInteger,
-    Long,
-    Int,
-    Short,
-    Byte,
-    NonNegativeInteger,
-    UnsignedLong,
-    UnsignedInt,
-    UnsignedShort,
-    UnsignedByte,
-    PositiveInteger,
-}
-
-impl WholeType {
-    /// Its least number, where it has one.
-    pub(crate) fn least(self) -> Option<i128>
-        ensures { result ≡ least_of self }
-    {
-        match self {
-            WholeType::Integer | WholeType::NonPositiveInteger | WholeType::NegativeInteger => None,
-            WholeType::Long => Some(i64::MIN as i128),
-            WholeType::Int => Some(i32::MIN as i128),
-            WholeType::Short => Some(i16::MIN as i128),
-            WholeType::Byte => Some(i8::MIN as i128),
-            WholeType::NonNegativeInteger
-            | WholeType::UnsignedLong
-            | WholeType::UnsignedInt
-            | WholeType::UnsignedShort
-            | WholeType::UnsignedByte => Some(0),
-            WholeType::PositiveInteger => Some(1),
-        }
-    }
-
-    /// Its greatest number, where it has one.
-    pub(crate) fn greatest(self) -> Option<i128>
-        ensures { result ≡ greatest_of self }
-    {
-        match self {
-            WholeType::Integer | WholeType::NonNegativeInteger | WholeType::PositiveInteger => None,
-            WholeType::NonPositiveInteger => Some(0),
-            WholeType::NegativeInteger => Some(-1),
-            WholeType::Long => Some(i64::MAX as i128),
-            WholeType::Int => Some(i32::MAX as i128),
-            WholeType::Short => Some(i16::MAX as i128),
-            WholeType::Byte => Some(i8::MAX as i128),
-            WholeType::UnsignedLong => Some(u64::MAX as i128),
-            WholeType::UnsignedInt => Some(u32::MAX as i128),
-            WholeType::UnsignedShort => Some(u16::MAX as i128),
-            WholeType::UnsignedByte => Some(u8::MAX as i128),
-        }
+/// The least number of the type, where it has one.
+pub(crate) fn least_of(whole_type: WholeType) -> Option<i128>
+    ensures { result ≡ least_of whole_type }
+{
+    match whole_type {
+        WholeType::Integer | WholeType::NonPositiveInteger | WholeType::NegativeInteger => None,
+        WholeType::Long => Some(i64::MIN as i128),
+        WholeType::Int => Some(i32::MIN as i128),
+        WholeType::Short => Some(i16::MIN as i128),
+        WholeType::Byte => Some(i8::MIN as i128),
+        WholeType::NonNegativeInteger
+        | WholeType::UnsignedLong
+        | WholeType::UnsignedInt
+        | WholeType::UnsignedShort
+        | WholeType::UnsignedByte => Some(0),
+        WholeType::PositiveInteger => Some(1),
     }
 }
 
-/// A datatype that expressions know, or another.
-#[derive(Clone, Copy, PartialEq, Eq, Debug)]
-pub enum Datatype {
-    /// A type of whole numbers.
-    Whole(WholeType),
-    /// `xsd:decimal`.
-    Decimal,
-    /// `xsd:double`, whose numbers aren't exact.
-    Double,
-    /// `xsd:float`, whose numbers aren't exact.
-    Float,
-    /// `xsd:boolean`.
-    Boolean,
-    /// `xsd:string`.
-    String,
-    /// `rdf:langString`.
-    LangString,
-    /// Any other.
-    Other,
+/// The greatest number of the type, where it has one.
+pub(crate) fn greatest_of(whole_type: WholeType) -> Option<i128>
+    ensures { result ≡ greatest_of whole_type }
+{
+    match whole_type {
+        WholeType::Integer | WholeType::NonNegativeInteger | WholeType::PositiveInteger => None,
+        WholeType::NonPositiveInteger => Some(0),
+        WholeType::NegativeInteger => Some(-1),
+        WholeType::Long => Some(i64::MAX as i128),
+        WholeType::Int => Some(i32::MAX as i128),
+        WholeType::Short => Some(i16::MAX as i128),
+        WholeType::Byte => Some(i8::MAX as i128),
+        WholeType::UnsignedLong => Some(u64::MAX as i128),
+        WholeType::UnsignedInt => Some(u32::MAX as i128),
+        WholeType::UnsignedShort => Some(u16::MAX as i128),
+        WholeType::UnsignedByte => Some(u8::MAX as i128),
+    }
 }
 
 /// The datatype that the IRI names.

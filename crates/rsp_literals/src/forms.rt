@@ -3,10 +3,11 @@ ghost use Rattle.std.specs.Prelude.{◌≡◌, ◌≤◌, ◌^◌, Bool, true, m
 ghost use Rattle.rsp_number.specs.Decimals.{with_sign};
 ghost use Rattle.rsp_number.specs.Texts.{is_negative, without_sign, are_digits, number_after, has_integer_form};
 ghost use Rattle.rsp_number.specs.declared.number.Number.TheVariants as number;
-ghost use Rattle.rsp_literals.specs.Datatypes.{is_at_least, is_at_most, is_in_range, least_of, greatest_of};
-ghost use Rattle.rsp_literals.specs.Forms.{reading_map, value_in, whole_number, whole_reading, numeric_reading, number_of};
+ghost use Rattle.rsp_expr.specs.Datatypes.{is_at_least, is_at_most, is_in_range, least_of, greatest_of};
+ghost use Rattle.rsp_expr.specs.Forms.{reading_map, value_in, whole_number, whole_reading, numeric_reading, number_of};
 
-use crate::datatypes::{Datatype, WholeType, datatype_of};
+use crate::datatypes::{datatype_of, greatest_of, least_of};
+use rsp_expr::{Datatype, WholeType};
 use rsp_number::{DecimalNumber, IntegerNumber, Number, Reading, decimal, integer};
 use rsp_terms::Term;
 
@@ -127,7 +128,7 @@ fn is_at_least(whole_type: WholeType, negative: bool, size: u128) -> bool
     requires { size ≤ 2 ^ 64 }
     ensures { result ≡ is_at_least (least_of whole_type) (with_sign negative size) }
 {
-    match whole_type.least() {
+    match least_of(whole_type) {
         Some(least) => least <= signed(negative, size),
         None => true,
     }
@@ -137,7 +138,7 @@ fn is_at_most(whole_type: WholeType, negative: bool, size: u128) -> bool
     requires { size ≤ 2 ^ 64 }
     ensures { result ≡ is_at_most (greatest_of whole_type) (with_sign negative size) }
 {
-    match whole_type.greatest() {
+    match greatest_of(whole_type) {
         Some(greatest) => signed(negative, size) <= greatest,
         None => true,
     }

@@ -1,9 +1,10 @@
 //! Literals as values: which datatype an IRI names, what a literal of a numeric type reads as, its number and the
 //! literal of a number, booleans and the boolean value of a term (XML Schema 1.1 Part 2; SPARQL 1.1, section 17.2).
 //!
-//! Each call is exact: what it gives is the definition in specs/. The range of each type of whole numbers belongs to
+//! Each call is exact: what it gives is the definition of `rsp_expr`. The range of each type of whole numbers belongs to
 //! its form, so a number is Beyond exactly where its type has it and no exact number holds it. What makes a term takes
-//! memory, and nothing else does. Below: `rsp_terms` and `rsp_number`. Above: expressions.
+//! memory, and nothing else does. Below: `rsp_expr`, which has the definitions. Above: what
+//! the nodes of expressions make of their parts' values.
 #![tactic(auto)]
 
 mod booleans;
@@ -13,9 +14,7 @@ mod numerals;
 mod strings;
 
 pub use booleans::{boolean_of, boolean_term, boolean_value};
-pub use datatypes::{
-    Datatype, RDF_LANG_STRING, WholeType, XSD_BOOLEAN, XSD_DECIMAL, XSD_INTEGER, datatype_of,
-};
+pub use datatypes::{RDF_LANG_STRING, XSD_BOOLEAN, XSD_DECIMAL, XSD_INTEGER, datatype_of};
 pub use forms::{number_of, numeric_reading};
 pub use numerals::term_of;
 pub use strings::{is_inexact, string_of, string_term, text_of};

@@ -4,8 +4,8 @@ ghost use Rattle.std.specs.Fmt.{decimal};
 ghost use Rattle.std.specs.String.{string_bytes};
 ghost use Rattle.rsp_number.specs.Decimals.{largest, most_digits, IsDecimal};
 ghost use Rattle.rsp_number.specs.declared.number.Number.TheVariants as number;
-ghost use Rattle.rsp_literals.specs.Forms.{number_of};
-ghost use Rattle.rsp_literals.specs.Numerals.{last_digits, fraction_text, size_text, sign_text, numeral, numeral_literal};
+ghost use Rattle.rsp_expr.specs.Forms.{number_of};
+ghost use Rattle.rsp_expr.specs.Numerals.{last_digits, fraction_text, size_text, sign_text, numeral, numeral_literal};
 
 use crate::datatypes::{XSD_DECIMAL, XSD_INTEGER};
 use itoa::Buffer;

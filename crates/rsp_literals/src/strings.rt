@@ -1,9 +1,10 @@
 // Strings and texts.
 ghost use Rattle.std.specs.Prelude.{◌≡◌, Some, IfOk};
 ghost use Rattle.std.specs.Option.{option_copied};
-ghost use Rattle.rsp_literals.specs.Strings.{typed_string, string_of, text_of, string_literal, is_floating, is_inexact};
+ghost use Rattle.rsp_expr.specs.Strings.{typed_string, string_of, text_of, string_literal, is_floating, is_inexact};
 
-use crate::datatypes::{Datatype, datatype_of};
+use crate::datatypes::datatype_of;
+use rsp_expr::Datatype;
 use rsp_terms::{Term, Text, XSD_STRING};
 use std::alloc::{AllocError, Global};
 

@@ -1,8 +1,9 @@
 // Values of expressions, from the examples of SPARQL 1.1 Query, section 17, and worked out by hand.
 use crate::notation::{constant, expression};
-use rsp_expr::{Expression, truth, value};
+use rsp_expr::Expression;
 use rsp_multiset::Row;
 use rsp_terms::Term;
+use rsp_values::{truth, value};
 use std::alloc::{AllocError, Global};
 use std::test::Fail;
 

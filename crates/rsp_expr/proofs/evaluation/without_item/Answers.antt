@@ -1,8 +1,0 @@
-use Rattle.std.proofs.Common.{rules, ◌≡◌, false, length, ◌==◌}
-use Rattle.rsp_expr.proofs.OtherLengths.{no_item}
-use Rattle.rsp_expr.proofs.evaluation.without_item.Goals as goal
-
-pub returns-else-is_empty : goal.returns-else-is_empty
-returns-else-is_empty c row =
-    let some : false ≡ (length c.args.list.now == 0) = search rules in
-    no_item c.args.list.now row some

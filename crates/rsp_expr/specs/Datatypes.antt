@@ -1,0 +1,97 @@
+-- Definitions: the datatypes that expressions know (XML Schema Definition Language 1.1 Part 2, section 3; SPARQL 1.1,
+-- section 17.1), and the range of each type of whole numbers.
+use Rattle.std.specs.Prelude.{ℕ, ◌-◌, ◌^◌, ℤ, pos, neg_ℤ, int_le, Bool, true, ◌&&◌, if◌then◌else◌, Option, None, Some, List, [], ◌∷◌, codes}
+use Rattle.std.specs.Str.{bytes_eq}
+use Rattle.rsp_expr.specs.declared.datatypes.WholeType.{WholeType}
+use Rattle.rsp_expr.specs.declared.datatypes.WholeType.TheVariants.{Integer, NonPositiveInteger, NegativeInteger, Long, Int, Short, Byte, NonNegativeInteger, UnsignedLong, UnsignedInt, UnsignedShort, UnsignedByte, PositiveInteger}
+use Rattle.rsp_expr.specs.declared.datatypes.Datatype.{Datatype}
+use Rattle.rsp_expr.specs.declared.datatypes.Datatype.TheVariants.{Whole, Decimal, Double, Float, Boolean, String, LangString, Other}
+
+-- the types of whole numbers, by their IRIs: first those without a number below 0, then all
+abbrev pub unsigned_types : List (List ℕ × WholeType)
+unsigned_types =
+    (codes "http://www.w3.org/2001/XMLSchema#nonNegativeInteger", NonNegativeInteger)
+    ∷ (codes "http://www.w3.org/2001/XMLSchema#positiveInteger", PositiveInteger)
+    ∷ (codes "http://www.w3.org/2001/XMLSchema#unsignedLong", UnsignedLong)
+    ∷ (codes "http://www.w3.org/2001/XMLSchema#unsignedInt", UnsignedInt)
+    ∷ (codes "http://www.w3.org/2001/XMLSchema#unsignedShort", UnsignedShort)
+    ∷ (codes "http://www.w3.org/2001/XMLSchema#unsignedByte", UnsignedByte)
+    ∷ []
+
+abbrev pub whole_types : List (List ℕ × WholeType)
+whole_types =
+    (codes "http://www.w3.org/2001/XMLSchema#integer", Integer)
+    ∷ (codes "http://www.w3.org/2001/XMLSchema#long", Long)
+    ∷ (codes "http://www.w3.org/2001/XMLSchema#int", Int)
+    ∷ (codes "http://www.w3.org/2001/XMLSchema#short", Short)
+    ∷ (codes "http://www.w3.org/2001/XMLSchema#byte", Byte)
+    ∷ (codes "http://www.w3.org/2001/XMLSchema#nonPositiveInteger", NonPositiveInteger)
+    ∷ (codes "http://www.w3.org/2001/XMLSchema#negativeInteger", NegativeInteger)
+    ∷ unsigned_types
+
+-- the others that are known
+abbrev pub other_types : List (List ℕ × Datatype)
+other_types =
+    (codes "http://www.w3.org/2001/XMLSchema#string", String)
+    ∷ (codes "http://www.w3.org/2001/XMLSchema#decimal", Decimal)
+    ∷ (codes "http://www.w3.org/2001/XMLSchema#boolean", Boolean)
+    ∷ (codes "http://www.w3.org/2001/XMLSchema#double", Double)
+    ∷ (codes "http://www.w3.org/2001/XMLSchema#float", Float)
+    ∷ (codes "http://www.w3.org/1999/02/22-rdf-syntax-ns#langString", LangString)
+    ∷ []
+
+-- what stands beside the IRI
+abbrev pub type_in : {T : Type 0} → List (List ℕ × T) → List ℕ → Option T
+type_in [] iri = None
+type_in (entry ∷ entries) iri = if bytes_eq iri entry.0 then Some entry.1 else type_in entries iri
+
+abbrev pub datatype_among : Option WholeType → Option Datatype → Datatype
+datatype_among (Some whole) other = Whole whole
+datatype_among None (Some other) = other
+datatype_among None None = Other
+
+abbrev pub datatype_of : List ℕ → Datatype
+datatype_of iri = datatype_among (type_in whole_types iri) (type_in other_types iri)
+
+-- the least and the greatest number of a type, where it has one
+abbrev pub least_of : WholeType → Option ℤ
+least_of Integer = None
+least_of NonPositiveInteger = None
+least_of NegativeInteger = None
+least_of Long = Some (neg_ℤ (pos (2 ^ 63)))
+least_of Int = Some (neg_ℤ (pos (2 ^ 31)))
+least_of Short = Some (neg_ℤ (pos (2 ^ 15)))
+least_of Byte = Some (neg_ℤ (pos (2 ^ 7)))
+least_of NonNegativeInteger = Some (pos 0)
+least_of UnsignedLong = Some (pos 0)
+least_of UnsignedInt = Some (pos 0)
+least_of UnsignedShort = Some (pos 0)
+least_of UnsignedByte = Some (pos 0)
+least_of PositiveInteger = Some (pos 1)
+
+abbrev pub greatest_of : WholeType → Option ℤ
+greatest_of Integer = None
+greatest_of NonPositiveInteger = Some (pos 0)
+greatest_of NegativeInteger = Some (neg_ℤ (pos 1))
+greatest_of Long = Some (pos (2 ^ 63 - 1))
+greatest_of Int = Some (pos (2 ^ 31 - 1))
+greatest_of Short = Some (pos (2 ^ 15 - 1))
+greatest_of Byte = Some (pos (2 ^ 7 - 1))
+greatest_of NonNegativeInteger = None
+greatest_of UnsignedLong = Some (pos (2 ^ 64 - 1))
+greatest_of UnsignedInt = Some (pos (2 ^ 32 - 1))
+greatest_of UnsignedShort = Some (pos (2 ^ 16 - 1))
+greatest_of UnsignedByte = Some (pos (2 ^ 8 - 1))
+greatest_of PositiveInteger = None
+
+abbrev pub is_at_least : Option ℤ → ℤ → Bool
+is_at_least None n = true
+is_at_least (Some least) n = int_le least n
+
+abbrev pub is_at_most : Option ℤ → ℤ → Bool
+is_at_most None n = true
+is_at_most (Some greatest) n = int_le n greatest
+
+-- the number is one of the type
+abbrev pub is_in_range : WholeType → ℤ → Bool
+is_in_range type n = is_at_least (least_of type) n && is_at_most (greatest_of type) n

@@ -1,0 +1,3 @@
+pub mod JoinedTexts
+pub mod TermOrder
+pub mod TwoTerms
