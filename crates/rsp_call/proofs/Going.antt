@@ -117,22 +117,23 @@ not_sure : (sure : Bool) → (IsTrue sure → ⊥) → sure ≡ false
 not_sure true h = absurd (h refl)
 not_sure false h = refl
 
-pub read_failed : (source_before source source_after : SourceSeen) (before now : SinkSeen) (reader : Reader) (engine : State) (known : Bool) (total : ℕ) → Going source_before before source now reader engine known total → source_after.left ≡ source.left → source_after.given ≡ source.given → Rose source.faults source_after.faults → (IsTrue source.sure → ⊥) → ReadFails source_before source_after before now
-read_failed source_before source source_after before now reader engine known total going left given rose unsure =
-    record {
-      bytes = going.bytes;
-      took = took_same source_before source source_after going.bytes going.took left given;
-      written = going.wrote;
-      short = rw (← going.count) going.short;
-      rose = rw going.faultless at rose;
-      unsure = sym going.sure ∙ not_sure source.sure unsure;
-    }
-
 -- what was written is how the log's text begins
 log_begins : Begins → (before now : SinkSeen) (bytes more : List ℕ) → Wrote before now (whole_text bytes) → WrotePart before now (output (bytes ++ more))
 log_begins law before now bytes more wrote =
     let behind = law bytes more in
     rw (text_behind bytes (bytes ++ more) behind.0 behind.1) (wrote_part before now (whole_text bytes) (text_from (world_at bytes) behind.0) wrote)
+
+pub read_failed : Begins → (source_before source source_after : SourceSeen) (before now : SinkSeen) (reader : Reader) (engine : State) (known : Bool) (total : ℕ) → Going source_before before source now reader engine known total → source_after.left ≡ source.left → source_after.given ≡ source.given → Rose source.faults source_after.faults → (IsTrue source.sure → ⊥) → ReadFails source_before source_after before now
+read_failed law source_before source source_after before now reader engine known total going left given rose unsure =
+    record {
+      bytes = going.bytes;
+      took = took_same source_before source source_after going.bytes going.took left given;
+      written = going.wrote;
+      log = of_log (λ log. WrotePart before now (output log)) source_before.left source.left going.bytes going.took.left (λ more. log_begins law before now going.bytes more going.wrote);
+      short = rw (← going.count) going.short;
+      rose = rw going.faultless at rose;
+      unsure = sym going.sure ∙ not_sure source.sure unsure;
+    }
 
 pub too_long : Begins → (source_before source source_after : SourceSeen) (before now : SinkSeen) (reader : Reader) (engine : State) (known : Bool) (total n : ℕ) (piece : List ℕ) → Going source_before before source now reader engine known total → n ≡ length piece → Consumes source.left source_after.left piece → source_after.given ≡ given_after source.given n → source_after.faults ≡ source.faults → most_bytes < total + n → PassesLimit source_before source_after before now
 too_long law source_before source source_after before now reader engine known total n piece going size consumed given faultless past =

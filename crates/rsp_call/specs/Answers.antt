@@ -28,11 +28,13 @@ pub record Finishes (before now : SourceSeen) (sink sink' : SinkSeen) (some : Bo
   pub short : length bytes ≤ most_bytes
   pub faultless : now.faults ≡ before.faults
 
--- a read failed, as those of a sure source don't: what was written is exactly what the blocks give that the bytes end
+-- a read failed, as those of a sure source don't: what was written is exactly what the blocks give that the bytes end,
+-- which is how the output of the log begins
 pub record ReadFails (before now : SourceSeen) (sink sink' : SinkSeen) : Type 0 where
   pub bytes : List ℕ
   pub took : Took before now bytes
   pub written : Wrote sink sink' (whole_text bytes)
+  pub log : IfSome before.left (λ log. WrotePart sink sink' (output log))
   pub short : length bytes ≤ most_bytes
   pub rose : Rose before.faults now.faults
   pub unsure : before.sure ≡ false

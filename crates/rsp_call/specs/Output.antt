@@ -101,4 +101,4 @@ whole_text bytes = text_of (run empty_world (log_whole_blocks bytes)).said
 -- what is written where the words are in no row of the table
 abbrev pub usage_text : List ℕ
 usage_text =
-    codes "usage: rsp events [--json] | run [--json] [--store FILE] QUERY STREAM=FILE.. | check QUERY | gen COUNT" ++ (10 ∷ [])
+    codes "usage: rsp events [--json] | run [--json] [--store FILE] QUERY STREAM=FILE.. | check QUERY | gen COUNT" ++ codes "\n"

@@ -37,7 +37,7 @@ abbrev pub refusal_line : Place → Reason → List ℕ
 refusal_line place reason =
     codes "# refused "
     ++ (place_text place
-    ++ (codes " " ++ (decimal (kind reason).0 ++ (codes " " ++ ((kind reason).1 ++ (details reason ++ (10 ∷ [])))))))
+    ++ (codes " " ++ (decimal (kind reason).0 ++ (codes " " ++ ((kind reason).1 ++ (details reason ++ codes "\n"))))))
 
 -- the reason that a fault or an engine's answer names; want of memory is none
 abbrev pub reason_of : Answered → Option Reason

@@ -1,17 +1,13 @@
 // Fields: what stands between blanks; names and times.
 ghost use Rattle.std.specs.Prelude.{◌≡◌, ◌∷◌, ◌==◌, [], not, Some, None, IfOk, MatchOption, length};
 ghost use Rattle.std.specs.List.{list_all};
-ghost use Rattle.std.specs.Str.{IsAscii};
 ghost use Rattle.rsp_events.specs.Directives as form;
 
 use crate::lines::first_blank;
-use rsp_terms::Text;
+use rsp_spec::LAST_INSTANT;
+use rsp_terms::{Text, ascii_text};
 use rsp_text::{behind_blanks, instant, read_u64};
 use std::alloc::{AllocError, Global};
-use std::str;
-
-// 9999-12-31T23:59:59.999Z, in ms since 1970
-const LAST_INSTANT: u64 = 253_402_300_799_999;
 
 // ---- fields
 
@@ -91,17 +87,6 @@ fn is_name_character(c: u8) -> bool
     ensures { result ≡ form.is_name_character c }
 {
     c.is_ascii_alphanumeric() || c == b'_' || c == b'-'
-}
-
-// a text of ASCII characters
-fn ascii_text(alloc: Global, bytes: &[u8]) -> Result<Text, AllocError>
-    requires { IsAscii bytes.now }
-    ensures { IfOk result (λ text. text ≡ bytes.now) }
-{
-    match str::from_utf8(bytes) {
-        Ok(text) => Text::new(alloc, text),
-        Err(_) => unreachable!(),
-    }
 }
 
 /// A time in ms since 1970, as a number or as a date and time (XML Schema Part 2, section 3.2.7), up to the end of the

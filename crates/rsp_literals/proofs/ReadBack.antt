@@ -7,7 +7,8 @@ use Rattle.std.proofs.lemmas.Fmt.{decimal_by_steps}
 use Rattle.std.proofs.lemmas.List.{append-nil}
 use Rattle.std.proofs.Math.Nat.{div-div-eq-div-mul, div-le_self, pow-suc, mul_comm}
 use Rattle.rsp_number.specs.Decimals.{largest, most_digits, integer_in_range, with_sign, is_below_zero, Scaled, IsDecimal, shortest_form}
-use Rattle.rsp_number.specs.Texts.{is_sign, is_digit, is_negative, without_sign, are_digits, before_point, behind_point, number_after, has_integer_form, value_or_beyond, exact_decimal, read_decimal}
+use Rattle.std.specs.Char.{is_ascii_digit}
+use Rattle.rsp_number.specs.Texts.{is_sign, is_negative, without_sign, are_digits, before_point, behind_point, number_after, has_integer_form, value_or_beyond, exact_decimal, read_decimal}
 use Rattle.rsp_number.specs.declared.reading.Reading.{Reading}
 use Rattle.rsp_number.specs.declared.reading.Reading.TheVariants.{Value, NotForm}
 use Rattle.rsp_number.specs.declared.number.Number.{Number}
@@ -25,7 +26,7 @@ number-append n (digit ∷ rest) ys = number-append (n * 10 + (digit - 48)) rest
 
 digits-append : (xs ys : List ℕ) → are_digits xs ≡ true → are_digits ys ≡ true → are_digits (xs ++ ys) ≡ true
 digits-append [] ys first second = second
-digits-append (x ∷ xs) ys first second = both (is_digit x) (are_digits xs) (are_digits (xs ++ ys)) first
+digits-append (x ∷ xs) ys first second = both (is_ascii_digit x) (are_digits xs) (are_digits (xs ++ ys)) first
     (λ others. digits-append xs ys others second)
   where
     both : (a b c : Bool) → (a && b) ≡ true → (b ≡ true → c ≡ true) → (a && c) ≡ true
@@ -80,7 +81,7 @@ last_digits-value (suc count) n =
 
 -- ---- signs and points
 
-first_digit : (d : ℕ) (b : Bool) → (is_digit d && b) ≡ true → (is_sign d ≡ false) × ((d == 45) ≡ false)
+first_digit : (d : ℕ) (b : Bool) → (is_ascii_digit d && b) ≡ true → (is_sign d ≡ false) × ((d == 45) ≡ false)
 first_digit d b h = (grind (arith, nat_tests), grind (arith, nat_tests))
 
 -- a text whose first byte is a digit
@@ -119,7 +120,7 @@ pub signed-is : (n : ℤ) → with_sign (is_below_zero n) (unsigned_abs n) ≡ n
 signed-is (pos n) = let not_below : is_below_zero (pos n) ≡ false = grind (arith, nat_tests) in rw not_below refl
 signed-is (negsuc n) = refl
 
-no_point : (d : ℕ) (b : Bool) → (is_digit d && b) ≡ true → (d == 46) ≡ false
+no_point : (d : ℕ) (b : Bool) → (is_ascii_digit d && b) ≡ true → (d == 46) ≡ false
 no_point d b h = grind (arith, nat_tests)
 
 others : (a b : Bool) → (a && b) ≡ true → b ≡ true
@@ -130,23 +131,23 @@ before-digits : (ds : List ℕ) → are_digits ds ≡ true → before_point ds �
 before-digits [] digits = refl
 before-digits (d ∷ ds) digits =
     rw (no_point d (are_digits ds) digits) (ap (λ xs. d ∷ xs)
-    (before-digits ds (others (is_digit d) (are_digits ds) digits)))
+    (before-digits ds (others (is_ascii_digit d) (are_digits ds) digits)))
 
 behind-digits : (ds : List ℕ) → are_digits ds ≡ true → behind_point ds ≡ []
 behind-digits [] digits = refl
 behind-digits (d ∷ ds) digits = rw (no_point d (are_digits ds) digits)
-    (behind-digits ds (others (is_digit d) (are_digits ds) digits))
+    (behind-digits ds (others (is_ascii_digit d) (are_digits ds) digits))
 
 before-parts : (ds fs : List ℕ) → are_digits ds ≡ true → before_point (ds ++ (46 ∷ fs)) ≡ ds
 before-parts [] fs digits = refl
 before-parts (d ∷ ds) fs digits =
     rw (no_point d (are_digits ds) digits) (ap (λ xs. d ∷ xs)
-    (before-parts ds fs (others (is_digit d) (are_digits ds) digits)))
+    (before-parts ds fs (others (is_ascii_digit d) (are_digits ds) digits)))
 
 behind-parts : (ds fs : List ℕ) → are_digits ds ≡ true → behind_point (ds ++ (46 ∷ fs)) ≡ fs
 behind-parts [] fs digits = refl
 behind-parts (d ∷ ds) fs digits = rw (no_point d (are_digits ds) digits)
-    (behind-parts ds fs (others (is_digit d) (are_digits ds) digits))
+    (behind-parts ds fs (others (is_ascii_digit d) (are_digits ds) digits))
 
 -- ---- integers
 

@@ -1,12 +1,13 @@
 -- What digits write, and the shortest form of it.
 use Rattle.std.specs.Prelude.{◌≡◌, ◌≢◌, ℕ, suc, ◌+◌, ◌-◌, ◌*◌, ◌%◌, ◌<◌, ◌≤◌, Bool, true, false, cond, ◌&&◌, nat_le, List, [], ◌∷◌, ◌++◌, length, drop, get_or, Some, None, refl}
+use Rattle.std.specs.Char.{is_ascii_digit}
 use Rattle.std.proofs.Common.{sym, ◌∙◌, ap, arith, add-zero}
 use Rattle.std.proofs.lemmas.Bool.Decides.{nat_tests}
 use Rattle.std.proofs.lemmas.Bool.{true≢false}
 use Rattle.std.proofs.Math.Seq.{drop-cons}
 use Rattle.rsp_number.proofs.Shortest.{unsigned_abs-signed, shortest-zero, shortest-other}
 use Rattle.rsp_number.specs.Decimals.{largest, most_digits, with_sign, shortest_form}
-use Rattle.rsp_number.specs.Texts.{are_digits, is_digit, number_after, exact_decimal}
+use Rattle.rsp_number.specs.Texts.{are_digits, number_after, exact_decimal}
 
 pub number-grows : (n : ℕ) (digits : List ℕ) → n ≤ number_after n digits
 number-grows n [] = omega arith
@@ -29,10 +30,10 @@ split-digits true true both = (refl, refl)
 split-digits true false both = absurd (true≢false (sym both))
 split-digits false c both = absurd (true≢false (sym both))
 
-pub digits-before : (rest : List ℕ) (last : ℕ) → are_digits (rest ++ last ∷ []) ≡ true → (are_digits rest ≡ true) × (is_digit last ≡ true)
+pub digits-before : (rest : List ℕ) (last : ℕ) → are_digits (rest ++ last ∷ []) ≡ true → (are_digits rest ≡ true) × (is_ascii_digit last ≡ true)
 digits-before [] last digits = (refl, (split-digits _ _ digits).0)
 digits-before (digit ∷ rest) last digits =
-    let both = split-digits (is_digit digit) (are_digits (rest ++ last ∷ [])) digits in
+    let both = split-digits (is_ascii_digit digit) (are_digits (rest ++ last ∷ [])) digits in
     let here = digits-before rest last both.1 in
     (rw (both.0, here.0) refl, here.1)
 
@@ -47,7 +48,7 @@ without-zero rest negative n =
     rw (number-append n rest (48 ∷ []), length-push rest 48, add-zero (number_after n rest * 10))
     (shortest-zero negative (number_after n rest) (length rest))
 
-last-digit : (size last : ℕ) → is_digit last ≡ true → last ≢ 48 → (size * 10 + (last - 48)) % 10 ≢ 0
+last-digit : (size last : ℕ) → is_ascii_digit last ≡ true → last ≢ 48 → (size * 10 + (last - 48)) % 10 ≢ 0
 last-digit size last digit other =
     let both = split-digits (nat_le 48 last) (nat_le last 57) digit in
     let low : 48 ≤ last = grind (arith, nat_tests) in
@@ -55,7 +56,7 @@ last-digit size last digit other =
     λ none. other (omega arith)
 
 -- another digit at the end is the end
-pub up-to-digit : (rest : List ℕ) (last : ℕ) (negative : Bool) (n : ℕ) → is_digit last ≡ true → last ≢ 48
+pub up-to-digit : (rest : List ℕ) (last : ℕ) (negative : Bool) (n : ℕ) → is_ascii_digit last ≡ true → last ≢ 48
     → shortest_form negative (number_after n (rest ++ last ∷ [])) (length (rest ++ last ∷ []))
     ≡ record { coefficient = with_sign negative (number_after n (rest ++ last ∷ [])); scale = length (rest ++ last ∷ []) }
 up-to-digit rest last negative n digit other =

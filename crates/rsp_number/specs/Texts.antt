@@ -1,46 +1,43 @@
 -- Definitions: the written forms of integers and decimals, as bytes, and what they read as (XML Schema 1.1 part 2, sections
 -- 3.3.3 and 3.4.13).
-use Rattle.std.specs.Prelude.{ℕ, ◌+◌, ◌-◌, ◌*◌, Bool, true, false, cond, not, ◌&&◌, ◌||◌, nat_le, ◌==◌, ℤ, unsigned_abs, List, [], ◌∷◌, ◌++◌, length, Option, Some, None, ◌≡◌}
+use Rattle.std.specs.Prelude.{ℕ, ◌+◌, ◌-◌, ◌*◌, Bool, false, cond, not, ◌&&◌, ◌||◌, nat_le, ◌==◌, ℤ, unsigned_abs, List, [], ◌∷◌, ◌++◌, length, Option, Some, None, ◌≡◌}
+use Rattle.std.specs.Char.{is_ascii_digit}
+use Rattle.std.specs.List.{list_all}
+use Rattle.std.specs.Str.{byte}
 use Rattle.rsp_number.specs.Decimals.{largest, most_digits, Scaled, IsDecimal, HasValue, integer_in_range, with_sign, shortest_form}
 use Rattle.rsp_number.specs.declared.reading.Reading.{Reading}
 use Rattle.rsp_number.specs.declared.reading.Reading.TheVariants.{Value, Beyond, NotForm}
 
--- '+' or '-'
 abbrev pub is_sign : ℕ → Bool
-is_sign byte = (byte == 43) || (byte == 45)
-
--- '0' to '9'
-abbrev pub is_digit : ℕ → Bool
-is_digit byte = nat_le 48 byte && nat_le byte 57
+is_sign c = (c == byte "+") || (c == byte "-")
 
 -- the text begins with '-'
 abbrev pub is_negative : List ℕ → Bool
 is_negative [] = false
-is_negative (byte ∷ rest) = byte == 45
+is_negative (c ∷ rest) = c == byte "-"
 
 -- the text behind its sign, if it has one
 abbrev pub without_sign : List ℕ → List ℕ
 without_sign [] = []
-without_sign (byte ∷ rest) = cond (is_sign byte) rest (byte ∷ rest)
+without_sign (c ∷ rest) = cond (is_sign c) rest (c ∷ rest)
 
 abbrev pub are_digits : List ℕ → Bool
-are_digits [] = true
-are_digits (byte ∷ rest) = is_digit byte && are_digits rest
+are_digits text = list_all is_ascii_digit text
 
 -- what stands before the first '.', or all
 abbrev pub before_point : List ℕ → List ℕ
 before_point [] = []
-before_point (byte ∷ rest) = cond (byte == 46) [] (byte ∷ before_point rest)
+before_point (c ∷ rest) = cond (c == byte ".") [] (c ∷ before_point rest)
 
 -- what stands behind the first '.', or nothing
 abbrev pub behind_point : List ℕ → List ℕ
 behind_point [] = []
-behind_point (byte ∷ rest) = cond (byte == 46) rest (behind_point rest)
+behind_point (c ∷ rest) = cond (c == byte ".") rest (behind_point rest)
 
 -- the number that digits write when they follow those of n
 abbrev pub number_after : ℕ → List ℕ → ℕ
 number_after n [] = n
-number_after n (digit ∷ rest) = number_after (n * 10 + (digit - 48)) rest
+number_after n (digit ∷ rest) = number_after (n * 10 + (digit - byte "0")) rest
 
 -- an optional sign and digits, at least one
 abbrev pub has_integer_form : List ℕ → Bool

@@ -5,12 +5,12 @@ use Rattle.std.specs.Char.{is_ascii_alphanumeric}
 use Rattle.std.specs.List.{list_all, onto_first, position_or_len, slice_split}
 use Rattle.std.proofs.lemmas.Grind.{common_steps}
 use Rattle.std.proofs.lemmas.List.Splits.{slice_split_first}
-use Rattle.std.specs.Str.{IsAscii}
+use Rattle.std.specs.Str.{IsAscii, bytes_eq}
 use Rattle.std.specs.Cmp.Lexicographic.{pointwise}
 use Rattle.std.proofs.lemmas.Bool.Decides.{nat_tests}
 use Rattle.std.proofs.Math.Bool.{and-true}
 use Rattle.rsp_spec.proofs.Truths.{all_ascii}
-use Rattle.rsp_query_line.specs.QueryLine.{inner_of, same}
+use Rattle.rsp_query_line.specs.QueryLine.{inner_of}
 
 -- ---- fields
 
@@ -41,7 +41,7 @@ ends_so d [] = and-true (nat_eq d 62)
 ends_so d (e ∷ es) = rw (equal_self d) (ends_so e es)
 
 pub bracketed : (field : List ℕ) → 2 ≤ length field → get_or field 0 0 ≡ 60
-    → nat_eq (get_or field (length field - 1) 0) 62 ≡ same field (60 ∷ (inner_of field ++ (62 ∷ [])))
+    → nat_eq (get_or field (length field - 1) 0) 62 ≡ bytes_eq field (60 ∷ (inner_of field ++ (62 ∷ [])))
 bracketed [] long first = absurd (omega arith)
 bracketed (c ∷ []) long first = absurd (omega arith)
 bracketed (c ∷ d ∷ ds) long first =

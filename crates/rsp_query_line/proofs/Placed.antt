@@ -1,5 +1,6 @@
 -- Each variable of a query line has its place among the variables, and over no facts its tree has few rows.
 use Rattle.std.proofs.Common.{◌≡◌, ℕ, ◌+◌, ◌<◌, Bool, true, false, true≢false, not, ◌||◌, cond, List, [], ◌∷◌, ◌++◌, length, map, fold, refl, sym, subst, arith}
+use Rattle.std.specs.Str.{bytes_eq}
 use Rattle.std.specs.List.{AllByRecursion, list_all, flat_map, position_or_len}
 use Rattle.std.specs.Cmp.Lexicographic.{bytes_decides}
 use Rattle.rsp_spec.proofs.Truths.{and_left, and_right}
@@ -14,7 +15,7 @@ use Rattle.rsp_query_line.specs.declared.line.Line.{Line}
 use Rattle.rsp_query_line.specs.declared.written.Part.{Part}
 use Rattle.rsp_query_line.specs.declared.written.Part.TheVariants.{Variable, Constant}
 use Rattle.rsp_query_line.specs.declared.written.Written.{Written}
-use Rattle.rsp_query_line.specs.QueryLine.{same, is_among, add_once, part_names, pattern_names, variables_of, are_shown}
+use Rattle.rsp_query_line.specs.QueryLine.{is_among, add_once, part_names, pattern_names, variables_of, are_shown}
 use Rattle.rsp_query_line.specs.Meaning.{place_of, slot_of, triple_pattern_of, shown_of, width_of, node_of_line}
 
 -- ---- names among the variables
@@ -29,15 +30,15 @@ or_left false b h = absurd (true≢false (sym h))
 
 among_append : (names more : List (List ℕ)) (name : List ℕ) → is_among names name ≡ true → is_among (names ++ more) name ≡ true
 among_append [] more name h = absurd (true≢false (sym h))
-among_append (x ∷ xs) more name h = by (same name x) h (among_append xs more name)
+among_append (x ∷ xs) more name h = by (bytes_eq name x) h (among_append xs more name)
   where
     by : (b : Bool) → (b || is_among xs name) ≡ true → (is_among xs name ≡ true → is_among (xs ++ more) name ≡ true) → (b || is_among (xs ++ more) name) ≡ true
     by true h' rest = refl
     by false h' rest = rest h'
 
 among_last : (names : List (List ℕ)) (name : List ℕ) → is_among (names ++ (name ∷ [])) name ≡ true
-among_last [] name = or_left (same name name) false ((bytes_decides name name).1 refl)
-among_last (x ∷ xs) name = or_right (same name x) (is_among (xs ++ (name ∷ [])) name) (among_last xs name)
+among_last [] name = or_left (bytes_eq name name) false ((bytes_decides name name).1 refl)
+among_last (x ∷ xs) name = or_right (bytes_eq name x) (is_among (xs ++ (name ∷ [])) name) (among_last xs name)
 
 kept_once : (names : List (List ℕ)) (added name : List ℕ) → is_among names name ≡ true → is_among (add_once names added) name ≡ true
 kept_once names added name h =
@@ -76,9 +77,9 @@ last_part P (x ∷ xs) ys all = last_part P xs ys all.1
 
 place_below : (names : List (List ℕ)) (name : List ℕ) → is_among names name ≡ true → place_of names name < length names
 place_below [] name h = absurd (true≢false (sym h))
-place_below (x ∷ xs) name h = by (same name x) h (place_below xs name)
+place_below (x ∷ xs) name h = by (bytes_eq name x) h (place_below xs name)
   where
-    by : (b : Bool) → (b || is_among xs name) ≡ true → (is_among xs name ≡ true → position_or_len (same name) xs < length xs) → cond (not b) (1 + position_or_len (same name) xs) 0 < length (x ∷ xs)
+    by : (b : Bool) → (b || is_among xs name) ≡ true → (is_among xs name ≡ true → position_or_len (bytes_eq name) xs < length xs) → cond (not b) (1 + position_or_len (bytes_eq name) xs) 0 < length (x ∷ xs)
     by true h' rest = omega arith
     by false h' rest = let below = rest h' in omega (arith, below)
 

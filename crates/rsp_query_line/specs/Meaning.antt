@@ -1,5 +1,6 @@
 -- Definitions: the algebra tree of a query line (SPARQL 1.1 Query, section 18.2): the projection of the join of its patterns.
 use Rattle.std.specs.Prelude.{ℕ, List, length, map}
+use Rattle.std.specs.Str.{bytes_eq}
 use Rattle.std.specs.List.{position_or_len}
 use Rattle.rsp_terms.specs.declared.term.Term.TheVariants.{Iri}
 use Rattle.rsp_algebra.specs.declared.tree.TriplePattern.{TriplePattern}
@@ -11,11 +12,11 @@ use Rattle.rsp_query_line.specs.declared.written.Part.{Part}
 use Rattle.rsp_query_line.specs.declared.written.Part.TheVariants.{Variable, Constant}
 use Rattle.rsp_query_line.specs.declared.written.Written.{Written}
 use Rattle.rsp_query_line.specs.declared.line.Line.{Line}
-use Rattle.rsp_query_line.specs.QueryLine.{same, variables_of}
+use Rattle.rsp_query_line.specs.QueryLine.{variables_of}
 
 -- a variable's number is its place among the variables
 abbrev pub place_of : List (List ℕ) → List ℕ → ℕ
-place_of names name = position_or_len (same name) names
+place_of names name = position_or_len (bytes_eq name) names
 
 abbrev pub slot_of : List (List ℕ) → Part → Slot
 slot_of names (Variable name) = slot.Variable (place_of names name)

@@ -1,28 +1,25 @@
--- Definitions: the one form of query text that is built by now: some variables of all rows of 1 to 8 triple patterns over one window
--- of the stream `s:a`, reported where the window closes. It is one line of fields with single spaces between.
-use Rattle.std.specs.Prelude.{ℕ, zero, suc, ◌-◌, ◌*◌, Bool, ◌&&◌, ◌==◌, nat_eq, nat_lt, nat_le, if◌then◌else◌, Option, None, Some, is_some, List, [], ◌∷◌, ◌++◌, length, take, drop, fold, codes, slice_index}
-use Rattle.std.specs.Char.{is_ascii_alphanumeric, is_ascii_digit}
+-- Definitions: the one form of query text that is built by now: some variables of all rows of 1 to 8 triple patterns
+-- over one window of the stream `s:a`, reported where the window closes. It is one line of fields with single spaces between.
+use Rattle.std.specs.Prelude.{ℕ, zero, suc, ◌-◌, ◌*◌, Bool, ◌&&◌, ◌==◌, nat_lt, nat_le, if◌then◌else◌, Option, None, Some, is_some, List, [], ◌∷◌, ◌++◌, length, take, drop, fold, codes, slice_index}
+use Rattle.std.specs.Char.{is_ascii_alphanumeric}
 use Rattle.std.specs.Cmp.Lexicographic.{pointwise}
-use Rattle.std.specs.List.{list_any, list_all, slice_split, flat_map, take_while}
+use Rattle.std.specs.List.{list_any, list_all, slice_split, flat_map}
 use Rattle.std.specs.Option.{option_map, option_map_or, option_and_then}
-use Rattle.std.specs.Str.{chars}
+use Rattle.std.specs.Str.{bytes_eq, chars}
 use Rattle.rsp_spec.specs.Windows.{Shape}
 use Rattle.rsp_text.specs.Digits.{read_u64}
+use Rattle.rsp_text.specs.Fronts.{leading_digits}
 use Rattle.rsp_terms.specs.Characters.{is_iri_text}
 use Rattle.rsp_query_line.specs.declared.written.Part.{Part}
 use Rattle.rsp_query_line.specs.declared.written.Part.TheVariants.{Variable, Constant}
 use Rattle.rsp_query_line.specs.declared.written.Written.{Written}
 use Rattle.rsp_query_line.specs.declared.line.Line.{Line}
 
--- the same bytes
-abbrev pub same : List ℕ → List ℕ → Bool
-same = pointwise nat_eq
-
 abbrev pub same_fields : List (List ℕ) → List (List ℕ) → Bool
-same_fields = pointwise same
+same_fields = pointwise bytes_eq
 
 abbrev pub is_among : List (List ℕ) → List ℕ → Bool
-is_among names name = list_any (same name) names
+is_among names name = list_any (bytes_eq name) names
 
 -- the text without the line feed at its end
 unfoldable pub line_of : List ℕ → List ℕ
@@ -54,7 +51,7 @@ inner_of field = take (length field - 2) (drop 1 field)
 -- an absolute IRI in brackets, of ASCII characters
 unfoldable pub iri_of : List ℕ → Option (List ℕ)
 iri_of field =
-    if same field (60 ∷ (inner_of field ++ (62 ∷ [])))
+    if bytes_eq field (60 ∷ (inner_of field ++ (62 ∷ [])))
     && (list_all (λ c. nat_lt c 128) (inner_of field) && is_iri_text (chars (inner_of field)))
     then Some (inner_of field)
     else None
@@ -97,15 +94,15 @@ patterns_within (suc n) fields =
 -- `PT`, 1 to 5 digits of a number of seconds from 1 to a day, and what stands behind them; in milliseconds
 unfoldable pub span_of : List ℕ → List ℕ → Option ℕ
 span_of suffix field =
-    let digits = take_while is_ascii_digit (drop 2 field) in
-    if same field (codes "PT" ++ (digits ++ suffix)) && nat_le (length digits) 5
+    let digits = leading_digits (drop 2 field) in
+    if bytes_eq field (codes "PT" ++ (digits ++ suffix)) && nat_le (length digits) 5
     then option_and_then (λ n. if nat_le 1 n && nat_le n 86400 then Some (1000 * n) else None) (read_u64 digits)
     else None
 
 -- the window of the fields `PTnS`, `STEP`, `PTmS]`; the first opens at 0
 unfoldable pub shape_of : List (List ℕ) → Option Shape
 shape_of (width ∷ step ∷ slide ∷ []) =
-    if same step (codes "STEP")
+    if bytes_eq step (codes "STEP")
     then
     option_and_then
     (λ w. option_map (λ s. record { width = w; slide = s; origin = 0 }) (span_of (codes "S]") slide))

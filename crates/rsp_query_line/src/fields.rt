@@ -2,17 +2,16 @@
 ghost use Rattle.std.specs.Prelude.{◌≡◌, ◌∷◌, ◌++◌, ◌≤◌, ◌<◌, ◌==◌, ◌&&◌, ◌*◌, [], nat_lt, if◌then◌else◌, Option, Some, None, IfOk, IfSome, MatchOption, length, drop, codes, nat_le};
 ghost use Rattle.std.specs.Option.{option_and_then};
 ghost use Rattle.rsp_text.specs.Digits.{read_u64};
-ghost use Rattle.std.specs.Char.{is_ascii_alphanumeric, is_ascii_digit};
-ghost use Rattle.std.specs.List.{list_all, position_or_len, take_while, prefix_len};
-ghost use Rattle.std.specs.Str.{IsAscii, chars};
+ghost use Rattle.std.specs.Char.{is_ascii_alphanumeric};
+ghost use Rattle.std.specs.List.{list_all, position_or_len};
+ghost use Rattle.std.specs.Str.{IsAscii, bytes_eq, chars};
 ghost use Rattle.rsp_terms.specs.Characters.{is_iri_text};
 ghost use Rattle.rsp_query_line.specs.QueryLine as form;
 
 use crate::Part;
-use rsp_terms::{Listed, Text, is_iri};
-use rsp_text::read_u64;
+use rsp_terms::{Listed, Text, ascii_text, is_iri};
+use rsp_text::{leading_digits, read_u64};
 use std::alloc::{AllocError, Global};
-use std::str;
 
 /// The fields of a line, with single spaces between. Fails only where memory is refused.
 pub fn fields_of(alloc: Global, line: &[u8]) -> Result<Vec<Listed<u8>>, AllocError>
@@ -122,17 +121,6 @@ fn is_alphanumeric(name: &[u8]) -> bool
     name.iter().all(|c| c.is_ascii_alphanumeric())
 }
 
-// a text of ASCII characters
-fn ascii_text(alloc: Global, bytes: &[u8]) -> Result<Text, AllocError>
-    requires { IsAscii bytes.now }
-    ensures { IfOk result (λ text. text ≡ bytes.now) }
-{
-    match str::from_utf8(bytes) {
-        Ok(text) => Text::new(alloc, text),
-        Err(_) => unreachable!(),
-    }
-}
-
 /// An absolute IRI in brackets, of ASCII characters. Fails only where memory is refused.
 #[tactic(auto, unfolding(crate::specs::QueryLine::iri_of))]
 pub fn iri_of(alloc: Global, field: &[u8]) -> Result<Option<Text>, AllocError>
@@ -167,7 +155,7 @@ fn is_all_ascii(bytes: &[u8]) -> bool
 
 // whether a field begins with `<` and ends with another character, `>`
 fn is_bracketed(field: &[u8]) -> bool
-    ensures { result ≡ form.same field.now (60 ∷ (form.inner_of field.now ++ (62 ∷ []))) }
+    ensures { result ≡ bytes_eq field.now (60 ∷ (form.inner_of field.now ++ (62 ∷ []))) }
 {
     if field.len() < 2 {
         return false;
@@ -230,7 +218,7 @@ fn milliseconds(digits: &[u8]) -> Option<u64>
 }
 
 fn is_span(alloc: Global, digits: &[u8], suffix: &[u8], field: &[u8]) -> Result<bool, AllocError>
-    ensures { IfOk result (λ is. is ≡ form.same field.now (codes "PT" ++ (digits.now ++ suffix.now))) }
+    ensures { IfOk result (λ is. is ≡ bytes_eq field.now (codes "PT" ++ (digits.now ++ suffix.now))) }
 {
     let mut span = Vec::from_slice(alloc, b"PT")?;
     span.extend_from_slice(digits)?;
@@ -243,18 +231,4 @@ fn unit_behind(field: &[u8]) -> &[u8]
     ensures { result.now ≡ drop 2 field.now }
 {
     &field[field.len().min(2)..]
-}
-
-fn leading_digits(text: &[u8]) -> &[u8]
-    ensures { result.now ≡ take_while is_ascii_digit text.now }
-{
-    let end = digits_end(text);
-    &text[..end]
-}
-
-fn digits_end(text: &[u8]) -> usize
-    ensures end { result ≡ prefix_len is_ascii_digit text.now }
-    ensures bound { result ≤ length text.now }
-{
-    text.iter().take_while(|c| c.is_ascii_digit()).count()
 }

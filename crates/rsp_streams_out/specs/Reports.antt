@@ -2,6 +2,7 @@
 use Rattle.std.specs.Prelude.{ℕ, List, [], ◌∷◌, ◌++◌, length, map, codes}
 use Rattle.std.specs.List.{join_with_byte}
 use Rattle.std.specs.Fmt.{decimal}
+use Rattle.std.specs.Str.{byte}
 use Rattle.rsp_terms.specs.declared.term.Term.{Term}
 use Rattle.rsp_multiset.specs.Rows.{Cells}
 use Rattle.rsp_streams_out.specs.Rows.{row_text}
@@ -9,16 +10,16 @@ use Rattle.rsp_streams_out.specs.Rows.{row_text}
 -- `# report NAME TIME ROWS`
 abbrev pub report_head : List ℕ → ℕ → ℕ → List ℕ
 report_head name at rows =
-    codes "# report " ++ (name ++ (codes " " ++ (decimal at ++ (codes " " ++ (decimal rows ++ (10 ∷ []))))))
+    codes "# report " ++ (name ++ (codes " " ++ (decimal at ++ (codes " " ++ (decimal rows ++ codes "\n")))))
 
 -- each variable as `?name`, with tabs between
 abbrev pub variables_line : List (List ℕ) → List ℕ
-variables_line variables = join_with_byte 9 (map (λ name. 63 ∷ name) variables) ++ (10 ∷ [])
+variables_line variables = join_with_byte (byte "\t") (map (λ name. byte "?" ∷ name) variables) ++ codes "\n"
 
 -- a line for each row
 abbrev pub rows_text : List (Cells Term) → List ℕ
 rows_text [] = []
-rows_text (row ∷ rows) = row_text row ++ (10 ∷ rows_text rows)
+rows_text (row ∷ rows) = row_text row ++ (byte "\n" ∷ rows_text rows)
 
 abbrev pub report_text : List ℕ → ℕ → List (List ℕ) → List (Cells Term) → List ℕ
 report_text name at variables rows =
@@ -26,4 +27,4 @@ report_text name at variables rows =
 
 -- `# overfull NAME TIME`: the report of a query that has too many rows
 abbrev pub overfull_text : List ℕ → ℕ → List ℕ
-overfull_text name at = codes "# overfull " ++ (name ++ (codes " " ++ (decimal at ++ (10 ∷ []))))
+overfull_text name at = codes "# overfull " ++ (name ++ (codes " " ++ (decimal at ++ codes "\n")))

@@ -1,6 +1,7 @@
 -- Definitions: rows of a report (SPARQL 1.1 Query Results TSV Format, section 4) and their order.
 use Rattle.std.specs.Prelude.{ℕ, Bool, if◌then◌else◌, List, [], ◌∷◌, Option, Some, None, map}
 use Rattle.std.specs.List.{join_with_byte}
+use Rattle.std.specs.Str.{byte}
 use Rattle.std.specs.Ordering.{nat_cmp, is_gt}
 use Rattle.std.specs.Cmp.Lexicographic.{slice_cmp}
 use Rattle.rsp_multiset.specs.Rows.{Cells}
@@ -14,7 +15,7 @@ cell_text (Some term) = term_text term
 
 -- the texts of the cells, with tabs between
 abbrev pub row_text : Cells Term → List ℕ
-row_text row = join_with_byte 9 (map cell_text row)
+row_text row = join_with_byte (byte "\t") (map cell_text row)
 
 -- the first row's text stands behind the second's in the order of bytes
 abbrev pub stands_behind : Cells Term → Cells Term → Bool

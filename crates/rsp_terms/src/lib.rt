@@ -19,4 +19,4 @@ pub use listed::Listed;
 pub use printing::{XSD_STRING, print};
 pub use statement::{Fact, Quad, Spot, Triple};
 pub use term::Term;
-pub use text::Text;
+pub use text::{Text, ascii_text};

@@ -14,6 +14,9 @@ pub const XSD_STRING: &str = "http://www.w3.org/2001/XMLSchema#string";
 /// line feed, carriage return and tab alone are escaped. The label of a blank node is `b`, the number of its document,
 /// `x` and the label that it has there. Fails only where memory is refused; `out` then holds the bytes that it held
 /// before. Different terms have different texts.
+///
+/// The IRI `a:1` is printed as `<a:1>`, the string `say "no"` as `"say \"no\""`, the text `4` of `xsd:integer` as
+/// `"4"^^<http://www.w3.org/2001/XMLSchema#integer>`, and the blank node with the label `k` of document 3 as `_:b3xk`.
 pub fn print(term: &Term, out: &mut Vec<u8>) -> Result<(), AllocError>
     ensures ok { OnOk result (out.new.items ≡ out.old.items ++ term_text term.now) }
     ensures err { OnErr result (out.new.items ≡ out.old.items) }

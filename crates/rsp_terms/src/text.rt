@@ -1,5 +1,6 @@
 // Shared text.
 ghost use Rattle.std.specs.Prelude.{◌≡◌, IfOk};
+ghost use Rattle.std.specs.Str.{IsAscii};
 
 use std::alloc::{AllocError, Global};
 use std::cmp::Ordering;
@@ -7,6 +8,7 @@ use std::fmt;
 use std::hash::{Hash, Hasher};
 use std::marker::Model;
 use std::rc::RcStr;
+use std::str;
 
 /// A text that can be shared without a copy of its bytes. Texts compare by their bytes.
 #[derive(Drop)]
@@ -45,6 +47,17 @@ impl Text {
     {
         let shared = self.shared.clone()?;
         Ok(Text { shared })
+    }
+}
+
+/// A text of ASCII characters, from their bytes. Fails only where memory is refused.
+pub fn ascii_text(alloc: Global, bytes: &[u8]) -> Result<Text, AllocError>
+    requires { IsAscii bytes.now }
+    ensures { IfOk result (λ text. text ≡ bytes.now) }
+{
+    match str::from_utf8(bytes) {
+        Ok(text) => Text::new(alloc, text),
+        Err(_) => unreachable!(),
     }
 }
 

@@ -1,5 +1,5 @@
 // The top call over objects in memory whose calls fail, as a table.
-ghost use Rattle.std.specs.Prelude.{◌≡◌, ◌≤◌, ◌<◌};
+ghost use Rattle.std.specs.Prelude.{◌≡◌, ◌<◌};
 
 use rsp_call::{Status, rsp};
 use rsp_io::{MemorySink, MemorySource, SteadyShelf};
@@ -24,85 +24,86 @@ const REPORT: &str = "# report q 10000 2\n?s\t?p\t?o\n<a:1>\t<p:v>\t<a:2>\n<a:3>
 // More than any text here is long.
 const AMPLE: usize = 1000;
 
-// The calls that fail, and the most bytes of a call.
-#[derive(Drop)]
-struct Calls {
-    failing: Vec<u64>,
-    bytes: usize,
-    ghost some: { 1 ≤ bytes },
+// A call over objects in memory: the number of the read and of the write that fails, none where `NONE`, the most bytes of
+// each, and how many bytes the sink takes.
+#[derive(Clone, Copy)]
+struct Case<'a> {
+    words: &'a [&'a str],
+    log: &'a [u8],
+    failing_read: u64,
+    read_bytes: usize,
+    failing_write: u64,
+    write_bytes: usize,
+    capacity: usize,
 }
 
-impl Calls {
-    fn steady(alloc: Global, bytes: usize) -> Calls
-        requires { 1 ≤ bytes }
-    {
-        Calls {
-            failing: Vec::new(alloc),
-            bytes,
-        }
-    }
+const NONE: u64 = u64::MAX;
 
-    fn failing(alloc: Global, call: u64, bytes: usize) -> Result<Calls, AllocError>
-        requires { 1 ≤ bytes }
-    {
-        let mut failing = Vec::new(alloc);
-        failing.push(call)?;
-        Ok(Calls { failing, bytes })
+// a log that is read and written without a failing call
+fn steady(log: &[u8]) -> Case<'_> {
+    Case {
+        words: &["events"],
+        log,
+        failing_read: NONE,
+        read_bytes: AMPLE,
+        failing_write: NONE,
+        write_bytes: AMPLE,
+        capacity: AMPLE,
     }
-}
-
-#[derive(Drop)]
-struct Ran {
-    status: Status,
-    text: Vec<u8>,
 }
 
 fn whole_log(alloc: Global) -> Result<String, AllocError> {
     format!(in alloc; "{REGISTER}{FIRST}{SECOND}{TICK}")
 }
 
-fn run(
-    alloc: Global,
-    words: &[&str],
-    log: &[u8],
-    reads: Calls,
-    writes: Calls,
-    capacity: usize,
-) -> Result<Ran, AllocError> {
-    run_uncounted::<Brand>(alloc, Blank::new(1), words, log, reads, writes, capacity)
+fn texts_of(alloc: Global, words: &[&str]) -> Result<Vec<Text>, AllocError> {
+    let mut texts = Vec::new(alloc);
+    for word in words {
+        texts.push(Text::new(alloc, word)?)?;
+    }
+    Ok(texts)
 }
 
-fn run_uncounted<L: Ledger>(
+fn only(alloc: Global, call: u64) -> Result<Vec<u64>, AllocError> {
+    let mut calls = Vec::new(alloc);
+    calls.push(call)?;
+    Ok(calls)
+}
+
+fn source_of(alloc: Global, case: Case<'_>) -> Result<MemorySource, AllocError> {
+    let failing = only(alloc, case.failing_read)?;
+    let log = case.log.to_vec(alloc)?;
+    Ok(MemorySource::new(log, failing, case.read_bytes.max(1)))
+}
+
+fn sink_of(alloc: Global, case: Case<'_>) -> Result<MemorySink, AllocError> {
+    let failing = only(alloc, case.failing_write)?;
+    MemorySink::new(alloc, case.capacity, failing, case.write_bytes.max(1))
+}
+
+fn status_of<L: Ledger>(
     alloc: Global,
     blank: Blank,
-    words: &[&str],
-    log: &[u8],
-    reads: Calls,
-    writes: Calls,
-    capacity: usize,
-) -> Result<Ran, AllocError>
+    words: &[Text],
+    input: &mut MemorySource,
+    out: &mut MemorySink,
+) -> Status
     requires name { blank.name ≡ L.name }
     requires parts { blank.parts ≡ L.parts }
     requires some { 0 < blank.parts }
 {
     let mut steps: Steps<L> = Steps::new(blank);
-    let mut texts = Vec::new(alloc);
-    for word in words {
-        texts.push(Text::new(alloc, word)?)?;
-    }
-    let mut input = MemorySource::new(log.to_vec(alloc)?, reads.failing, reads.bytes);
     let mut shelf = SteadyShelf::new(Vec::new(alloc), 1);
-    let mut out = MemorySink::new(alloc, capacity, writes.failing, writes.bytes)?;
-    let status = rsp(
-        alloc,
-        texts.as_slice(),
-        &mut input,
-        &mut shelf,
-        &mut out,
-        &mut steps,
-    );
-    let text = out.taken().to_vec(alloc)?;
-    Ok(Ran { status, text })
+    rsp(alloc, words, input, &mut shelf, out, &mut steps)
+}
+
+// whether a call ends with this status and leaves this text in the sink
+fn gives(alloc: Global, case: Case<'_>, status: Status, text: &str) -> Result<bool, AllocError> {
+    let words = texts_of(alloc, case.words)?;
+    let mut input = source_of(alloc, case)?;
+    let mut out = sink_of(alloc, case)?;
+    let given = status_of::<Brand>(alloc, Blank::new(1), words.as_slice(), &mut input, &mut out);
+    Ok(given == status && out.taken() == text.as_bytes())
 }
 
 #[test]
@@ -110,16 +111,12 @@ fn pieces_of_one_byte_give_the_same_text(rt: HostRuntime) -> Result<(), Fail> {
     let alloc = rt.alloc();
     let log = whole_log(alloc)?;
     for bytes in [1, 7, AMPLE] {
-        let ran = run(
-            alloc,
-            &["events"],
-            log.as_bytes(),
-            Calls::steady(alloc, bytes),
-            Calls::steady(alloc, bytes),
-            AMPLE,
-        )?;
-        assert_eq!(rt; ran.status, Status::Done);
-        assert_eq!(rt; ran.text.as_slice(), REPORT.as_bytes());
+        let case = Case {
+            read_bytes: bytes,
+            write_bytes: bytes,
+            ..steady(log.as_bytes())
+        };
+        assert!(rt; gives(alloc, case, Status::Done, REPORT)?, "{bytes} bytes");
     }
     Ok(())
 }
@@ -131,15 +128,11 @@ fn each_failing_read_ends_the_call(rt: HostRuntime) -> Result<(), Fail> {
     // reads that give bytes, and the one that finds the end
     let last = log.len().div_ceil(7) as u64;
     for call in 0..last.saturating_add(2) {
-        let reads = Calls::failing(alloc, call, 7)?;
-        let ran = run(
-            alloc,
-            &["events"],
-            log.as_bytes(),
-            reads,
-            Calls::steady(alloc, AMPLE),
-            AMPLE,
-        )?;
+        let case = Case {
+            failing_read: call,
+            read_bytes: 7,
+            ..steady(log.as_bytes())
+        };
         let status = if call <= last {
             Status::ReadFault
         } else {
@@ -147,8 +140,7 @@ fn each_failing_read_ends_the_call(rt: HostRuntime) -> Result<(), Fail> {
         };
         // the report comes with the last byte
         let text = if call < last { "" } else { REPORT };
-        assert_eq!(rt; ran.status, status, "read {call}");
-        assert_eq!(rt; ran.text.as_slice(), text.as_bytes(), "read {call}");
+        assert!(rt; gives(alloc, case, status, text)?, "read {call}");
     }
     Ok(())
 }
@@ -157,22 +149,14 @@ fn each_failing_read_ends_the_call(rt: HostRuntime) -> Result<(), Fail> {
 fn each_failing_write_leaves_what_was_written_before(rt: HostRuntime) -> Result<(), Fail> {
     let alloc = rt.alloc();
     let log = whole_log(alloc)?;
-    for call in 0..REPORT.len() {
-        let writes = Calls::failing(alloc, call as u64, 1)?;
-        let ran = run(
-            alloc,
-            &["events"],
-            log.as_bytes(),
-            Calls::steady(alloc, AMPLE),
-            writes,
-            AMPLE,
-        )?;
-        assert_eq!(rt; ran.status, Status::WriteFault, "write {call}");
-        assert_eq!(rt;
-            ran.text.as_slice(),
-            &REPORT.as_bytes()[..call],
-            "write {call}"
-        );
+    for (call, _) in REPORT.char_indices() {
+        let case = Case {
+            failing_write: call as u64,
+            write_bytes: 1,
+            ..steady(log.as_bytes())
+        };
+        let written = REPORT.get(..call).unwrap_or("");
+        assert!(rt; gives(alloc, case, Status::WriteFault, written)?, "write {call}");
     }
     Ok(())
 }
@@ -181,32 +165,19 @@ fn each_failing_write_leaves_what_was_written_before(rt: HostRuntime) -> Result<
 fn a_full_sink_ends_the_call(rt: HostRuntime) -> Result<(), Fail> {
     let alloc = rt.alloc();
     let log = whole_log(alloc)?;
-    for capacity in 0..REPORT.len() {
-        let ran = run(
-            alloc,
-            &["events"],
-            log.as_bytes(),
-            Calls::steady(alloc, AMPLE),
-            Calls::steady(alloc, AMPLE),
+    for (capacity, _) in REPORT.char_indices() {
+        let case = Case {
             capacity,
-        )?;
-        assert_eq!(rt; ran.status, Status::WriteFault, "capacity {capacity}");
-        assert_eq!(rt;
-            ran.text.as_slice(),
-            &REPORT.as_bytes()[..capacity],
-            "capacity {capacity}"
-        );
+            ..steady(log.as_bytes())
+        };
+        let written = REPORT.get(..capacity).unwrap_or("");
+        assert!(rt; gives(alloc, case, Status::WriteFault, written)?, "capacity {capacity}");
     }
-    let capacity = REPORT.len();
-    let ran = run(
-        alloc,
-        &["events"],
-        log.as_bytes(),
-        Calls::steady(alloc, AMPLE),
-        Calls::steady(alloc, AMPLE),
-        capacity,
-    )?;
-    assert_eq!(rt; ran.status, Status::Done);
+    let case = Case {
+        capacity: REPORT.len(),
+        ..steady(log.as_bytes())
+    };
+    assert!(rt; gives(alloc, case, Status::Done, REPORT)?);
     Ok(())
 }
 
@@ -268,23 +239,18 @@ fn a_log_that_is_cut_gives_the_shorter_text(rt: HostRuntime) -> Result<(), Fail>
     let alloc = rt.alloc();
     let log = whole_log(alloc)?;
     for cut in 0..log.len() {
-        let bytes = log.as_bytes().get(..cut).ok_or("within the log")?;
-        let ran = run(
-            alloc,
-            &["events"],
-            bytes,
-            Calls::steady(alloc, 7),
-            Calls::steady(alloc, AMPLE),
-            AMPLE,
-        )?;
         let text = cut_text(cut);
         let status = if text.starts_with("# refused") {
             Status::DoneWithRefusals
         } else {
             Status::Done
         };
-        assert_eq!(rt; ran.status, status, "cut at {cut}");
-        assert_eq!(rt; ran.text.as_slice(), text.as_bytes(), "cut at {cut}");
+        let bytes = log.as_bytes().get(..cut).unwrap_or(b"");
+        let case = Case {
+            read_bytes: 7,
+            ..steady(bytes)
+        };
+        assert!(rt; gives(alloc, case, status, text)?, "cut at {cut}");
     }
     Ok(())
 }
@@ -295,25 +261,19 @@ fn other_words_read_nothing(rt: HostRuntime) -> Result<(), Fail> {
     let usage =
         "usage: rsp events [--json] | run [--json] [--store FILE] QUERY STREAM=FILE.. | check QUERY | gen COUNT\n";
     // a first read would fail
-    let ran = run(
-        alloc,
-        &["frob"],
-        b"",
-        Calls::failing(alloc, 0, 1)?,
-        Calls::steady(alloc, AMPLE),
-        AMPLE,
-    )?;
-    assert_eq!(rt; ran.status, Status::Usage);
-    assert_eq!(rt; ran.text.as_slice(), usage.as_bytes());
-    let ran = run(
-        alloc,
-        &[],
-        b"",
-        Calls::failing(alloc, 0, 1)?,
-        Calls::failing(alloc, 1, 6)?,
-        AMPLE,
-    )?;
-    assert_eq!(rt; ran.status, Status::WriteFault);
-    assert_eq!(rt; ran.text.as_slice(), b"usage:".as_slice());
+    let case = Case {
+        words: &["frob"],
+        failing_read: 0,
+        ..steady(b"")
+    };
+    assert!(rt; gives(alloc, case, Status::Usage, usage)?);
+    let case = Case {
+        words: &[],
+        failing_read: 0,
+        failing_write: 1,
+        write_bytes: 6,
+        ..steady(b"")
+    };
+    assert!(rt; gives(alloc, case, Status::WriteFault, "usage:")?);
     Ok(())
 }

@@ -8,9 +8,7 @@ ghost use Rattle.rsp_text.specs.Instants as words;
 
 use crate::digits::{fraction, has_form, number, thousandths};
 use jiff::civil::Date;
-
-// 9999-12-31T23:59:59.999Z
-const LAST_INSTANT: i64 = 253_402_300_799_999;
+use rsp_spec::LAST_INSTANT;
 
 /// An instant as XML Schema's dateTime writes it, in ms since 1970; None exactly where the text isn't of the form
 /// `YYYY-MM-DDThh:mm:ss`, then optionally `.` and 1 to 9 digits, then `Z`, `+hh:mm` or `-hh:mm`, where the calendar
@@ -55,10 +53,11 @@ fn milliseconds(day: i32, of_day: u32, ahead: i32) -> i64
 fn since_1970(time: i64) -> Option<u64>
     ensures { result ≡ words.since_1970 time }
 {
-    if time < 0 || LAST_INSTANT < time {
+    let time = u64::try_from(time).ok()?;
+    if LAST_INSTANT < time {
         return None;
     }
-    Some(time as u64)
+    Some(time)
 }
 
 // the day number of `YYYY-MM-DD`

@@ -5,10 +5,8 @@ ghost use Rattle.rsp_spec.specs.Instants.{ClosesAtMultiple, IsLeastIn};
 ghost use Rattle.rsp_spec.specs.Windows.{IsActive, IsAtMost, IsLastNeeded, IsNeeded, IsNextClosing, IsShape, Shape, active_window, closes_at, closing, opening};
 
 use crate::congruence::next_shared;
+use rsp_spec::LAST_INSTANT;
 use std::marker::Model;
-
-// 9999-12-31T23:59:59.999Z, in milliseconds since 1970
-const LAST_INSTANT: u64 = 253_402_300_799_999;
 
 /// Windows of one width that open at equal distances, numbered from 0. Window k is open after its opening,
 /// `origin + k * slide`, up to and with its closing, `width` later. All times are milliseconds.

@@ -7,6 +7,7 @@ use Rattle.std.specs.Prelude.{Bool, ℕ, zero, suc, List, [], ◌∷◌, ◌++�
 use Rattle.std.specs.List.{flat_map}
 use Rattle.std.specs.Str.{bytes_eq}
 use Rattle.std.specs.Str.Parse.{digits_value}
+use Rattle.rsp_spec.specs.Windows.{last_instant}
 use Rattle.rsp_text.specs.Instants.{instant}
 use Rattle.rsp_terms.specs.declared.term.Term.TheVariants as term
 use Rattle.rsp_terms.specs.declared.term.Term.{Term}
@@ -452,7 +453,7 @@ span_text = mapped text_of (one (kind.Span ∷ []))
 --                                                                     (in place of [13] DatasetClause; of RSP-QL)
 -- the START is an integer up to the last instant, or a text that says an instant
 abbrev pub origin_of_kind : Kind → List ℕ → Option ℕ
-origin_of_kind kind.Integer text = cond (nat_le (digits_value 10 text) 253402300799999) (Some (digits_value 10 text)) None
+origin_of_kind kind.Integer text = cond (nat_le (digits_value 10 text) last_instant) (Some (digits_value 10 text)) None
 origin_of_kind kind.String text = instant text
 origin_of_kind _ text = None
 

@@ -73,4 +73,4 @@ returns-in-Err-work g c =
 
 pub returns-in-Err : goal.returns-in-Err
 returns-in-Err g c =
-    record { log = read_failed _ _ _ _ _ _ _ _ _ c.reads.invariant c.in-Err.ensures.bytes c.in-Err.ensures.given c.in-Err.ensures.cause.1 (λ sure. true≢false (sym (c.in-Err.ensures.sure sure))) }
+    record { log = read_failed c.requires.prefix _ _ _ _ _ _ _ _ _ c.reads.invariant c.in-Err.ensures.bytes c.in-Err.ensures.given c.in-Err.ensures.cause.1 (λ sure. true≢false (sym (c.in-Err.ensures.sure sure))) }
