@@ -1,1 +1,3 @@
 mod NumberingRows
+pub mod Shapes
+pub mod Assembling

@@ -1,5 +1,5 @@
 -- Definitions: what is counted of a query as it is written, and the first limit that it passes.
-use Rattle.std.specs.Prelude.{ℕ, suc, ◌+◌, Bool, true, ◌&&◌, cond, nat_lt, nat_le, List, [], ◌∷◌, Option, None, Some, map, unwrap_or, length, sum}
+use Rattle.std.specs.Prelude.{ℕ, suc, ◌+◌, ◌-◌, Bool, true, ◌&&◌, cond, nat_lt, nat_le, List, [], ◌∷◌, Option, None, Some, map, unwrap_or, length}
 use Rattle.std.specs.List.{list_all}
 use Rattle.rsp_spec.specs.Windows.{last_instant}
 use Rattle.rsp_query.specs.Paths.{Way, Ways}
@@ -21,8 +21,8 @@ abbrev mutual
   operators (written.variable x) = 0
   operators (written.iri x) = 0
   operators (written.constant t) = 0
-  operators (written.any_of parts) = operators_between parts
-  operators (written.all_of parts) = operators_between parts
+  operators (written.any_of parts) = operators_following parts - 1
+  operators (written.all_of parts) = operators_following parts - 1
   operators (written.compared s left right) = suc (operators left + operators right)
   operators (written.member negated item items) = suc (operators item + operators_among items)
   operators (written.sum first others) = operators first + operators_behind others
@@ -37,11 +37,7 @@ abbrev mutual
   operators_among written.no_expr = 0
   operators_among (written.expr_then e more) = operators e + operators_among more
 
-  -- of parts with a sign between
-  pub operators_between : Exprs → ℕ
-  operators_between written.no_expr = 0
-  operators_between (written.expr_then e more) = operators e + operators_following more
-
+  -- each with a sign before it
   pub operators_following : Exprs → ℕ
   operators_following written.no_expr = 0
   operators_following (written.expr_then e more) = suc (operators e + operators_following more)
@@ -53,6 +49,10 @@ abbrev mutual
 abbrev pub item_operators : Item → ℕ
 item_operators (written.shown x) = 0
 item_operators (written.computed e x) = operators e
+
+abbrev pub items_operators : List Item → ℕ
+items_operators [] = 0
+items_operators (item ∷ more) = item_operators item + items_operators more
 
 abbrev pub having_operators : Option Expr → ℕ
 having_operators None = 0
@@ -82,8 +82,8 @@ abbrev mutual
 
   pub select_operators : Selected → ℕ
   select_operators (written.selected distinct projection body keys having) =
-      (sum (map item_operators (items_in projection)) + group_operators body)
-      + (sum (map item_operators keys) + having_operators having)
+      (items_operators (items_in projection) + group_operators body)
+      + (items_operators keys + having_operators having)
 
 -- ---- triple patterns, one for each step of a path, and the `/` of paths
 
@@ -102,17 +102,14 @@ abbrev mutual
   pub slashes : Way → ℕ
   slashes (path.step s) = 0
   slashes (path.inverse way) = slashes way
-  slashes (path.sequence ways) = slashes_between ways
+  slashes (path.sequence ways) = slashes_following ways - 1
   slashes (path.choice ways) = slashes_among ways
 
   pub slashes_among : Ways → ℕ
   slashes_among path.no_way = 0
   slashes_among (path.way_then way more) = slashes way + slashes_among more
 
-  pub slashes_between : Ways → ℕ
-  slashes_between path.no_way = 0
-  slashes_between (path.way_then way more) = slashes way + slashes_following more
-
+  -- each with a `/` before it
   pub slashes_following : Ways → ℕ
   slashes_following path.no_way = 0
   slashes_following (path.way_then way more) = suc (slashes way + slashes_following more)
@@ -137,22 +134,22 @@ rows_of_values (query.values variables rows) = length rows
 rows_of_values _ = 0
 
 abbrev mutual
-  pub counted : (Part → ℕ) → Part → ℕ
-  counted f (query.triple subject verb object) = f (query.triple subject verb object)
-  counted f (query.optional body) = f (query.optional body) + counted_group f body
-  counted f (query.minus body) = f (query.minus body) + counted_group f body
-  counted f (query.union groups) = f (query.union groups) + counted_groups f groups
-  counted f (query.graph name place body) = f (query.graph name place body) + counted_group f body
-  counted f (query.window name place body) = f (query.window name place body) + counted_group f body
-  counted f (query.filter e) = f (query.filter e)
-  counted f (query.exists negated place body) = f (query.exists negated place body) + counted_group f body
-  counted f (query.bind v e) = f (query.bind v e)
-  counted f (query.values variables rows) = f (query.values variables rows)
-  counted f (query.sub inner) = f (query.sub inner) + counted_select f inner
+  pub counted_inside : (Part → ℕ) → Part → ℕ
+  counted_inside f (query.triple subject verb object) = 0
+  counted_inside f (query.optional body) = counted_group f body
+  counted_inside f (query.minus body) = counted_group f body
+  counted_inside f (query.union groups) = counted_groups f groups
+  counted_inside f (query.graph name place body) = counted_group f body
+  counted_inside f (query.window name place body) = counted_group f body
+  counted_inside f (query.filter e) = 0
+  counted_inside f (query.exists negated place body) = counted_group f body
+  counted_inside f (query.bind v e) = 0
+  counted_inside f (query.values variables rows) = 0
+  counted_inside f (query.sub inner) = counted_select f inner
 
   pub counted_group : (Part → ℕ) → Parts → ℕ
   counted_group f query.no_part = 0
-  counted_group f (query.part_then part more) = counted f part + counted_group f more
+  counted_group f (query.part_then part more) = (f part + counted_inside f part) + counted_group f more
 
   pub counted_groups : (Part → ℕ) → Groups → ℕ
   counted_groups f query.no_group = 0
@@ -160,6 +157,9 @@ abbrev mutual
 
   pub counted_select : (Part → ℕ) → Selection → ℕ
   counted_select f (query.selection distinct star items body grouped keys having aggregates) = counted_group f body
+
+abbrev pub counted : (Part → ℕ) → Part → ℕ
+counted f part = f part + counted_inside f part
 
 -- ---- spans and instants
 

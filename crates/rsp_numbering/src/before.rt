@@ -1,5 +1,5 @@
 // What stands before a place of a query's text.
-ghost use Rattle.std.specs.Prelude.{◌≡◌, IfOk, OnOk, [], length};
+ghost use Rattle.std.specs.Prelude.{◌≡◌, IfOk, OnOk, length, map};
 ghost use Rattle.rsp_numbering.specs.Naming as naming;
 
 use crate::Variable;
@@ -79,6 +79,45 @@ impl Before {
         let number = self.selects;
         self.selects = number.checked_add(1).ok_or(AllocError)?;
         Ok(number)
+    }
+
+    /// How many variables there are.
+    pub fn len(&self) -> usize
+        ensures { result ≡ length self.now.variables }
+    {
+        self.variables.len()
+    }
+
+    /// What the variables are called, by their numbers. Fails only where memory is refused.
+    pub fn texts(&self, alloc: Global) -> Result<Vec<Text>, AllocError>
+        ensures { IfOk result (λ texts. texts.items ≡ map naming.variable_text self.now.variables) }
+    {
+        texts_of(alloc, self.variables.as_slice())
+    }
+}
+
+fn texts_of(alloc: Global, variables: &[Variable]) -> Result<Vec<Text>, AllocError>
+    ensures { IfOk result (λ texts. texts.items ≡ map naming.variable_text variables.now) }
+{
+    let mut texts = Vec::new(alloc);
+    for variable in variables {
+        texts.push(text_of(alloc, variable)?)?;
+    }
+    Ok(texts)
+}
+
+// what has no name in the text is called by what no variable can be
+fn text_of(alloc: Global, variable: &Variable) -> Result<Text, AllocError>
+    ensures { IfOk result (λ text. text ≡ naming.variable_text variable.now) }
+{
+    match variable {
+        Variable::Name { name, .. } => name.share(),
+        Variable::Label(label) => {
+            let text = format!(in alloc; "_:{label}")?;
+            Text::new(alloc, text.as_str())
+        }
+        Variable::Bracket(_) => Text::new(alloc, "[]"),
+        Variable::Aggregate(_) => Text::new(alloc, "()"),
     }
 }
 

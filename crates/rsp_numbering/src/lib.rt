@@ -7,11 +7,14 @@
 
 mod before;
 mod clauses;
+mod counts;
 mod expressions;
 mod groups;
 mod items;
 mod limit;
+mod operators;
 mod paths;
+mod query;
 mod scopes;
 mod triples;
 mod variable;
@@ -19,5 +22,6 @@ mod words;
 
 pub use before::Before;
 pub use limit::LimitName;
+pub use query::query_of;
 pub use scopes::Scope;
 pub use variable::Variable;

@@ -1,0 +1,30 @@
+-- The limit and the query of a text, from what its parts are.
+use Rattle.std.proofs.Common.{◌≡◌, ℕ, List, [], Option, refl, length, map}
+use Rattle.rsp_report.specs.declared.words.PolicyWords.{PolicyWords}
+use Rattle.rsp_streams_out.specs.declared.operator.Operator.{Operator}
+use Rattle.rsp_query.specs.declared.query.WindowClause.{WindowClause}
+use Rattle.rsp_query.specs.Groups.{Selection}
+use Rattle.rsp_query.specs.Queries.{Registered}
+use Rattle.rsp_written.specs.Trees.{Written}
+use Rattle.rsp_numbering.specs.Naming.{Before, nothing, variable_text}
+use Rattle.rsp_numbering.specs.Selections.{behind_selected, selected_of}
+use Rattle.rsp_numbering.specs.Clauses.{operator_of}
+use Rattle.rsp_numbering.specs.Limits.{passed_by_counts, select_operators}
+use Rattle.rsp_numbering.specs.Results.{limit_behind, query_behind}
+use Rattle.rsp_numbering.specs.declared.limit.LimitName.{LimitName}
+
+pub limit_is : (w : Written) (variables : ℕ) (selection : Selection) (signs : ℕ) (before after : Before) (name : Option LimitName)
+    → before ≡ nothing → selection ≡ selected_of [] before w.select → after ≡ behind_selected [] before w.select
+    → variables ≡ length after.variables → signs ≡ select_operators w.select
+    → name ≡ passed_by_counts variables selection signs → limit_behind w ≡ name
+limit_is w variables selection signs before after name start chosen behind count marks is =
+    rw (is, count, marks, chosen, behind, start) refl
+
+pub query_is : (w : Written) (policy : PolicyWords) (windows : List WindowClause) (operator : Operator) (output : List ℕ)
+    (selection : Selection) (variables : List (List ℕ)) (before after : Before)
+    → before ≡ nothing → selection ≡ selected_of [] before w.select → after ≡ behind_selected [] before w.select
+    → operator ≡ operator_of w.operator → output ≡ w.output → variables ≡ map variable_text after.variables
+    → record { operator = operator; output = output; policy = policy; windows = windows; selection = selection; variables = variables }
+    ≡ query_behind w policy windows
+query_is w policy windows operator output selection variables before after start chosen behind turn name texts =
+    rw (texts, turn, name, chosen, behind, start) refl

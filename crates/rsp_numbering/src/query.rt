@@ -1,0 +1,86 @@
+// The query that a text is, within the limits.
+ghost use Rattle.std.specs.Prelude.{◌≡◌, IfOk};
+ghost use Rattle.rsp_query.specs.Groups.{selection_of};
+ghost use Rattle.rsp_written.specs.GroupMeanings as written;
+ghost use Rattle.rsp_numbering.specs.Limits as limits;
+ghost use Rattle.rsp_numbering.specs.Results.{IsNumbered, IsNumberedBehind};
+
+use crate::clauses::{has_periods, operator_of, policy_of, windows_of};
+use crate::counts::{Count, in_select};
+use crate::groups::select;
+use crate::operators::{of_select, plus};
+use crate::{Before, LimitName};
+use rsp_query::{PolicyWords, Query, Select, WindowClause};
+use rsp_written::Registration;
+use std::alloc::{AllocError, Global};
+
+/// The query that a text is as the algebra takes it, or the first limit that it passes. Fails only where memory is refused.
+pub fn query_of(alloc: Global, text: &Registration) -> Result<Result<Query, LimitName>, AllocError>
+    ensures { IfOk result (IsNumbered (written.written_of text.now)) }
+{
+    if 16 < text.windows.len() {
+        return Ok(Err(LimitName::Windows));
+    }
+    if !has_periods(&text.policy) {
+        return Ok(Err(LimitName::Span));
+    }
+    let policy = policy_of(alloc, &text.policy)?;
+    match windows_of(alloc, &policy, &text.windows)? {
+        None => Ok(Err(LimitName::Span)),
+        Some(windows) => query_behind_windows(alloc, text, policy, windows),
+    }
+}
+
+fn query_behind_windows(
+    alloc: Global,
+    text: &Registration,
+    policy: PolicyWords,
+    windows: Vec<WindowClause>,
+) -> Result<Result<Query, LimitName>, AllocError>
+    ensures { IfOk result (IsNumberedBehind (written.written_of text.now) policy windows.items) }
+{
+    let mut before = Before::new(alloc);
+    let select = select(alloc, &[], &mut before, &text.select)?;
+    let signs = of_select(&text.select)?;
+    match passed_by_counts(before.len(), &select, signs)? {
+        Some(name) => Ok(Err(name)),
+        None => {
+            let output = text.output.share()?;
+            let variables = before.texts(alloc)?;
+            Ok(Ok(Query {
+                operator: operator_of(text.operator),
+                output,
+                policy,
+                windows,
+                select,
+                variables,
+            }))
+        }
+    }
+}
+
+fn passed_by_counts(
+    variables: usize,
+    select: &Select,
+    signs: usize,
+) -> Result<Option<LimitName>, AllocError>
+    ensures { IfOk result (λ name. name ≡ limits.passed_by_counts variables (selection_of select.now) signs) }
+{
+    let slashes = in_select(Count::Slashes, select)?;
+    if 64 < plus(variables, slashes)? {
+        return Ok(Some(LimitName::Variables));
+    }
+    if 64 < in_select(Count::Steps, select)? {
+        return Ok(Some(LimitName::Patterns));
+    }
+    if 512 < signs {
+        return Ok(Some(LimitName::Operators));
+    }
+    if 256 < in_select(Count::Elements, select)? {
+        return Ok(Some(LimitName::Elements));
+    }
+    if 4_096 < in_select(Count::Rows, select)? {
+        return Ok(Some(LimitName::Rows));
+    }
+    Ok(None)
+}
