@@ -1,3 +1,4 @@
 pub mod Differing
+pub mod Fronts
 pub mod ReadBack
 pub mod Sizes

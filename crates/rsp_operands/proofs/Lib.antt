@@ -1,3 +1,4 @@
 pub mod JoinedTexts
+pub mod SameTerms
 pub mod TermOrder
 pub mod TwoTerms

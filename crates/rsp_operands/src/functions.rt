@@ -5,6 +5,7 @@ ghost use Rattle.rsp_expr.specs.Functions.{calculation, unary_value, binary_valu
 ghost use Rattle.rsp_operands.specs.Operands.{term_for, value_for};
 
 use crate::operand::Operand;
+use crate::same::same_term;
 use crate::{literals, texts};
 use rsp_expr::{Function, Sign};
 use rsp_number::{Number, abs, add, ceil, div, floor, mul, neg, round, sub};
@@ -102,7 +103,7 @@ pub fn binary_value(
     ensures { IfOk result (λ value. value_for value ≡ binary_value function (term_for first) (term_for second)) }
 {
     match function {
-        Function::SameTerm => literals::is_same_term(alloc, first, second),
+        Function::SameTerm => Ok(same_term(first, second)),
         Function::StrDt => Ok(literals::typed_literal(first, second)),
         Function::StrLang => Ok(literals::language_literal(first, second)),
         Function::Substr => texts::part_from(alloc, &first, &second),

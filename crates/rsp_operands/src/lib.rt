@@ -12,6 +12,7 @@ mod joining;
 mod literals;
 mod operand;
 mod order;
+mod same;
 mod texts;
 
 pub use comparing::{comparison, equality};

@@ -126,20 +126,6 @@ pub(crate) fn language_literal(text: Operand, tag: Operand) -> Option<Operand>
     }
 }
 
-/// sameTerm. Two terms are compared as they stand; for what is none yet, a term is made. Fails only where memory is
-/// refused.
-pub(crate) fn is_same_term(
-    alloc: Global,
-    left: Operand,
-    right: Operand,
-) -> Result<Option<Operand>, AllocError>
-    ensures { IfOk result (λ value. value_for value ≡ binary_value function.SameTerm (term_for left) (term_for right)) }
-{
-    let left = left.into_term(alloc)?;
-    let right = right.into_term(alloc)?;
-    Ok(Some(Operand::Boolean(left == right)))
-}
-
 // the text of a string
 fn string_in(operand: Operand) -> Option<Text>
     ensures { result ≡ string_of_term (term_for operand) }

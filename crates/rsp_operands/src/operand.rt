@@ -161,8 +161,8 @@ fn written_term(term: &Term) -> Option<Written<'_>>
     }
 }
 
-// the number that its literal has, which is itself
-fn read_back(number: &Number) -> Number
+/// The number that its literal has, which is itself.
+pub(crate) fn read_back(number: &Number) -> Number
     ensures value { result ≡ number.now }
     ensures read { number_of_term (numeral_literal number.now) ≡ Some number.now }
 {

@@ -2,6 +2,7 @@
 use crate::notation::{constant, expression};
 use rsp_expr::Expression;
 use rsp_multiset::Row;
+use rsp_operands::compare_terms;
 use rsp_terms::Term;
 use rsp_values::{truth, value};
 use std::alloc::{AllocError, Global};
@@ -203,6 +204,19 @@ COALESCE/0 => error
 1|1.0|sameTerm/2 => false
 ^double:1e0|^double:1e0|sameTerm/2 => true
 1|2|+|3|sameTerm/2 => true
+1|2|+|03|sameTerm/2 => false
+1|2|+|^decimal:3|sameTerm/2 => false
+^decimal:0.125|1|8|/|sameTerm/2 => true
+^decimal:-0.125|-1|8|/|sameTerm/2 => true
+^decimal:.125|1|8|/|sameTerm/2 => false
+^decimal:+.125|1|8|/|sameTerm/2 => false
+1|8|/|^decimal:0.1250|sameTerm/2 => false
+1|8|/|1|4|/|sameTerm/2 => false
+1|8|/|2|16|/|sameTerm/2 => true
+1|1|=|true|sameTerm/2 => true
+1|1|=|^boolean:1|sameTerm/2 => false
+@en:a|STR/1|"a|sameTerm/2 => true
+"1|STR/1|1|1|*|sameTerm/2 => false
 ?1|1|sameTerm/2 => error
 <a:1>|isIRI/1 => true
 "a:1|isIRI/1 => false
@@ -354,7 +368,10 @@ const CONDITIONS: &str = r#"?0|1|>|?1|1|=|!?1|not|or/3
 ?0|isNumeric/1|?0|isLiteral/1|?0|2|sameTerm/2|and/3
 <a:1>|STR/1|"a:1|=|"a|STRLEN/1|1|=|and/2
 @en:a|LANG/1|"EN|LANGMATCHES/2
-?1|?0|COALESCE/2|?0|IF/2|not|?0|2|=|or/2"#;
+?1|?0|COALESCE/2|?0|IF/2|not|?0|2|=|or/2
+?0|1|+|3|sameTerm/2|1|-8|/|-0.125|sameTerm/2|1|2|+|4|1|-|sameTerm/2|and/3
+1|2|+|03|sameTerm/2|1|8|/|.125|sameTerm/2|?0|2|=|false|sameTerm/2|or/3|not
+@en:a|STR/1|"a|sameTerm/2|@en:a|LANG/1|"en|sameTerm/2|and/2"#;
 
 fn conditions(alloc: Global) -> Result<Vec<Expression>, Fail> {
     let mut conditions = Vec::new(alloc);
@@ -370,7 +387,7 @@ fn conditions(alloc: Global) -> Result<Vec<Expression>, Fail> {
 fn conditions_are_made(rt: HostRuntime) -> Result<(), Fail> {
     let row = row(rt.alloc())?;
     let conditions = conditions(rt.alloc())?;
-    assert_eq!(rt; (row.cells().len(), conditions.len()), (2, 8));
+    assert_eq!(rt; (row.cells().len(), conditions.len()), (2, 11));
     Ok(())
 }
 
@@ -379,6 +396,43 @@ fn conditions_are_true_without_memory(rt: HostRuntime) -> Result<(), Fail> {
     let row = row(rt.alloc())?;
     for condition in conditions(rt.alloc())? {
         assert!(rt; truth(rt.alloc(), &condition, &row)?);
+    }
+    Ok(())
+}
+
+// each term of a line stands before all behind it: numbers by value and not as texts, equal ones by their texts
+const ORDERED: &str = r#"_:a|_:b|<a:10>|<a:1>|<a:2>|-5|"a|@en:a|"b
+-10|-9|-2|-1|0|1|2|9|10|100
+-10.5|-2.5|-1|0.5|2.5|9|9.5|10
+1|1.5|^byte:2|10|^decimal:11
+010|10|10.0
+^integer:5|^decimal:50|^double:1|^byte:200|^integer:x
+_:b|<a:1>|10|"1|"10|"9"#;
+
+fn terms(alloc: Global, line: &str) -> Result<Vec<Term>, Fail> {
+    let mut terms = Vec::new(alloc);
+    for word in line.split('|') {
+        terms.push(constant(alloc, word)?.ok_or("no term")?)?;
+    }
+    Ok(terms)
+}
+
+fn is_in_order(alloc: Global, terms: &[Term]) -> Result<bool, Fail> {
+    for (place, left) in terms.iter().enumerate() {
+        for (other, right) in terms.iter().enumerate() {
+            if compare_terms(alloc, left, right)? != place.cmp(&other) {
+                return Ok(false);
+            }
+        }
+    }
+    Ok(true)
+}
+
+#[test]
+fn terms_in_order(rt: HostRuntime) -> Result<(), Fail> {
+    for line in ORDERED.lines() {
+        let terms = terms(rt.alloc(), line)?;
+        assert!(rt; is_in_order(rt.alloc(), &terms)?);
     }
     Ok(())
 }

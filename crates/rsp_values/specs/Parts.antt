@@ -6,6 +6,32 @@ use Rattle.rsp_expr.specs.Formulas.{formulas_in, formula_of}
 use Rattle.rsp_expr.specs.Values.{values}
 use Rattle.rsp_expr.specs.declared.expression.Expression.{Expression}
 use Rattle.rsp_multiset.specs.Rows.{Cells}
+use Rattle.rsp_operands.specs.Operands.{term_for}
+use Rattle.rsp_operands.specs.declared.operand.Operand.{Operand}
+
+-- the values of expressions in a row
+abbrev pub argument_values : List Expression → Cells Term → List (Option Term)
+argument_values arguments row = values (formulas_in (map formula_of arguments)) row
+
+-- two values, where neither is an error
+abbrev pub both_values : Option Term → Option Term → Option (Term × Term)
+both_values None right = None
+both_values (Some left) None = None
+both_values (Some left) (Some right) = Some (left, right)
+
+abbrev pub terms_for : Option (Operand × Operand) → Option (Term × Term)
+terms_for None = None
+terms_for (Some both) = Some (term_for both.0, term_for both.1)
+
+-- what they give, and what they give with a third
+abbrev pub of_two : {A : Type 0} → (Term → Term → Option A) → Option (Term × Term) → Option A
+of_two f None = None
+of_two f (Some both) = f both.0 both.1
+
+abbrev pub of_third : {A : Type 0} → (Term → Term → Term → Option A) → Option (Term × Term) → Option Term → Option A
+of_third f None third = None
+of_third f (Some both) None = None
+of_third f (Some both) (Some third) = f both.0 both.1 third
 
 -- `||` or `&&`, by the value that decides it
 abbrev pub connective : Bool → List (Option Bool) → Option Bool
@@ -18,7 +44,3 @@ connection deciding first second = cond deciding (logical_or first second) (logi
 -- what the parts so far are worth where none decides: an error where one of them was one
 abbrev pub undecided : Bool → Bool → Option Bool
 undecided deciding erred = cond erred None (Some (not deciding))
-
--- the values of expressions in a row
-abbrev pub argument_values : List Expression → Cells Term → List (Option Term)
-argument_values arguments row = values (formulas_in (map formula_of arguments)) row

@@ -1,24 +1,22 @@
 // The values of expressions.
-ghost use Rattle.std.specs.Prelude.{◌≡◌, ◌||◌, IfOk, Bool, not, is_some, Some, None, map, option_map, if◌then◌else◌};
-ghost use Rattle.rsp_expr.specs.Booleans.{truth_of, boolean_result, logical_not};
+ghost use Rattle.std.specs.Prelude.{◌≡◌, IfOk, Bool, Some, map, option_map};
+ghost use Rattle.std.specs.Option.{option_and_then};
+ghost use Rattle.rsp_expr.specs.Booleans.{truth_of, boolean_result};
 ghost use Rattle.rsp_expr.specs.Comparing as comparing;
-ghost use Rattle.std.specs.Bool.{beq};
-ghost use Rattle.std.specs.Option.{option_and_then, option_eq};
 ghost use Rattle.rsp_expr.specs.Errors.{value_of_both, all_values, first_value};
 ghost use Rattle.rsp_expr.specs.Formulas.{formula_of};
 ghost use Rattle.rsp_expr.specs.Functions as functions;
+ghost use Rattle.rsp_expr.specs.Values.{value, truth as passes};
 ghost use Rattle.rsp_operands.specs.Operands.{term_for, value_for};
-ghost use Rattle.rsp_values.specs.Parts.{connective, undecided, argument_values};
-ghost use Rattle.rsp_expr.specs.Values.{cell, value, truth as passes};
-ghost use Rattle.rsp_multiset.specs.Rows.{Cells};
-ghost use Rattle.rsp_terms.specs.declared.term.Term.{Term};
+ghost use Rattle.rsp_values.specs.Parts.{argument_values, both_values, terms_for, connective};
 
-use rsp_expr::{Expression, Function};
-use rsp_multiset::Row;
-use rsp_operands::{
-    Operand, arithmetic, binary_value, comparison, concatenation, equality, ternary_value,
-    unary_minus, unary_plus, unary_value,
+use crate::nodes;
+use crate::nodes::{
+    boolean, decides, either, equals, membership, truth_of, undecided, without_item,
 };
+use rsp_expr::{Expression, Function, Sign};
+use rsp_multiset::Row;
+use rsp_operands::{Operand, arithmetic, comparison, concatenation};
 use rsp_terms::Term;
 use std::alloc::{AllocError, Global};
 
@@ -46,42 +44,6 @@ pub fn truth(alloc: Global, expression: &Expression, row: &Row<Term>) -> Result<
     Ok(truth_of(operand).unwrap_or(false))
 }
 
-fn truth_of(operand: Option<Operand>) -> Option<bool>
-    ensures { result ≡ truth_of (value_for operand) }
-{
-    match operand {
-        None => None,
-        Some(operand) => operand.truth(),
-    }
-}
-
-fn boolean(truth: Option<bool>) -> Option<Operand>
-    ensures { value_for result ≡ boolean_result truth }
-{
-    match truth {
-        None => None,
-        Some(truth) => Some(Operand::Boolean(truth)),
-    }
-}
-
-fn cell(row: &[Option<Term>], variable: usize) -> Result<Option<Operand>, AllocError>
-    ensures { IfOk result (λ operand. value_for operand ≡ cell row.now variable) }
-{
-    match row.get(variable) {
-        Some(Some(term)) => Ok(Some(Operand::Term(term.share()?))),
-        _ => Ok(None),
-    }
-}
-
-fn is_bound(row: &[Option<Term>], variable: usize) -> bool
-    ensures { result ≡ is_some (cell row.now variable) }
-{
-    match row.get(variable) {
-        Some(Some(_)) => true,
-        _ => false,
-    }
-}
-
 #[cycle(evaluation)]
 fn evaluate(
     alloc: Global,
@@ -91,23 +53,15 @@ fn evaluate(
     ensures { IfOk result (λ operand. value_for operand ≡ value (formula_of expression.now) row.now) }
 {
     match expression {
-        Expression::Variable(variable) => cell(row, *variable),
-        Expression::Constant(term) => Ok(Some(Operand::Term(term.share()?))),
-        Expression::Or(parts) => Ok(boolean(connected(alloc, true, parts, row)?)),
-        Expression::And(parts) => Ok(boolean(connected(alloc, false, parts, row)?)),
-        Expression::Not(part) => {
-            let truth = truth_of(evaluate(alloc, part, row)?);
-            Ok(boolean(truth.map(|truth| !truth)))
-        }
-        Expression::Compare { sign, left, right } => {
-            let Some(left) = evaluate(alloc, left, row)? else {
-                return Ok(None);
-            };
-            let Some(right) = evaluate(alloc, right, row)? else {
-                return Ok(None);
-            };
-            Ok(boolean(comparison(*sign, &left, &right)))
-        }
+        Expression::Variable(variable) => nodes::cell(row, *variable),
+        Expression::Constant(term) => nodes::constant(term),
+        Expression::Or(parts) => connected(alloc, true, parts, row),
+        Expression::And(parts) => connected(alloc, false, parts, row),
+        Expression::Not(part) => Ok(nodes::negation(evaluate(alloc, part, row)?)),
+        Expression::Compare { sign, left, right } => match evaluate(alloc, left, row)? {
+            None => Ok(None),
+            Some(left) => compared(alloc, *sign, left, right, row),
+        },
         Expression::Member {
             negated,
             item,
@@ -117,32 +71,57 @@ fn evaluate(
                 return Ok(Some(Operand::Boolean(*negated)));
             }
             match evaluate(alloc, item, row)? {
-                None => Ok(boolean(turned(*negated, without_item(list)))),
-                Some(item) => Ok(boolean(turned(*negated, among(alloc, &item, list, row)?))),
+                None => Ok(membership(*negated, without_item(list))),
+                Some(item) => Ok(membership(*negated, among(alloc, &item, list, row)?)),
             }
         }
-        Expression::Arithmetic { sign, left, right } => {
-            let Some(left) = evaluate(alloc, left, row)? else {
-                return Ok(None);
-            };
-            let Some(right) = evaluate(alloc, right, row)? else {
-                return Ok(None);
-            };
-            Ok(arithmetic(*sign, &left, &right))
-        }
-        Expression::Negate(part) => match evaluate(alloc, part, row)? {
+        Expression::Arithmetic { sign, left, right } => match evaluate(alloc, left, row)? {
             None => Ok(None),
-            Some(operand) => Ok(unary_minus(&operand)),
+            Some(left) => calculated(alloc, *sign, left, right, row),
         },
-        Expression::Plus(part) => match evaluate(alloc, part, row)? {
-            None => Ok(None),
-            Some(operand) => Ok(unary_plus(&operand)),
-        },
-        Expression::Bound(variable) => Ok(Some(Operand::Boolean(is_bound(row, *variable)))),
+        Expression::Negate(part) => Ok(nodes::unary_minus(evaluate(alloc, part, row)?)),
+        Expression::Plus(part) => Ok(nodes::unary_plus(evaluate(alloc, part, row)?)),
+        Expression::Bound(variable) => Ok(nodes::bound(row, *variable)),
         Expression::Call {
             function,
             arguments,
         } => call(alloc, *function, arguments, row),
+    }
+}
+
+// an operator that compares, of a value and another
+#[cycle(evaluation)]
+fn compared(
+    alloc: Global,
+    sign: Sign,
+    left: Operand,
+    right: &Expression,
+    row: &[Option<Term>],
+) -> Result<Option<Operand>, AllocError>
+    ensures { IfOk result (λ operand. value_for operand ≡ boolean_result
+        (value_of_both (comparing.comparison sign) (Some (term_for left)) (value (formula_of right.now) row.now))) }
+{
+    match evaluate(alloc, right, row)? {
+        None => Ok(None),
+        Some(right) => Ok(boolean(comparison(sign, &left, &right))),
+    }
+}
+
+// an operator of arithmetic, of a value and another
+#[cycle(evaluation)]
+fn calculated(
+    alloc: Global,
+    sign: Sign,
+    left: Operand,
+    right: &Expression,
+    row: &[Option<Term>],
+) -> Result<Option<Operand>, AllocError>
+    ensures { IfOk result (λ operand. value_for operand
+        ≡ value_of_both (functions.arithmetic sign) (Some (term_for left)) (value (formula_of right.now) row.now)) }
+{
+    match evaluate(alloc, right, row)? {
+        None => Ok(None),
+        Some(right) => Ok(arithmetic(sign, &left, &right)),
     }
 }
 
@@ -153,42 +132,22 @@ fn connected(
     deciding: bool,
     parts: &[Expression],
     row: &[Option<Term>],
-) -> Result<Option<bool>, AllocError>
-    ensures { IfOk result (λ truth. truth ≡ connective deciding (map truth_of (argument_values parts.now row.now))) }
+) -> Result<Option<Operand>, AllocError>
+    ensures { IfOk result (λ operand. value_for operand
+        ≡ boolean_result (connective deciding (map truth_of (argument_values parts.now row.now)))) }
 {
     let mut erred = false;
     for part in parts {
         let truth = truth_of(evaluate(alloc, part, row)?);
         if decides(deciding, truth) {
-            return Ok(Some(deciding));
+            return Ok(Some(Operand::Boolean(deciding)));
         }
         erred = either(erred, truth.is_none());
     }
-    Ok(undecided(deciding, erred))
+    Ok(boolean(undecided(deciding, erred)))
 }
 
-fn decides(deciding: bool, truth: Option<bool>) -> bool
-    ensures { result ≡ option_eq beq truth (Some deciding) }
-{
-    match truth {
-        None => false,
-        Some(truth) => truth == deciding,
-    }
-}
-
-fn either(first: bool, second: bool) -> bool
-    ensures { result ≡ (first || second) }
-{
-    first || second
-}
-
-fn undecided(deciding: bool, erred: bool) -> Option<bool>
-    ensures { result ≡ undecided deciding erred }
-{
-    if erred { None } else { Some(!deciding) }
-}
-
-// IN of a value
+// whether a value is equal to one of the members
 #[cycle(evaluation)]
 fn among(
     alloc: Global,
@@ -207,32 +166,6 @@ fn among(
         erred = either(erred, truth.is_none());
     }
     Ok(undecided(true, erred))
-}
-
-fn equals(item: &Operand, other: Option<Operand>) -> Option<bool>
-    ensures { result ≡ value_of_both comparing.equality (Some (term_for item.now)) (value_for other) }
-{
-    match other {
-        None => None,
-        Some(other) => equality(item, &other),
-    }
-}
-
-// IN of an error
-fn without_item(list: &[Expression]) -> Option<bool>
-    ensures { (row : Cells Term) → result ≡ comparing.member_truth None (argument_values list.now row) }
-{
-    if list.is_empty() { Some(false) } else { None }
-}
-
-fn turned(negated: bool, truth: Option<bool>) -> Option<bool>
-    ensures { result ≡ (if negated then logical_not truth else truth) }
-{
-    if negated {
-        truth.map(|truth| !truth)
-    } else {
-        truth
-    }
 }
 
 #[cycle(evaluation)]
@@ -325,34 +258,35 @@ fn applied(
         ≡ option_and_then (functions.value_by_number function) (all_values (argument_values arguments.now row.now))) }
 {
     match arguments {
-        [first] => {
-            let Some(first) = evaluate(alloc, first, row)? else {
-                return Ok(None);
-            };
-            unary_value(alloc, function, first)
-        }
-        [first, second] => {
-            let Some(first) = evaluate(alloc, first, row)? else {
-                return Ok(None);
-            };
-            let Some(second) = evaluate(alloc, second, row)? else {
-                return Ok(None);
-            };
-            binary_value(alloc, function, first, second)
-        }
-        [first, second, third] => {
-            let Some(first) = evaluate(alloc, first, row)? else {
-                return Ok(None);
-            };
-            let Some(second) = evaluate(alloc, second, row)? else {
-                return Ok(None);
-            };
-            let Some(third) = evaluate(alloc, third, row)? else {
-                return Ok(None);
-            };
-            ternary_value(alloc, function, first, second, third)
-        }
+        [first] => nodes::unary(alloc, function, evaluate(alloc, first, row)?),
+        [first, second] => match evaluate(alloc, first, row)? {
+            None => Ok(None),
+            Some(first) => { nodes::binary(alloc, function, beside(alloc, first, second, row)?) }
+        },
+        [first, second, third] => match evaluate(alloc, first, row)? {
+            None => Ok(None),
+            Some(first) => match beside(alloc, first, second, row)? {
+                None => Ok(None),
+                Some(two) => nodes::ternary(alloc, function, two, evaluate(alloc, third, row)?),
+            },
+        },
         [] => Ok(None),
         [_, _, _, _, ..] => Ok(None),
+    }
+}
+
+// a value and another, where that is no error
+#[cycle(evaluation)]
+fn beside(
+    alloc: Global,
+    left: Operand,
+    right: &Expression,
+    row: &[Option<Term>],
+) -> Result<Option<(Operand, Operand)>, AllocError>
+    ensures { IfOk result (λ both. terms_for both ≡ both_values (Some (term_for left)) (value (formula_of right.now) row.now)) }
+{
+    match evaluate(alloc, right, row)? {
+        None => Ok(None),
+        Some(right) => Ok(Some((left, right))),
     }
 }

@@ -5,5 +5,6 @@
 #![tactic(auto)]
 
 mod evaluation;
+mod nodes;
 
 pub use evaluation::{truth, value};

@@ -1,6 +1,6 @@
 use Rattle.std.proofs.Common.{rules, ◌≡◌, false, length, ◌==◌}
 use Rattle.rsp_values.proofs.OtherLengths.{no_item}
-use Rattle.rsp_values.proofs.evaluation.without_item.Goals as goal
+use Rattle.rsp_values.proofs.nodes.without_item.Goals as goal
 
 pub returns-else-is_empty : goal.returns-else-is_empty
 returns-else-is_empty c row =
