@@ -18,7 +18,11 @@ use std::alloc::Global;
 // properties that hold themselves at most so deep
 #[cycle(properties)]
 #[tactic(auto, unfolding(crate::specs::Within::properties_within, rsp_phrases::specs::Readers::nested_read))]
-fn properties_at(depth: usize, alloc: Global, tokens: &[Said]) -> Result<(Vec<Property>, &[Said]), Halt>
+fn properties_at(
+    depth: usize,
+    alloc: Global,
+    tokens: &[Said],
+) -> Result<(Vec<Property>, &[Said]), Halt>
     ensures { Gives (λ x. (properties_of x.0.items, x.1.now)) result (properties_within depth tokens.now) }
 {
     if depth == 0 {
@@ -29,7 +33,11 @@ fn properties_at(depth: usize, alloc: Global, tokens: &[Said]) -> Result<(Vec<Pr
 
 #[cycle(properties)]
 #[tactic(auto, unfolding(rsp_written::specs::TripleReadings::properties_rule_read))]
-fn all_properties(depth: usize, alloc: Global, tokens: &[Said]) -> Result<(Vec<Property>, &[Said]), Halt>
+fn all_properties(
+    depth: usize,
+    alloc: Global,
+    tokens: &[Said],
+) -> Result<(Vec<Property>, &[Said]), Halt>
     ensures { Gives (λ x. (properties_of x.0.items, x.1.now)) result (readings.properties_rule_read (properties_within depth) tokens.now) }
 {
     let (first, rest) = property(depth, alloc, tokens)?;
@@ -98,7 +106,12 @@ fn property(depth: usize, alloc: Global, tokens: &[Said]) -> Result<(Property, &
 
 // `,` and an object, as often as they stand here
 #[cycle(properties)]
-fn more_objects(depth: usize, alloc: Global, before: Vec<Node>, tokens: &[Said]) -> Result<(Vec<Node>, &[Said]), Halt>
+fn more_objects(
+    depth: usize,
+    alloc: Global,
+    before: Vec<Node>,
+    tokens: &[Said],
+) -> Result<(Vec<Node>, &[Said]), Halt>
     ensures { Gives (λ x. (map node_of x.0.items, x.1.now)) result
         (gathered as_read (map node_of before.items)
         (repeated_read (sign_kinds symbol.Comma) (second_read (sign_read symbol.Comma) (readings.object_read (properties_within depth))) tokens.now)) }
@@ -117,7 +130,12 @@ fn more_objects(depth: usize, alloc: Global, before: Vec<Node>, tokens: &[Said])
 }
 
 #[cycle(properties)]
-fn another_object(depth: usize, alloc: Global, before: Vec<Node>, tokens: &[Said]) -> Result<(Vec<Node>, &[Said]), Halt>
+fn another_object(
+    depth: usize,
+    alloc: Global,
+    before: Vec<Node>,
+    tokens: &[Said],
+) -> Result<(Vec<Node>, &[Said]), Halt>
     ensures { Gives (λ x. (map node_of x.0.items, x.1.now)) result
         (gathered single (map node_of before.items) (second_read (sign_read symbol.Comma) (readings.object_read (properties_within depth)) tokens.now)) }
 {
