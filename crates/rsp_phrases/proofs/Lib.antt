@@ -9,3 +9,6 @@ pub mod Drawing
 pub mod DistinctLaws
 pub mod Seeing
 pub mod Loops
+pub mod LoopSteps
+pub mod Mapping
+pub mod Agreeing

@@ -3,3 +3,4 @@ pub mod Languages
 pub mod Exact
 -- Words of the way
 pub mod Readers
+pub mod Fronts
