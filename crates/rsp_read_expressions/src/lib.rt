@@ -16,3 +16,4 @@ mod rows;
 
 pub use aggregates::{aggregate_expression, aggregate_in_parens};
 pub use expressions::{call, expression, in_parens};
+pub use leaves::{begins_call, maybe_word};
