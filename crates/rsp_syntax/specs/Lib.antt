@@ -1,2 +1,3 @@
 -- Words of the way
 pub mod Clauses
+pub mod Inside

@@ -6,6 +6,9 @@
 //! `rsp_read_triples`, `rsp_read_expressions`, `rsp_read_registrations`, and `rsp_written`, which has the grammar.
 #![tactic(auto)]
 
+mod elements;
+mod groups;
 mod selects;
 
+pub use groups::group;
 pub use selects::{Clause, Tail, modifiers, select_clause};
