@@ -8,7 +8,9 @@
 
 mod elements;
 mod groups;
+mod queries;
 mod selects;
 
 pub use groups::group;
+pub use queries::read_query;
 pub use selects::{Clause, Tail, modifiers, select_clause};
