@@ -1,5 +1,5 @@
 -- A call that gives what the reader gives says what the reader's law says.
-use Rattle.std.proofs.Common.{◌≡◌, List, Result, Ok, Err, subst}
+use Rattle.std.proofs.Common.{List, Result, Ok, Err, subst}
 use Rattle.rsp_phrases.specs.Exact.{Reads}
 use Rattle.rsp_phrases.specs.Languages.{Language}
 use Rattle.rsp_phrases.specs.Readers.{Reading}

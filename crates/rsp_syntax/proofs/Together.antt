@@ -1,9 +1,9 @@
 -- Elements that are found together, and a group as deep as its tokens.
-use Rattle.std.proofs.Common.{◌≡◌, ℕ, suc, List, [], ◌∷◌, refl, length, cond, Option, Some, None}
+use Rattle.std.proofs.Common.{◌≡◌, List, [], ◌∷◌, refl, length, cond, Option, Some, None}
 use Rattle.std.specs.List.{flat_map}
 use Rattle.rsp_phrases.specs.Gathering.{Gathers}
 use Rattle.rsp_phrases.specs.Languages.{has}
-use Rattle.rsp_phrases.specs.Readers.{Reader, image, tied_from, start, nested_read, within_itself_read}
+use Rattle.rsp_phrases.specs.Readers.{image, tied_from, start, nested_read, within_itself_read}
 use Rattle.rsp_written.specs.declared.said.Said.{Said}
 use Rattle.rsp_written.specs.declared.said.Symbol.TheVariants as symbol
 use Rattle.rsp_written.specs.Grammar.{kind_number, numbers}

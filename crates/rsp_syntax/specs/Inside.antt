@@ -1,5 +1,5 @@
 -- Words of the way: groups within themselves, at most so deep.
-use Rattle.std.specs.Prelude.{ℕ, List, [], ◌∷◌}
+use Rattle.std.specs.Prelude.{ℕ, List}
 use Rattle.rsp_phrases.specs.Readers.{Reader, nested_read}
 use Rattle.rsp_written.specs.declared.said.Said.{Said}
 use Rattle.rsp_written.specs.Trees.{Element}

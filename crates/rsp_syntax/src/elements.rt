@@ -14,7 +14,10 @@ ghost use Rattle.rsp_written.specs.declared.said.Symbol.TheVariants as symbol;
 
 use crate::selects::{Named, named_expression};
 use rsp_read_triples::{begins_triples, triples, values};
-use rsp_written::{Element, GraphName, Halt, Keyword, Kind, Said, Subject, Symbol, first_is, first_is_among, iri, sign, variable, word};
+use rsp_written::{
+    Element, GraphName, Halt, Keyword, Kind, Said, Subject, Symbol, first_is, first_is_among, iri,
+    sign, variable, word,
+};
 use std::alloc::{AllocError, Global};
 
 /// What stands behind GRAPH.
@@ -76,7 +79,11 @@ fn with_subjects(before: Vec<Element>, subjects: Vec<Subject>) -> Result<Vec<Ele
 }
 
 /// The elements, and behind them the triples that stand here.
-pub fn with_triples(alloc: Global, before: Vec<Element>, tokens: &[Said]) -> Result<(Vec<Element>, &[Said]), Halt>
+pub fn with_triples(
+    alloc: Global,
+    before: Vec<Element>,
+    tokens: &[Said],
+) -> Result<(Vec<Element>, &[Said]), Halt>
     ensures { Gives (λ x. (map element_of x.0.items, x.1.now)) result
         (gathered run (map element_of before.items) (maybe_read same_first triples_read tokens.now)) }
 {

@@ -13,7 +13,9 @@ ghost use Rattle.rsp_written.specs.Readings.{repeated_read, word_kinds, word_rea
 ghost use Rattle.rsp_written.specs.Trees.{selected, sub_select};
 ghost use Rattle.rsp_written.specs.declared.said.Keyword.TheVariants as keyword;
 
-use crate::elements::{begins_other, bound_element, graph_name, maybe_dot, values_element, with_triples};
+use crate::elements::{
+    begins_other, bound_element, graph_name, maybe_dot, values_element, with_triples,
+};
 use crate::selects::{Clause, Tail, modifiers, select_clause};
 use rsp_read_expressions::{begins_call, call, in_parens, maybe_word};
 use rsp_written::{Element, Halt, Keyword, Kind, Said, Select, Symbol, first_is, iri, sign, word};
@@ -60,11 +62,19 @@ fn sub_select(depth: usize, alloc: Global, tokens: &[Said]) -> Result<(Vec<Eleme
     Ok((sub_select_of(alloc, clause, body, tail)?, rest))
 }
 
-fn sub_select_of(alloc: Global, clause: Clause, body: Vec<Element>, tail: Tail) -> Result<Vec<Element>, AllocError>
+fn sub_select_of(
+    alloc: Global,
+    clause: Clause,
+    body: Vec<Element>,
+    tail: Tail,
+) -> Result<Vec<Element>, AllocError>
     ensures { IfOk result (λ elements. map element_of elements.items ≡ sub_select (selected clause.distinct (projection_of clause.projection)
         (elements_in (map element_of body.items)) (map item_of tail.keys.items) (maybe_expr tail.having)) ∷ []) }
 {
-    let Clause { distinct, projection } = clause;
+    let Clause {
+        distinct,
+        projection,
+    } = clause;
     let Tail { keys, having } = tail;
     let select = Select {
         distinct,
@@ -101,7 +111,12 @@ fn body(depth: usize, alloc: Global, tokens: &[Said]) -> Result<(Vec<Element>, &
 // an element, maybe `.`, and the triples behind it
 #[cycle(groups)]
 #[tactic(auto, unfolding(rsp_written::specs::GroupReadings::piece_read))]
-fn piece(depth: usize, alloc: Global, before: Vec<Element>, tokens: &[Said]) -> Result<(Vec<Element>, &[Said]), Halt>
+fn piece(
+    depth: usize,
+    alloc: Global,
+    before: Vec<Element>,
+    tokens: &[Said],
+) -> Result<(Vec<Element>, &[Said]), Halt>
     ensures { Gives (λ x. (map element_of x.0.items, x.1.now)) result
         (gathered found_together (map element_of before.items) (readings.piece_read (inside_read depth) tokens.now)) }
 {
@@ -138,7 +153,12 @@ fn other(depth: usize, alloc: Global, tokens: &[Said]) -> Result<(Element, &[Sai
 
 #[cycle(groups)]
 #[tactic(auto, unfolding(rsp_written::specs::GroupReadings::optional_rule_read, rsp_written::specs::GroupReadings::minus_rule_read, rsp_written::specs::GroupReadings::graph_rule_read, rsp_written::specs::GroupReadings::window_rule_read))]
-fn opened(opening: Opening, depth: usize, alloc: Global, tokens: &[Said]) -> Result<(Element, &[Said]), Halt>
+fn opened(
+    opening: Opening,
+    depth: usize,
+    alloc: Global,
+    tokens: &[Said],
+) -> Result<(Element, &[Said]), Halt>
     ensures { Gives (λ x. (element_of x.0, x.1.now)) result (opened_read opening (inside_read depth) tokens.now) }
 {
     match opening {
@@ -204,7 +224,12 @@ fn union(depth: usize, alloc: Global, tokens: &[Said]) -> Result<(Element, &[Sai
 }
 
 #[cycle(groups)]
-fn more_groups(depth: usize, alloc: Global, before: Vec<Vec<Element>>, tokens: &[Said]) -> Result<(Vec<Vec<Element>>, &[Said]), Halt>
+fn more_groups(
+    depth: usize,
+    alloc: Global,
+    before: Vec<Vec<Element>>,
+    tokens: &[Said],
+) -> Result<(Vec<Vec<Element>>, &[Said]), Halt>
     ensures { Gives (λ x. (map (λ branch. branch.items) (map (mapped element_of) x.0.items), x.1.now)) result
         (gathered as_read (map (λ branch. branch.items) (map (mapped element_of) before.items))
         (repeated_read (word_kinds keyword.Union) (second_read (word_read keyword.Union) (readings.group_of_read (inside_read depth))) tokens.now)) }
@@ -223,7 +248,12 @@ fn more_groups(depth: usize, alloc: Global, before: Vec<Vec<Element>>, tokens: &
 }
 
 #[cycle(groups)]
-fn another_group(depth: usize, alloc: Global, before: Vec<Vec<Element>>, tokens: &[Said]) -> Result<(Vec<Vec<Element>>, &[Said]), Halt>
+fn another_group(
+    depth: usize,
+    alloc: Global,
+    before: Vec<Vec<Element>>,
+    tokens: &[Said],
+) -> Result<(Vec<Vec<Element>>, &[Said]), Halt>
     ensures { Gives (λ x. (map (λ branch. branch.items) (map (mapped element_of) x.0.items), x.1.now)) result
         (gathered single (map (λ branch. branch.items) (map (mapped element_of) before.items)) (second_read (word_read keyword.Union) (readings.group_of_read (inside_read depth)) tokens.now)) }
 {

@@ -14,11 +14,18 @@ ghost use Rattle.rsp_written.specs.declared.said.Keyword.TheVariants as keyword;
 
 use rsp_read_expressions::{aggregate_expression, aggregate_in_parens, expression, maybe_word};
 use rsp_terms::Text;
-use rsp_written::{Expression, Halt, Item, Keyword, Kind, Projection, Said, Symbol, first_is, first_is_among, sign, variable, word};
+use rsp_written::{
+    Expression, Halt, Item, Keyword, Kind, Projection, Said, Symbol, first_is, first_is_among,
+    sign, variable, word,
+};
 use std::alloc::Global;
 
 // an expression, by whether aggregates may stand in it
-fn wide_expression(wide: bool, alloc: Global, tokens: &[Said]) -> Result<(Expression, &[Said]), Halt>
+fn wide_expression(
+    wide: bool,
+    alloc: Global,
+    tokens: &[Said],
+) -> Result<(Expression, &[Said]), Halt>
     ensures { Gives (λ x. (expr_of x.0, x.1.now)) result (wide_read wide tokens.now) }
 {
     if wide {
@@ -37,7 +44,11 @@ pub struct Named {
 
 /// An expression and its name, in parentheses.
 #[tactic(auto, unfolding(rsp_written::specs::GroupReadings::as_variable_read))]
-pub fn named_expression(wide: bool, alloc: Global, tokens: &[Said]) -> Result<(Named, &[Said]), Halt>
+pub fn named_expression(
+    wide: bool,
+    alloc: Global,
+    tokens: &[Said],
+) -> Result<(Named, &[Said]), Halt>
     ensures { Gives (λ x. ((expr_of x.0.expression, x.0.name), x.1.now)) result (readings.as_variable_read (wide_read wide) tokens.now) }
 {
     let (_, rest) = sign(Symbol::OpenParen, tokens)?;
@@ -67,7 +78,12 @@ fn begins_item(tokens: &[Said]) -> bool
     first_is_among(&[Kind::Variable, Kind::Symbol(Symbol::OpenParen)], tokens)
 }
 
-fn another_item(wide: bool, alloc: Global, before: Vec<Item>, tokens: &[Said]) -> Result<(Vec<Item>, &[Said]), Halt>
+fn another_item(
+    wide: bool,
+    alloc: Global,
+    before: Vec<Item>,
+    tokens: &[Said],
+) -> Result<(Vec<Item>, &[Said]), Halt>
     ensures { Gives (λ x. (map item_of x.0.items, x.1.now)) result
         (gathered single (map item_of before.items) (readings.item_read (wide_read wide) tokens.now)) }
 {
@@ -78,7 +94,12 @@ fn another_item(wide: bool, alloc: Global, before: Vec<Item>, tokens: &[Said]) -
 }
 
 // items as often as they stand here
-fn more_items(wide: bool, alloc: Global, before: Vec<Item>, tokens: &[Said]) -> Result<(Vec<Item>, &[Said]), Halt>
+fn more_items(
+    wide: bool,
+    alloc: Global,
+    before: Vec<Item>,
+    tokens: &[Said],
+) -> Result<(Vec<Item>, &[Said]), Halt>
     ensures { Gives (λ x. (map item_of x.0.items, x.1.now)) result
         (gathered as_read (map item_of before.items) (repeated_read readings.item_first (readings.item_read (wide_read wide)) tokens.now)) }
 {
@@ -133,7 +154,13 @@ pub fn select_clause(alloc: Global, tokens: &[Said]) -> Result<(Clause, &[Said])
     let (_, rest) = word(Keyword::Select, tokens)?;
     let (distinct, rest) = maybe_word(Keyword::Distinct, rest)?;
     let (projection, rest) = projected(alloc, rest)?;
-    Ok((Clause { distinct, projection }, rest))
+    Ok((
+        Clause {
+            distinct,
+            projection,
+        },
+        rest,
+    ))
 }
 
 #[tactic(auto, unfolding(rsp_written::specs::GroupReadings::keys_read))]

@@ -1,4 +1,4 @@
-use Rattle.std.proofs.Common.{rules, ◌≡◌, map, true, false}
+use Rattle.std.proofs.Common.{rules, ◌≡◌, true, false}
 use Rattle.std.specs.List.{flat_map}
 use Rattle.std.proofs.lemmas.Result.{err_from_is_err_and}
 use Rattle.rsp_phrases.specs.Gathering.{as_read, single}

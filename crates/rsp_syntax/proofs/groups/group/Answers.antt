@@ -1,4 +1,4 @@
-use Rattle.std.proofs.Common.{◌≡◌, map, subst}
+use Rattle.std.proofs.Common.{map, subst}
 use Rattle.rsp_written.specs.Gives.{Gives}
 use Rattle.rsp_written.specs.GroupMeanings.{element_of}
 use Rattle.rsp_syntax.proofs.Together.{group_is}

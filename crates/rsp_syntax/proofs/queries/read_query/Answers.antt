@@ -1,4 +1,3 @@
-use Rattle.std.proofs.Common.{◌≡◌}
 use Rattle.rsp_written.specs.Grammar.{query}
 use Rattle.rsp_written.specs.GroupMeanings.{written_of}
 use Rattle.rsp_written.specs.GroupReadings.{query_read}
