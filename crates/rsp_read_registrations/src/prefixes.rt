@@ -103,7 +103,8 @@ fn joined(alloc: Global, iri: &Text, local: &Text) -> Result<Text, AllocError>
 }
 
 fn said_again(said: &Said, kind: Kind) -> Result<Said, AllocError>
-    ensures { IfOk result (λ other. other ≡ record { kind = kind; text = said.now.text; local = said.now.local; at = said.now.at }) }
+    ensures { IfOk result (λ other. other
+        ≡ record { kind = kind; text = said.now.text; local = said.now.local; at = said.now.at }) }
 {
     let text = said.text.share()?;
     let local = said.local.share()?;

@@ -33,7 +33,8 @@ fn operator(tokens: &[Said]) -> Result<(&Said, &[Said]), Halt>
 }
 
 fn maybe_policy(alloc: Global, tokens: &[Said]) -> Result<(Option<Policy>, &[Said]), Halt>
-    ensures { Gives (λ x. (option_map policy_of x.0, x.1.now)) result (maybe_read readings.policy_first readings.policy_read tokens.now) }
+    ensures { Gives (λ x. (option_map policy_of x.0, x.1.now)) result
+        (maybe_read readings.policy_first readings.policy_read tokens.now) }
 {
     if !begins_policy(tokens) {
         return Ok((None, tokens));

@@ -97,7 +97,8 @@ fn window(tokens: &[Said]) -> Result<(Window, &[Said]), Halt>
 }
 
 fn another_window(before: Vec<Window>, tokens: &[Said]) -> Result<(Vec<Window>, &[Said]), Halt>
-    ensures { Gives (λ x. (map window_of x.0.items, x.1.now)) result (gathered single (map window_of before.items) (readings.window_read tokens.now)) }
+    ensures { Gives (λ x. (map window_of x.0.items, x.1.now)) result
+        (gathered single (map window_of before.items) (readings.window_read tokens.now)) }
 {
     let (window, rest) = window(tokens)?;
     let mut windows = before;
@@ -108,7 +109,8 @@ fn another_window(before: Vec<Window>, tokens: &[Said]) -> Result<(Vec<Window>, 
 // windows as often as they stand here
 fn more_windows(before: Vec<Window>, tokens: &[Said]) -> Result<(Vec<Window>, &[Said]), Halt>
     ensures { Gives (λ x. (map window_of x.0.items, x.1.now)) result
-        (gathered as_read (map window_of before.items) (repeated_read (word_kinds keyword.From) readings.window_read tokens.now)) }
+        (gathered as_read (map window_of before.items)
+        (repeated_read (word_kinds keyword.From) readings.window_read tokens.now)) }
 {
     let mut windows = before;
     let mut rest = tokens;

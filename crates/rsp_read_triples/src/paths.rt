@@ -101,7 +101,8 @@ fn choice(depth: usize, alloc: Global, tokens: &[Said]) -> Result<(Path, &[Said]
 #[cycle(path)]
 fn sequences(depth: usize, alloc: Global, tokens: &[Said]) -> Result<(Vec<Path>, &[Said]), Halt>
     ensures { Gives (λ x. (map way_of x.0.items, x.1.now)) result
-        (repeated_read (sign_kinds symbol.Bar) (second_read (sign_read symbol.Bar) (readings.sequence_read (path_within depth))) tokens.now) }
+        (repeated_read (sign_kinds symbol.Bar)
+        (second_read (sign_read symbol.Bar) (readings.sequence_read (path_within depth))) tokens.now) }
 {
     let mut paths = Vec::new(alloc);
     let mut rest = tokens;
@@ -124,7 +125,8 @@ fn another_sequence(
     tokens: &[Said],
 ) -> Result<(Vec<Path>, &[Said]), Halt>
     ensures { Gives (λ x. (map way_of x.0.items, x.1.now)) result
-        (gathered single (map way_of before.items) (second_read (sign_read symbol.Bar) (readings.sequence_read (path_within depth)) tokens.now)) }
+        (gathered single (map way_of before.items)
+        (second_read (sign_read symbol.Bar) (readings.sequence_read (path_within depth)) tokens.now)) }
 {
     let (_, rest) = sign(Symbol::Bar, tokens)?;
     let (path, rest) = sequence(depth, alloc, rest)?;
@@ -147,7 +149,8 @@ fn sequence(depth: usize, alloc: Global, tokens: &[Said]) -> Result<(Path, &[Sai
 #[cycle(path)]
 fn parts(depth: usize, alloc: Global, tokens: &[Said]) -> Result<(Vec<Path>, &[Said]), Halt>
     ensures { Gives (λ x. (map way_of x.0.items, x.1.now)) result
-        (repeated_read (sign_kinds symbol.Slash) (second_read (sign_read symbol.Slash) (readings.part_read (path_within depth))) tokens.now) }
+        (repeated_read (sign_kinds symbol.Slash)
+        (second_read (sign_read symbol.Slash) (readings.part_read (path_within depth))) tokens.now) }
 {
     let mut paths = Vec::new(alloc);
     let mut rest = tokens;
@@ -170,7 +173,8 @@ fn another_part(
     tokens: &[Said],
 ) -> Result<(Vec<Path>, &[Said]), Halt>
     ensures { Gives (λ x. (map way_of x.0.items, x.1.now)) result
-        (gathered single (map way_of before.items) (second_read (sign_read symbol.Slash) (readings.part_read (path_within depth)) tokens.now)) }
+        (gathered single (map way_of before.items)
+        (second_read (sign_read symbol.Slash) (readings.part_read (path_within depth)) tokens.now)) }
 {
     let (_, rest) = sign(Symbol::Slash, tokens)?;
     let (path, rest) = part(depth, alloc, rest)?;

@@ -38,7 +38,8 @@ fn all_properties(
     alloc: Global,
     tokens: &[Said],
 ) -> Result<(Vec<Property>, &[Said]), Halt>
-    ensures { Gives (λ x. (properties_of x.0.items, x.1.now)) result (readings.properties_rule_read (properties_within depth) tokens.now) }
+    ensures { Gives (λ x. (properties_of x.0.items, x.1.now)) result
+        (readings.properties_rule_read (properties_within depth) tokens.now) }
 {
     let (first, rest) = property(depth, alloc, tokens)?;
     let mut properties = Vec::new(alloc);
@@ -55,7 +56,8 @@ fn more_properties(
     tokens: &[Said],
 ) -> Result<(Vec<Property>, &[Said]), Halt>
     ensures { Gives (λ x. (map property_of x.0.items, x.1.now)) result
-        (gathered present (map property_of before.items) (repeated_read (sign_kinds symbol.Semicolon) (behind_semicolon_read (properties_within depth)) tokens.now)) }
+        (gathered present (map property_of before.items)
+        (repeated_read (sign_kinds symbol.Semicolon) (behind_semicolon_read (properties_within depth)) tokens.now)) }
 {
     let mut properties = before;
     let mut rest = tokens;
@@ -114,7 +116,8 @@ fn more_objects(
 ) -> Result<(Vec<Node>, &[Said]), Halt>
     ensures { Gives (λ x. (map node_of x.0.items, x.1.now)) result
         (gathered as_read (map node_of before.items)
-        (repeated_read (sign_kinds symbol.Comma) (second_read (sign_read symbol.Comma) (readings.object_read (properties_within depth))) tokens.now)) }
+        (repeated_read (sign_kinds symbol.Comma)
+        (second_read (sign_read symbol.Comma) (readings.object_read (properties_within depth))) tokens.now)) }
 {
     let mut objects = before;
     let mut rest = tokens;
@@ -137,7 +140,8 @@ fn another_object(
     tokens: &[Said],
 ) -> Result<(Vec<Node>, &[Said]), Halt>
     ensures { Gives (λ x. (map node_of x.0.items, x.1.now)) result
-        (gathered single (map node_of before.items) (second_read (sign_read symbol.Comma) (readings.object_read (properties_within depth)) tokens.now)) }
+        (gathered single (map node_of before.items)
+        (second_read (sign_read symbol.Comma) (readings.object_read (properties_within depth)) tokens.now)) }
 {
     let (_, rest) = sign(Symbol::Comma, tokens)?;
     let (object, rest) = object(depth, alloc, rest)?;

@@ -112,7 +112,8 @@ fn more_subjects(
 ) -> Result<(Vec<Subject>, &[Said]), Halt>
     ensures { Gives (λ x. (map subject_of x.0.items, x.1.now)) result
         (gathered as_read (map subject_of before.items)
-        (follows_on_read kind_number (numbers (sign_kinds symbol.Dot)) (numbers readings.same_first) (sign_read symbol.Dot) readings.same_read tokens.now)) }
+        (follows_on_read kind_number (numbers (sign_kinds symbol.Dot))
+        (numbers readings.same_first) (sign_read symbol.Dot) readings.same_read tokens.now)) }
 {
     let mut subjects = before;
     let mut rest = tokens;

@@ -90,7 +90,8 @@ fn another_single_row(
     before: Vec<Vec<Option<Term>>>,
     tokens: &[Said],
 ) -> Result<(Vec<Vec<Option<Term>>>, &[Said]), Halt>
-    ensures { Gives (λ x. (map (λ row. row.items) x.0.items, x.1.now)) result (gathered one_value (map (λ row. row.items) before.items) (readings.value_read tokens.now)) }
+    ensures { Gives (λ x. (map (λ row. row.items) x.0.items, x.1.now)) result
+        (gathered one_value (map (λ row. row.items) before.items) (readings.value_read tokens.now)) }
 {
     let (value, rest) = value(alloc, tokens)?;
     let mut row = Vec::new(alloc);
@@ -177,7 +178,8 @@ fn another_row(
     tokens: &[Said],
 ) -> Result<(Vec<Vec<Option<Term>>>, &[Said]), Halt>
     ensures { Gives (λ x. (map (λ row. row.items) x.0.items, x.1.now)) result
-        (gathered single (map (λ row. row.items) before.items) (second_read (sign_read symbol.OpenParen) (readings.value_row_read count) tokens.now)) }
+        (gathered single (map (λ row. row.items) before.items)
+        (second_read (sign_read symbol.OpenParen) (readings.value_row_read count) tokens.now)) }
 {
     let (_, rest) = sign(Symbol::OpenParen, tokens)?;
     let (row, rest) = row(count, alloc, rest)?;
@@ -193,7 +195,8 @@ fn rows(
     tokens: &[Said],
 ) -> Result<(Vec<Vec<Option<Term>>>, &[Said]), Halt>
     ensures { Gives (λ x. (map (λ row. row.items) x.0.items, x.1.now)) result
-        (repeated_read (sign_kinds symbol.OpenParen) (second_read (sign_read symbol.OpenParen) (readings.value_row_read count)) tokens.now) }
+        (repeated_read (sign_kinds symbol.OpenParen)
+        (second_read (sign_read symbol.OpenParen) (readings.value_row_read count)) tokens.now) }
 {
     let mut rows = Vec::new(alloc);
     let mut rest = tokens;

@@ -69,7 +69,8 @@ pub fn maybe_dot(tokens: &[Said]) -> Result<(bool, &[Said]), Halt>
 
 // the elements, and behind them these triples
 fn with_subjects(before: Vec<Element>, subjects: Vec<Subject>) -> Result<Vec<Element>, AllocError>
-    ensures { IfOk result (λ elements. map element_of elements.items ≡ map element_of before.items ++ map triples_of (map subject_of subjects.items)) }
+    ensures { IfOk result (λ elements. map element_of elements.items
+        ≡ map element_of before.items ++ map triples_of (map subject_of subjects.items)) }
 {
     let mut elements = before;
     for subject in subjects {

@@ -68,7 +68,8 @@ fn sub_select_of(
     body: Vec<Element>,
     tail: Tail,
 ) -> Result<Vec<Element>, AllocError>
-    ensures { IfOk result (λ elements. map element_of elements.items ≡ sub_select (selected clause.distinct (projection_of clause.projection)
+    ensures { IfOk result (λ elements. map element_of elements.items
+        ≡ sub_select (selected clause.distinct (projection_of clause.projection)
         (elements_in (map element_of body.items)) (map item_of tail.keys.items) (maybe_expr tail.having)) ∷ []) }
 {
     let Clause {
@@ -232,7 +233,8 @@ fn more_groups(
 ) -> Result<(Vec<Vec<Element>>, &[Said]), Halt>
     ensures { Gives (λ x. (map (λ branch. branch.items) (map (mapped element_of) x.0.items), x.1.now)) result
         (gathered as_read (map (λ branch. branch.items) (map (mapped element_of) before.items))
-        (repeated_read (word_kinds keyword.Union) (second_read (word_read keyword.Union) (readings.group_of_read (inside_read depth))) tokens.now)) }
+        (repeated_read (word_kinds keyword.Union)
+        (second_read (word_read keyword.Union) (readings.group_of_read (inside_read depth))) tokens.now)) }
 {
     let mut groups = before;
     let mut rest = tokens;
@@ -255,7 +257,8 @@ fn another_group(
     tokens: &[Said],
 ) -> Result<(Vec<Vec<Element>>, &[Said]), Halt>
     ensures { Gives (λ x. (map (λ branch. branch.items) (map (mapped element_of) x.0.items), x.1.now)) result
-        (gathered single (map (λ branch. branch.items) (map (mapped element_of) before.items)) (second_read (word_read keyword.Union) (readings.group_of_read (inside_read depth)) tokens.now)) }
+        (gathered single (map (λ branch. branch.items) (map (mapped element_of) before.items))
+        (second_read (word_read keyword.Union) (readings.group_of_read (inside_read depth)) tokens.now)) }
 {
     let (_, rest) = word(Keyword::Union, tokens)?;
     let (group, rest) = group_at(depth, alloc, rest)?;

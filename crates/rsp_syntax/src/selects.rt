@@ -49,7 +49,8 @@ pub fn named_expression(
     alloc: Global,
     tokens: &[Said],
 ) -> Result<(Named, &[Said]), Halt>
-    ensures { Gives (λ x. ((expr_of x.0.expression, x.0.name), x.1.now)) result (readings.as_variable_read (wide_read wide) tokens.now) }
+    ensures { Gives (λ x. ((expr_of x.0.expression, x.0.name), x.1.now)) result
+        (readings.as_variable_read (wide_read wide) tokens.now) }
 {
     let (_, rest) = sign(Symbol::OpenParen, tokens)?;
     let (expression, rest) = wide_expression(wide, alloc, rest)?;
@@ -101,7 +102,8 @@ fn more_items(
     tokens: &[Said],
 ) -> Result<(Vec<Item>, &[Said]), Halt>
     ensures { Gives (λ x. (map item_of x.0.items, x.1.now)) result
-        (gathered as_read (map item_of before.items) (repeated_read readings.item_first (readings.item_read (wide_read wide)) tokens.now)) }
+        (gathered as_read (map item_of before.items)
+        (repeated_read readings.item_first (readings.item_read (wide_read wide)) tokens.now)) }
 {
     let mut items = before;
     let mut rest = tokens;
@@ -149,7 +151,8 @@ pub struct Clause {
 /// SELECT with what it shows.
 #[tactic(auto, unfolding(rsp_written::specs::GroupReadings::select_clause_read))]
 pub fn select_clause(alloc: Global, tokens: &[Said]) -> Result<(Clause, &[Said]), Halt>
-    ensures { Gives (λ x. ((x.0.distinct, projection_of x.0.projection), x.1.now)) result (mapped_read clause_of readings.select_clause_read tokens.now) }
+    ensures { Gives (λ x. ((x.0.distinct, projection_of x.0.projection), x.1.now)) result
+        (mapped_read clause_of readings.select_clause_read tokens.now) }
 {
     let (_, rest) = word(Keyword::Select, tokens)?;
     let (distinct, rest) = maybe_word(Keyword::Distinct, rest)?;
@@ -184,7 +187,8 @@ fn maybe_keys(alloc: Global, tokens: &[Said]) -> Result<(Vec<Item>, &[Said]), Ha
 
 #[tactic(auto, unfolding(rsp_written::specs::GroupReadings::having_read))]
 fn maybe_having(alloc: Global, tokens: &[Said]) -> Result<(Option<Expression>, &[Said]), Halt>
-    ensures { Gives (λ x. (maybe_expr x.0, x.1.now)) result (maybe_read (word_kinds keyword.Having) readings.having_read tokens.now) }
+    ensures { Gives (λ x. (maybe_expr x.0, x.1.now)) result
+        (maybe_read (word_kinds keyword.Having) readings.having_read tokens.now) }
 {
     if !first_is(Kind::Word(Keyword::Having), tokens) {
         return Ok((None, tokens));
@@ -205,7 +209,8 @@ pub struct Tail {
 /// GROUP BY and HAVING, where they stand here.
 #[tactic(auto, unfolding(rsp_written::specs::GroupReadings::tail_read))]
 pub fn modifiers(alloc: Global, tokens: &[Said]) -> Result<(Tail, &[Said]), Halt>
-    ensures { Gives (λ x. ((map item_of x.0.keys.items, maybe_expr x.0.having), x.1.now)) result (mapped_read tail_of readings.tail_read tokens.now) }
+    ensures { Gives (λ x. ((map item_of x.0.keys.items, maybe_expr x.0.having), x.1.now)) result
+        (mapped_read tail_of readings.tail_read tokens.now) }
 {
     let (keys, rest) = maybe_keys(alloc, tokens)?;
     let (having, rest) = maybe_having(alloc, rest)?;
