@@ -4,6 +4,7 @@ pub mod Trees
 pub mod Building
 pub mod Grammar
 pub mod Meanings
+pub mod SelectMeanings
 -- Words of the way
 pub mod Gives
 pub mod Readings

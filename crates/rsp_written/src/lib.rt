@@ -11,8 +11,10 @@ mod expression;
 mod literals;
 mod reading;
 mod said;
+mod select;
 
 pub use expression::{Expression, Operand};
 pub use literals::{Suffix, literal, unsigned_literal};
 pub use reading::{Halt, first_is, first_is_among, iri, one, sign, variable, word};
 pub use said::{Arity, Keyword, Kind, Said, Symbol};
+pub use select::{Item, Projection};
