@@ -1,6 +1,6 @@
 -- The steps of a loop that reads one part after another and puts each behind those before it.
-use Rattle.std.proofs.Common.{◌≡◌, ℕ, suc, true, false, List, refl, ap, ◌∙◌, Ok, Err}
-use Rattle.rsp_phrases.specs.Readers.{Reading, Reader, starts, at_most_read, with_front}
+use Rattle.std.proofs.Common.{◌≡◌, ℕ, suc, true, false, List, [], ◌∷◌, length, refl, ap, ◌∙◌, Ok, Err}
+use Rattle.rsp_phrases.specs.Readers.{Reading, Reader, starts, image, beside, tied_from, mapped_read, both_read, many_read, at_most_read, with_front}
 use Rattle.rsp_phrases.specs.Fronts.{with_last}
 use Rattle.rsp_phrases.proofs.Loops.{one_more, one_wrong, no_more, at_end}
 
@@ -48,3 +48,32 @@ pub end_at : {T A : Type 0} (kind : T → ℕ) (kinds : List ℕ) (r : Reader T 
     → m ≡ 0 → with_front front (at_most_read kind kinds r m ts) ≡ Ok (front, ts)
 end_at kind kinds r m front ts none =
     ap (λ k. with_front front (at_most_read kind kinds r k ts)) none ∙ at_end kind kinds r front ts
+
+-- ---- one part, and then any number more
+
+then_more : {T A : Type 0} → (T → ℕ) → List ℕ → Reader T A → Reading T (List A) → Reading T (List A)
+then_more kind kinds r (Ok x) = with_front x.0 (at_most_read kind kinds r (length x.1) x.1)
+then_more kind kinds r (Err left) = Err left
+
+put_first : {T A : Type 0} (v : A) (c : Reading T (List A)) → image (λ (w : A × List A). w.0 ∷ w.1) (beside v c) ≡ with_front (v ∷ []) c
+put_first v (Ok x) = refl
+put_first v (Err left) = refl
+
+first_then : {T A : Type 0} (kind : T → ℕ) (kinds : List ℕ) (r : Reader T A) (c : Reading T A)
+    → image (λ (w : A × List A). w.0 ∷ w.1) (tied_from c (λ v. many_read kind kinds r)) ≡ then_more kind kinds r (with_last [] c)
+unfolding then_more
+first_then kind kinds r (Ok x) = put_first x.0 (at_most_read kind kinds r (length x.1) x.1)
+first_then kind kinds r (Err left) = refl
+
+pub first_right : {T A : Type 0} (kind : T → ℕ) (kinds : List ℕ) (r : Reader T A) (front : List A) (ts rest : List T)
+    → with_last [] (r ts) ≡ Ok (front, rest)
+    → mapped_read (λ (w : A × List A). w.0 ∷ w.1) (both_read r (many_read kind kinds r)) ts
+    ≡ with_front front (at_most_read kind kinds r (length rest) rest)
+unfolding then_more
+first_right kind kinds r front ts rest last = first_then kind kinds r (r ts) ∙ ap (then_more kind kinds r) last
+
+pub first_wrong : {T A : Type 0} (kind : T → ℕ) (kinds : List ℕ) (r : Reader T A) (left : ℕ) (ts : List T)
+    → with_last [] (r ts) ≡ Err left
+    → mapped_read (λ (w : A × List A). w.0 ∷ w.1) (both_read r (many_read kind kinds r)) ts ≡ Err left
+unfolding then_more
+first_wrong kind kinds r left ts last = first_then kind kinds r (r ts) ∙ ap (then_more kind kinds r) last
