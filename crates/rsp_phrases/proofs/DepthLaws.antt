@@ -212,7 +212,7 @@ good_dotted {kind = kind} {d = d} {c = c} {p = p} {r = r} {bd = bd} {bp = bp} {g
 module _ {T A : Type 0} (kind : T → ℕ) (rule : Language T A → Language T A) (turn : Reader T A → Reader T A) (begin go : List ℕ)
     (step : (q : Language T A) (s : Reader T A) → Good kind q s begin go false false → Good kind (rule q) (turn s) begin go false true)
     (grow : (n : ℕ) (q q' : Language T A) → Under n q q' → Under (n + 1) (rule q) (rule q')) where
-  nested_good : (d : ℕ) → Good kind (nested rule d) (nested_read turn d) begin go false false
+  pub nested_good : (d : ℕ) → Good kind (nested rule d) (nested_read turn d) begin go false false
   unfolding nested nested_read
   nested_good zero = loosened begin go (good_never kind) refl refl
   nested_good (suc d) =
@@ -228,6 +228,19 @@ module _ {T A : Type 0} (kind : T → ℕ) (rule : Language T A → Language T A
   nested_first : (x : T) → has begin (kind x) ≡ true → (nested rule (suc 1)).front (x ∷ [])
   unfolding nested
   nested_first x is = (step (nested rule 1) (nested_read turn 1) (nested_good 1)).first refl x is
+
+  -- at a depth, and at any
+  pub nested_under_all : (d : ℕ) → Under d (nested rule d) (within_itself rule)
+  nested_under_all d = record {
+    full_up = λ ts v f. record { depth = d; spelled = (nested_under d (suc d) (omega arith)).full_up ts v f };
+    front_up = λ ts f. record { depth = d; begun = (nested_under d (suc d) (omega arith)).front_up ts f };
+    full_down = λ ts v l f.
+        (nested_under d (suc f.depth + d) (omega arith)).full_down ts v l
+        ((nested_under (suc f.depth) (suc f.depth + d) (omega arith)).full_up ts v f.spelled);
+    front_down = λ ts l f.
+        (nested_under d (suc f.depth + d) (omega arith)).front_down ts l
+        ((nested_under (suc f.depth) (suc f.depth + d) (omega arith)).front_up ts f.begun);
+  }
 
   good_within_itself_at : Good kind (within_itself rule) (within_itself_read turn) begin go false true
   good_within_itself_at =

@@ -1,5 +1,5 @@
 -- A loop that gathers what is made of each part that it reads goes as the reader of many parts.
-use Rattle.std.proofs.Common.{◌≡◌, ◌<◌, ◌≤◌, ℕ, suc, ◌+◌, ◌-◌, true, false, cond, List, [], ◌∷◌, ◌++◌, refl, sym, ap, ◌∙◌, append_assoc, append-nil, Some, None, Ok, Err, arith}
+use Rattle.std.proofs.Common.{◌≡◌, ◌<◌, ◌≤◌, ℕ, suc, ◌+◌, ◌-◌, true, false, cond, List, [], ◌++◌, refl, sym, ap, ◌∙◌, append_assoc, append-nil, Some, None, Ok, Err, arith}
 use Rattle.rsp_phrases.specs.Languages.{listed}
 use Rattle.rsp_phrases.specs.Readers.{Reading, Reader, starts, image, tied_from, beside, at_most_read}
 use Rattle.rsp_phrases.specs.Gathering.{gathered, single, as_read, Gathers}

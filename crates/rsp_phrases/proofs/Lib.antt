@@ -11,3 +11,6 @@ pub mod Seeing
 pub mod Loops
 pub mod Gathering
 pub mod Dots
+pub mod LoopSteps
+pub mod Mapping
+pub mod Agreeing

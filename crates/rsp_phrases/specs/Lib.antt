@@ -4,3 +4,4 @@ pub mod Exact
 -- Words of the way
 pub mod Readers
 pub mod Gathering
+pub mod Fronts

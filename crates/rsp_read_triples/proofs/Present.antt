@@ -1,5 +1,5 @@
 -- What is there of many is what is there of each.
-use Rattle.std.proofs.Common.{◌≡◌, List, [], ◌∷◌, ◌++◌, refl, Option, None, Some}
+use Rattle.std.proofs.Common.{◌≡◌, List, ◌∷◌, ◌++◌, refl, Option, None, Some}
 use Rattle.rsp_phrases.specs.Gathering.{Gathers}
 use Rattle.rsp_written.specs.Building.{present}
 use Rattle.rsp_read_triples.specs.Within.{if_there}

@@ -1,2 +1,3 @@
 -- Words of the way
 pub mod Within
+pub mod Rows

@@ -9,7 +9,9 @@ mod nodes;
 mod paths;
 mod property_list;
 mod subjects;
+mod value_blocks;
 
 pub use paths::{path, verb};
 pub use property_list::properties;
 pub use subjects::{begins_triples, triples};
+pub use value_blocks::values;

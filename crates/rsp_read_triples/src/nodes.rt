@@ -6,7 +6,10 @@ ghost use Rattle.rsp_written.specs.Grammar.{kind_number, numbers};
 ghost use Rattle.rsp_written.specs.Meanings.{node_of};
 ghost use Rattle.rsp_written.specs.TripleReadings as readings;
 
-use rsp_written::{Halt, Keyword, Kind, Node, Said, Symbol, first_is, first_is_among, iri, literal, one, sign, variable};
+use rsp_written::{
+    Halt, Keyword, Kind, Node, Said, Symbol, first_is, first_is_among, iri, literal, one, sign,
+    variable,
+};
 use std::alloc::Global;
 
 /// A name as a subject: a variable, an IRI or a label.

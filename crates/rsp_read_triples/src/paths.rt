@@ -13,7 +13,10 @@ ghost use Rattle.rsp_written.specs.TripleReadings as readings;
 ghost use Rattle.rsp_written.specs.declared.said.Symbol.TheVariants as symbol;
 
 use rsp_terms::Text;
-use rsp_written::{Halt, Keyword, Kind, Path, Said, Symbol, Verb, first_is, first_is_among, iri, sign, variable, word};
+use rsp_written::{
+    Halt, Keyword, Kind, Path, Said, Symbol, Verb, first_is, first_is_among, iri, sign, variable,
+    word,
+};
 use std::alloc::{AllocError, Global};
 
 fn rdf_type(alloc: Global) -> Result<Text, AllocError>
@@ -98,7 +101,8 @@ fn choice(depth: usize, alloc: Global, tokens: &[Said]) -> Result<(Path, &[Said]
 #[cycle(path)]
 fn sequences(depth: usize, alloc: Global, tokens: &[Said]) -> Result<(Vec<Path>, &[Said]), Halt>
     ensures { Gives (λ x. (map way_of x.0.items, x.1.now)) result
-        (repeated_read (sign_kinds symbol.Bar) (second_read (sign_read symbol.Bar) (readings.sequence_read (path_within depth))) tokens.now) }
+        (repeated_read (sign_kinds symbol.Bar)
+        (second_read (sign_read symbol.Bar) (readings.sequence_read (path_within depth))) tokens.now) }
 {
     let mut paths = Vec::new(alloc);
     let mut rest = tokens;
@@ -114,9 +118,15 @@ fn sequences(depth: usize, alloc: Global, tokens: &[Said]) -> Result<(Vec<Path>,
 }
 
 #[cycle(path)]
-fn another_sequence(depth: usize, alloc: Global, before: Vec<Path>, tokens: &[Said]) -> Result<(Vec<Path>, &[Said]), Halt>
+fn another_sequence(
+    depth: usize,
+    alloc: Global,
+    before: Vec<Path>,
+    tokens: &[Said],
+) -> Result<(Vec<Path>, &[Said]), Halt>
     ensures { Gives (λ x. (map way_of x.0.items, x.1.now)) result
-        (gathered single (map way_of before.items) (second_read (sign_read symbol.Bar) (readings.sequence_read (path_within depth)) tokens.now)) }
+        (gathered single (map way_of before.items)
+        (second_read (sign_read symbol.Bar) (readings.sequence_read (path_within depth)) tokens.now)) }
 {
     let (_, rest) = sign(Symbol::Bar, tokens)?;
     let (path, rest) = sequence(depth, alloc, rest)?;
@@ -139,7 +149,8 @@ fn sequence(depth: usize, alloc: Global, tokens: &[Said]) -> Result<(Path, &[Sai
 #[cycle(path)]
 fn parts(depth: usize, alloc: Global, tokens: &[Said]) -> Result<(Vec<Path>, &[Said]), Halt>
     ensures { Gives (λ x. (map way_of x.0.items, x.1.now)) result
-        (repeated_read (sign_kinds symbol.Slash) (second_read (sign_read symbol.Slash) (readings.part_read (path_within depth))) tokens.now) }
+        (repeated_read (sign_kinds symbol.Slash)
+        (second_read (sign_read symbol.Slash) (readings.part_read (path_within depth))) tokens.now) }
 {
     let mut paths = Vec::new(alloc);
     let mut rest = tokens;
@@ -155,9 +166,15 @@ fn parts(depth: usize, alloc: Global, tokens: &[Said]) -> Result<(Vec<Path>, &[S
 }
 
 #[cycle(path)]
-fn another_part(depth: usize, alloc: Global, before: Vec<Path>, tokens: &[Said]) -> Result<(Vec<Path>, &[Said]), Halt>
+fn another_part(
+    depth: usize,
+    alloc: Global,
+    before: Vec<Path>,
+    tokens: &[Said],
+) -> Result<(Vec<Path>, &[Said]), Halt>
     ensures { Gives (λ x. (map way_of x.0.items, x.1.now)) result
-        (gathered single (map way_of before.items) (second_read (sign_read symbol.Slash) (readings.part_read (path_within depth)) tokens.now)) }
+        (gathered single (map way_of before.items)
+        (second_read (sign_read symbol.Slash) (readings.part_read (path_within depth)) tokens.now)) }
 {
     let (_, rest) = sign(Symbol::Slash, tokens)?;
     let (path, rest) = part(depth, alloc, rest)?;
@@ -223,5 +240,14 @@ pub fn begins_verb(tokens: &[Said]) -> bool
 {
     let caret = Kind::Symbol(Symbol::Caret);
     let paren = Kind::Symbol(Symbol::OpenParen);
-    first_is_among(&[Kind::Variable, caret, Kind::Iri, Kind::Word(Keyword::A), paren], tokens)
+    first_is_among(
+        &[
+            Kind::Variable,
+            caret,
+            Kind::Iri,
+            Kind::Word(Keyword::A),
+            paren,
+        ],
+        tokens,
+    )
 }

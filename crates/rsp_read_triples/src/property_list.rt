@@ -18,7 +18,11 @@ use std::alloc::Global;
 // properties that hold themselves at most so deep
 #[cycle(properties)]
 #[tactic(auto, unfolding(crate::specs::Within::properties_within, rsp_phrases::specs::Readers::nested_read))]
-fn properties_at(depth: usize, alloc: Global, tokens: &[Said]) -> Result<(Vec<Property>, &[Said]), Halt>
+fn properties_at(
+    depth: usize,
+    alloc: Global,
+    tokens: &[Said],
+) -> Result<(Vec<Property>, &[Said]), Halt>
     ensures { Gives (λ x. (properties_of x.0.items, x.1.now)) result (properties_within depth tokens.now) }
 {
     if depth == 0 {
@@ -29,8 +33,13 @@ fn properties_at(depth: usize, alloc: Global, tokens: &[Said]) -> Result<(Vec<Pr
 
 #[cycle(properties)]
 #[tactic(auto, unfolding(rsp_written::specs::TripleReadings::properties_rule_read))]
-fn all_properties(depth: usize, alloc: Global, tokens: &[Said]) -> Result<(Vec<Property>, &[Said]), Halt>
-    ensures { Gives (λ x. (properties_of x.0.items, x.1.now)) result (readings.properties_rule_read (properties_within depth) tokens.now) }
+fn all_properties(
+    depth: usize,
+    alloc: Global,
+    tokens: &[Said],
+) -> Result<(Vec<Property>, &[Said]), Halt>
+    ensures { Gives (λ x. (properties_of x.0.items, x.1.now)) result
+        (readings.properties_rule_read (properties_within depth) tokens.now) }
 {
     let (first, rest) = property(depth, alloc, tokens)?;
     let mut properties = Vec::new(alloc);
@@ -47,7 +56,8 @@ fn more_properties(
     tokens: &[Said],
 ) -> Result<(Vec<Property>, &[Said]), Halt>
     ensures { Gives (λ x. (map property_of x.0.items, x.1.now)) result
-        (gathered present (map property_of before.items) (repeated_read (sign_kinds symbol.Semicolon) (behind_semicolon_read (properties_within depth)) tokens.now)) }
+        (gathered present (map property_of before.items)
+        (repeated_read (sign_kinds symbol.Semicolon) (behind_semicolon_read (properties_within depth)) tokens.now)) }
 {
     let mut properties = before;
     let mut rest = tokens;
@@ -98,10 +108,16 @@ fn property(depth: usize, alloc: Global, tokens: &[Said]) -> Result<(Property, &
 
 // `,` and an object, as often as they stand here
 #[cycle(properties)]
-fn more_objects(depth: usize, alloc: Global, before: Vec<Node>, tokens: &[Said]) -> Result<(Vec<Node>, &[Said]), Halt>
+fn more_objects(
+    depth: usize,
+    alloc: Global,
+    before: Vec<Node>,
+    tokens: &[Said],
+) -> Result<(Vec<Node>, &[Said]), Halt>
     ensures { Gives (λ x. (map node_of x.0.items, x.1.now)) result
         (gathered as_read (map node_of before.items)
-        (repeated_read (sign_kinds symbol.Comma) (second_read (sign_read symbol.Comma) (readings.object_read (properties_within depth))) tokens.now)) }
+        (repeated_read (sign_kinds symbol.Comma)
+        (second_read (sign_read symbol.Comma) (readings.object_read (properties_within depth))) tokens.now)) }
 {
     let mut objects = before;
     let mut rest = tokens;
@@ -117,9 +133,15 @@ fn more_objects(depth: usize, alloc: Global, before: Vec<Node>, tokens: &[Said])
 }
 
 #[cycle(properties)]
-fn another_object(depth: usize, alloc: Global, before: Vec<Node>, tokens: &[Said]) -> Result<(Vec<Node>, &[Said]), Halt>
+fn another_object(
+    depth: usize,
+    alloc: Global,
+    before: Vec<Node>,
+    tokens: &[Said],
+) -> Result<(Vec<Node>, &[Said]), Halt>
     ensures { Gives (λ x. (map node_of x.0.items, x.1.now)) result
-        (gathered single (map node_of before.items) (second_read (sign_read symbol.Comma) (readings.object_read (properties_within depth)) tokens.now)) }
+        (gathered single (map node_of before.items)
+        (second_read (sign_read symbol.Comma) (readings.object_read (properties_within depth)) tokens.now)) }
 {
     let (_, rest) = sign(Symbol::Comma, tokens)?;
     let (object, rest) = object(depth, alloc, rest)?;

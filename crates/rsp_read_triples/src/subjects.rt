@@ -90,7 +90,11 @@ fn dot(tokens: &[Said]) -> Option<(&Said, &[Said])>
     tokens.split_first()
 }
 
-fn another_subject(alloc: Global, before: Vec<Subject>, tokens: &[Said]) -> Result<(Vec<Subject>, &[Said]), Halt>
+fn another_subject(
+    alloc: Global,
+    before: Vec<Subject>,
+    tokens: &[Said],
+) -> Result<(Vec<Subject>, &[Said]), Halt>
     ensures { Gives (λ x. (map subject_of x.0.items, x.1.now)) result
         (gathered single (map subject_of before.items) (readings.same_read tokens.now)) }
 {
@@ -101,10 +105,15 @@ fn another_subject(alloc: Global, before: Vec<Subject>, tokens: &[Said]) -> Resu
 }
 
 // `.` and maybe a subject with its properties, as often as they stand here
-fn more_subjects(alloc: Global, before: Vec<Subject>, tokens: &[Said]) -> Result<(Vec<Subject>, &[Said]), Halt>
+fn more_subjects(
+    alloc: Global,
+    before: Vec<Subject>,
+    tokens: &[Said],
+) -> Result<(Vec<Subject>, &[Said]), Halt>
     ensures { Gives (λ x. (map subject_of x.0.items, x.1.now)) result
         (gathered as_read (map subject_of before.items)
-        (follows_on_read kind_number (numbers (sign_kinds symbol.Dot)) (numbers readings.same_first) (sign_read symbol.Dot) readings.same_read tokens.now)) }
+        (follows_on_read kind_number (numbers (sign_kinds symbol.Dot))
+        (numbers readings.same_first) (sign_read symbol.Dot) readings.same_read tokens.now)) }
 {
     let mut subjects = before;
     let mut rest = tokens;

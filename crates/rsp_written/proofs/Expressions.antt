@@ -1,11 +1,12 @@
 -- Laws of rules: expressions.
-use Rattle.std.proofs.Common.{Bool, ◌≡◌, ℕ, ◌+◌, true, false, List, [], ◌∷◌, ◌++◌, refl, Option, Some, None, is_some}
-use Rattle.rsp_phrases.specs.Languages.{both, optional, many, listed, never}
-use Rattle.rsp_phrases.specs.Readers.{Reader, never_read}
+use Rattle.std.proofs.Common.{Bool, ◌≡◌, ℕ, ◌+◌, ◌<◌, arith, length, true, false, List, [], ◌∷◌, ◌++◌, refl, Option, Some, None, is_some}
+use Rattle.rsp_phrases.specs.Languages.{both, optional, many, listed, never, nested}
+use Rattle.rsp_phrases.specs.Readers.{Reader, never_read, nested_read}
 use Rattle.rsp_phrases.proofs.Membership.{apart, apart_none, covered_by, covered_nil, has_left}
-use Rattle.rsp_phrases.proofs.Good.{Good, good_mapped, good_never, listed_as}
+use Rattle.rsp_phrases.proofs.Agreeing.{same_reading}
+use Rattle.rsp_phrases.proofs.Good.{Good, good_mapped, good_never, listed_as, loosened}
 use Rattle.rsp_phrases.proofs.EitherLaws.{good_either, good_optional}
-use Rattle.rsp_phrases.proofs.DepthLaws.{good_many, good_within_itself}
+use Rattle.rsp_phrases.proofs.DepthLaws.{good_many, good_within_itself, nested_good, nested_under_all}
 use Rattle.rsp_phrases.proofs.Drawing.{good_same, closing}
 use Rattle.rsp_phrases.proofs.Under.{Under, under_same, under_mapped, under_tied, under_either, under_optional, under_many}
 use Rattle.rsp_written.specs.declared.said.Keyword.TheVariants as keyword
@@ -268,6 +269,21 @@ good_none = good_never kind_number
 pub good_expression : G expression expression_read plain_first expr_go false true
 unfolding expression_read
 good_expression = good_within_itself (λ q s h. good_or_plain never never_read q s good_none h) (under_or never)
+
+-- a call whose arguments hold themselves at most as deep as there are tokens is read as any call
+pub deep_call : (ts : List Said) (depth : ℕ) → length ts < depth
+    → call_read (nested_read (or_read [] never_read) depth) ts ≡ call_read expression_read ts
+unfolding expression_read
+deep_call ts depth short =
+    let q = nested (or_rule never) depth in
+    let r = nested_read (or_read [] never_read) depth in
+    let inner = nested_good kind_number (or_rule never) (or_read [] never_read) (numbers plain_first) (numbers expr_go)
+    (λ q s h. good_or_plain never never_read q s good_none h) (under_or never) depth in
+    let under = nested_under_all kind_number (or_rule never) (or_read [] never_read) (numbers plain_first) (numbers expr_go)
+    (λ q s h. good_or_plain never never_read q s good_none h) (under_or never) depth in
+    same_reading (depth + 1) ts (good_call q r plain_first inner refl)
+    (good_call expression expression_read plain_first (loosened (numbers plain_first) (numbers expr_go) good_expression refl refl) refl)
+    (under_call under) (omega (arith, short))
 
 good_maybe_distinct : G maybe_distinct maybe_distinct_read (kind.Word keyword.Distinct ∷ plain_first) expr_go false true
 unfolding maybe_distinct_read

@@ -1,5 +1,5 @@
 -- Definitions: what the code's trees of groups, selects and registrations say.
-use Rattle.std.specs.Prelude.{List, map, Option, None, Some}
+use Rattle.std.specs.Prelude.{map, Option, None, Some}
 use Rattle.rsp_written.specs.declared.expression.Expression.{Expression}
 use Rattle.rsp_written.specs.declared.group.Item.{Item}
 use Rattle.rsp_written.specs.declared.group.Item.TheVariants as item

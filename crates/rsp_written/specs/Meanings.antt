@@ -20,7 +20,7 @@ use Rattle.rsp_written.specs.declared.node.Node.TheFolds.{fold-Node, fold-Proper
 use Rattle.rsp_written.specs.declared.node.Subject.{Subject}
 use Rattle.rsp_written.specs.Trees as trees
 use Rattle.rsp_written.specs.Trees.{Expr, variable, iri, constant, any_of, all_of, compared, member, sum, product, signed, bound, call, count_rows, aggregate, Way, step, inverse, sequence, choice, named, along, variable_node, iri_node, constant_node, label_node, blank_node, described, Properties}
-use Rattle.rsp_written.specs.Building.{exprs_in, operands_in, ways_in, nodes_in, properties_in}
+use Rattle.rsp_written.specs.Building.{exprs_in, operands_in, ways_in, properties_in}
 
 -- a node of the code's tree whose parts are trees already
 abbrev pub expr_step : Expression-F Expr (Kind × Expr) → Expr

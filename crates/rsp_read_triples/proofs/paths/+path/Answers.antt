@@ -1,14 +1,11 @@
-use Rattle.std.proofs.Common.{rules, ◌≡◌, ◌<◌, ◌≤◌, ◌+◌, ◌-◌, map, length, true, false}
+use Rattle.std.proofs.Common.{rules, ◌≡◌, true, false}
 use Rattle.std.proofs.lemmas.Result.{err_from_is_err_and}
-use Rattle.rsp_phrases.specs.Gathering.{as_read, gathered, single}
-use Rattle.rsp_phrases.specs.Readers.{Reader, second_read, starts}
+use Rattle.rsp_phrases.specs.Gathering.{as_read, single}
+use Rattle.rsp_phrases.specs.Readers.{second_read, starts}
 use Rattle.rsp_phrases.proofs.Gathering.{each, more_at, none_at, end_at}
-use Rattle.rsp_written.specs.declared.said.Said.{Said}
 use Rattle.rsp_written.specs.declared.said.Symbol.TheVariants as symbol
 use Rattle.rsp_written.specs.Grammar.{kind_number, numbers}
-use Rattle.rsp_written.specs.Meanings.{way_of}
-use Rattle.rsp_written.specs.Readings.{repeated_read, sign_kinds, sign_read}
-use Rattle.rsp_written.specs.Trees.{Way}
+use Rattle.rsp_written.specs.Readings.{sign_kinds, sign_read}
 use Rattle.rsp_written.specs.TripleReadings.{sequence_read, part_read}
 use Rattle.rsp_written.proofs.Halting.{fails_at}
 use Rattle.rsp_read_triples.specs.Within.{path_within}

@@ -1,4 +1,4 @@
-use Rattle.std.proofs.Common.{rules, ◌≡◌, Ok, true, false}
+use Rattle.std.proofs.Common.{rules, ◌≡◌, true, false}
 use Rattle.std.proofs.lemmas.Result.{err_from_is_err_and}
 use Rattle.rsp_phrases.specs.Readers.{starts}
 use Rattle.rsp_phrases.proofs.Dots.{dot_more_at, dot_last_at, dot_none_at, dot_end_at}

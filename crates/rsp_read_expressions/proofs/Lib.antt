@@ -1,0 +1,5 @@
+pub mod Firsts
+pub mod Ranks
+pub mod ListSteps
+pub mod ArgumentLaws
+pub mod Failing

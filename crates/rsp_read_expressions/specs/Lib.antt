@@ -1,0 +1,4 @@
+-- Words of the way
+pub mod Leaves
+pub mod Levels
+pub mod Lists

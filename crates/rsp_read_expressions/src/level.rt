@@ -1,0 +1,115 @@
+// Rows of parts with signs between.
+ghost use Rattle.std.specs.Prelude.{◌≡◌, ◌∷◌, IfOk, map};
+ghost use Rattle.rsp_phrases.specs.Readers.{starts};
+ghost use Rattle.rsp_read_expressions.specs.Levels.{row_of, signs_of};
+ghost use Rattle.rsp_written.specs.Building.{parts_of};
+ghost use Rattle.rsp_written.specs.Gives.{Gives};
+ghost use Rattle.rsp_written.specs.Grammar.{kind_number, numbers};
+ghost use Rattle.rsp_written.specs.Meanings.{expr_of, operand_of};
+ghost use Rattle.rsp_written.specs.Readings.{one_read};
+
+use rsp_written::{Expression, Halt, Kind, Operand, Said, Symbol, first_is_among, one};
+use std::alloc::{AllocError, Global};
+
+/// The rows of signs, those that bind least first. A comparison binds more than `&&` and less than `+`.
+#[derive(Clone, Copy, Drop)]
+pub enum Level {
+    /// `||`
+    Or,
+    /// `&&`
+    And,
+    /// `+` and `-`
+    Sum,
+    /// `*` and `/`
+    Product,
+}
+
+/// What is read one after another with signs between.
+#[derive(Clone, Copy, Drop)]
+pub enum Parts {
+    Row(Level),
+    /// Expressions with `,` between.
+    Arguments,
+}
+
+impl Parts {
+    /// Whether a sign between two parts is next.
+    pub fn go_on(self, tokens: &[Said]) -> bool
+        ensures { result ≡ starts kind_number (numbers (signs_of self)) tokens.now }
+    {
+        match self {
+            Parts::Row(Level::Or) => first_is_among(&[Kind::Symbol(Symbol::Or)], tokens),
+            Parts::Row(Level::And) => first_is_among(&[Kind::Symbol(Symbol::And)], tokens),
+            Parts::Row(Level::Sum) => first_is_among(
+                &[Kind::Symbol(Symbol::Plus), Kind::Symbol(Symbol::Minus)],
+                tokens,
+            ),
+            Parts::Row(Level::Product) => first_is_among(
+                &[Kind::Symbol(Symbol::Star), Kind::Symbol(Symbol::Slash)],
+                tokens,
+            ),
+            Parts::Arguments => first_is_among(&[Kind::Symbol(Symbol::Comma)], tokens),
+        }
+    }
+
+    /// The sign between two parts.
+    pub fn sign<'a>(self, tokens: &'a [Said]) -> Result<(&'a Said, &'a [Said]), Halt>
+        ensures { Gives (λ x. (x.0.now, x.1.now)) result (one_read (signs_of self) tokens.now) }
+    {
+        match self {
+            Parts::Row(Level::Or) => one(&[Kind::Symbol(Symbol::Or)], tokens),
+            Parts::Row(Level::And) => one(&[Kind::Symbol(Symbol::And)], tokens),
+            Parts::Row(Level::Sum) => one(
+                &[Kind::Symbol(Symbol::Plus), Kind::Symbol(Symbol::Minus)],
+                tokens,
+            ),
+            Parts::Row(Level::Product) => one(
+                &[Kind::Symbol(Symbol::Star), Kind::Symbol(Symbol::Slash)],
+                tokens,
+            ),
+            Parts::Arguments => one(&[Kind::Symbol(Symbol::Comma)], tokens),
+        }
+    }
+}
+
+/// The parts without their signs.
+pub fn unsigned(
+    alloc: Global,
+    first: Expression,
+    rest: Vec<Operand>,
+) -> Result<Vec<Expression>, AllocError>
+    ensures { IfOk result (λ parts. map expr_of parts.items ≡ expr_of first ∷ parts_of (map operand_of rest.items)) }
+{
+    let mut parts = Vec::new(alloc);
+    parts.push(first)?;
+    for operand in rest {
+        parts.push(operand.part)?;
+    }
+    Ok(parts)
+}
+
+/// The row of these parts; one part alone is itself.
+pub fn joined(
+    level: Level,
+    alloc: Global,
+    first: Expression,
+    rest: Vec<Operand>,
+) -> Result<Expression, AllocError>
+    ensures { IfOk result (λ row. expr_of row ≡ row_of level (expr_of first, map operand_of rest.items)) }
+{
+    if rest.is_empty() {
+        return Ok(first);
+    }
+    match level {
+        Level::Or => Ok(Expression::AnyOf(unsigned(alloc, first, rest)?)),
+        Level::And => Ok(Expression::AllOf(unsigned(alloc, first, rest)?)),
+        Level::Sum => Ok(Expression::Sum {
+            first: Box::new(alloc, first)?,
+            rest,
+        }),
+        Level::Product => Ok(Expression::Product {
+            first: Box::new(alloc, first)?,
+            rest,
+        }),
+    }
+}

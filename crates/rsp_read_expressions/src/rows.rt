@@ -1,0 +1,275 @@
+// Expressions within one another. The functions of the cycle go down: each reads a part that is nested more deeply, and the
+// depth falls at each bracket.
+ghost use Rattle.std.specs.Prelude.{◌≡◌, map};
+ghost use Rattle.rsp_read_expressions.specs.Lists.{bracketed_list_read, list_read};
+ghost use Rattle.rsp_read_expressions.specs.Levels.{inner_read, level_read, operand_read, operands_at_most, part_read};
+ghost use Rattle.rsp_phrases.specs.Fronts.{with_last};
+ghost use Rattle.rsp_written.specs.Gives.{Gives};
+ghost use Rattle.rsp_written.specs.Meanings.{expr_of, operand_of};
+ghost use Rattle.rsp_written.specs.Readings as readings;
+
+use crate::leaves::{
+    begins_call, begins_relation, begins_unary, bound, call_name, compares, comparison_sign,
+    ends_empty, leaf, maybe_word, unary_sign,
+};
+use crate::level::{Level, Parts, joined};
+use crate::nodes::{checked, comparison, membership, most, one_more, with_sign};
+use crate::primaries::Primaries;
+use rsp_written::{
+    Arity, Expression, Halt, Keyword, Kind, Operand, Said, Symbol, first_is, sign, word,
+};
+use std::alloc::Global;
+
+/// An expression that holds itself at most so deep.
+#[cycle(rows)]
+#[tactic(auto, unfolding(crate::specs::Levels::inner_read, rsp_phrases::specs::Readers::nested_read, rsp_written::specs::Readings::or_read))]
+pub fn expression<P: Primaries>(
+    depth: usize,
+    alloc: Global,
+    tokens: &[Said],
+) -> Result<(Expression, &[Said]), Halt>
+    ensures { Gives (λ x. (expr_of x.0, x.1.now)) result (inner_read P.first P.reading depth tokens.now) }
+{
+    if depth == 0 {
+        return Err(Halt::Wrong(tokens.len()));
+    }
+    row::<P>(Level::Or, depth - 1, alloc, tokens)
+}
+
+#[cycle(rows)]
+fn row<P: Primaries>(
+    level: Level,
+    depth: usize,
+    alloc: Global,
+    tokens: &[Said],
+) -> Result<(Expression, &[Said]), Halt>
+    ensures { Gives (λ x. (expr_of x.0, x.1.now)) result (level_read level P.first P.reading (inner_read P.first P.reading depth) tokens.now) }
+{
+    let parts = Parts::Row(level);
+    let (first, rest) = part::<P>(parts, depth, alloc, tokens)?;
+    let (operands, rest) = operands::<P>(parts, rest.len(), depth, alloc, rest)?;
+    Ok((joined(level, alloc, first, operands)?, rest))
+}
+
+// what stands between signs
+#[cycle(rows)]
+#[tactic(auto, unfolding(rsp_written::specs::Readings::and_read, rsp_written::specs::Readings::product_read))]
+fn part<P: Primaries>(
+    parts: Parts,
+    depth: usize,
+    alloc: Global,
+    tokens: &[Said],
+) -> Result<(Expression, &[Said]), Halt>
+    ensures { Gives (λ x. (expr_of x.0, x.1.now)) result (part_read parts P.first P.reading (inner_read P.first P.reading depth) tokens.now) }
+{
+    match parts {
+        Parts::Row(Level::Or) => row::<P>(Level::And, depth, alloc, tokens),
+        Parts::Row(Level::And) => relation::<P>(depth, alloc, tokens),
+        Parts::Row(Level::Sum) => row::<P>(Level::Product, depth, alloc, tokens),
+        Parts::Row(Level::Product) => unary::<P>(depth, alloc, tokens),
+        Parts::Arguments => expression::<P>(depth, alloc, tokens),
+    }
+}
+
+// signs and the parts behind them, at most so many
+#[cycle(rows)]
+fn operands<P: Primaries>(
+    parts: Parts,
+    most: usize,
+    depth: usize,
+    alloc: Global,
+    tokens: &[Said],
+) -> Result<(Vec<Operand>, &[Said]), Halt>
+    ensures { Gives (λ x. (map operand_of x.0.items, x.1.now)) result
+        (operands_at_most parts most P.first P.reading (inner_read P.first P.reading depth) tokens.now) }
+{
+    let mut operands = Vec::new(alloc);
+    let mut rest = tokens;
+    for _ in 0..most {
+        if !parts.go_on(rest) {
+            return Ok((operands, rest));
+        }
+        let (more, behind) = operand::<P>(parts, depth, alloc, operands, rest)?;
+        operands = more;
+        rest = behind;
+    }
+    Ok((operands, rest))
+}
+
+// a sign and the part behind it, put behind those before
+#[cycle(rows)]
+fn operand<P: Primaries>(
+    parts: Parts,
+    depth: usize,
+    alloc: Global,
+    before: Vec<Operand>,
+    tokens: &[Said],
+) -> Result<(Vec<Operand>, &[Said]), Halt>
+    ensures { Gives (λ x. (map operand_of x.0.items, x.1.now)) result
+        (with_last (map operand_of before.items) (operand_read parts P.first P.reading (inner_read P.first P.reading depth) tokens.now)) }
+{
+    let (sign, rest) = parts.sign(tokens)?;
+    let (part, rest) = part::<P>(parts, depth, alloc, rest)?;
+    Ok((one_more(before, sign.kind, part)?, rest))
+}
+
+#[cycle(rows)]
+#[tactic(auto, unfolding(rsp_written::specs::Readings::relation_read, rsp_written::specs::Readings::sum_read, rsp_written::specs::Readings::comparison_read, rsp_written::specs::Readings::membership_read, rsp_written::specs::Readings::arguments_read))]
+fn relation<P: Primaries>(
+    depth: usize,
+    alloc: Global,
+    tokens: &[Said],
+) -> Result<(Expression, &[Said]), Halt>
+    ensures { Gives (λ x. (expr_of x.0, x.1.now)) result
+        (readings.relation_read P.first P.reading (inner_read P.first P.reading depth) tokens.now) }
+{
+    let (left, rest) = row::<P>(Level::Sum, depth, alloc, tokens)?;
+    if !begins_relation(rest) {
+        return Ok((left, rest));
+    }
+    if compares(rest) {
+        let (sign, rest) = comparison_sign(rest)?;
+        let (right, rest) = row::<P>(Level::Sum, depth, alloc, rest)?;
+        return Ok((comparison(alloc, sign.kind, left, right)?, rest));
+    }
+    let (negated, rest) = maybe_word(Keyword::Not, rest)?;
+    let (_, rest) = word(Keyword::In, rest)?;
+    let (list, rest) = arguments::<P>(Arity::Any, depth, alloc, rest)?;
+    Ok((membership(alloc, negated, left, list)?, rest))
+}
+
+#[cycle(rows)]
+#[tactic(auto, unfolding(rsp_written::specs::Readings::unary_read))]
+fn unary<P: Primaries>(
+    depth: usize,
+    alloc: Global,
+    tokens: &[Said],
+) -> Result<(Expression, &[Said]), Halt>
+    ensures { Gives (λ x. (expr_of x.0, x.1.now)) result
+        (readings.unary_read P.first P.reading (inner_read P.first P.reading depth) tokens.now) }
+{
+    if !begins_unary(tokens) {
+        return primary::<P>(depth, alloc, tokens);
+    }
+    let (sign, rest) = unary_sign(tokens)?;
+    let (part, rest) = primary::<P>(depth, alloc, rest)?;
+    Ok((with_sign(alloc, sign.kind, part)?, rest))
+}
+
+#[cycle(rows)]
+#[tactic(auto, unfolding(rsp_written::specs::Readings::primary_read, rsp_written::specs::Readings::simple_read))]
+fn primary<P: Primaries>(
+    depth: usize,
+    alloc: Global,
+    tokens: &[Said],
+) -> Result<(Expression, &[Said]), Halt>
+    ensures { Gives (λ x. (expr_of x.0, x.1.now)) result
+        (readings.primary_read P.first P.reading (inner_read P.first P.reading depth) tokens.now) }
+{
+    if P::begins(tokens) {
+        P::read(alloc, tokens)
+    } else if first_is(Kind::Symbol(Symbol::OpenParen), tokens) {
+        in_parens::<P>(depth, alloc, tokens)
+    } else if begins_call(tokens) {
+        call::<P>(depth, alloc, tokens)
+    } else {
+        leaf(alloc, tokens)
+    }
+}
+
+#[cycle(rows)]
+fn in_parens<P: Primaries>(
+    depth: usize,
+    alloc: Global,
+    tokens: &[Said],
+) -> Result<(Expression, &[Said]), Halt>
+    ensures { Gives (λ x. (expr_of x.0, x.1.now)) result
+        (readings.in_parens_read (inner_read P.first P.reading depth) tokens.now) }
+{
+    let (_, rest) = sign(Symbol::OpenParen, tokens)?;
+    let (inner, rest) = expression::<P>(depth, alloc, rest)?;
+    let (_, rest) = sign(Symbol::CloseParen, rest)?;
+    Ok((inner, rest))
+}
+
+/// A call whose arguments hold themselves at most so deep.
+#[cycle(rows)]
+#[tactic(auto, unfolding(rsp_written::specs::Readings::call_read, rsp_written::specs::Readings::function_read))]
+pub fn call<P: Primaries>(
+    depth: usize,
+    alloc: Global,
+    tokens: &[Said],
+) -> Result<(Expression, &[Said]), Halt>
+    ensures { Gives (λ x. (expr_of x.0, x.1.now)) result
+        (readings.call_read (inner_read P.first P.reading depth) tokens.now) }
+{
+    if first_is(Kind::Word(Keyword::Bound), tokens) {
+        return bound(tokens);
+    }
+    let (name, rest) = call_name(tokens)?;
+    let function = name.kind;
+    let (arguments, rest) = arguments::<P>(function.arity(), depth, alloc, rest)?;
+    Ok((
+        Expression::Call {
+            function,
+            arguments,
+        },
+        rest,
+    ))
+}
+
+#[cycle(rows)]
+fn arguments<P: Primaries>(
+    arity: Arity,
+    depth: usize,
+    alloc: Global,
+    tokens: &[Said],
+) -> Result<(Vec<Expression>, &[Said]), Halt>
+    ensures { Gives (λ x. (map expr_of x.0.items, x.1.now)) result
+        (readings.arguments_read arity (inner_read P.first P.reading depth) tokens.now) }
+{
+    bracketed_list::<P>(arity, depth, alloc, tokens)
+}
+
+#[cycle(rows)]
+#[tactic(auto, unfolding(crate::specs::Lists::bracketed_list_read, crate::specs::Lists::closed_list_read))]
+fn bracketed_list<P: Primaries>(
+    arity: Arity,
+    depth: usize,
+    alloc: Global,
+    tokens: &[Said],
+) -> Result<(Vec<Expression>, &[Said]), Halt>
+    ensures { Gives (λ x. (map expr_of x.0.items, x.1.now)) result
+        (bracketed_list_read arity P.first P.reading (inner_read P.first P.reading depth) tokens.now) }
+{
+    let (_, rest) = sign(Symbol::OpenParen, tokens)?;
+    if ends_empty(arity, rest) {
+        let (_, rest) = sign(Symbol::CloseParen, rest)?;
+        return Ok((Vec::new(alloc), rest));
+    }
+    let (list, rest) = list::<P>(arity, depth, alloc, rest)?;
+    let (_, rest) = sign(Symbol::CloseParen, rest)?;
+    Ok((list, rest))
+}
+
+#[cycle(rows)]
+#[tactic(auto, unfolding(crate::specs::Lists::list_read))]
+fn list<P: Primaries>(
+    arity: Arity,
+    depth: usize,
+    alloc: Global,
+    tokens: &[Said],
+) -> Result<(Vec<Expression>, &[Said]), Halt>
+    ensures { Gives (λ x. (map expr_of x.0.items, x.1.now)) result
+        (list_read arity P.first P.reading (inner_read P.first P.reading depth) tokens.now) }
+{
+    let (first, rest) = expression::<P>(depth, alloc, tokens)?;
+    let (others, rest) = operands::<P>(
+        Parts::Arguments,
+        most(arity, rest.len()),
+        depth,
+        alloc,
+        rest,
+    )?;
+    checked(alloc, arity, first, others, rest)
+}

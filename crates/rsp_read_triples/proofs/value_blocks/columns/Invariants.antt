@@ -1,0 +1,12 @@
+use Rattle.std.proofs.Common.{◌≡◌, drop, length, reverse}
+use Rattle.std.specs.Str.{bytes_eq}
+use Rattle.rsp_phrases.specs.Gathering.{gathered, as_read}
+use Rattle.rsp_phrases.specs.Readers.{distinct_read}
+use Rattle.rsp_written.specs.Grammar.{name_if_variable}
+use Rattle.rsp_written.specs.TripleReadings.{columns_read}
+use Rattle.rsp_read_triples.proofs.value_blocks.columns.Given as goal
+
+abbrev pub invariant-loop-said : goal.invariant-loop-said
+invariant-loop-said l =
+    (length l.names.items ≡ l.said-index)
+    × (gathered as_read l.names.items (distinct_read bytes_eq name_if_variable (reverse l.names.items) (drop l.said-index l.tokens)) ≡ columns_read l.tokens)

@@ -1,0 +1,3 @@
+mod EscapeSteps
+mod Signs
+mod SayingRows

@@ -1,0 +1,4 @@
+-- Definitions
+pub mod Escapes
+pub mod Tables
+pub mod Saying

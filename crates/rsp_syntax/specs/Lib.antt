@@ -1,0 +1,5 @@
+-- Definitions
+pub mod Says
+-- Words of the way
+pub mod Clauses
+pub mod Inside
