@@ -9,9 +9,9 @@ use Rattle.rsp_written.specs.Grammar.{kind_number, numbers}
 use Rattle.rsp_written.specs.GroupReadings.{other_first, piece_read, group_of_read}
 use Rattle.rsp_written.specs.Readings.{word_kinds, word_read}
 use Rattle.rsp_written.proofs.Halting.{fails_at}
-use Rattle.rsp_syntax.specs.Inside.{inside_read, found_together}
-use Rattle.rsp_syntax.proofs.Together.{each_found}
-use Rattle.rsp_syntax.proofs.groups.+groups.Goals as goal
+use Rattle.rsp_read_queries.specs.Inside.{inside_read, found_together}
+use Rattle.rsp_read_queries.proofs.Together.{each_found}
+use Rattle.rsp_read_queries.proofs.groups.+groups.Goals as goal
 
 pub body-returns-then-not-begins_other : goal.body-returns-then-not-begins_other
 body-returns-then-not-begins_other t c =

@@ -6,8 +6,8 @@ use Rattle.rsp_phrases.proofs.Gathering.{each, more_at, none_at, end_at}
 use Rattle.rsp_written.specs.Grammar.{kind_number, numbers}
 use Rattle.rsp_written.specs.GroupReadings.{item_first, item_read}
 use Rattle.rsp_written.proofs.Halting.{fails_at}
-use Rattle.rsp_syntax.specs.Clauses.{wide_read}
-use Rattle.rsp_syntax.proofs.selects.more_items.Goals as goal
+use Rattle.rsp_read_queries.specs.Clauses.{wide_read}
+use Rattle.rsp_read_queries.proofs.selects.more_items.Goals as goal
 
 pub returns-then-not-begins_item : goal.returns-then-not-begins_item
 returns-then-not-begins_item c =

@@ -1,8 +1,8 @@
 use Rattle.std.proofs.Common.{map, subst}
 use Rattle.rsp_written.specs.Gives.{Gives}
 use Rattle.rsp_written.specs.GroupMeanings.{element_of}
-use Rattle.rsp_syntax.proofs.Together.{group_is}
-use Rattle.rsp_syntax.proofs.groups.group.Goals as goal
+use Rattle.rsp_read_queries.proofs.Together.{group_is}
+use Rattle.rsp_read_queries.proofs.groups.group.Goals as goal
 
 pub returns : goal.returns
 returns c =

@@ -8,8 +8,8 @@ use Rattle.rsp_written.specs.Grammar.{kind_number, numbers}
 use Rattle.rsp_written.specs.GroupMeanings.{element_of}
 use Rattle.rsp_written.specs.GroupReadings.{other_first, piece_read, body_read, group_of_read}
 use Rattle.rsp_written.specs.Readings.{repeated_read, word_kinds, word_read}
-use Rattle.rsp_syntax.specs.Inside.{inside_read, found_together}
-use Rattle.rsp_syntax.proofs.groups.+groups.Given as goal
+use Rattle.rsp_read_queries.specs.Inside.{inside_read, found_together}
+use Rattle.rsp_read_queries.proofs.groups.+groups.Given as goal
 
 abbrev pub invariant-body-loop : goal.invariant-body-loop
 invariant-body-loop l =

@@ -5,8 +5,8 @@ use Rattle.rsp_written.specs.Grammar.{kind_number, numbers}
 use Rattle.rsp_written.specs.GroupMeanings.{item_of}
 use Rattle.rsp_written.specs.GroupReadings.{item_first, item_read}
 use Rattle.rsp_written.specs.Readings.{repeated_read}
-use Rattle.rsp_syntax.specs.Clauses.{wide_read}
-use Rattle.rsp_syntax.proofs.selects.more_items.Given as goal
+use Rattle.rsp_read_queries.specs.Clauses.{wide_read}
+use Rattle.rsp_read_queries.proofs.selects.more_items.Given as goal
 
 abbrev pub invariant-loop : goal.invariant-loop
 invariant-loop l =

@@ -2,7 +2,7 @@
 ghost use Rattle.std.specs.Prelude.{◌≡◌, map};
 ghost use Rattle.rsp_phrases.specs.Gathering.{as_read, gathered, single};
 ghost use Rattle.rsp_phrases.specs.Readers.{mapped_read, starts};
-ghost use Rattle.rsp_syntax.specs.Clauses.{clause_of, tail_of, wide_read};
+ghost use Rattle.rsp_read_queries.specs.Clauses.{clause_of, tail_of, wide_read};
 ghost use Rattle.rsp_written.specs.Building.{keys_or_none};
 ghost use Rattle.rsp_written.specs.Gives.{Gives};
 ghost use Rattle.rsp_written.specs.Grammar.{kind_number, numbers};

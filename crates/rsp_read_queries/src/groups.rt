@@ -4,7 +4,7 @@ ghost use Rattle.std.specs.Prelude.{◌≡◌, ◌∷◌, [], IfOk, map};
 ghost use Rattle.std.specs.formers.vec.Vec.{mapped};
 ghost use Rattle.rsp_phrases.specs.Gathering.{gathered, as_read, single};
 ghost use Rattle.rsp_phrases.specs.Readers.{second_read};
-ghost use Rattle.rsp_syntax.specs.Inside.{found_together, inside_read, opened_read};
+ghost use Rattle.rsp_read_queries.specs.Inside.{found_together, inside_read, opened_read};
 ghost use Rattle.rsp_written.specs.Building.{elements_in};
 ghost use Rattle.rsp_written.specs.Gives.{Gives};
 ghost use Rattle.rsp_written.specs.GroupMeanings.{element_of, item_of, maybe_expr, projection_of};

@@ -10,7 +10,7 @@ use Rattle.rsp_written.specs.Grammar.{kind_number, numbers}
 use Rattle.rsp_written.specs.GroupReadings.{group_of_read, group_rule_read, group_read}
 use Rattle.rsp_written.specs.Readings.{sign_kinds}
 use Rattle.rsp_written.specs.Trees.{Element}
-use Rattle.rsp_syntax.specs.Inside.{found_together, inside_read}
+use Rattle.rsp_read_queries.specs.Inside.{found_together, inside_read}
 
 pub each_found : {A : Type 0} → Gathers (found_together {A = A}) (flat_map (found_together {A = A}))
 each_found = record { none = refl; first = λ a more. refl }

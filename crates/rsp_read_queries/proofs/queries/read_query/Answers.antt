@@ -2,8 +2,8 @@ use Rattle.rsp_written.specs.Grammar.{query}
 use Rattle.rsp_written.specs.GroupMeanings.{written_of}
 use Rattle.rsp_written.specs.GroupReadings.{query_read}
 use Rattle.rsp_written.proofs.Groups.{good_query}
-use Rattle.rsp_syntax.proofs.Saying.{says}
-use Rattle.rsp_syntax.proofs.queries.read_query.Goals as goal
+use Rattle.rsp_read_queries.proofs.Saying.{says}
+use Rattle.rsp_read_queries.proofs.queries.read_query.Goals as goal
 
 pub returns : goal.returns
 returns c =

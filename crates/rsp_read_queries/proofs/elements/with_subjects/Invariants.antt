@@ -3,7 +3,7 @@ use Rattle.std.specs.Vec.Iter.{into_iter_items}
 use Rattle.rsp_written.specs.Building.{triples_of}
 use Rattle.rsp_written.specs.GroupMeanings.{element_of}
 use Rattle.rsp_written.specs.Meanings.{subject_of}
-use Rattle.rsp_syntax.proofs.elements.with_subjects.Given as goal
+use Rattle.rsp_read_queries.proofs.elements.with_subjects.Given as goal
 
 abbrev pub invariant-loop-subject : goal.invariant-loop-subject
 invariant-loop-subject l =

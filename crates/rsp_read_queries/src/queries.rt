@@ -1,6 +1,6 @@
 // Reading whole queries.
 ghost use Rattle.std.specs.Prelude.{◌≡◌};
-ghost use Rattle.rsp_syntax.specs.Says.{Says};
+ghost use Rattle.rsp_read_queries.specs.Says.{Says};
 ghost use Rattle.rsp_written.specs.Gives.{Gives};
 ghost use Rattle.rsp_written.specs.Grammar.{query};
 ghost use Rattle.rsp_written.specs.GroupMeanings.{written_of};

@@ -7,7 +7,7 @@ use Rattle.rsp_written.specs.declared.reading.Halt.{Halt}
 use Rattle.rsp_written.specs.declared.reading.Halt.TheVariants as halt
 use Rattle.rsp_written.specs.declared.said.Said.{Said}
 use Rattle.rsp_written.specs.Gives.{Gives}
-use Rattle.rsp_syntax.specs.Says.{Says}
+use Rattle.rsp_read_queries.specs.Says.{Says}
 
 pub says : {X A : Type 0} (view : X → A × List Said) (rule : Language Said A) (ts : List Said) (result : Result X Halt) (read : Reading Said A)
     → Gives view result read → Reads rule ts read → Says view rule ts result
