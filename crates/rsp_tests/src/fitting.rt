@@ -18,10 +18,17 @@ fn slot_fits(slot: &Slot, width: usize) -> bool
     }
 }
 
+#[tactic(auto, using(crate::proofs::Below::below_append))]
 fn slots_fit(subject: &Slot, predicate: &Slot, object: &Slot, width: usize) -> bool
     ensures { result ≡ true → AreBelow width (slot_variables subject.now ++ (slot_variables predicate.now ++ slot_variables object.now)) }
 {
-    slot_fits(subject, width) && slot_fits(predicate, width) && slot_fits(object, width)
+    if !slot_fits(subject, width) {
+        return false;
+    }
+    if !slot_fits(predicate, width) {
+        return false;
+    }
+    slot_fits(object, width)
 }
 
 fn are_below(variables: &[usize], width: usize) -> bool
@@ -47,6 +54,7 @@ fn have_width(rows: &[Row<Term>], width: usize) -> bool
 }
 
 // of the expressions that the tests write; it says no of each other
+#[tactic(auto, using(crate::proofs::Below::below_append))]
 fn expression_fits(expression: &Expression, width: usize) -> bool
     ensures { result ≡ true → AreBelow width (formula_variables (formula_of expression.now)) }
 {
@@ -56,7 +64,10 @@ fn expression_fits(expression: &Expression, width: usize) -> bool
         Expression::Bound(variable) => *variable < width,
         Expression::Not(part) => expression_fits(part, width),
         Expression::Compare { left, right, .. } => {
-            expression_fits(left, width) && expression_fits(right, width)
+            if !expression_fits(left, width) {
+                return false;
+            }
+            expression_fits(right, width)
         }
         _ => false,
     }
