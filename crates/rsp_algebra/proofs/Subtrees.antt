@@ -3,7 +3,7 @@ use Rattle.std.proofs.Common.{◌≡◌, ℕ, Bool, true, false, ◌||◌, nat_l
 use Rattle.std.specs.List.{list_any}
 use Rattle.std.proofs.lemmas.List.{length-map}
 use Rattle.rsp_terms.specs.declared.statement.Fact.{Fact}
-use Rattle.rsp_algebra.specs.Nodes.{Node, unit, pattern, join, project}
+use Rattle.rsp_algebra.specs.Nodes.{Node, unit, pattern, join, union, filter, extend, values, project, distinct}
 use Rattle.rsp_algebra.specs.Solutions.{eval, joins, projection}
 use Rattle.rsp_algebra.specs.Overfull.{most_rows, too_many, subtrees, overfull}
 
@@ -27,7 +27,13 @@ overfull-itself width unit facts many = ap (λ b. b || false) many
 overfull-itself width (pattern place triple) facts many = ap (λ b. b || false) many
 overfull-itself width (join left right) facts many =
     ap (λ b. b || list_any (λ (subtree : Node). too_many (eval width subtree facts)) (subtrees left ++ subtrees right)) many
+overfull-itself width (union left right) facts many =
+    ap (λ b. b || list_any (λ (subtree : Node). too_many (eval width subtree facts)) (subtrees left ++ subtrees right)) many
+overfull-itself width (filter child condition) facts many = ap (λ b. b || overfull width child facts) many
+overfull-itself width (extend child variable formula) facts many = ap (λ b. b || overfull width child facts) many
+overfull-itself width (values rows) facts many = ap (λ b. b || false) many
 overfull-itself width (project child variables) facts many = ap (λ b. b || overfull width child facts) many
+overfull-itself width (distinct child) facts many = ap (λ b. b || overfull width child facts) many
 
 or-known : (a b : Bool) → (a ≡ true → b ≡ true) → (a || b) ≡ b
 or-known true b h = sym (h refl)

@@ -1,17 +1,21 @@
 -- Each row of a tree has a cell for each variable below the width.
-use Rattle.std.proofs.Common.{◌≡◌, ℕ, suc, Bool, true, false, ◌&&◌, Option, None, List, [], ◌∷◌, ◌++◌, map, length, refl, sym, ◌∙◌, ap, arith}
+use Rattle.std.proofs.Common.{◌≡◌, ℕ, suc, Bool, true, false, not, ◌&&◌, cond, Option, None, List, [], ◌∷◌, ◌++◌, map, filter, length, refl, sym, ◌∙◌, ap, arith}
 use Rattle.std.specs.Bool.{then_some}
 use Rattle.std.specs.List.{AllByRecursion, filter_map, cons_option}
 use Rattle.std.proofs.lemmas.List.FromFn.{length-map-range_with_len}
+use Rattle.rsp_multiset.specs.RowLists.{merged_pair, merged_pairs, each_once}
 use Rattle.rsp_multiset.specs.Rows.{Cells, compatible, merge}
 use Rattle.rsp_terms.specs.declared.term.Term.{Term}
 use Rattle.rsp_terms.specs.declared.statement.Fact.{Fact}
-use Rattle.rsp_terms.specs.Same.{term_eq}
 use Rattle.rsp_algebra.specs.declared.tree.Place.{Place}
 use Rattle.rsp_algebra.specs.declared.tree.TriplePattern.{TriplePattern}
-use Rattle.rsp_algebra.specs.Nodes.{Node, unit, pattern, join, project}
+use Rattle.rsp_terms.specs.Same.{term_eq}
+use Rattle.rsp_expr.specs.Formulas.{Formula}
+use Rattle.rsp_expr.specs.Values.{truth}
+use Rattle.rsp_algebra.specs.Nodes as node
+use Rattle.rsp_algebra.specs.Nodes.{Node, Fits}
 use Rattle.rsp_algebra.specs.Patterns.{row_by, is_at, is_instance, binding, solution}
-use Rattle.rsp_algebra.specs.Solutions.{join_of_rows, joins, projection, eval}
+use Rattle.rsp_algebra.specs.Solutions.{same_row, projection, extended_by, eval}
 
 -- each row has so many cells
 abbrev pub AllHave : ℕ → List (Cells Term) → Type 0
@@ -38,30 +42,57 @@ solutions-length width place triple (fact ∷ facts) =
     by true rest = (row_by-length width (binding triple fact.triple), rest)
     by false rest = rest
 
-all-append : {X : Type 0} (P : X → Type 0) (xs ys : List X) → AllByRecursion P xs → AllByRecursion P ys → AllByRecursion P (xs ++ ys)
+pub all-append : {X : Type 0} (P : X → Type 0) (xs ys : List X) → AllByRecursion P xs → AllByRecursion P ys → AllByRecursion P (xs ++ ys)
 all-append P [] ys left right = right
 all-append P (x ∷ xs) ys left right = (left.0, all-append P xs ys left.1 right)
 
-joined-length : (width : ℕ) (left : Cells Term) (rights : List (Cells Term)) → length left ≡ width → AllHave width rights → AllHave width (filter_map (join_of_rows left) rights)
-joined-length width left [] long all = tt
-joined-length width left (right ∷ rights) long all =
-    by (compatible term_eq left right) (joined-length width left rights long all.1)
+-- rows of one width merge to rows of that width
+paired-length : (width : ℕ) (test : Cells Term → Cells Term → Bool) (left : Cells Term) (rights : List (Cells Term)) → length left ≡ width → AllHave width rights → AllHave width (filter_map (merged_pair test left) rights)
+paired-length width test left [] long all = tt
+paired-length width test left (right ∷ rights) long all =
+    by (test left right) (paired-length width test left rights long all.1)
   where
-    by : (b : Bool) → AllHave width (filter_map (join_of_rows left) rights) → AllHave width (cons_option (then_some b (merge left right)) (filter_map (join_of_rows left) rights))
+    by : (b : Bool) → AllHave width (filter_map (merged_pair test left) rights) → AllHave width (cons_option (then_some b (merge left right)) (filter_map (merged_pair test left) rights))
     by true rest = (merged-length left right (long ∙ sym all.0) ∙ long, rest)
     by false rest = rest
 
-joins-length : (width : ℕ) (lefts rights : List (Cells Term)) → AllHave width lefts → AllHave width rights → AllHave width (joins lefts rights)
-joins-length width [] rights left_all all = tt
-joins-length width (left ∷ lefts) rights left_all all =
-    all-append (λ row. length row ≡ width) (filter_map (join_of_rows left) rights) (joins lefts rights) (joined-length width left rights left_all.0 all) (joins-length width lefts rights left_all.1 all)
+pub pairs-length : (width : ℕ) (test : Cells Term → Cells Term → Bool) (lefts rights : List (Cells Term)) → AllHave width lefts → AllHave width rights → AllHave width (merged_pairs test lefts rights)
+pairs-length width test [] rights left_all all = tt
+pairs-length width test (left ∷ lefts) rights left_all all =
+    all-append (λ row. length row ≡ width) (filter_map (merged_pair test left) rights) (merged_pairs test lefts rights) (paired-length width test left rights left_all.0 all) (pairs-length width test lefts rights left_all.1 all)
+
+-- what holds of all elements holds of those that are left by a filter
+pub all-filter : {X : Type 0} (P : X → Type 0) (test : X → Bool) (xs : List X) → AllByRecursion P xs → AllByRecursion P (filter test xs)
+all-filter P test [] all = tt
+all-filter P test (x ∷ xs) all = by (test x) (all-filter P test xs all.1)
+  where
+    by : (b : Bool) → AllByRecursion P (filter test xs) → AllByRecursion P (cond b (x ∷ filter test xs) (filter test xs))
+    by true rest = (all.0, rest)
+    by false rest = rest
+
+all-once : {X : Type 0} (P : X → Type 0) (eq : X → X → Bool) (xs : List X) → AllByRecursion P xs → AllByRecursion P (each_once eq xs)
+all-once P eq [] all = tt
+all-once P eq (x ∷ xs) all = (all.0, all-filter P (λ y. not (eq x y)) (each_once eq xs) (all-once P eq xs all.1))
 
 projected-length : (width : ℕ) (variables : List ℕ) (rows : List (Cells Term)) → AllHave width (map (projection width variables) rows)
 projected-length width variables [] = tt
 projected-length width variables (row ∷ rows) = (row_by-length width _, projected-length width variables rows)
 
-pub eval-length : (width : ℕ) (node : Node) (facts : List Fact) → AllHave width (eval width node facts)
-eval-length width unit facts = (row_by-length width (λ _. None), tt)
-eval-length width (pattern place triple) facts = solutions-length width place triple facts
-eval-length width (join left right) facts = joins-length width (eval width left facts) (eval width right facts) (eval-length width left facts) (eval-length width right facts)
-eval-length width (project child variables) facts = projected-length width variables (eval width child facts)
+extended-length : (width variable : ℕ) (formula : Formula) (rows : List (Cells Term)) → AllHave width (map (extended_by width variable formula) rows)
+extended-length width variable formula [] = tt
+extended-length width variable formula (row ∷ rows) = (row_by-length width _, extended-length width variable formula rows)
+
+pub eval-length : (width : ℕ) (tree : Node) (facts : List Fact) → Fits width tree → AllHave width (eval width tree facts)
+eval-length width node.unit facts fits = (row_by-length width (λ _. None), tt)
+eval-length width (node.pattern place triple) facts fits = solutions-length width place triple facts
+eval-length width (node.join left right) facts fits =
+    pairs-length width (compatible term_eq) (eval width left facts) (eval width right facts) (eval-length width left facts fits.0) (eval-length width right facts fits.1)
+eval-length width (node.union left right) facts fits =
+    all-append (λ row. length row ≡ width) (eval width left facts) (eval width right facts) (eval-length width left facts fits.0) (eval-length width right facts fits.1)
+eval-length width (node.filter child condition) facts fits =
+    all-filter (λ row. length row ≡ width) (truth condition) (eval width child facts) (eval-length width child facts fits.1)
+eval-length width (node.extend child variable formula) facts fits = extended-length width variable formula (eval width child facts)
+eval-length width (node.values rows) facts fits = fits
+eval-length width (node.project child variables) facts fits = projected-length width variables (eval width child facts)
+eval-length width (node.distinct child) facts fits =
+    all-once (λ row. length row ≡ width) same_row (eval width child facts) (eval-length width child facts fits)

@@ -1,13 +1,14 @@
 -- Worked rows: the work of small changes.
-use Rattle.std.specs.Prelude.{◌≡◌, refl, Some, [], ◌∷◌, codes}
+use Rattle.std.specs.Prelude.{◌≡◌, refl, Some, None, [], ◌∷◌, codes}
 use Rattle.rsp_terms.specs.declared.term.Term.{Term}
 use Rattle.rsp_terms.specs.declared.term.Term.TheVariants.{Iri}
 use Rattle.rsp_terms.specs.declared.statement.Fact.{Fact}
 use Rattle.rsp_terms.specs.declared.statement.Spot.TheVariants as spot
+use Rattle.rsp_expr.specs.Formulas.{variable}
 use Rattle.rsp_expr.specs.declared.slot.Slot.TheVariants.{Variable, Constant}
 use Rattle.rsp_algebra.specs.declared.tree.Place.TheVariants as place
 use Rattle.rsp_algebra.specs.declared.tree.TriplePattern.{TriplePattern}
-use Rattle.rsp_algebra.specs.Nodes.{Node, pattern, project, left_deep}
+use Rattle.rsp_algebra.specs.Nodes.{Node, pattern, union, extend, values, project, left_deep}
 use Rattle.rsp_algebra.specs.Work.{certain_variables, key, join_work, work}
 
 abbrev a : Term
@@ -38,6 +39,21 @@ both = left_deep (place.Window 0) (outgoing ∷ incoming ∷ [])
 
 pub projection_forgets : certain_variables (project both (1 ∷ 2 ∷ [])) ≡ 1 ∷ []
 projection_forgets = refl
+
+pub union_binds_what_both_bind : certain_variables (union both (pattern (place.Window 0) incoming)) ≡ 0 ∷ 0 ∷ []
+union_binds_what_both_bind = refl
+
+pub extension_may_be_unbound : certain_variables (extend both 1 (variable 0)) ≡ 0 ∷ 0 ∷ []
+extension_may_be_unbound = refl
+
+pub values_bind_what_each_row_binds : certain_variables (values ((Some a ∷ None ∷ Some b ∷ []) ∷ (Some a ∷ Some b ∷ Some a ∷ []) ∷ [])) ≡ 0 ∷ 2 ∷ []
+values_bind_what_each_row_binds = refl
+
+pub no_values_bind_nothing : certain_variables (values []) ≡ []
+no_values_bind_nothing = refl
+
+pub union_adds_nothing : work 2 (union both both) (fact a a ∷ []) (fact a a ∷ []) ≡ 8
+union_adds_nothing = refl
 
 pub rows_are_matched_by_shared_variables : key (pattern (place.Window 0) outgoing) (pattern (place.Window 0) incoming) ≡ 0 ∷ []
 rows_are_matched_by_shared_variables = refl

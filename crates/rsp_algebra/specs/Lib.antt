@@ -7,3 +7,4 @@ pub mod BasicPatterns
 pub mod Work
 -- Words of the way: they link code to definitions, and need no belief
 pub mod Changing
+pub mod Fitting

@@ -1,19 +1,28 @@
 -- Definitions: the nodes of an algebra tree (SPARQL 1.1 Query, section 18.2), apart from how the code keeps them.
-use Rattle.std.specs.Prelude.{ℕ, ◌<◌, ⊤, List, [], ◌∷◌, ◌++◌}
+use Rattle.std.specs.Prelude.{◌≡◌, ℕ, ◌<◌, ⊤, List, [], ◌∷◌, ◌++◌, length}
 use Rattle.std.specs.List.{AllByRecursion, fold}
+use Rattle.rsp_multiset.specs.Rows.{Cells}
+use Rattle.rsp_terms.specs.declared.term.Term.{Term}
+use Rattle.rsp_expr.specs.Formulas as formula
+use Rattle.rsp_expr.specs.Formulas.{Formula, Formulas, no_formula, formula_then, formula_of}
 use Rattle.rsp_expr.specs.declared.slot.Slot.{Slot}
 use Rattle.rsp_expr.specs.declared.slot.Slot.TheVariants.{Variable, Constant}
 use Rattle.rsp_algebra.specs.declared.tree.Place.{Place}
 use Rattle.rsp_algebra.specs.declared.tree.TriplePattern.{TriplePattern}
 use Rattle.rsp_algebra.specs.declared.tree.Tree.{Tree}
-use Rattle.rsp_algebra.specs.declared.tree.Tree.TheVariants.{Unit, Pattern, Join', Project'}
+use Rattle.rsp_algebra.specs.declared.tree.Tree.TheVariants.{Unit, Pattern, Join', Union', Filter', Extend', Values, Project', Distinct'}
 use Rattle.rsp_algebra.specs.declared.tree.Translated.{Translated}
 
 pub data Node : Type 0 where
   unit : Node
   pattern : Place → TriplePattern → Node
   join : Node → Node → Node
+  union : Node → Node → Node
+  filter : Node → Formula → Node
+  extend : Node → ℕ → Formula → Node
+  values : List (Cells Term) → Node
   project : Node → List ℕ → Node
+  distinct : Node → Node
 
 -- the node that a tree of the code is
 abbrev pub node_of : Tree → Node
@@ -21,7 +30,12 @@ node_of Unit = unit
 node_of (Pattern place subject predicate object) =
     pattern place (record { subject = subject; predicate = predicate; object = object })
 node_of (Join' _ left _ right) = join (node_of left) (node_of right)
+node_of (Union' _ left _ right) = union (node_of left) (node_of right)
+node_of (Filter' _ child condition) = filter (node_of child) (formula_of condition)
+node_of (Extend' _ child variable expression) = extend (node_of child) variable (formula_of expression)
+node_of (Values rows) = values rows.items
 node_of (Project' _ child variables) = project (node_of child) variables.items
+node_of (Distinct' _ child) = distinct (node_of child)
 
 -- the left-deep join of triple patterns at one place
 abbrev pub left_deep : Place → List TriplePattern → Node
@@ -37,7 +51,27 @@ abbrev pub pattern_variables : TriplePattern → List ℕ
 pattern_variables triple =
     slot_variables triple.subject ++ (slot_variables triple.predicate ++ slot_variables triple.object)
 
--- each place of a row that the tree names is below the width of rows
+-- the variables of a formula
+abbrev mutual
+  pub formula_variables : Formula → List ℕ
+  formula_variables (formula.variable v) = v ∷ []
+  formula_variables (formula.constant _) = []
+  formula_variables (formula.disjunction parts) = variables_of_all parts
+  formula_variables (formula.conjunction parts) = variables_of_all parts
+  formula_variables (formula.negation part) = formula_variables part
+  formula_variables (formula.comparison _ left right) = formula_variables left ++ formula_variables right
+  formula_variables (formula.membership _ item list) = formula_variables item ++ variables_of_all list
+  formula_variables (formula.arithmetic _ left right) = formula_variables left ++ formula_variables right
+  formula_variables (formula.opposite part) = formula_variables part
+  formula_variables (formula.plus part) = formula_variables part
+  formula_variables (formula.bound v) = v ∷ []
+  formula_variables (formula.call _ arguments) = variables_of_all arguments
+
+  pub variables_of_all : Formulas → List ℕ
+  variables_of_all no_formula = []
+  variables_of_all (formula_then first others) = formula_variables first ++ variables_of_all others
+
+-- each place of a row that the tree names is below the width of rows, and each of its own rows has that width
 abbrev pub AreBelow : ℕ → List ℕ → Type 0
 AreBelow width variables = AllByRecursion (λ v. v < width) variables
 
@@ -45,7 +79,12 @@ abbrev pub Fits : ℕ → Node → Type 0
 Fits width unit = ⊤
 Fits width (pattern _ triple) = AreBelow width (pattern_variables triple)
 Fits width (join left right) = Fits width left × Fits width right
+Fits width (union left right) = Fits width left × Fits width right
+Fits width (filter child condition) = AreBelow width (formula_variables condition) × Fits width child
+Fits width (extend child v expression) = (v < width) × (AreBelow width (formula_variables expression) × Fits width child)
+Fits width (values rows) = AllByRecursion (λ row. length row ≡ width) rows
 Fits width (project child variables) = AreBelow width variables × Fits width child
+Fits width (distinct child) = Fits width child
 
 -- each place that a translated query names is below its width
 pub record IsPlaced (query : Translated) : Type 0 where

@@ -2,8 +2,9 @@
 ghost use Rattle.std.specs.Prelude.{◌≡◌, IfOk};
 ghost use Rattle.rsp_algebra.specs.Nodes.{node_of};
 
-use rsp_expr::Slot;
-use rsp_terms::Listed;
+use rsp_expr::{Expression, Slot};
+use rsp_multiset::{Cell, Row};
+use rsp_terms::{Listed, Term};
 use std::alloc::{AllocError, Global};
 
 /// The graph in which a pattern is matched: that of one of the query's windows, by its index.
@@ -35,10 +36,34 @@ pub enum Tree {
         left: Box<Tree>,
         right: Box<Tree>,
     },
+    /// The solutions of both children.
+    Union {
+        left: Box<Tree>,
+        right: Box<Tree>,
+    },
+    /// The child's solutions on which the condition is true.
+    Filter {
+        child: Box<Tree>,
+        condition: Expression,
+    },
+    /// The child's solutions with the value of the expression at the variable, which an error leaves unbound.
+    Extend {
+        child: Box<Tree>,
+        variable: usize,
+        expression: Expression,
+    },
+    /// These solutions.
+    Values {
+        rows: Vec<Row<Term>>,
+    },
     /// The child's solutions with all variables but these unbound.
     Project {
         child: Box<Tree>,
         variables: Vec<usize>,
+    },
+    /// Each of the child's solutions once.
+    Distinct {
+        child: Box<Tree>,
     },
 }
 
@@ -68,6 +93,36 @@ impl Tree {
                     right: Box::new(alloc, right)?,
                 })
             }
+            Tree::Union { left, right } => {
+                let left = left.share(alloc)?;
+                let right = right.share(alloc)?;
+                Ok(Tree::Union {
+                    left: Box::new(alloc, left)?,
+                    right: Box::new(alloc, right)?,
+                })
+            }
+            Tree::Filter { child, condition } => {
+                let child = child.share(alloc)?;
+                Ok(Tree::Filter {
+                    child: Box::new(alloc, child)?,
+                    condition: condition.share(alloc)?,
+                })
+            }
+            Tree::Extend {
+                child,
+                variable,
+                expression,
+            } => {
+                let child = child.share(alloc)?;
+                Ok(Tree::Extend {
+                    child: Box::new(alloc, child)?,
+                    variable: *variable,
+                    expression: expression.share(alloc)?,
+                })
+            }
+            Tree::Values { rows } => Ok(Tree::Values {
+                rows: share_rows(alloc, rows)?,
+            }),
             Tree::Project { child, variables } => {
                 let child = child.share(alloc)?;
                 Ok(Tree::Project {
@@ -75,8 +130,24 @@ impl Tree {
                     variables: Vec::from_slice(alloc, variables)?,
                 })
             }
+            Tree::Distinct { child } => {
+                let child = child.share(alloc)?;
+                Ok(Tree::Distinct {
+                    child: Box::new(alloc, child)?,
+                })
+            }
         }
     }
+}
+
+fn share_rows(alloc: Global, rows: &[Row<Term>]) -> Result<Vec<Row<Term>>, AllocError>
+    ensures { IfOk result (λ others. others.items ≡ rows.now) }
+{
+    let mut others = Vec::new(alloc);
+    for row in rows {
+        others.push(row.share()?)?;
+    }
+    Ok(others)
 }
 
 /// A query's tree, the number of its variables, and the numbers of those that it shows, in order.

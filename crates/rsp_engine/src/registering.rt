@@ -1,11 +1,12 @@
 // Queries that become live.
-ghost use Rattle.std.specs.Prelude.{◌≡◌, [], IfOk, IfSome, MatchOption, None, true};
+ghost use Rattle.std.specs.Prelude.{◌≡◌, [], IfOk, IfSome, MatchOption, None, true, false};
+ghost use Rattle.rsp_query_line.specs.Meaning.{node_of_line, shown_of, width_of};
 ghost use Rattle.rsp_query_line.specs.QueryLine.{are_shown, query_line};
 ghost use Rattle.rsp_engine.specs.Inside.{Answers, live_of};
 ghost use Rattle.rsp_engine.specs.Passing.{IsRegistered};
 
 use crate::LiveQuery;
-use rsp_algebra::Answer;
+use rsp_algebra::{Answer, Translated};
 use rsp_query_line::{Line, query_line, translated};
 use rsp_terms::{Listed, Text};
 use std::alloc::{AllocError, Global};
@@ -29,6 +30,29 @@ pub(crate) fn registered<A: Answer>(
     }
 }
 
+fn shown_places(query: Translated) -> Listed<usize>
+    ensures { result ≡ query.shown }
+{
+    let Translated { shown, .. } = query;
+    shown
+}
+
+// an answer over no facts, and the places that the query shows
+fn started<A: Answer>(alloc: Global, line: &Line) -> Result<(A, Listed<usize>), AllocError>
+    requires { are_shown line.now.shown line.now.patterns ≡ true }
+    ensures node { IfOk result (λ begun. A.node begun.0 ≡ node_of_line line.now) }
+    ensures width { IfOk result (λ begun. A.width begun.0 ≡ width_of line.now) }
+    ensures facts { IfOk result (λ begun. A.facts begun.0 ≡ []) }
+    ensures ready { IfOk result (λ begun. A.spent begun.0 ≡ false) }
+    ensures shown { IfOk result (λ begun. begun.1 ≡ shown_of line.now) }
+{
+    let query = translated(alloc, line)?;
+    let Some(answer) = A::start(alloc, &query)? else {
+        unreachable!()
+    };
+    Ok((answer, shown_places(query)))
+}
+
 fn live_query<A: Answer>(
     alloc: Global,
     name: Text,
@@ -39,15 +63,14 @@ fn live_query<A: Answer>(
     ensures query { IfOk result (λ live. live_of live ≡ record { name = name; line = line; first = first; seen = [] }) }
     ensures answers { IfOk result (Answers A.node A.width A.facts A.spent) }
 {
-    let query = translated(alloc, &line)?;
-    let Some(answer) = A::start(alloc, &query)? else {
-        unreachable!()
-    };
+    let stream = Text::new(alloc, "s:a")?;
+    let begun: (A, Listed<usize>) = started(alloc, &line)?;
+    let (answer, shown) = begun;
     Ok(LiveQuery {
         name,
         line,
-        stream: Text::new(alloc, "s:a")?,
-        shown: query.shown,
+        stream,
+        shown,
         first,
         seen: Listed::new(alloc),
         answer,

@@ -8,7 +8,10 @@
 
 mod changing;
 mod evaluation;
+mod expressions;
+mod extending;
 mod facts;
+mod filtering;
 mod joining;
 mod keys;
 mod limit;

@@ -3,7 +3,8 @@ ghost use Rattle.std.specs.Prelude.{◌≡◌, is_none, IfOk, IfSome, OnOk};
 ghost use Rattle.std.specs.Option.{ForSome};
 ghost use Rattle.rsp_multiset.specs.Weights.{IsChanged};
 ghost use Rattle.rsp_terms.specs.Same.{fact_eq};
-ghost use Rattle.rsp_algebra.specs.Nodes.{node_of};
+ghost use Rattle.rsp_algebra.specs.Fitting.{Fits-prop};
+ghost use Rattle.rsp_algebra.specs.Nodes.{node_of, Fits};
 ghost use Rattle.rsp_algebra.specs.Solutions.{eval};
 ghost use Rattle.rsp_algebra.specs.Overfull.{overfull};
 ghost use Rattle.rsp_algebra.specs.Changing.{IsSet, MayChange};
@@ -29,6 +30,7 @@ pub struct Plain {
     facts: IndexSet<Fact>,
     /// The rows over the facts; None once the answer is spent.
     rows: Option<Vec<Row<Term>>>,
+    ghost fits: { Fits width (node_of tree) } by { Fits-prop width (node_of tree) },
     ghost kept: { ForSome rows (λ kept. kept.items ≡ eval width (node_of tree) facts.keys) },
 }
 
@@ -41,7 +43,8 @@ fn evaluate_anew(
     before: Vec<Row<Term>>,
     changes: &Changes<Fact>,
 ) -> Result<Option<(Vec<Row<Term>>, Changes<Row<Term>>)>, AllocError>
-    requires { MayChange facts.old.keys changes.now }
+    requires fits { Fits width (node_of tree.now) }
+    requires allowed { MayChange facts.old.keys changes.now }
     ensures facts { OnOk result (IsChanged fact_eq facts.old.keys changes.now facts.new.keys) }
     ensures set { OnOk result (IsSet facts.new.keys) }
     ensures none { IfOk result (λ turn. is_none turn ≡ overfull width (node_of tree.now) facts.new.keys) }

@@ -3,6 +3,7 @@ pub mod Held
 pub mod Linear
 pub mod Merging
 pub mod Renaming
+pub mod SameLists
 pub mod Signs
 pub mod Sums
 pub mod Whole

@@ -1,5 +1,6 @@
 -- Definitions: what a reader must believe
 pub mod Weights
 pub mod Rows
+pub mod RowLists
 -- Words of the way: they link code to definitions, and need no belief
 pub mod RowSame

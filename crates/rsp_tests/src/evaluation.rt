@@ -3,6 +3,7 @@ ghost use Rattle.std.specs.Prelude.{◌≡◌, ◌<◌, IfOk, []};
 ghost use Rattle.rsp_algebra.specs.Nodes.{IsPlaced};
 ghost use Rattle.rsp_algebra.specs.Changing.{MayChange};
 
+use crate::fitting::fits;
 use rsp_algebra::{Answer, Place, Translated, Tree, Turn};
 use rsp_eval::{Plain, evaluate};
 use rsp_expr::Slot;
@@ -68,13 +69,16 @@ fn chain(alloc: Global) -> Result<Vec<Fact>, AllocError> {
     Ok(facts)
 }
 
-// how many rows the tree has; None where it is overfull
+// how many rows the tree has; None where it is overfull, or doesn't fit the width
 fn rows_of(
     alloc: Global,
     tree: &Tree,
     width: usize,
     facts: &[Fact],
 ) -> Result<Option<usize>, AllocError> {
+    if !fits(tree, width) {
+        return Ok(None);
+    }
     match evaluate(alloc, tree, width, facts)? {
         None => Ok(None),
         Some(rows) => Ok(Some(rows.len())),

@@ -16,7 +16,11 @@ mod evaluation;
 #[cfg(test)]
 mod events;
 #[cfg(test)]
+mod fitting;
+#[cfg(test)]
 mod multisets;
+#[cfg(test)]
+mod nodes;
 #[cfg(test)]
 mod nquads;
 #[cfg(test)]

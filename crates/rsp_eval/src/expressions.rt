@@ -1,0 +1,2 @@
+// What evaluation takes of expressions, named in this one place.
+pub use rsp_expr::{truth, value};
