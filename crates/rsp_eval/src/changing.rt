@@ -3,7 +3,7 @@ ghost use Rattle.std.specs.Prelude.{◌≡◌, ◌+ℤ◌, IfOk, OnOk};
 ghost use Rattle.rsp_multiset.specs.Rows.{Cells};
 ghost use Rattle.rsp_multiset.specs.Weights.{weight, times, IsChanged};
 ghost use Rattle.rsp_terms.specs.declared.term.Term.{Term};
-ghost use Rattle.rsp_eval.specs.Keys.{same_row};
+ghost use Rattle.rsp_algebra.specs.Solutions.{same_row};
 
 use rsp_multiset::{Bag, Cell, Changes, Row};
 use rsp_terms::Term;

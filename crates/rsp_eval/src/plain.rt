@@ -8,7 +8,7 @@ ghost use Rattle.rsp_algebra.specs.Nodes.{node_of, Fits};
 ghost use Rattle.rsp_algebra.specs.Solutions.{eval};
 ghost use Rattle.rsp_algebra.specs.Overfull.{overfull};
 ghost use Rattle.rsp_algebra.specs.Changing.{IsSet, MayChange};
-ghost use Rattle.rsp_eval.specs.Keys.{same_row};
+ghost use Rattle.rsp_algebra.specs.Solutions.{same_row};
 
 use crate::changing::{bag_of, difference};
 use crate::evaluation::evaluate;

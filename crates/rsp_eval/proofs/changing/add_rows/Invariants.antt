@@ -2,7 +2,7 @@ use Rattle.std.proofs.Common.{◌≡◌, ◌+ℤ◌, drop}
 use Rattle.rsp_multiset.specs.Rows.{Cells}
 use Rattle.rsp_multiset.specs.Weights.{weight, times}
 use Rattle.rsp_terms.specs.declared.term.Term.{Term}
-use Rattle.rsp_eval.specs.Keys.{same_row}
+use Rattle.rsp_algebra.specs.Solutions.{same_row}
 use Rattle.rsp_eval.proofs.changing.add_rows.Given as goal
 
 abbrev pub invariant-loop-row : goal.invariant-loop-row

@@ -1,5 +1,5 @@
 use Rattle.rsp_multiset.proofs.Counting.{one_more}
-use Rattle.rsp_eval.specs.Keys.{same_row}
+use Rattle.rsp_algebra.specs.Solutions.{same_row}
 use Rattle.rsp_eval.proofs.changing.bag_of.Goals as goal
 
 pub loop-row-preserved : goal.loop-row-preserved
