@@ -66,7 +66,8 @@ fn exact_query(alloc: Global, tokens: &[Said]) -> Result<(Registration, &[Said])
 /// The query that begins the tokens, as it is written, and the tokens behind it. Where no query begins them, how many tokens
 /// are left from the first one that can't stand; none where the text is unfinished.
 pub fn read_query(alloc: Global, tokens: &[Said]) -> Result<(Registration, &[Said]), Halt>
-    ensures { Says (λ x. (written_of x.0, x.1.now)) query tokens.now result }
+    ensures grammar { Says (λ x. (written_of x.0, x.1.now)) query tokens.now result }
+    ensures value { Gives (λ x. (written_of x.0, x.1.now)) result (readings.query_read tokens.now) }
 {
     exact_query(alloc, tokens)
 }

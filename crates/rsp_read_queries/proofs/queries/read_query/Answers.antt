@@ -5,7 +5,7 @@ use Rattle.rsp_written.proofs.Groups.{good_query}
 use Rattle.rsp_read_queries.proofs.Saying.{says}
 use Rattle.rsp_read_queries.proofs.queries.read_query.Goals as goal
 
-pub returns : goal.returns
-returns c =
+pub returns-clause-grammar : goal.returns-clause-grammar
+returns-clause-grammar c =
     says (λ x. (written_of x.0, x.1.now)) query c.args.tokens.now c.exact_query.result (query_read c.args.tokens.now) c.exact_query.ensures
     (good_query.reads c.args.tokens.now)

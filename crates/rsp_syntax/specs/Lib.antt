@@ -1,0 +1,4 @@
+-- Definitions
+pub mod LeftOut
+pub mod Parsing
+pub mod Answers
