@@ -1,4 +1,4 @@
-//! Tests of the parts of queries by tables of cases: expressions and tokens.
+//! Tests of the parts of queries by tables of cases: expressions, tokens, and how far a text is read as an expression.
 //!
 //! The values were taken from the standards and worked out by hand, and not from the program. Nothing stands on this
 //! crate.
@@ -10,3 +10,5 @@ mod expressions;
 mod notation;
 #[cfg(test)]
 mod tokens;
+#[cfg(test)]
+mod written;
