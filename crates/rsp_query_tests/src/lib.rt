@@ -9,6 +9,8 @@ mod expressions;
 #[cfg(test)]
 mod notation;
 #[cfg(test)]
+mod texts;
+#[cfg(test)]
 mod tokens;
 #[cfg(test)]
 mod written;
