@@ -52,11 +52,7 @@ fn said_of(alloc: Global, text: &str, token: Token) -> Result<Said, AllocError>
 }
 
 /// What each token says. Fails only where memory is refused.
-pub(crate) fn all_said(
-    alloc: Global,
-    text: &str,
-    tokens: &[Token],
-) -> Result<Vec<Said>, AllocError>
+pub(crate) fn all_said(alloc: Global, text: &str, tokens: &[Token]) -> Result<Vec<Said>, AllocError>
     ensures { IfOk result (λ all. all.items ≡ map (parsing.said_token text.now) tokens.now) }
 {
     let mut all = Vec::new(alloc);

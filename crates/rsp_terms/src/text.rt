@@ -4,11 +4,10 @@ ghost use Rattle.std.specs.Str.{IsAscii};
 
 use std::alloc::{AllocError, Global};
 use std::cmp::Ordering;
-use std::fmt;
 use std::hash::{Hash, Hasher};
 use std::marker::Model;
 use std::rc::RcStr;
-use std::str;
+use std::{fmt, str};
 
 /// A text that can be shared without a copy of its bytes. Texts compare by their bytes.
 #[derive(Drop)]

@@ -156,7 +156,10 @@ fn each_failing_write_leaves_what_was_written_before(rt: HostRuntime) -> Result<
             ..steady(log.as_bytes())
         };
         let written = REPORT.get(..call).unwrap_or("");
-        assert!(rt; gives(alloc, case, Status::WriteFault, written)?, "write {call}");
+        assert!(rt;
+            gives(alloc, case, Status::WriteFault, written)?,
+            "write {call}"
+        );
     }
     Ok(())
 }
@@ -171,7 +174,10 @@ fn a_full_sink_ends_the_call(rt: HostRuntime) -> Result<(), Fail> {
             ..steady(log.as_bytes())
         };
         let written = REPORT.get(..capacity).unwrap_or("");
-        assert!(rt; gives(alloc, case, Status::WriteFault, written)?, "capacity {capacity}");
+        assert!(rt;
+            gives(alloc, case, Status::WriteFault, written)?,
+            "capacity {capacity}"
+        );
     }
     let case = Case {
         capacity: REPORT.len(),

@@ -29,10 +29,20 @@ enum Node {
 
 // a node, the rows of its left child, or of its only one, those of its right child, and its rows
 const NODES: [(Node, &str, &str, &str); 19] = [
-    (Node::Join, "a - -|b - -", "b c -|b d -|e - -", "b c -|b d -"),
+    (
+        Node::Join,
+        "a - -|b - -",
+        "b c -|b d -|e - -",
+        "b c -|b d -",
+    ),
     (Node::Join, "- x -", "b x -|- - z", "b x -|- x z"),
     (Node::Join, "", "b x -", ""),
-    (Node::Union, "a - -|a - -", "a - -|- b -", "a - -|a - -|a - -|- b -"),
+    (
+        Node::Union,
+        "a - -|a - -",
+        "a - -|- b -",
+        "a - -|a - -|a - -|- b -",
+    ),
     (Node::Union, "", "- - -", "- - -"),
     (Node::FilterEqual, "a b b|a b c|a b b", "", "a b b|a b b"),
     (Node::FilterEqual, "a b -|a - -", "", ""),
@@ -43,7 +53,12 @@ const NODES: [(Node, &str, &str, &str); 19] = [
     (Node::ExtendError, "a b -|a b z", "", "a b -|a b -"),
     (Node::Project, "a b c|a d c", "", "a - -|a - -"),
     (Node::Project, "- b c", "", "- - -"),
-    (Node::Distinct, "a - -|b - -|a - -|c - -|b - -", "", "a - -|b - -|c - -"),
+    (
+        Node::Distinct,
+        "a - -|b - -|a - -|c - -|b - -",
+        "",
+        "a - -|b - -|c - -",
+    ),
     (Node::Distinct, "- a -|a - -|- a -", "", "- a -|a - -"),
     (Node::Distinct, "- - -|- - -", "", "- - -"),
     (Node::Distinct, "", "", ""),
@@ -75,12 +90,7 @@ fn values(alloc: Global, text: &str) -> Result<Tree, AllocError> {
     Ok(Tree::Values { rows })
 }
 
-fn compare(
-    alloc: Global,
-    sign: Sign,
-    left: usize,
-    right: usize,
-) -> Result<Expression, AllocError> {
+fn compare(alloc: Global, sign: Sign, left: usize, right: usize) -> Result<Expression, AllocError> {
     Ok(Expression::Compare {
         sign,
         left: Box::new(alloc, Expression::Variable(left))?,
