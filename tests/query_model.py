@@ -9,6 +9,9 @@ import re
 import sys
 from collections import namedtuple
 
+# a rule goes on within a call, so a long text is a deep stack of calls
+sys.setrecursionlimit(1_000_000)
+
 LAST_INSTANT = 253402300799999
 XSD = "http://www.w3.org/2001/XMLSchema#"
 RDF_TYPE = "http://www.w3.org/1999/02/22-rdf-syntax-ns#type"
@@ -207,8 +210,9 @@ def maybe(rule):
     return either(rule, nothing())
 
 
-def many(rule):
-    return either(nothing([]), then(rule, lambda first: mapped(lambda rest: [first, *rest], many(rule))))
+def many(rule, found=()):
+    """The rule any number of times, behind what it gave so far."""
+    return either(nothing(list(found)), then(rule, lambda one: many(rule, (*found, one))))
 
 
 def some(rule):
@@ -824,7 +828,6 @@ def answer(text):
 
 
 def main():
-    sys.setrecursionlimit(100000)
     if sys.argv[1:] != ["--rows"]:
         print(answer(sys.stdin.buffer.read().decode()))
         return 0
