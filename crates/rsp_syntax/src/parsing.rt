@@ -1,5 +1,5 @@
 // The query that a text is.
-ghost use Rattle.std.specs.Prelude.{◌≡◌, ℕ, List, map};
+ghost use Rattle.std.specs.Prelude.{Ok, map};
 ghost use Rattle.rsp_written.specs.GroupMeanings.{written_of};
 ghost use Rattle.rsp_syntax.specs.Parsing as parsing;
 ghost use Rattle.rsp_syntax.specs.Answers.{IsParsed, IsFault, IsRegistered};
@@ -68,15 +68,24 @@ fn registration_of(
     ensures { IsRegistered result (parsing.registration_of text.now tokens.now said.now) }
 {
     match read_query(alloc, said) {
-        Ok((registration, rest)) => {
-            if rest.is_empty() {
-                Ok(registration)
-            } else {
-                Err(wrong(alloc, text, tokens, rest.len()))
-            }
-        }
+        Ok((registration, rest)) => whole(alloc, text, tokens, registration, rest),
         Err(Halt::Wrong(left)) => Err(wrong(alloc, text, tokens, left)),
         Err(Halt::OutOfMemory) => Err(SyntaxFault::OutOfMemory),
+    }
+}
+
+fn whole(
+    alloc: Global,
+    text: &str,
+    tokens: &[Token],
+    registration: Registration,
+    rest: &[Said],
+) -> Result<Registration, SyntaxFault>
+    ensures { IsRegistered result (parsing.whole text.now tokens.now (Ok (written_of registration, rest.now))) }
+{
+    match rest {
+        [] => Ok(registration),
+        [_, behind @ ..] => Err(wrong(alloc, text, tokens, behind.len() + 1)),
     }
 }
 
