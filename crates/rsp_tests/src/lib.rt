@@ -6,31 +6,11 @@
 #![tactic(auto)]
 
 #[cfg(test)]
-mod answers;
-#[cfg(test)]
-mod call;
-#[cfg(test)]
-mod engine;
-#[cfg(test)]
-mod evaluation;
-#[cfg(test)]
-mod events;
-#[cfg(test)]
-mod fitting;
-#[cfg(test)]
 mod multisets;
-#[cfg(test)]
-mod nodes;
-#[cfg(test)]
-mod nquads;
 #[cfg(test)]
 mod numbers;
 #[cfg(test)]
 mod objects;
-#[cfg(test)]
-mod query_lines;
-#[cfg(test)]
-mod reports;
 #[cfg(test)]
 mod steps;
 #[cfg(test)]

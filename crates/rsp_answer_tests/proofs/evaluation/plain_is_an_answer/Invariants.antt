@@ -1,4 +1,4 @@
-use Rattle.rsp_tests.proofs.evaluation.plain_is_an_answer.Given as goal
+use Rattle.rsp_answer_tests.proofs.evaluation.plain_is_an_answer.Given as goal
 
 -- the ledger is the one that the blank stands for
 abbrev pub ghosts-solutions_after_one : goal.ghosts-solutions_after_one

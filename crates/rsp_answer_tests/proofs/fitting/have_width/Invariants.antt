@@ -1,6 +1,6 @@
 use Rattle.std.proofs.Common.{◌≡◌, drop, length}
 use Rattle.std.specs.List.{AllByRecursion}
-use Rattle.rsp_tests.proofs.fitting.have_width.Given as goal
+use Rattle.rsp_answer_tests.proofs.fitting.have_width.Given as goal
 
 abbrev pub invariant-loop-row : goal.invariant-loop-row
 invariant-loop-row l =

@@ -1,4 +1,4 @@
-use Rattle.rsp_tests.proofs.engine.said.Given as goal
+use Rattle.rsp_log_tests.proofs.engine.said.Given as goal
 
 -- the ledger of a count that nobody reads
 abbrev pub ghosts-answers : goal.ghosts-answers
