@@ -97,12 +97,21 @@ fn status_of<L: Ledger>(
     rsp(alloc, words, input, &mut shelf, out, &mut steps)
 }
 
+fn uncounted(
+    alloc: Global,
+    words: &[Text],
+    input: &mut MemorySource,
+    out: &mut MemorySink,
+) -> Status {
+    status_of::<Brand>(alloc, Blank::new(1), words, input, out)
+}
+
 // whether a call ends with this status and leaves this text in the sink
 fn gives(alloc: Global, case: Case<'_>, status: Status, text: &str) -> Result<bool, AllocError> {
     let words = texts_of(alloc, case.words)?;
     let mut input = source_of(alloc, case)?;
     let mut out = sink_of(alloc, case)?;
-    let given = status_of::<Brand>(alloc, Blank::new(1), words.as_slice(), &mut input, &mut out);
+    let given = uncounted(alloc, words.as_slice(), &mut input, &mut out);
     Ok(given == status && out.taken() == text.as_bytes())
 }
 
