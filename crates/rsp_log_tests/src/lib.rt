@@ -1,9 +1,7 @@
-//! Tests of the layers between the log and a report: statements, events, query lines, the engine, report texts. Nothing
+//! Tests of the layers between the log and a report: statements, events, query lines, report texts. Nothing
 //! stands above.
 #![tactic(auto)]
 
-#[cfg(test)]
-mod engine;
 #[cfg(test)]
 mod events;
 #[cfg(test)]
