@@ -16,7 +16,9 @@ Fits-prop width (node.pattern _ triple) = AreBelow-prop width (pattern_variables
 Fits-prop width (node.join left right) = ×_prop (Fits-prop width left) (Fits-prop width right)
 Fits-prop width (node.union left right) = ×_prop (Fits-prop width left) (Fits-prop width right)
 Fits-prop width (node.filter child condition) = ×_prop (AreBelow-prop width (formula_variables condition)) (Fits-prop width child)
-Fits-prop width (node.extend child v formula) = ×_prop le_prop (×_prop (AreBelow-prop width (formula_variables formula)) (Fits-prop width child))
-Fits-prop width (node.values rows) = AllByRecursion-prop (λ (row : Cells Term). length row ≡ width) (λ row. Coded-set coded_ℕ (length row) width) rows
+Fits-prop width (node.extend child v formula) =
+    ×_prop le_prop (×_prop (AreBelow-prop width (formula_variables formula)) (Fits-prop width child))
+Fits-prop width (node.values rows) =
+    AllByRecursion-prop (λ (row : Cells Term). length row ≡ width) (λ row. Coded-set coded_ℕ (length row) width) rows
 Fits-prop width (node.project child variables) = ×_prop (AreBelow-prop width variables) (Fits-prop width child)
 Fits-prop width (node.distinct child) = Fits-prop width child

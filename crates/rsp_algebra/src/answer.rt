@@ -41,7 +41,8 @@ pub trait Answer: Sized + Drop {
     /// facts at all.
     fn start(alloc: Global, translated: &Translated) -> Result<Option<Self>, AllocError>
         requires { IsPlaced translated.now }
-        ensures none { IfOk result (λ started. is_none started ≡ is_too_full translated.now.width (node_of translated.now.tree) []) }
+        ensures none { IfOk result (λ started. is_none started
+            ≡ is_too_full translated.now.width (node_of translated.now.tree) []) }
         ensures node { IfOk result (λ started. IfSome started (λ answer. node answer ≡ node_of translated.now.tree)) }
         ensures width { IfOk result (λ started. IfSome started (λ answer. width answer ≡ translated.now.width)) }
         ensures facts { IfOk result (λ started. IfSome started (λ answer. facts answer ≡ [])) }
@@ -60,9 +61,11 @@ pub trait Answer: Sized + Drop {
         ensures width { width self.new ≡ width self.old }
         ensures facts { IfOk result (λ _. IsChanged fact_eq (facts self.old) changes.now (facts self.new)) }
         ensures set { IfOk result (λ _. IsSet (facts self.new)) }
-        ensures overfull { IfOk result (λ turn. is_overfull turn ≡ is_too_full (width self.old) (node self.old) (facts self.new)) }
+        ensures overfull { IfOk result (λ turn. is_overfull turn
+            ≡ is_too_full (width self.old) (node self.old) (facts self.new)) }
         ensures net { IfOk result (λ turn. IfNet turn (λ net.
-            IsChanged (row_eq term_eq) (eval (width self.old) (node self.old) (facts self.old)) net (eval (width self.old) (node self.old) (facts self.new)))) }
+            IsChanged (row_eq term_eq) (eval (width self.old) (node self.old) (facts self.old)) net
+            (eval (width self.old) (node self.old) (facts self.new)))) }
         ensures spent { spent self.new ≡ not (goes_on result) }
         ensures cost { (after : List Fact) → IsSet after → IsChanged fact_eq (facts self.old) changes.now after
             → steps.new ≤ steps.old + work (width self.old) (node self.old) (facts self.old) after };
@@ -70,5 +73,6 @@ pub trait Answer: Sized + Drop {
     /// The solutions.
     fn solutions(&self) -> Result<Bag<Term>, AllocError>
         requires { spent self.now ≡ false }
-        ensures { IfOk result (λ bag. (q : _) → weight (row_eq term_eq) bag q ≡ times (row_eq term_eq) (eval (width self.now) (node self.now) (facts self.now)) q) };
+        ensures { IfOk result (λ bag. (q : _) → weight (row_eq term_eq) bag q
+            ≡ times (row_eq term_eq) (eval (width self.now) (node self.now) (facts self.now)) q) };
 }

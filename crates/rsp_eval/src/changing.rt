@@ -10,7 +10,8 @@ use rsp_terms::Term;
 use std::alloc::{AllocError, Global};
 
 fn add_rows(net: &mut Changes<Row<Term>>, rows: &[Row<Term>]) -> Result<(), AllocError>
-    ensures { OnOk result ((q : Cells Term) → weight same_row net.new q ≡ weight same_row net.old q +ℤ times same_row rows.now q) }
+    ensures { OnOk result ((q : Cells Term) → weight same_row net.new q
+        ≡ weight same_row net.old q +ℤ times same_row rows.now q) }
 {
     for row in rows {
         net.alter(row.share()?, 1)?;
@@ -19,7 +20,8 @@ fn add_rows(net: &mut Changes<Row<Term>>, rows: &[Row<Term>]) -> Result<(), Allo
 }
 
 fn take_rows(net: &mut Changes<Row<Term>>, rows: Vec<Row<Term>>) -> Result<(), AllocError>
-    ensures { OnOk result ((q : Cells Term) → weight same_row net.new q +ℤ times same_row rows.items q ≡ weight same_row net.old q) }
+    ensures { OnOk result ((q : Cells Term) → weight same_row net.new q +ℤ times same_row rows.items q
+        ≡ weight same_row net.old q) }
 {
     for row in rows {
         net.alter(row, -1)?;

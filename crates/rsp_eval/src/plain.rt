@@ -102,9 +102,11 @@ impl Answer for Plain {
         ensures width { self.new.width ≡ self.old.width }
         ensures facts { IfOk result (λ _. IsChanged fact_eq self.old.facts.keys changes.now self.new.facts.keys) }
         ensures set { IfOk result (λ _. IsSet self.new.facts.keys) }
-        ensures overfull { IfOk result (λ turn. is_overfull turn ≡ overfull self.old.width (node_of self.old.tree) self.new.facts.keys) }
+        ensures overfull { IfOk result (λ turn. is_overfull turn
+            ≡ overfull self.old.width (node_of self.old.tree) self.new.facts.keys) }
         ensures net { IfOk result (λ turn. IfNet turn (λ net. IsChanged same_row
-            (eval self.old.width (node_of self.old.tree) self.old.facts.keys) net (eval self.old.width (node_of self.old.tree) self.new.facts.keys))) }
+            (eval self.old.width (node_of self.old.tree) self.old.facts.keys) net
+            (eval self.old.width (node_of self.old.tree) self.new.facts.keys))) }
         ensures spent { is_none self.new.rows ≡ not (goes_on result) }
         ensures cost { (after : List Fact) → IsSet after → IsChanged fact_eq self.old.facts.keys changes.now after
             → steps.new ≤ steps.old + work self.old.width (node_of self.old.tree) self.old.facts.keys after }

@@ -45,7 +45,8 @@ sum_of numbers = value_of_total (total_of numbers)
 -- the sum divided by how many there are; of none the integer 0
 abbrev pub average_of : List Number → Option Number
 average_of [] = Some (Integer (pos 0))
-average_of (number ∷ numbers) = value_of_both quotient (sum_of (number ∷ numbers)) (integer_result (pos (length (number ∷ numbers))))
+average_of (number ∷ numbers) =
+    value_of_both quotient (sum_of (number ∷ numbers)) (integer_result (pos (length (number ∷ numbers))))
 
 -- of no terms an error
 abbrev pub least_of : List Term → Option Term

@@ -156,7 +156,8 @@ unary_value function.Lang term = language_tag term  -- 17.4.2.6
 unary_value function.Datatype term = datatype_iri term  -- 17.4.2.7
 unary_value function.Iri term = iri_of term  -- 17.4.2.8
 unary_value function.Uri term = iri_of term  -- 17.4.2.8
-unary_value function.StrLen term = option_and_then (λ (w : Written). numeral_result (integer_result (pos (character_count w.text)))) (written_of term)
+unary_value function.StrLen term =
+    option_and_then (λ (w : Written). numeral_result (integer_result (pos (character_count w.text)))) (written_of term)
 unary_value function.Abs term = numeral_result (option_map absolute_value (number_of term))  -- 17.4.4.1
 unary_value function.Round term = numeral_result (option_map (rounding round_of) (number_of term))
 unary_value function.Ceil term = numeral_result (option_map (rounding ceil_of) (number_of term))
@@ -188,7 +189,8 @@ binary_value function.StrEnds text part = test_of_texts texts.finishes_with text
 binary_value function.Contains text part = test_of_texts texts.contains text part  -- 17.4.3.8
 binary_value function.StrBefore text part = value_of_texts (λ a b. part_of a (texts.text_before a.text b.text)) text part
 binary_value function.StrAfter text part = value_of_texts (λ a b. part_of a (texts.text_after a.text b.text)) text part
-binary_value function.LangMatches tag range = value_of_both (λ a b. boolean_result (Some (is_matched_by a b))) (string_of tag) (string_of range)
+binary_value function.LangMatches tag range =
+    value_of_both (λ a b. boolean_result (Some (is_matched_by a b))) (string_of tag) (string_of range)
 binary_value name left right = None
 
 -- ---- of three arguments

@@ -22,7 +22,8 @@ abbrev mutual
   value (formula.disjunction parts) row = boolean_result (disjunction_of (map truth_of (values parts row)))
   value (formula.conjunction parts) row = boolean_result (conjunction_of (map truth_of (values parts row)))
   value (formula.negation part) row = boolean_result (logical_not (truth_of (value part row)))
-  value (formula.comparison sign left right) row = boolean_result (value_of_both (comparison sign) (value left row) (value right row))
+  value (formula.comparison sign left right) row =
+      boolean_result (value_of_both (comparison sign) (value left row) (value right row))
   value (formula.membership negated item list) row = boolean_result (membership negated (value item row) (values list row))
   value (formula.arithmetic sign left right) row = value_of_both (functions.arithmetic sign) (value left row) (value right row)
   value (formula.opposite part) row = option_and_then functions.unary_minus (value part row)

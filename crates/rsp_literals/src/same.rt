@@ -5,7 +5,8 @@ ghost use Rattle.rsp_number.specs.Decimals.{most_digits};
 ghost use Rattle.rsp_number.specs.declared.number.Number.TheVariants as number;
 ghost use Rattle.rsp_terms.specs.Same.{term_eq};
 ghost use Rattle.rsp_expr.specs.BooleanValues.{boolean_literal, boolean_text};
-ghost use Rattle.rsp_expr.specs.Numerals.{last_digits, fraction_text, size_text, sign_text, numeral, numeral_type, numeral_literal};
+ghost use Rattle.rsp_expr.specs.Numerals.{last_digits, fraction_text, size_text, sign_text, numeral};
+ghost use Rattle.rsp_expr.specs.Numerals.{numeral_type, numeral_literal};
 ghost use Rattle.rsp_expr.specs.Strings.{string_literal};
 
 use crate::datatypes::{XSD_BOOLEAN, XSD_DECIMAL, XSD_INTEGER};

@@ -203,5 +203,6 @@ abbrev pub limit_of : Written → Option LimitName
 limit_of w =
     over 16 (length w.windows) limit.Windows
     (cond (has_spans w)
-    (passed_by_counts (length (behind_selected [] nothing w.select).variables) (selected_of [] nothing w.select) (select_operators w.select))
+    (passed_by_counts (length (behind_selected [] nothing w.select).variables) (selected_of [] nothing w.select)
+    (select_operators w.select))
     (Some limit.Span))

@@ -19,7 +19,8 @@ IsNumbered w (Err name) = limit_of w ≡ Some name
 -- the same once policy and windows are known to be within their limits
 abbrev pub limit_behind : Written → Option LimitName
 limit_behind w =
-    passed_by_counts (length (behind_selected [] nothing w.select).variables) (selected_of [] nothing w.select) (select_operators w.select)
+    passed_by_counts (length (behind_selected [] nothing w.select).variables) (selected_of [] nothing w.select)
+    (select_operators w.select)
 
 abbrev pub query_behind : Written → PolicyWords → List WindowClause → Registered
 query_behind w policy windows = record {

@@ -126,7 +126,8 @@ is_grouped [] None [] = false
 is_grouped keys having aggregates = true
 
 -- a SELECT of its parts
-abbrev pub selection_of : Bool → Projection → List query.Item → Parts → List query.Item → Option Formula → List (ℕ × Aggregation) → Selection
+abbrev pub selection_of : Bool → Projection → List query.Item → Parts → List query.Item → Option Formula → List (ℕ × Aggregation)
+    → Selection
 selection_of distinct projection items body keys having aggregates =
     selection distinct (is_star projection) items body (is_grouped keys having aggregates) keys having aggregates
 
@@ -134,7 +135,8 @@ abbrev mutual
   -- the parts so far, and behind them those of an element
   pub with_element : List Scope → Before → List Part → Element → List Part
   with_element at before those (written.triples subject properties) = with_triples at before those subject properties
-  with_element at before those (written.optional_group body) = those ++ (optional (parts_in (with_elements at before [] body)) ∷ [])
+  with_element at before those (written.optional_group body) =
+      those ++ (optional (parts_in (with_elements at before [] body)) ∷ [])
   with_element at before those (written.minus_group body) = those ++ (minus (parts_in (with_elements at before [] body)) ∷ [])
   with_element at before those (written.union_of groups) = those ++ (union (groups_in (groups_of at before groups)) ∷ [])
   with_element at before those (written.graph_group name place body) =

@@ -88,7 +88,8 @@ abbrev mutual
   with_objects at before those subject verb no_node = those
   with_objects at before those subject verb (node_then node more) =
       with_objects at (behind_inner at (behind_slot at before node) node)
-      (with_inner at (behind_slot at before node) (those ++ (triple subject verb (slot_of at before node) ∷ [])) (slot_of at before node) node)
+      (with_inner at (behind_slot at before node) (those ++ (triple subject verb (slot_of at before node) ∷ []))
+      (slot_of at before node) node)
       subject verb more
 
   -- of a subject

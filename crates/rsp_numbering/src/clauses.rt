@@ -117,7 +117,8 @@ fn default_slide(words: &PolicyWords, width: u64) -> u64
 
 fn shape_of(words: &PolicyWords, window: &rsp_written::Window) -> Option<Window>
     ensures { MatchOption result (limits.is_within (written.window_of window.now) ≡ false)
-        (λ shape. (limits.is_within (written.window_of window.now) ≡ true) × (shape ≡ numbered.shape_of words.now (written.window_of window.now))) }
+        (λ shape. (limits.is_within (written.window_of window.now) ≡ true)
+        × (shape ≡ numbered.shape_of words.now (written.window_of window.now))) }
 {
     if !is_within(window) {
         return None;

@@ -26,10 +26,12 @@ pub(crate) fn numbered(
     aggregates: &mut Vec<(usize, Aggregate)>,
     expression: &written::Expression,
 ) -> Result<Expression, AllocError>
-    ensures formula { IfOk result (λ e. formula_of e ≡ numbered.numbered_expr (scopes_of at.now) before.old (expr_of expression.now)) }
+    ensures formula { IfOk result (λ e. formula_of e
+        ≡ numbered.numbered_expr (scopes_of at.now) before.old (expr_of expression.now)) }
     ensures behind { OnOk result (before.new ≡ numbered.behind_expr (scopes_of at.now) before.old (expr_of expression.now)) }
     ensures aggregates { OnOk result (aggregations_of aggregates.new.items
-        ≡ numbered.with_aggregates (scopes_of at.now) before.old (aggregations_of aggregates.old.items) (expr_of expression.now)) }
+        ≡ numbered.with_aggregates (scopes_of at.now) before.old (aggregations_of aggregates.old.items)
+        (expr_of expression.now)) }
 {
     match expression {
         written::Expression::Variable(name) => Ok(Expression::Variable(number_of(
@@ -117,10 +119,12 @@ fn boxed(
     aggregates: &mut Vec<(usize, Aggregate)>,
     expression: &written::Expression,
 ) -> Result<Box<Expression>, AllocError>
-    ensures formula { IfOk result (λ e. formula_of e.value ≡ numbered.numbered_expr (scopes_of at.now) before.old (expr_of expression.now)) }
+    ensures formula { IfOk result (λ e. formula_of e.value
+        ≡ numbered.numbered_expr (scopes_of at.now) before.old (expr_of expression.now)) }
     ensures behind { OnOk result (before.new ≡ numbered.behind_expr (scopes_of at.now) before.old (expr_of expression.now)) }
     ensures aggregates { OnOk result (aggregations_of aggregates.new.items
-        ≡ numbered.with_aggregates (scopes_of at.now) before.old (aggregations_of aggregates.old.items) (expr_of expression.now)) }
+        ≡ numbered.with_aggregates (scopes_of at.now) before.old (aggregations_of aggregates.old.items)
+        (expr_of expression.now)) }
 {
     let expression = numbered(alloc, at, before, aggregates, expression)?;
     Ok(Box::new(alloc, expression)?)
@@ -136,9 +140,11 @@ fn all(
 ) -> Result<Vec<Expression>, AllocError>
     ensures formulas { IfOk result (λ es. map formula_of es.items
         ≡ numbered.numbered_exprs (scopes_of at.now) before.old (exprs_in (map expr_of expressions.now))) }
-    ensures behind { OnOk result (before.new ≡ numbered.behind_exprs (scopes_of at.now) before.old (exprs_in (map expr_of expressions.now))) }
+    ensures behind { OnOk result (before.new
+        ≡ numbered.behind_exprs (scopes_of at.now) before.old (exprs_in (map expr_of expressions.now))) }
     ensures aggregates { OnOk result (aggregations_of aggregates.new.items
-        ≡ numbered.with_aggregates_of_all (scopes_of at.now) before.old (aggregations_of aggregates.old.items) (exprs_in (map expr_of expressions.now))) }
+        ≡ numbered.with_aggregates_of_all (scopes_of at.now) before.old (aggregations_of aggregates.old.items)
+        (exprs_in (map expr_of expressions.now))) }
 {
     let mut made = Vec::new(alloc);
     for expression in expressions {
@@ -158,9 +164,11 @@ fn operands(
 ) -> Result<Vec<(Sign, Expression)>, AllocError>
     ensures formulas { IfOk result (λ made. signed_formulas made.items
         ≡ numbered.numbered_operands (scopes_of at.now) before.old (operands_in (map operand_of written.now))) }
-    ensures behind { OnOk result (before.new ≡ numbered.behind_operands (scopes_of at.now) before.old (operands_in (map operand_of written.now))) }
+    ensures behind { OnOk result (before.new
+        ≡ numbered.behind_operands (scopes_of at.now) before.old (operands_in (map operand_of written.now))) }
     ensures aggregates { OnOk result (aggregations_of aggregates.new.items
-        ≡ numbered.with_aggregates_of_row (scopes_of at.now) before.old (aggregations_of aggregates.old.items) (operands_in (map operand_of written.now))) }
+        ≡ numbered.with_aggregates_of_row (scopes_of at.now) before.old (aggregations_of aggregates.old.items)
+        (operands_in (map operand_of written.now))) }
 {
     let mut made = Vec::new(alloc);
     for operand in written {
@@ -216,7 +224,8 @@ fn put_aggregate(
     argument: Option<Expression>,
 ) -> Result<(), AllocError>
     ensures { OnOk result (aggregations_of aggregates.new.items
-        ≡ aggregations_of aggregates.old.items ++ (numbered.numbered_aggregate number kind distinct (maybe_formula argument) ∷ [])) }
+        ≡ aggregations_of aggregates.old.items ++
+        (numbered.numbered_aggregate number kind distinct (maybe_formula argument) ∷ [])) }
 {
     let aggregate = Aggregate {
         kind,

@@ -27,8 +27,10 @@ fn put_element<'s>(
     parts: &mut Vec<Element>,
 ) -> Result<(), AllocError>
     ensures parts { OnOk result (map query.part_of parts.new.items
-        ≡ numbered.with_element (scopes_of at.now) before.old (map query.part_of parts.old.items) (written.element_of element.now)) }
-    ensures behind { OnOk result (before.new ≡ numbered.behind_element (scopes_of at.now) before.old (written.element_of element.now)) }
+        ≡ numbered.with_element (scopes_of at.now) before.old (map query.part_of parts.old.items)
+        (written.element_of element.now)) }
+    ensures behind { OnOk result (before.new
+        ≡ numbered.behind_element (scopes_of at.now) before.old (written.element_of element.now)) }
 {
     match element {
         rsp_written::Element::Triples(subject) => { put_triples(alloc, at, before, subject, parts) }
@@ -113,7 +115,8 @@ fn put_values(
 ) -> Result<(), AllocError>
     ensures parts { OnOk result (map query.part_of parts.new.items
         ≡ numbered.with_element (scopes_of at.now) before.old (map query.part_of parts.old.items) (written.values_of block.now)) }
-    ensures behind { OnOk result (before.new ≡ numbered.behind_element (scopes_of at.now) before.old (written.values_of block.now)) }
+    ensures behind { OnOk result (before.new
+        ≡ numbered.behind_element (scopes_of at.now) before.old (written.values_of block.now)) }
 {
     let variables = numbers_of(alloc, at, before, &block.variables)?;
     let rows = rows_of(alloc, &block.rows)?;
@@ -129,8 +132,10 @@ fn put_elements<'s>(
     parts: &mut Vec<Element>,
 ) -> Result<(), AllocError>
     ensures parts { OnOk result (map query.part_of parts.new.items
-        ≡ numbered.with_elements (scopes_of at.now) before.old (map query.part_of parts.old.items) (elements_in (map written.element_of elements.now))) }
-    ensures behind { OnOk result (before.new ≡ numbered.behind_elements (scopes_of at.now) before.old (elements_in (map written.element_of elements.now))) }
+        ≡ numbered.with_elements (scopes_of at.now) before.old (map query.part_of parts.old.items)
+        (elements_in (map written.element_of elements.now))) }
+    ensures behind { OnOk result (before.new
+        ≡ numbered.behind_elements (scopes_of at.now) before.old (elements_in (map written.element_of elements.now))) }
 {
     for element in elements {
         put_element(alloc, at, before, element, parts)?;
@@ -147,7 +152,8 @@ fn group<'s>(
 ) -> Result<Vec<Element>, AllocError>
     ensures parts { IfOk result (λ parts. map query.part_of parts.items
         ≡ numbered.with_elements (scopes_of at.now) before.old [] (elements_in (map written.element_of elements.now))) }
-    ensures behind { OnOk result (before.new ≡ numbered.behind_elements (scopes_of at.now) before.old (elements_in (map written.element_of elements.now))) }
+    ensures behind { OnOk result (before.new
+        ≡ numbered.behind_elements (scopes_of at.now) before.old (elements_in (map written.element_of elements.now))) }
 {
     let mut parts = Vec::new(alloc);
     put_elements(alloc, at, before, elements, &mut parts)?;
@@ -163,7 +169,8 @@ fn groups<'s>(
 ) -> Result<Vec<Vec<Element>>, AllocError>
     ensures groups { IfOk result (λ made. branches_of made.items
         ≡ numbered.groups_of (scopes_of at.now) before.old (groups_in (written_branches_of branches.now))) }
-    ensures behind { OnOk result (before.new ≡ numbered.behind_groups (scopes_of at.now) before.old (groups_in (written_branches_of branches.now))) }
+    ensures behind { OnOk result (before.new
+        ≡ numbered.behind_groups (scopes_of at.now) before.old (groups_in (written_branches_of branches.now))) }
 {
     let mut made = Vec::new(alloc);
     for branch in branches {
@@ -182,7 +189,8 @@ pub(crate) fn select<'s>(
 ) -> Result<Select, AllocError>
     ensures selection { IfOk result (λ made. query.selection_of made
         ≡ numbered.selected_of (scopes_of at.now) before.old (written.select_of select.now)) }
-    ensures behind { OnOk result (before.new ≡ numbered.behind_selected (scopes_of at.now) before.old (written.select_of select.now)) }
+    ensures behind { OnOk result (before.new
+        ≡ numbered.behind_selected (scopes_of at.now) before.old (written.select_of select.now)) }
 {
     let number = before.select()?;
     let inside = within(alloc, number, &select.projection, at)?;
@@ -199,7 +207,8 @@ fn select_within<'s>(
 ) -> Result<Select, AllocError>
     ensures selection { IfOk result (λ made. query.selection_of made
         ≡ numbered.selected_within (scopes_of at.now) before.old (written.select_of select.now)) }
-    ensures behind { OnOk result (before.new ≡ numbered.behind_within (scopes_of at.now) before.old (written.select_of select.now)) }
+    ensures behind { OnOk result (before.new
+        ≡ numbered.behind_within (scopes_of at.now) before.old (written.select_of select.now)) }
 {
     let mut aggregates = Vec::new(alloc);
     let items = projected(alloc, at, before, &mut aggregates, &select.projection)?;

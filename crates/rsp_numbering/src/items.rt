@@ -25,7 +25,8 @@ pub(crate) fn plain(
     before: &mut Before,
     expression: &rsp_written::Expression,
 ) -> Result<Expression, AllocError>
-    ensures formula { IfOk result (λ e. formula_of e ≡ expressions.numbered_expr (scopes_of at.now) before.old (expr_of expression.now)) }
+    ensures formula { IfOk result (λ e. formula_of e
+        ≡ expressions.numbered_expr (scopes_of at.now) before.old (expr_of expression.now)) }
     ensures behind { OnOk result (before.new ≡ expressions.behind_expr (scopes_of at.now) before.old (expr_of expression.now)) }
 {
     let mut aggregates = Vec::new(alloc);
@@ -39,10 +40,12 @@ fn item_of(
     aggregates: &mut Vec<(usize, Aggregate)>,
     item: &Item,
 ) -> Result<SelectItem, AllocError>
-    ensures item { IfOk result (λ made. query.item_of made ≡ numbered.item_of (scopes_of at.now) before.old (written.item_of item.now)) }
+    ensures item { IfOk result (λ made. query.item_of made
+        ≡ numbered.item_of (scopes_of at.now) before.old (written.item_of item.now)) }
     ensures behind { OnOk result (before.new ≡ numbered.behind_item (scopes_of at.now) before.old (written.item_of item.now)) }
     ensures aggregates { OnOk result (aggregations_of aggregates.new.items
-        ≡ numbered.with_item_aggregates (scopes_of at.now) before.old (aggregations_of aggregates.old.items) (written.item_of item.now)) }
+        ≡ numbered.with_item_aggregates (scopes_of at.now) before.old (aggregations_of aggregates.old.items)
+        (written.item_of item.now)) }
 {
     match item {
         Item::Shown(name) => Ok(SelectItem {
@@ -69,9 +72,11 @@ fn items_of(
 ) -> Result<Vec<SelectItem>, AllocError>
     ensures items { IfOk result (λ made. map query.item_of made.items
         ≡ numbered.items_of (scopes_of at.now) before.old (map written.item_of items.now)) }
-    ensures behind { OnOk result (before.new ≡ numbered.behind_items (scopes_of at.now) before.old (map written.item_of items.now)) }
+    ensures behind { OnOk result (before.new
+        ≡ numbered.behind_items (scopes_of at.now) before.old (map written.item_of items.now)) }
     ensures aggregates { OnOk result (aggregations_of aggregates.new.items
-        ≡ numbered.with_items_aggregates (scopes_of at.now) before.old (aggregations_of aggregates.old.items) (map written.item_of items.now)) }
+        ≡ numbered.with_items_aggregates (scopes_of at.now) before.old (aggregations_of aggregates.old.items)
+        (map written.item_of items.now)) }
 {
     let mut made = Vec::new(alloc);
     for item in items {
@@ -93,7 +98,8 @@ pub(crate) fn projected(
     ensures behind { OnOk result (before.new
         ≡ numbered.behind_items (scopes_of at.now) before.old (numbered.items_in (written.projection_of projection.now))) }
     ensures aggregates { OnOk result (aggregations_of aggregates.new.items
-        ≡ numbered.with_items_aggregates (scopes_of at.now) before.old (aggregations_of aggregates.old.items) (numbered.items_in (written.projection_of projection.now))) }
+        ≡ numbered.with_items_aggregates (scopes_of at.now) before.old (aggregations_of aggregates.old.items)
+        (numbered.items_in (written.projection_of projection.now))) }
 {
     match projection {
         Projection::Every => Ok(Vec::new(alloc)),
@@ -110,7 +116,8 @@ pub(crate) fn keys_of(
 ) -> Result<Vec<SelectItem>, AllocError>
     ensures items { IfOk result (λ made. map query.item_of made.items
         ≡ numbered.items_of (scopes_of at.now) before.old (map written.item_of keys.now)) }
-    ensures behind { OnOk result (before.new ≡ numbered.behind_items (scopes_of at.now) before.old (map written.item_of keys.now)) }
+    ensures behind { OnOk result (before.new
+        ≡ numbered.behind_items (scopes_of at.now) before.old (map written.item_of keys.now)) }
 {
     let mut aggregates = Vec::new(alloc);
     items_of(alloc, at, before, &mut aggregates, keys)
@@ -124,10 +131,13 @@ pub(crate) fn having_of(
     aggregates: &mut Vec<(usize, Aggregate)>,
     having: &Option<rsp_written::Expression>,
 ) -> Result<Option<Expression>, AllocError>
-    ensures formula { IfOk result (λ made. maybe_formula made ≡ numbered.having_of (scopes_of at.now) before.old (written.maybe_expr having.now)) }
-    ensures behind { OnOk result (before.new ≡ numbered.behind_having (scopes_of at.now) before.old (written.maybe_expr having.now)) }
+    ensures formula { IfOk result (λ made. maybe_formula made
+        ≡ numbered.having_of (scopes_of at.now) before.old (written.maybe_expr having.now)) }
+    ensures behind { OnOk result (before.new
+        ≡ numbered.behind_having (scopes_of at.now) before.old (written.maybe_expr having.now)) }
     ensures aggregates { OnOk result (aggregations_of aggregates.new.items
-        ≡ numbered.with_having_aggregates (scopes_of at.now) before.old (aggregations_of aggregates.old.items) (written.maybe_expr having.now)) }
+        ≡ numbered.with_having_aggregates (scopes_of at.now) before.old (aggregations_of aggregates.old.items)
+        (written.maybe_expr having.now)) }
 {
     match having {
         None => Ok(None),
@@ -141,7 +151,8 @@ pub(crate) fn is_grouped(
     having: &Option<Expression>,
     aggregates: &[(usize, Aggregate)],
 ) -> bool
-    ensures { result ≡ numbered.is_grouped (map query.item_of keys.now) (maybe_formula having.now) (aggregations_of aggregates.now) }
+    ensures { result
+        ≡ numbered.is_grouped (map query.item_of keys.now) (maybe_formula having.now) (aggregations_of aggregates.now) }
 {
     match (keys, having, aggregates) {
         ([], None, []) => false,

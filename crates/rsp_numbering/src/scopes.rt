@@ -81,7 +81,8 @@ pub(crate) fn within<'a>(
     projection: &'a Projection,
     at: &[Scope<'a>],
 ) -> Result<Vec<Scope<'a>>, AllocError>
-    ensures { IfOk result (λ scopes. scopes_of scopes.items ≡ naming.scope number (projection_of projection.now) (scopes_of at.now)) }
+    ensures { IfOk result (λ scopes. scopes_of scopes.items
+        ≡ naming.scope number (projection_of projection.now) (scopes_of at.now)) }
 {
     let mut scopes = Vec::new(alloc);
     scopes.push(Scope { number, projection })?;

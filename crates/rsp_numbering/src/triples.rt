@@ -100,8 +100,10 @@ fn put_objects(
     parts: &mut Vec<Element>,
 ) -> Result<(), AllocError>
     ensures parts { OnOk result (map part_of parts.new.items
-        ≡ numbered.with_objects (scopes_of at.now) before.old (map part_of parts.old.items) subject.now (way_of verb.now) (nodes_in (map written.node_of nodes.now))) }
-    ensures behind { OnOk result (before.new ≡ numbered.behind_nodes (scopes_of at.now) before.old (nodes_in (map written.node_of nodes.now))) }
+        ≡ numbered.with_objects (scopes_of at.now) before.old (map part_of parts.old.items) subject.now (way_of verb.now)
+        (nodes_in (map written.node_of nodes.now))) }
+    ensures behind { OnOk result (before.new
+        ≡ numbered.behind_nodes (scopes_of at.now) before.old (nodes_in (map written.node_of nodes.now))) }
 {
     for node in nodes {
         let slot = slot_of(at, before, node)?;
@@ -121,8 +123,10 @@ fn put_properties(
     parts: &mut Vec<Element>,
 ) -> Result<(), AllocError>
     ensures parts { OnOk result (map part_of parts.new.items
-        ≡ numbered.with_properties (scopes_of at.now) before.old (map part_of parts.old.items) subject.now (written.properties_of properties.now)) }
-    ensures behind { OnOk result (before.new ≡ numbered.behind_properties (scopes_of at.now) before.old (written.properties_of properties.now)) }
+        ≡ numbered.with_properties (scopes_of at.now) before.old (map part_of parts.old.items) subject.now
+        (written.properties_of properties.now)) }
+    ensures behind { OnOk result (before.new
+        ≡ numbered.behind_properties (scopes_of at.now) before.old (written.properties_of properties.now)) }
 {
     for property in properties {
         let verb = verb_of(alloc, at, before, &property.verb)?;
@@ -141,9 +145,11 @@ pub(crate) fn put_triples(
     parts: &mut Vec<Element>,
 ) -> Result<(), AllocError>
     ensures parts { OnOk result (map part_of parts.new.items
-        ≡ numbered.with_triples (scopes_of at.now) before.old (map part_of parts.old.items) (written.subject_of subject.now).0 (written.subject_of subject.now).1) }
+        ≡ numbered.with_triples (scopes_of at.now) before.old (map part_of parts.old.items) (written.subject_of subject.now).0
+        (written.subject_of subject.now).1) }
     ensures behind { OnOk result (before.new
-        ≡ numbered.behind_triples (scopes_of at.now) before.old (written.subject_of subject.now).0 (written.subject_of subject.now).1) }
+        ≡ numbered.behind_triples (scopes_of at.now) before.old (written.subject_of subject.now).0
+        (written.subject_of subject.now).1) }
 {
     let slot = slot_of(at, before, &subject.node)?;
     put_inner(alloc, at, before, &subject.node, &slot, parts)?;

@@ -1,7 +1,8 @@
 // The operators that compare.
 ghost use Rattle.std.specs.Prelude.{◌≡◌, None, false, option_map};
 ghost use Rattle.rsp_terms.specs.Same.{term_eq};
-ghost use Rattle.rsp_expr.specs.Comparing.{comparable_of, value_equality, value_order, term_equality, equality, comparison_order, comparison};
+ghost use Rattle.rsp_expr.specs.Comparing.{comparable_of, value_equality, value_order, term_equality, equality};
+ghost use Rattle.rsp_expr.specs.Comparing.{comparison_order, comparison};
 ghost use Rattle.rsp_expr.specs.Comparing as comparing;
 ghost use Rattle.rsp_expr.specs.Errors.{value_of_both};
 ghost use Rattle.rsp_operands.specs.Operands.{term_for, comparable_for};

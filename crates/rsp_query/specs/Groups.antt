@@ -74,7 +74,8 @@ part_step (layer.Sub select) = sub select.value
 
 abbrev pub selection_step : Select-F Part Selection → Selection
 selection_step s =
-    selection s.distinct s.star (map item_of s.items.items) (parts_in s.body.items) s.grouped (map item_of s.keys.items) (maybe_formula s.having)
+    selection s.distinct s.star (map item_of s.items.items) (parts_in s.body.items) s.grouped (map item_of s.keys.items)
+    (maybe_formula s.having)
     (map numbered_aggregation s.aggregates.items)
 
 -- what an element and a SELECT of the code say

@@ -43,7 +43,8 @@ fn row<P: Primaries>(
     alloc: Global,
     tokens: &[Said],
 ) -> Result<(Expression, &[Said]), Halt>
-    ensures { Gives (λ x. (expr_of x.0, x.1.now)) result (level_read level P.first P.reading (inner_read P.first P.reading depth) tokens.now) }
+    ensures { Gives (λ x. (expr_of x.0, x.1.now)) result
+        (level_read level P.first P.reading (inner_read P.first P.reading depth) tokens.now) }
 {
     let parts = Parts::Row(level);
     let (first, rest) = part::<P>(parts, depth, alloc, tokens)?;
@@ -60,7 +61,8 @@ fn part<P: Primaries>(
     alloc: Global,
     tokens: &[Said],
 ) -> Result<(Expression, &[Said]), Halt>
-    ensures { Gives (λ x. (expr_of x.0, x.1.now)) result (part_read parts P.first P.reading (inner_read P.first P.reading depth) tokens.now) }
+    ensures { Gives (λ x. (expr_of x.0, x.1.now)) result
+        (part_read parts P.first P.reading (inner_read P.first P.reading depth) tokens.now) }
 {
     match parts {
         Parts::Row(Level::Or) => row::<P>(Level::And, depth, alloc, tokens),
@@ -106,7 +108,8 @@ fn operand<P: Primaries>(
     tokens: &[Said],
 ) -> Result<(Vec<Operand>, &[Said]), Halt>
     ensures { Gives (λ x. (map operand_of x.0.items, x.1.now)) result
-        (with_last (map operand_of before.items) (operand_read parts P.first P.reading (inner_read P.first P.reading depth) tokens.now)) }
+        (with_last (map operand_of before.items)
+        (operand_read parts P.first P.reading (inner_read P.first P.reading depth) tokens.now)) }
 {
     let (sign, rest) = parts.sign(tokens)?;
     let (part, rest) = part::<P>(parts, depth, alloc, rest)?;

@@ -69,7 +69,8 @@ abbrev pub says_string : List ℕ → ℕ → Option (List ℕ) → Said
 says_string text at inner = says_part kind.String text at (option_map (unescaped_text Plain) inner)
 
 abbrev pub says_prefixed : List ℕ → ℕ → Said
-says_prefixed text at = record { kind = kind.Prefixed; text = prefix_of text; local = unescaped_text Local (behind_colon text); at = at }
+says_prefixed text at =
+    record { kind = kind.Prefixed; text = prefix_of text; local = unescaped_text Local (behind_colon text); at = at }
 
 unfoldable pub said_of : Form → List ℕ → ℕ → Said
 said_of form.Iri text at = says_iri text at (name_of_iri text)

@@ -14,7 +14,8 @@ pub fn behind(mark: char, text: &str) -> Option<&str>
 /// The text before this ASCII sign, where the sign ends it.
 fn before(mark: char, text: &str) -> Option<&str>
     requires { mark < 128 }
-    ensures { MatchOption result (saying.before_sign mark text.now ≡ None) (λ front. saying.before_sign mark text.now ≡ Some front.now) }
+    ensures { MatchOption result (saying.before_sign mark text.now ≡ None)
+        (λ front. saying.before_sign mark text.now ≡ Some front.now) }
 {
     text.strip_suffix(mark)
 }

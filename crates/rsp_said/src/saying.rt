@@ -91,7 +91,8 @@ fn string(alloc: Global, text: &str, at: usize) -> Result<Said, AllocError>
 }
 
 fn inside_quotes(text: &str) -> Option<&str>
-    ensures { MatchOption result (saying.inside_quotes text.now ≡ None) (λ inner. saying.inside_quotes text.now ≡ Some inner.now) }
+    ensures { MatchOption result (saying.inside_quotes text.now ≡ None)
+        (λ inner. saying.inside_quotes text.now ≡ Some inner.now) }
 {
     match quoted('"', text) {
         Some(inner) => Some(inner),

@@ -155,7 +155,8 @@ fn among(
     list: &[Expression],
     row: &[Option<Term>],
 ) -> Result<Option<bool>, AllocError>
-    ensures { IfOk result (λ truth. truth ≡ comparing.member_truth (Some (term_for item.now)) (argument_values list.now row.now)) }
+    ensures { IfOk result (λ truth. truth
+        ≡ comparing.member_truth (Some (term_for item.now)) (argument_values list.now row.now)) }
 {
     let mut erred = false;
     for other in list {
@@ -234,7 +235,8 @@ fn operands(
     arguments: &[Expression],
     row: &[Option<Term>],
 ) -> Result<Option<Vec<Operand>>, AllocError>
-    ensures { IfOk result (λ parts. option_map (λ items. map term_for items.items) parts ≡ all_values (argument_values arguments.now row.now)) }
+    ensures { IfOk result (λ parts. option_map (λ items. map term_for items.items) parts
+        ≡ all_values (argument_values arguments.now row.now)) }
 {
     let mut parts = Vec::new(alloc);
     for argument in arguments {

@@ -170,7 +170,8 @@ keys_or_none None = []
 keys_or_none (Some items) = items
 
 -- a group that is a SELECT
-abbrev pub sub_select_of : (Option Said × Projection) × (Option Said × (List Element × (Option (List Item) × Option Expr))) → List Element
+abbrev pub sub_select_of : (Option Said × Projection) × (Option Said × (List Element × (Option (List Item) × Option Expr)))
+    → List Element
 sub_select_of v =
     sub_select (selected (is_some v.0.0) v.0.1 (elements_in v.1.1.0) (keys_or_none v.1.1.1.0) v.1.1.1.1) ∷ []
 
@@ -180,7 +181,8 @@ abbrev pub policy_or_none : Option Policy → Policy
 policy_or_none None = no_policy
 policy_or_none (Some policy) = policy
 
-abbrev pub written_of : (Said × (List ℕ × Option Policy)) × ((Option Said × Projection) × (List Window × (List Element × (Option (List Item) × Option Expr)))) → Written
+abbrev pub written_of : (Said × (List ℕ × Option Policy))
+    × ((Option Said × Projection) × (List Window × (List Element × (Option (List Item) × Option Expr)))) → Written
 written_of v = record {
   operator = v.0.0.kind;
   output = v.0.1.0;

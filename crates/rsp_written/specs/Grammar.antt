@@ -114,16 +114,18 @@ abbrev pub arguments : Arity → Rule Expr → Rule (List Expr)
 arguments arity.One inner = mapped (λ e. e ∷ []) (in_parens inner)
 arguments arity.Two inner = mapped (λ (v : Expr × Expr). v.0 ∷ v.1 ∷ []) (in_parens (both inner (another inner)))
 arguments arity.Three inner =
-    mapped (λ (v : Expr × (Expr × Expr)). v.0 ∷ v.1.0 ∷ v.1.1 ∷ []) (in_parens (both inner (both (another inner) (another inner))))
+    mapped (λ (v : Expr × (Expr × Expr)). v.0 ∷ v.1.0 ∷ v.1.1 ∷ [])
+    (in_parens (both inner (both (another inner) (another inner))))
 arguments arity.TwoOrThree inner = mapped maybe_third (in_parens (both inner (both (another inner) (optional (another inner)))))
 arguments arity.Any inner = expressions inner
 
 abbrev pub call_names : List Kind
 call_names = map kind.Word
-    (keyword.If ∷ keyword.Coalesce ∷ keyword.SameTerm ∷ keyword.IsIri ∷ keyword.IsUri ∷ keyword.IsBlank ∷ keyword.IsLiteral ∷ keyword.IsNumeric
-    ∷ keyword.Str ∷ keyword.Lang ∷ keyword.Datatype ∷ keyword.Iri ∷ keyword.Uri ∷ keyword.StrDt ∷ keyword.StrLang ∷ keyword.StrLen
-    ∷ keyword.SubStr ∷ keyword.Contains ∷ keyword.StrStarts ∷ keyword.StrEnds ∷ keyword.StrBefore ∷ keyword.StrAfter ∷ keyword.Concat
-    ∷ keyword.LangMatches ∷ keyword.Abs ∷ keyword.Ceil ∷ keyword.Floor ∷ keyword.Round ∷ [])
+    (keyword.If ∷ keyword.Coalesce ∷ keyword.SameTerm ∷ keyword.IsIri ∷ keyword.IsUri ∷ keyword.IsBlank
+    ∷ keyword.IsLiteral ∷ keyword.IsNumeric ∷ keyword.Str ∷ keyword.Lang ∷ keyword.Datatype ∷ keyword.Iri ∷ keyword.Uri
+    ∷ keyword.StrDt ∷ keyword.StrLang ∷ keyword.StrLen ∷ keyword.SubStr ∷ keyword.Contains ∷ keyword.StrStarts
+    ∷ keyword.StrEnds ∷ keyword.StrBefore ∷ keyword.StrAfter ∷ keyword.Concat ∷ keyword.LangMatches ∷ keyword.Abs
+    ∷ keyword.Ceil ∷ keyword.Floor ∷ keyword.Round ∷ [])
 
 abbrev pub bound_call : Rule Expr
 bound_call = mapped bound (second_of (word keyword.Bound) (in_parens variable_name))
@@ -168,7 +170,8 @@ sum_rule extra inner = row sum_signs sum_row (product_rule extra inner)
 -- Rel ::= Sum (('=' | '!=' | '<' | '>' | '<=' | '>=') Sum | 'NOT'? 'IN' '(' (Expr (',' Expr)*)? ')')?
 --                                                                                           [114] RelationalExpression
 abbrev pub comparisons : List Kind
-comparisons = map kind.Symbol (symbol.Equal ∷ symbol.NotEqual ∷ symbol.Less ∷ symbol.Greater ∷ symbol.LessEqual ∷ symbol.GreaterEqual ∷ [])
+comparisons =
+    map kind.Symbol (symbol.Equal ∷ symbol.NotEqual ∷ symbol.Less ∷ symbol.Greater ∷ symbol.LessEqual ∷ symbol.GreaterEqual ∷ [])
 
 abbrev pub comparison : Rule Expr → Rule Expr → Rule Relation
 comparison extra inner = mapped (λ (v : Said × Expr). compared_to v.0.kind v.1) (both (one comparisons) (sum_rule extra inner))
@@ -179,7 +182,8 @@ membership inner =
     (both (optional (word keyword.Not)) (second_of (word keyword.In) (expressions inner)))
 
 abbrev pub relation : Rule Expr → Rule Expr → Rule Expr
-relation extra inner = mapped related (both (sum_rule extra inner) (optional (either (comparison extra inner) (membership inner))))
+relation extra inner =
+    mapped related (both (sum_rule extra inner) (optional (either (comparison extra inner) (membership inner))))
 
 -- And ::= Rel ('&&' Rel)*                                                             [112] ConditionalAndExpression
 abbrev pub and_signs : List Kind
@@ -280,7 +284,8 @@ abbrev pub object : Rule Properties → Rule Node
 object inner = either node (bracketed inner)
 
 abbrev pub objects : Rule Properties → Rule (List Node)
-objects inner = mapped (λ (v : Node × List Node). v.0 ∷ v.1) (both (object inner) (many (second_of (sign symbol.Comma) (object inner))))
+objects inner =
+    mapped (λ (v : Node × List Node). v.0 ∷ v.1) (both (object inner) (many (second_of (sign symbol.Comma) (object inner))))
 
 -- Properties ::= Verb Objects (';' (Verb Objects)?)*                                    [83] PropertyListPathNotEmpty
 abbrev pub property : Rule Properties → Rule (Verb × List Node)
@@ -315,7 +320,9 @@ abbrev pub in_braces : {A : Type 0} → Rule A → Rule A
 in_braces p = second_of (sign symbol.OpenBrace) (first_of_both p (sign symbol.CloseBrace))
 
 abbrev pub one_column : Rule Element
-one_column = mapped (λ (v : List ℕ × List (Option Term)). values (v.0 ∷ []) (map (λ x. x ∷ []) v.1)) (both variable_name (in_braces (many value)))
+one_column =
+    mapped (λ (v : List ℕ × List (Option Term)). values (v.0 ∷ []) (map (λ x. x ∷ []) v.1))
+    (both variable_name (in_braces (many value)))
 
 -- as many values, and then ')'
 unfoldable pub value_row : ℕ → Rule (List (Option Term))

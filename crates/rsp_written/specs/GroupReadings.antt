@@ -17,7 +17,8 @@ abbrev pub group_of_read : Reader Said (List Element) → Reader Said (List Elem
 group_of_read s = second_read (sign_read symbol.OpenBrace) s
 
 unfoldable pub optional_rule_read : Reader Said (List Element) → Reader Said Element
-optional_rule_read s = mapped_read (λ g. optional_group (elements_in g)) (second_read (word_read keyword.Optional) (group_of_read s))
+optional_rule_read s =
+    mapped_read (λ g. optional_group (elements_in g)) (second_read (word_read keyword.Optional) (group_of_read s))
 
 unfoldable pub minus_rule_read : Reader Said (List Element) → Reader Said Element
 minus_rule_read s = mapped_read (λ g. minus_group (elements_in g)) (second_read (word_read keyword.Minus) (group_of_read s))
@@ -25,7 +26,8 @@ minus_rule_read s = mapped_read (λ g. minus_group (elements_in g)) (second_read
 unfoldable pub union_rule_read : Reader Said (List Element) → Reader Said Element
 union_rule_read s =
     mapped_read (λ (v : List Element × List (List Element)). union_of (groups_in (v.0 ∷ v.1)))
-    (both_read (group_of_read s) (repeated_read (word_kinds keyword.Union) (second_read (word_read keyword.Union) (group_of_read s))))
+    (both_read (group_of_read s)
+    (repeated_read (word_kinds keyword.Union) (second_read (word_read keyword.Union) (group_of_read s))))
 
 unfoldable pub graph_name_read : Reader Said Graph
 graph_name_read = choice_read (kind.Variable ∷ []) (mapped_read graph_variable variable_read) (mapped_read graph_iri iri_read)
@@ -43,7 +45,8 @@ window_rule_read s =
 unfoldable pub exists_rule_read : Reader Said (List Element) → Reader Said Element
 exists_rule_read s =
     mapped_read (λ (v : Option Said × (Said × List Element)). exists (is_some v.0) v.1.0.at (elements_in v.1.1))
-    (both_read (maybe_read (word_kinds keyword.Not) (word_read keyword.Not)) (both_read (word_read keyword.Exists) (group_of_read s)))
+    (both_read (maybe_read (word_kinds keyword.Not) (word_read keyword.Not))
+    (both_read (word_read keyword.Exists) (group_of_read s)))
 
 unfoldable pub filter_rule_read : Reader Said (List Element) → Reader Said Element
 filter_rule_read s =
@@ -55,7 +58,8 @@ unfoldable pub as_variable_read : Reader Said Expr → Reader Said (Expr × List
 as_variable_read r = in_parens_read (both_read r (second_read (word_read keyword.As) variable_read))
 
 unfoldable pub bind_rule_read : Reader Said Element
-bind_rule_read = mapped_read (λ (v : Expr × List ℕ). bind v.0 v.1) (second_read (word_read keyword.Bind) (as_variable_read expression_read))
+bind_rule_read =
+    mapped_read (λ (v : Expr × List ℕ). bind v.0 v.1) (second_read (word_read keyword.Bind) (as_variable_read expression_read))
 
 unfoldable pub values_rule_read : Reader Said Element
 values_rule_read = second_read (word_read keyword.Values) block_read
@@ -69,7 +73,8 @@ other_read s =
 
 abbrev pub other_first : List Kind
 other_first =
-    kind.Word keyword.Optional ∷ kind.Word keyword.Minus ∷ kind.Symbol symbol.OpenBrace ∷ kind.Word keyword.Graph ∷ kind.Word keyword.Window
+    kind.Word keyword.Optional ∷ kind.Word keyword.Minus ∷ kind.Symbol symbol.OpenBrace ∷ kind.Word keyword.Graph
+    ∷ kind.Word keyword.Window
     ∷ kind.Word keyword.Filter ∷ kind.Word keyword.Bind ∷ kind.Word keyword.Values ∷ []
 
 abbrev pub item_first : List Kind
@@ -77,18 +82,22 @@ item_first = kind.Variable ∷ sign_kinds symbol.OpenParen
 
 unfoldable pub item_read : Reader Said Expr → Reader Said Item
 item_read r =
-    choice_read (kind.Variable ∷ []) (mapped_read shown variable_read) (mapped_read (λ (v : Expr × List ℕ). computed v.0 v.1) (as_variable_read r))
+    choice_read (kind.Variable ∷ []) (mapped_read shown variable_read)
+    (mapped_read (λ (v : Expr × List ℕ). computed v.0 v.1) (as_variable_read r))
 
 unfoldable pub items_of_read : Reader Said Expr → Reader Said (List Item)
-items_of_read r = mapped_read (λ (v : Item × List Item). v.0 ∷ v.1) (both_read (item_read r) (repeated_read item_first (item_read r)))
+items_of_read r =
+    mapped_read (λ (v : Item × List Item). v.0 ∷ v.1) (both_read (item_read r) (repeated_read item_first (item_read r)))
 
 unfoldable pub projection_read : Reader Said Projection
 projection_read =
-    choice_read (sign_kinds symbol.Star) (mapped_read (λ star. every_name) (sign_read symbol.Star)) (mapped_read these (items_of_read aggregate_expression_read))
+    choice_read (sign_kinds symbol.Star) (mapped_read (λ star. every_name) (sign_read symbol.Star))
+    (mapped_read these (items_of_read aggregate_expression_read))
 
 unfoldable pub select_clause_read : Reader Said (Option Said × Projection)
 select_clause_read =
-    second_read (word_read keyword.Select) (both_read (maybe_read (word_kinds keyword.Distinct) (word_read keyword.Distinct)) projection_read)
+    second_read (word_read keyword.Select)
+    (both_read (maybe_read (word_kinds keyword.Distinct) (word_read keyword.Distinct)) projection_read)
 
 unfoldable pub keys_read : Reader Said (List Item)
 keys_read = second_read (word_read keyword.Group) (second_read (word_read keyword.By) (items_of_read expression_read))
@@ -103,12 +112,14 @@ unfoldable pub maybe_where_read : Reader Said (Option Said)
 maybe_where_read = maybe_read (word_kinds keyword.Where) (word_read keyword.Where)
 
 unfoldable pub sub_select_read : Reader Said (List Element) → Reader Said (List Element)
-sub_select_read s = mapped_read sub_select_of (both_read select_clause_read (both_read maybe_where_read (both_read (group_of_read s) tail_read)))
+sub_select_read s =
+    mapped_read sub_select_of (both_read select_clause_read (both_read maybe_where_read (both_read (group_of_read s) tail_read)))
 
 unfoldable pub piece_read : Reader Said (List Element) → Reader Said (List Element)
 piece_read s =
     mapped_read (λ (v : Element × (Option Said × Option (List (Node × Properties)))). v.0 ∷ run v.1.1)
-    (both_read (other_read s) (both_read (maybe_read (sign_kinds symbol.Dot) (sign_read symbol.Dot)) (maybe_read same_first triples_read)))
+    (both_read (other_read s)
+    (both_read (maybe_read (sign_kinds symbol.Dot) (sign_read symbol.Dot)) (maybe_read same_first triples_read)))
 
 unfoldable pub body_read : Reader Said (List Element) → Reader Said (List Element)
 body_read s =
@@ -116,7 +127,8 @@ body_read s =
     (both_read (maybe_read same_first triples_read) (repeated_read other_first (piece_read s)))
 
 unfoldable pub group_rule_read : Reader Said (List Element) → Reader Said (List Element)
-group_rule_read s = first_read (choice_read (word_kinds keyword.Select) (sub_select_read s) (body_read s)) (sign_read symbol.CloseBrace)
+group_rule_read s =
+    first_read (choice_read (word_kinds keyword.Select) (sub_select_read s) (body_read s)) (sign_read symbol.CloseBrace)
 
 unfoldable pub group_read : Reader Said (List Element)
 group_read = group_of_read (within_itself_read group_rule_read)
@@ -139,7 +151,8 @@ window_size_read =
 
 unfoldable pub window_read : Reader Said Window
 window_read =
-    mapped_read window_of (both_read (word_read keyword.From) (second_read (word_read keyword.Named) (second_read (word_read keyword.Window)
+    mapped_read window_of (both_read (word_read keyword.From) (second_read (word_read keyword.Named)
+    (second_read (word_read keyword.Window)
     (both_read iri_read (second_read (word_read keyword.On) (both_read iri_read window_size_read))))))
 
 abbrev pub strategy_of : Said → Strategy
@@ -157,12 +170,14 @@ unfoldable pub reported_read : Reader Said Policy
 reported_read =
     mapped_read (λ (v : (Strategy × List Strategy) × Said). reporting (v.0.0 ∷ v.0.1) v.1.kind)
     (second_read (word_read keyword.Report)
-    (both_read (both_read strategy_read (repeated_read (word_kinds keyword.And) (second_read (word_read keyword.And) strategy_read)))
+    (both_read (both_read strategy_read
+    (repeated_read (word_kinds keyword.And) (second_read (word_read keyword.And) strategy_read)))
     (second_read (word_read keyword.Tick) (one_read ticks))))
 
 unfoldable pub policy_read : Reader Said Policy
 policy_read =
-    choice_read (word_kinds keyword.Under) (mapped_read (λ said. profile said.kind) (second_read (word_read keyword.Under) (one_read profiles)))
+    choice_read (word_kinds keyword.Under)
+    (mapped_read (λ said. profile said.kind) (second_read (word_read keyword.Under) (one_read profiles)))
     reported_read
 
 abbrev pub policy_first : List Kind
@@ -171,10 +186,13 @@ policy_first = word_kinds keyword.Under ++ word_kinds keyword.Report
 unfoldable pub registered_read : Reader Said (Said × (List ℕ × Option Policy))
 registered_read =
     second_read (word_read keyword.Register)
-    (both_read (one_read operators) (both_read iri_read (first_read (maybe_read policy_first policy_read) (word_read keyword.As))))
+    (both_read (one_read operators)
+    (both_read iri_read (first_read (maybe_read policy_first policy_read) (word_read keyword.As))))
 
 unfoldable pub windows_read : Reader Said (List Window)
-windows_read = mapped_read (λ (v : Window × List Window). v.0 ∷ v.1) (both_read window_read (repeated_read (word_kinds keyword.From) window_read))
+windows_read =
+    mapped_read (λ (v : Window × List Window). v.0 ∷ v.1)
+    (both_read window_read (repeated_read (word_kinds keyword.From) window_read))
 
 unfoldable pub query_body_read : Reader Said Written
 query_body_read =
@@ -187,4 +205,5 @@ prefix_read = second_read (word_read keyword.Prefix) (both_read (token_read (λ 
 unfoldable pub query_read : Reader Said Written
 query_read =
     mapped_read (λ (v : List (List ℕ × List ℕ) × Written). v.1)
-    (tied_read (repeated_read (word_kinds keyword.Prefix) prefix_read) (λ prefixes. seen_read (resolved prefixes) query_body_read))
+    (tied_read (repeated_read (word_kinds keyword.Prefix) prefix_read)
+    (λ prefixes. seen_read (resolved prefixes) query_body_read))

@@ -76,7 +76,8 @@ abbrev pub unsigned_number_read : Reader Said Term
 unsigned_number_read = mapped_read number_term (one_read number_kinds)
 
 unfoldable pub signed_number_read : Reader Said Term
-signed_number_read = mapped_read signed_term (both_read (maybe_read (sign_kinds symbol.Minus) (sign_read symbol.Minus)) (one_read number_kinds))
+signed_number_read =
+    mapped_read signed_term (both_read (maybe_read (sign_kinds symbol.Minus) (sign_read symbol.Minus)) (one_read number_kinds))
 
 unfoldable pub literal_read : Reader Said Term
 literal_read = choice_read (kind.String ∷ []) string_literal_read (choice_read signed_first signed_number_read boolean_read)
@@ -110,7 +111,8 @@ arguments_read arity.Three s =
     mapped_read (λ (v : Expr × (Expr × Expr)). v.0 ∷ v.1.0 ∷ v.1.1 ∷ [])
     (in_parens_read (both_read s (both_read (another_read s) (another_read s))))
 arguments_read arity.TwoOrThree s =
-    mapped_read maybe_third (in_parens_read (both_read s (both_read (another_read s) (maybe_read (sign_kinds symbol.Comma) (another_read s)))))
+    mapped_read maybe_third (in_parens_read
+    (both_read s (both_read (another_read s) (maybe_read (sign_kinds symbol.Comma) (another_read s)))))
 arguments_read arity.Any s = expressions_read s
 
 unfoldable pub function_read : Reader Said Expr → Reader Said Expr
@@ -148,12 +150,14 @@ unfoldable pub sum_read : List ℕ → Reader Said Expr → Reader Said Expr →
 sum_read ks x s = row_read sum_signs sum_row (product_read ks x s)
 
 unfoldable pub comparison_read : List ℕ → Reader Said Expr → Reader Said Expr → Reader Said Relation
-comparison_read ks x s = mapped_read (λ (v : Said × Expr). compared_to v.0.kind v.1) (both_read (one_read comparisons) (sum_read ks x s))
+comparison_read ks x s =
+    mapped_read (λ (v : Said × Expr). compared_to v.0.kind v.1) (both_read (one_read comparisons) (sum_read ks x s))
 
 unfoldable pub membership_read : Reader Said Expr → Reader Said Relation
 membership_read s =
     mapped_read (λ (v : Option Said × List Expr). one_of (is_some v.0) v.1)
-    (both_read (maybe_read (word_kinds keyword.Not) (word_read keyword.Not)) (second_read (word_read keyword.In) (expressions_read s)))
+    (both_read (maybe_read (word_kinds keyword.Not) (word_read keyword.Not))
+    (second_read (word_read keyword.In) (expressions_read s)))
 
 abbrev pub relation_first : List Kind
 relation_first = comparisons ++ (word_kinds keyword.Not ++ word_kinds keyword.In)
@@ -173,7 +177,8 @@ unfoldable pub expression_read : Reader Said Expr
 expression_read = within_itself_read (or_read [] never_read)
 
 unfoldable pub maybe_distinct_read : Reader Said (Bool × Expr)
-maybe_distinct_read = mapped_read flagged (both_read (maybe_read (word_kinds keyword.Distinct) (word_read keyword.Distinct)) expression_read)
+maybe_distinct_read =
+    mapped_read flagged (both_read (maybe_read (word_kinds keyword.Distinct) (word_read keyword.Distinct)) expression_read)
 
 unfoldable pub count_read : Reader Said Expr
 count_read =
@@ -187,7 +192,8 @@ aggregate_first = word_kinds keyword.Count ++ folds
 unfoldable pub aggregate_read : Reader Said Expr
 aggregate_read =
     choice_read (word_kinds keyword.Count) count_read
-    (mapped_read (λ (v : Said × (Bool × Expr)). aggregate_of v.0.kind v.1) (both_read (one_read folds) (in_parens_read maybe_distinct_read)))
+    (mapped_read (λ (v : Said × (Bool × Expr)). aggregate_of v.0.kind v.1)
+    (both_read (one_read folds) (in_parens_read maybe_distinct_read)))
 
 unfoldable pub aggregate_expression_read : Reader Said Expr
 aggregate_expression_read = within_itself_read (or_read (numbers aggregate_first) aggregate_read)

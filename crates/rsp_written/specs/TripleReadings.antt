@@ -94,7 +94,8 @@ verb_first = kind.Variable ∷ kind.Symbol symbol.Caret ∷ (name_first ++ sign_
 unfoldable pub properties_rule_read : Reader Said Properties → Reader Said Properties
 properties_rule_read s =
     mapped_read property_list (both_read (property_read s)
-    (repeated_read (sign_kinds symbol.Semicolon) (second_read (sign_read symbol.Semicolon) (maybe_read verb_first (property_read s)))))
+    (repeated_read (sign_kinds symbol.Semicolon)
+    (second_read (sign_read symbol.Semicolon) (maybe_read verb_first (property_read s)))))
 
 unfoldable pub properties_read : Reader Said Properties
 properties_read = within_itself_read properties_rule_read
@@ -113,7 +114,8 @@ described_same_read =
 unfoldable pub same_read : Reader Said (Node × Properties)
 same_read =
     choice_read subject_name_first named_same_read
-    (second_read (sign_read symbol.OpenBracket) (choice_read (sign_kinds symbol.CloseBracket) blank_same_read described_same_read))
+    (second_read (sign_read symbol.OpenBracket)
+    (choice_read (sign_kinds symbol.CloseBracket) blank_same_read described_same_read))
 
 abbrev pub same_first : List Kind
 same_first = subject_name_first ++ sign_kinds symbol.OpenBracket
@@ -141,7 +143,8 @@ one_column_read =
 
 unfoldable pub value_row_read : ℕ → Reader Said (List (Option Term))
 value_row_read zero = mapped_read (λ close. []) (sign_read symbol.CloseParen)
-value_row_read (suc n) = mapped_read (λ (v : Option Term × List (Option Term)). v.0 ∷ v.1) (both_read value_read (value_row_read n))
+value_row_read (suc n) =
+    mapped_read (λ (v : Option Term × List (Option Term)). v.0 ∷ v.1) (both_read value_read (value_row_read n))
 
 unfoldable pub columns_read : Reader Said (List (List ℕ))
 columns_read = distinct_read bytes_eq name_if_variable []
