@@ -9,63 +9,79 @@ const TEXTS: [(&str, &str); 36] = [
     ("REGISTER RSTREAM <q:o> AS", "Syntax 25"),
     ("{{{{{{{{{{{{{{{{{{{{{{{{{{{{{{{{{", "Limit nesting"),
     (
-        "REGISTER RSTREAM <q:o> AS SELECT ?s FROM NAMED WINDOW <w:1> ON <s:a> [RANGE PT1S] WHERE { WINDOW <w:1> { ?s <p:v>* ?o } }",
+        "REGISTER RSTREAM <q:o> AS SELECT ?s FROM NAMED WINDOW <w:1> ON <s:a> [RANGE PT1S] \
+         WHERE { WINDOW <w:1> { ?s <p:v>* ?o } }",
         "LeftOut 113 *",
     ),
     (
-        "REGISTER RSTREAM <q:o> AS SELECT ?s FROM NAMED WINDOW <w:1> ON <s:a> [RANGE PT1S] WHERE { WINDOW <w:1> { ?s <p:v> ?o } }",
+        "REGISTER RSTREAM <q:o> AS SELECT ?s FROM NAMED WINDOW <w:1> ON <s:a> [RANGE PT1S] \
+         WHERE { WINDOW <w:1> { ?s <p:v> ?o } }",
         "query",
     ),
     (
-        "REGISTER RSTREAM <q:o> AS SELECT ?s FROM NAMED WINDOW <w:1> ON <s:a> [RANGE PT1S] WHERE { WINDOW <w:1> { ?s <p:v> ?o } FILTER(?o > 1) }",
+        "REGISTER RSTREAM <q:o> AS SELECT ?s FROM NAMED WINDOW <w:1> ON <s:a> [RANGE PT1S] \
+         WHERE { WINDOW <w:1> { ?s <p:v> ?o } FILTER(?o > 1) }",
         "query",
     ),
     (
-        "REGISTER RSTREAM <q:o> AS SELECT ?s FROM NAMED WINDOW <w:1> ON <s:a> [RANGE PT1S] WHERE { WINDOW <w:1> { ?s <p:v> ?o } FILTER(IF(?o, 1)) }",
+        "REGISTER RSTREAM <q:o> AS SELECT ?s FROM NAMED WINDOW <w:1> ON <s:a> [RANGE PT1S] \
+         WHERE { WINDOW <w:1> { ?s <p:v> ?o } FILTER(IF(?o, 1)) }",
         "Syntax 134",
     ),
     (
-        "REGISTER RSTREAM <q:o> AS SELECT ?s FROM NAMED WINDOW <w:1> ON <s:a> [RANGE PT1S] WHERE { WINDOW <w:1> { ?s <p:v> ?o } FILTER(BOUND(1)) }",
+        "REGISTER RSTREAM <q:o> AS SELECT ?s FROM NAMED WINDOW <w:1> ON <s:a> [RANGE PT1S] \
+         WHERE { WINDOW <w:1> { ?s <p:v> ?o } FILTER(BOUND(1)) }",
         "Syntax 132",
     ),
     (
-        "REGISTER RSTREAM <q:o> AS SELECT ?s FROM NAMED WINDOW <w:1> ON <s:a> [RANGE PT1S] WHERE { WINDOW <w:1> { ?s <p:v> ?o } FILTER(1 +) }",
+        "REGISTER RSTREAM <q:o> AS SELECT ?s FROM NAMED WINDOW <w:1> ON <s:a> [RANGE PT1S] \
+         WHERE { WINDOW <w:1> { ?s <p:v> ?o } FILTER(1 +) }",
         "Syntax 129",
     ),
     (
-        "REGISTER RSTREAM <q:o> AS SELECT ?s FROM NAMED WINDOW <w:1> ON <s:a> [RANGE PT1S] WHERE { WINDOW <w:1> { ?s <p:v> ?o } VALUES (?x $x) { } }",
+        "REGISTER RSTREAM <q:o> AS SELECT ?s FROM NAMED WINDOW <w:1> ON <s:a> [RANGE PT1S] \
+         WHERE { WINDOW <w:1> { ?s <p:v> ?o } VALUES (?x $x) { } }",
         "Syntax 130",
     ),
     (
-        "REGISTER RSTREAM <q:o> AS SELECT ?s FROM NAMED WINDOW <w:1> ON <s:a> [RANGE PT1S] WHERE { WINDOW <w:1> { ?s <p:v> ?o } VALUES (?x ?y) { (1) } }",
+        "REGISTER RSTREAM <q:o> AS SELECT ?s FROM NAMED WINDOW <w:1> ON <s:a> [RANGE PT1S] \
+         WHERE { WINDOW <w:1> { ?s <p:v> ?o } VALUES (?x ?y) { (1) } }",
         "Syntax 138",
     ),
     (
-        "REGISTER RSTREAM <q:o> AS SELECT ?s FROM NAMED WINDOW <w:1> ON <s:a> [RANGE PT1S] WHERE { WINDOW <w:1> { ?s <p:v> ?o } VALUES ?x { 1 UNDEF -2 } }",
+        "REGISTER RSTREAM <q:o> AS SELECT ?s FROM NAMED WINDOW <w:1> ON <s:a> [RANGE PT1S] \
+         WHERE { WINDOW <w:1> { ?s <p:v> ?o } VALUES ?x { 1 UNDEF -2 } }",
         "query",
     ),
     (
-        "REGISTER RSTREAM <q:o> AS SELECT ?s FROM NAMED WINDOW <w:1> ON <s:a> [RANGE PT1S] WHERE { WINDOW <w:1> { ?s <p:v> ?o } { SELECT * { ?a ?b ?c } } }",
+        "REGISTER RSTREAM <q:o> AS SELECT ?s FROM NAMED WINDOW <w:1> ON <s:a> [RANGE PT1S] \
+         WHERE { WINDOW <w:1> { ?s <p:v> ?o } { SELECT * { ?a ?b ?c } } }",
         "query",
     ),
     (
-        "REGISTER RSTREAM <q:o> AS SELECT ?s FROM NAMED WINDOW <w:1> ON <s:a> [RANGE PT1S] WHERE { WINDOW <w:1> { ?s <p:v> ?o } ex:a <p:v> 1 }",
+        "REGISTER RSTREAM <q:o> AS SELECT ?s FROM NAMED WINDOW <w:1> ON <s:a> [RANGE PT1S] \
+         WHERE { WINDOW <w:1> { ?s <p:v> ?o } ex:a <p:v> 1 }",
         "Syntax 119",
     ),
     (
-        "REGISTER RSTREAM <q:o> AS SELECT ?s FROM NAMED WINDOW <w:1> ON <s:a> [RANGE PT1S] WHERE { WINDOW <w:1> { ?s <p:v> ?o } OPTIONAL { ?s a <c:1> . } ?s <p:q>/^<p:r>|<p:t> [ <p:u> 1 ; ] , 'x'@en }",
+        "REGISTER RSTREAM <q:o> AS SELECT ?s FROM NAMED WINDOW <w:1> ON <s:a> [RANGE PT1S] \
+         WHERE { WINDOW <w:1> { ?s <p:v> ?o } OPTIONAL { ?s a <c:1> . } ?s <p:q>/^<p:r>|<p:t> [ \
+         <p:u> 1 ; ] , 'x'@en }",
         "query",
     ),
     (
-        "REGISTER RSTREAM <q:o> AS SELECT ?s FROM NAMED WINDOW <w:1> ON <s:a> [RANGE PT1S] WHERE { WINDOW <w:1> { ?s <p:v> ?o } } ORDER BY ?s",
+        "REGISTER RSTREAM <q:o> AS SELECT ?s FROM NAMED WINDOW <w:1> ON <s:a> [RANGE PT1S] \
+         WHERE { WINDOW <w:1> { ?s <p:v> ?o } } ORDER BY ?s",
         "LeftOut 121 ORDER",
     ),
     (
-        "REGISTER RSTREAM <q:o> AS SELECT ?s FROM NAMED WINDOW <w:1> ON <s:a> [RANGE PT1S] WHERE { WINDOW <w:1> { ?s <p:v> ?o } } GROUP BY ?s HAVING (COUNT(*) > 1)",
+        "REGISTER RSTREAM <q:o> AS SELECT ?s FROM NAMED WINDOW <w:1> ON <s:a> [RANGE PT1S] \
+         WHERE { WINDOW <w:1> { ?s <p:v> ?o } } GROUP BY ?s HAVING (COUNT(*) > 1)",
         "query",
     ),
     (
-        "REGISTER RSTREAM <q:o> AS SELECT ?s FROM NAMED WINDOW <w:1> ON <s:a> [RANGE PT1S] WHERE { WINDOW <w:1> { ?s <p:v> ?o } } GROUP BY ?s HAVING (COUNT(SUM(?s)) > 1)",
+        "REGISTER RSTREAM <q:o> AS SELECT ?s FROM NAMED WINDOW <w:1> ON <s:a> [RANGE PT1S] \
+         WHERE { WINDOW <w:1> { ?s <p:v> ?o } } GROUP BY ?s HAVING (COUNT(SUM(?s)) > 1)",
         "Syntax 147",
     ),
     (
@@ -73,45 +89,55 @@ const TEXTS: [(&str, &str); 36] = [
         "Syntax 119",
     ),
     (
-        "PREFIX ex: <a:> REGISTER RSTREAM <q:o> AS SELECT ?s FROM NAMED WINDOW <w:1> ON <s:a> [RANGE PT1S] WHERE { WINDOW <w:1> { ?s <p:v> ?o } ?s ex:b ex:c\\.d }",
+        "PREFIX ex: <a:> REGISTER RSTREAM <q:o> AS SELECT ?s FROM NAMED WINDOW <w:1> ON <s:a> [RANGE PT1S] \
+         WHERE { WINDOW <w:1> { ?s <p:v> ?o } ?s ex:b ex:c\\.d }",
         "query",
     ),
     (
-        "PREFIX ex: <a> REGISTER RSTREAM <q:o> AS SELECT ?s FROM NAMED WINDOW <w:1> ON <s:a> [RANGE PT1S] WHERE { WINDOW <w:1> { ?s <p:v> ?o } }",
+        "PREFIX ex: <a> REGISTER RSTREAM <q:o> AS SELECT ?s FROM NAMED WINDOW <w:1> ON <s:a> [RANGE PT1S] \
+         WHERE { WINDOW <w:1> { ?s <p:v> ?o } }",
         "Syntax 11",
     ),
     (
-        "PREFIX ex:x <a:> REGISTER RSTREAM <q:o> AS SELECT ?s FROM NAMED WINDOW <w:1> ON <s:a> [RANGE PT1S] WHERE { WINDOW <w:1> { ?s <p:v> ?o } }",
+        "PREFIX ex:x <a:> REGISTER RSTREAM <q:o> AS SELECT ?s FROM NAMED WINDOW <w:1> ON <s:a> [RANGE PT1S] \
+         WHERE { WINDOW <w:1> { ?s <p:v> ?o } }",
         "Syntax 7",
     ),
     ("é", "BadToken 0"),
     ("\"\"\"a", "BadToken 2"),
     (
-        "PREFIX ex: <a:> PREFIX ex: <b:> REGISTER RSTREAM <q:o> AS SELECT ?s FROM NAMED WINDOW <w:1> ON <s:a> [RANGE PT1S] WHERE { WINDOW <w:1> { ?s <p:v> ?o } ?s ex:x ?y }",
+        "PREFIX ex: <a:> PREFIX ex: <b:> REGISTER RSTREAM <q:o> AS SELECT ?s \
+         FROM NAMED WINDOW <w:1> ON <s:a> [RANGE PT1S] WHERE { WINDOW <w:1> { ?s <p:v> ?o } ?s ex:x ?y }",
         "query",
     ),
     (
-        "REGISTER RSTREAM <q:o> AS SELECT ?s FROM NAMED WINDOW <w:1> ON <s:a> [RANGE PT1S] WHERE { WINDOW <w:1> { ?s <p:v> ?o } FILTER(?o IN (1, 2) && !BOUND(?o) || -?o < 3) }",
+        "REGISTER RSTREAM <q:o> AS SELECT ?s FROM NAMED WINDOW <w:1> ON <s:a> [RANGE PT1S] \
+         WHERE { WINDOW <w:1> { ?s <p:v> ?o } FILTER(?o IN (1, 2) && !BOUND(?o) || -?o < 3) }",
         "query",
     ),
     (
-        "REGISTER RSTREAM <q:o> AS SELECT ?s FROM NAMED WINDOW <w:1> ON <s:a> [RANGE PT1S] WHERE { WINDOW <w:1> { ?s <p:v> ?o } FILTER(STR(?o, 1)) }",
+        "REGISTER RSTREAM <q:o> AS SELECT ?s FROM NAMED WINDOW <w:1> ON <s:a> [RANGE PT1S] \
+         WHERE { WINDOW <w:1> { ?s <p:v> ?o } FILTER(STR(?o, 1)) }",
         "Syntax 132",
     ),
     (
-        "REGISTER RSTREAM <q:o> AS SELECT ?s FROM NAMED WINDOW <w:1> ON <s:a> [RANGE PT1S] WHERE { WINDOW <w:1> { ?s <p:v> ?o } FILTER REGEX(?o, 'a') }",
+        "REGISTER RSTREAM <q:o> AS SELECT ?s FROM NAMED WINDOW <w:1> ON <s:a> [RANGE PT1S] \
+         WHERE { WINDOW <w:1> { ?s <p:v> ?o } FILTER REGEX(?o, 'a') }",
         "LeftOut 126 REGEX",
     ),
     (
-        "REGISTER RSTREAM <q:o> AS SELECT ?s FROM NAMED WINDOW <w:1> ON <s:a> [RANGE PT1S] WHERE { WINDOW <w:1> { ?s <p:v> ?o } BIND(1 AS ?x) ?x <p:q> _:l . _:l <p:q> [] }",
+        "REGISTER RSTREAM <q:o> AS SELECT ?s FROM NAMED WINDOW <w:1> ON <s:a> [RANGE PT1S] \
+         WHERE { WINDOW <w:1> { ?s <p:v> ?o } BIND(1 AS ?x) ?x <p:q> _:l . _:l <p:q> [] }",
         "query",
     ),
     (
-        "REGISTER RSTREAM <q:o> AS SELECT ?s FROM NAMED WINDOW <w:1> ON <s:a> [RANGE PT1S] WHERE { WINDOW <w:1> { ?s <p:v> ?o } \"a\" <p:q> ?x }",
+        "REGISTER RSTREAM <q:o> AS SELECT ?s FROM NAMED WINDOW <w:1> ON <s:a> [RANGE PT1S] \
+         WHERE { WINDOW <w:1> { ?s <p:v> ?o } \"a\" <p:q> ?x }",
         "Syntax 119",
     ),
     (
-        "REGISTER RSTREAM <q:o> AS SELECT ?s FROM NAMED WINDOW <w:1> ON <s:a> [RANGE PT1S] WHERE { WINDOW <w:1> { ?s <p:v> ?o } GRAPH ?g { ?a ?b ?c } MINUS { ?a ?b ?c } { } UNION { } }",
+        "REGISTER RSTREAM <q:o> AS SELECT ?s FROM NAMED WINDOW <w:1> ON <s:a> [RANGE PT1S] \
+         WHERE { WINDOW <w:1> { ?s <p:v> ?o } GRAPH ?g { ?a ?b ?c } MINUS { ?a ?b ?c } { } UNION { } }",
         "query",
     ),
     (
@@ -119,19 +145,23 @@ const TEXTS: [(&str, &str); 36] = [
         "Limit span",
     ),
     (
-        "REGISTER RSTREAM <q:o> AS SELECT ?s FROM NAMED WINDOW <w:1> ON <s:a> [RANGE PT1S STEP PT0S] WHERE { WINDOW <w:1> { ?s <p:v> ?o } }",
+        "REGISTER RSTREAM <q:o> AS SELECT ?s FROM NAMED WINDOW <w:1> ON <s:a> [RANGE PT1S STEP PT0S] \
+         WHERE { WINDOW <w:1> { ?s <p:v> ?o } }",
         "Limit span",
     ),
     (
-        "REGISTER RSTREAM <q:o> AS SELECT ?s FROM NAMED WINDOW <w:1> ON <s:a> [RANGE PT1S START 253402300800000] WHERE { WINDOW <w:1> { ?s <p:v> ?o } }",
+        "REGISTER RSTREAM <q:o> AS SELECT ?s FROM NAMED WINDOW <w:1> ON <s:a> [RANGE PT1S START 253402300800000] \
+         WHERE { WINDOW <w:1> { ?s <p:v> ?o } }",
         "Syntax 87",
     ),
     (
-        "REGISTER RSTREAM <q:o> REPORT CLOSE AND EVERY PT0S TICK TIME AS SELECT ?s FROM NAMED WINDOW <w:1> ON <s:a> [RANGE PT1S] WHERE { WINDOW <w:1> { ?s <p:v> ?o } }",
+        "REGISTER RSTREAM <q:o> REPORT CLOSE AND EVERY PT0S TICK TIME AS SELECT ?s \
+         FROM NAMED WINDOW <w:1> ON <s:a> [RANGE PT1S] WHERE { WINDOW <w:1> { ?s <p:v> ?o } }",
         "Limit span",
     ),
     (
-        "REGISTER RSTREAM <q:o> AS SELECT ?s ?s FROM NAMED WINDOW <w:1> ON <s:a> [RANGE PT1S] WHERE { WINDOW <w:1> { ?s <p:v> ?o } }",
+        "REGISTER RSTREAM <q:o> AS SELECT ?s ?s FROM NAMED WINDOW <w:1> ON <s:a> [RANGE PT1S] \
+         WHERE { WINDOW <w:1> { ?s <p:v> ?o } }",
         "query",
     ),
 ];

@@ -11,7 +11,8 @@ use std::sync::ledger::{Blank, Ledger};
 use std::test::Fail;
 
 const REGISTER: &str =
-    "@register q\nREGISTER RSTREAM <q:o> REPORT CLOSE TICK TIME AS SELECT ?s ?p ?o FROM NAMED WINDOW <w:1> ON <s:a> [RANGE PT10S STEP PT10S] WHERE { WINDOW <w:1> { ?s ?p ?o } }\n@end\n";
+    "@register q\nREGISTER RSTREAM <q:o> REPORT CLOSE TICK TIME AS SELECT ?s ?p ?o \
+     FROM NAMED WINDOW <w:1> ON <s:a> [RANGE PT10S STEP PT10S] WHERE { WINDOW <w:1> { ?s ?p ?o } }\n@end\n";
 
 const FIRST: &str = "@item <s:a> 1000\n<a:1> <p:v> <a:2> .\n@end\n";
 

@@ -3,14 +3,14 @@ use rsp_query_line::{query_line, translated};
 use std::alloc::{AllocError, Global};
 use std::test::Fail;
 
-const LINE: &[u8] =
-    b"REGISTER RSTREAM <q:o> REPORT CLOSE TICK TIME AS SELECT ?o ?s FROM NAMED WINDOW <w:1> ON <s:a> [RANGE PT10S STEP PT5S] WHERE { WINDOW <w:1> { ?s <p:v> ?m . ?m ?s ?o } }\n";
+const LINE: &[u8] = b"REGISTER RSTREAM <q:o> REPORT CLOSE TICK TIME AS SELECT ?o ?s \
+     FROM NAMED WINDOW <w:1> ON <s:a> [RANGE PT10S STEP PT5S] WHERE { WINDOW <w:1> { ?s <p:v> ?m . ?m ?s ?o } }\n";
 
-const UNKNOWN_VARIABLE: &[u8] =
-    b"REGISTER RSTREAM <q:o> REPORT CLOSE TICK TIME AS SELECT ?x FROM NAMED WINDOW <w:1> ON <s:a> [RANGE PT10S STEP PT5S] WHERE { WINDOW <w:1> { ?s <p:v> ?o } }";
+const UNKNOWN_VARIABLE: &[u8] = b"REGISTER RSTREAM <q:o> REPORT CLOSE TICK TIME AS SELECT ?x \
+     FROM NAMED WINDOW <w:1> ON <s:a> [RANGE PT10S STEP PT5S] WHERE { WINDOW <w:1> { ?s <p:v> ?o } }";
 
-const ANOTHER_WINDOW: &[u8] =
-    b"REGISTER RSTREAM <q:o> REPORT CLOSE TICK TIME AS SELECT ?s FROM NAMED WINDOW <w:1> ON <s:a> [RANGE PT10S STEP PT5S] WHERE { WINDOW <w:2> { ?s <p:v> ?o } }";
+const ANOTHER_WINDOW: &[u8] = b"REGISTER RSTREAM <q:o> REPORT CLOSE TICK TIME AS SELECT ?s \
+     FROM NAMED WINDOW <w:1> ON <s:a> [RANGE PT10S STEP PT5S] WHERE { WINDOW <w:2> { ?s <p:v> ?o } }";
 
 fn is_read(alloc: Global, text: &[u8]) -> Result<bool, AllocError> {
     Ok(query_line(alloc, text)?.is_some())

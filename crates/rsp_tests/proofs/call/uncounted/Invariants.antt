@@ -1,4 +1,4 @@
-use Rattle.rsp_call_tests.proofs.call.uncounted.Given as goal
+use Rattle.rsp_tests.proofs.call.uncounted.Given as goal
 
 -- the ledger of a count that nobody reads
 abbrev pub ghosts-status_of : goal.ghosts-status_of

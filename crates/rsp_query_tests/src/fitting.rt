@@ -1,0 +1,103 @@
+// Whether trees fit a width, which evaluation asks for.
+ghost use Rattle.std.specs.Prelude.{◌≡◌, true, length, ◌++◌};
+ghost use Rattle.std.specs.List.{AllByRecursion};
+ghost use Rattle.rsp_expr.specs.Formulas.{formula_of};
+ghost use Rattle.rsp_algebra.specs.Nodes.{node_of, Fits, AreBelow, slot_variables, formula_variables};
+
+use rsp_algebra::Tree;
+use rsp_expr::{Expression, Slot};
+use rsp_multiset::Row;
+use rsp_terms::Term;
+
+fn slot_fits(slot: &Slot, width: usize) -> bool
+    ensures { result ≡ true → AreBelow width (slot_variables slot.now) }
+{
+    match slot {
+        Slot::Variable(variable) => *variable < width,
+        Slot::Constant(_) => true,
+    }
+}
+
+#[tactic(auto, using(crate::proofs::Below::below_append))]
+fn slots_fit(subject: &Slot, predicate: &Slot, object: &Slot, width: usize) -> bool
+    ensures { result ≡ true → AreBelow width
+        (slot_variables subject.now ++ (slot_variables predicate.now ++ slot_variables object.now)) }
+{
+    if !slot_fits(subject, width) {
+        return false;
+    }
+    if !slot_fits(predicate, width) {
+        return false;
+    }
+    slot_fits(object, width)
+}
+
+fn are_below(variables: &[usize], width: usize) -> bool
+    ensures { result ≡ true → AreBelow width variables.now }
+{
+    for variable in variables {
+        if *variable >= width {
+            return false;
+        }
+    }
+    true
+}
+
+fn have_width(rows: &[Row<Term>], width: usize) -> bool
+    ensures { result ≡ true → AllByRecursion (λ row. length row ≡ width) rows.now }
+{
+    for row in rows {
+        if row.cells().len() != width {
+            return false;
+        }
+    }
+    true
+}
+
+// of the expressions that the tests write; it says no of each other
+#[tactic(auto, using(crate::proofs::Below::below_append))]
+fn expression_fits(expression: &Expression, width: usize) -> bool
+    ensures { result ≡ true → AreBelow width (formula_variables (formula_of expression.now)) }
+{
+    match expression {
+        Expression::Variable(variable) => *variable < width,
+        Expression::Constant(_) => true,
+        Expression::Bound(variable) => *variable < width,
+        Expression::Not(part) => expression_fits(part, width),
+        Expression::Compare { left, right, .. } => {
+            if !expression_fits(left, width) {
+                return false;
+            }
+            expression_fits(right, width)
+        }
+        _ => false,
+    }
+}
+
+/// Whether the tree fits the width.
+pub fn fits(tree: &Tree, width: usize) -> bool
+    ensures { result ≡ true → Fits width (node_of tree.now) }
+{
+    match tree {
+        Tree::Unit => true,
+        Tree::Pattern {
+            subject,
+            predicate,
+            object,
+            ..
+        } => slots_fit(subject, predicate, object, width),
+        Tree::Join { left, right } => fits(left, width) && fits(right, width),
+        Tree::Union { left, right } => fits(left, width) && fits(right, width),
+        Tree::Filter { child, condition } => {
+            expression_fits(condition, width) && fits(child, width)
+        }
+        Tree::Extend {
+            child,
+            variable,
+            expression,
+        } => *variable < width && expression_fits(expression, width) && fits(child, width),
+        Tree::Values { rows } => have_width(rows, width),
+        Tree::Project { child, variables } => are_below(variables, width) && fits(child, width),
+        Tree::Distinct { child } => fits(child, width),
+    }
+}
