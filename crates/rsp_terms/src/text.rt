@@ -135,3 +135,9 @@ impl fmt::Display for Text {
         f.write_str(self.as_str())
     }
 }
+
+impl fmt::Debug for Text {
+    fn fmt<W: fmt::Write>(&self, f: &mut fmt::Formatter<W>) -> fmt::Result {
+        fmt::Debug::fmt(self.as_str(), f)
+    }
+}
