@@ -2,16 +2,16 @@
 
 `python3 tests/model.py events < LOG` writes it; `python3 tests/model.py --rows` compares all rows and examples with it.
 """
-import datetime
 import itertools
 import os
 import re
 import sys
 from collections import namedtuple
 
+from query_model import LAST_INSTANT, instant
+
 USAGE = b"usage: rsp events [--json] | run [--json] [--store FILE] QUERY STREAM=FILE.. | check QUERY | gen COUNT\n"
 DOCUMENT = 1
-LAST_INSTANT = 253402300799999
 MOST_BYTES = 16_777_216
 MOST_ROWS = 1_000_000
 MOST_ITEMS = MOST_TRIPLES = 1_000
@@ -181,33 +181,12 @@ def statement(text):
     return tuple(terms)
 
 
-# ---- numbers and instants
-
-INSTANT = re.compile(
-    rb"([0-9]{4})-([0-9]{2})-([0-9]{2})T([0-9]{2}):([0-9]{2}):([0-9]{2})(?:\.([0-9]{1,9}))?(?:Z|([+-])([0-9]{2}):([0-9]{2}))"
-)
-
-
-def instant(text):
-    found = INSTANT.fullmatch(text)
-    if not found:
-        return None
-    year, month, day, hour, minute, second = map(int, found.groups()[:6])
-    ahead = 60 * int(found[9] or 0) + int(found[10] or 0)
-    if hour > 23 or minute > 59 or second > 59 or int(found[10] or 0) > 59 or ahead > 14 * 60:
-        return None
-    try:
-        days = (datetime.date(year, month, day) - datetime.date(1970, 1, 1)).days
-    except ValueError:
-        return None
-    thousandths = int((found[7] or b"")[:3].ljust(3, b"0"))
-    minutes = (days * 24 + hour) * 60 + minute + (ahead if found[8] == b"-" else -ahead)
-    return 1000 * (60 * minutes + second) + thousandths
+# ---- instants
 
 
 def time_of(text):
     """The instant that a TIME says, or None."""
-    time = int(text) if re.fullmatch(rb"[0-9]{1,20}", text) else instant(text)
+    time = int(text) if re.fullmatch(rb"[0-9]{1,20}", text) else instant(text.decode("latin-1"))
     return time if time is not None and 0 <= time <= LAST_INSTANT else None
 
 

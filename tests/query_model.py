@@ -36,12 +36,13 @@ STRING = "|".join([
     rf'"(?:[^"\\\n\r]|{ECHAR}|{UCHAR})*"',
     rf"'(?:[^'\\\n\r]|{ECHAR}|{UCHAR})*'",
 ])
+TIME_PART = r"T(?=[0-9])(?:[0-9]+H)?(?:[0-9]+M)?(?:[0-9]+(?:\.[0-9]+)?S)?"
 FORMS = [(kind, re.compile(form)) for kind, form in [
     ("Iri", rf'<(?:[^\x00-\x20<>"{{}}|^`\\]|{UCHAR})*>'),
     ("Prefixed", f"{PREFIX_NAME}:{LOCAL_NAME}"),
     ("Label", f"_:[{START}0-9](?:[{NAME}.]*[{NAME}])?"),
     ("Variable", f"[?$][{START}0-9][{VARIABLE_NAME}]*"),
-    ("Span", r"P(?:[0-9]+D(?:T(?=[0-9])(?:[0-9]+H)?(?:[0-9]+M)?(?:[0-9]+(?:\.[0-9]+)?S)?)?|T(?=[0-9])(?:[0-9]+H)?(?:[0-9]+M)?(?:[0-9]+(?:\.[0-9]+)?S)?)"),
+    ("Span", rf"P(?:[0-9]+D(?:{TIME_PART})?|{TIME_PART})"),
     ("Word", "[A-Za-z][A-Za-z0-9_]*"),
     ("Tag", "@[A-Za-z]+(?:-[A-Za-z0-9]+)*"),
     ("Double", r"(?:[0-9]+\.[0-9]*|\.[0-9]+|[0-9]+)[eE][+-]?[0-9]+"),
@@ -131,10 +132,11 @@ def tokens_of(text):
 
 Said = namedtuple("Said", "kind value token")
 KEYWORDS = (
-    "PREFIX REGISTER RSTREAM ISTREAM DSTREAM UNDER CSPARQL CQELS REPORT AND TICK TIME TUPLE CLOSE CHANGE NONEMPTY EVERY FROM NAMED "
-    "WINDOW ON RANGE STEP START AS SELECT DISTINCT WHERE GROUP BY HAVING OPTIONAL MINUS UNION GRAPH FILTER NOT EXISTS BIND VALUES "
-    "UNDEF TRUE FALSE IN COUNT SUM AVG MIN MAX BOUND IF COALESCE SAMETERM ISIRI ISURI ISBLANK ISLITERAL ISNUMERIC STR LANG DATATYPE "
-    "IRI URI STRDT STRLANG STRLEN SUBSTR CONTAINS STRSTARTS STRENDS STRBEFORE STRAFTER CONCAT LANGMATCHES ABS CEIL FLOOR ROUND"
+    "PREFIX REGISTER RSTREAM ISTREAM DSTREAM UNDER CSPARQL CQELS REPORT AND TICK TIME TUPLE CLOSE CHANGE NONEMPTY "
+    "EVERY FROM NAMED WINDOW ON RANGE STEP START AS SELECT DISTINCT WHERE GROUP BY HAVING OPTIONAL MINUS UNION "
+    "GRAPH FILTER NOT EXISTS BIND VALUES UNDEF TRUE FALSE IN COUNT SUM AVG MIN MAX BOUND IF COALESCE SAMETERM ISIRI "
+    "ISURI ISBLANK ISLITERAL ISNUMERIC STR LANG DATATYPE IRI URI STRDT STRLANG STRLEN SUBSTR CONTAINS STRSTARTS "
+    "STRENDS STRBEFORE STRAFTER CONCAT LANGMATCHES ABS CEIL FLOOR ROUND"
 ).split()
 
 
@@ -273,9 +275,9 @@ def call(inner):
         if name.kind in FREE:
             rule = either(in_parens(nothing([])), in_parens(listed(inner, one_of(","))))
         else:
-            rule = either(*(
-                in_parens(row(inner, *(kept(1, one_of(","), inner) for _ in range(count - 1)))) for count in ARITIES.get(name.kind, {1})
-            ))
+            more = kept(1, one_of(","), inner)
+            counts = ARITIES.get(name.kind, {1})
+            rule = either(*(in_parens(row(inner, *[more] * (count - 1))) for count in counts))
         return mapped(lambda values: ("call", name.kind, values), rule)
     bound = mapped(lambda x: ("bound", x), kept(1, one_of("BOUND"), in_parens(variable)))
     return either(bound, then(one_of(*FUNCTIONS), arguments))
@@ -293,8 +295,9 @@ def signs(name, part, *kinds):
 def expression(extra=None):
     inner = lazy(lambda: expression(extra))
     primary = either(
-        in_parens(inner), call(inner), mapped(lambda x: ("constant", ("iri", x)), iri), mapped(lambda x: ("variable", x), variable),
-        mapped(lambda x: ("constant", x), unsigned_literal), *([extra] if extra else []),
+        in_parens(inner), call(inner), mapped(lambda x: ("constant", ("iri", x)), iri),
+        mapped(lambda x: ("variable", x), variable), mapped(lambda x: ("constant", x), unsigned_literal),
+        *([extra] if extra else []),
     )
     unary = either(primary, mapped(lambda v: ("signed", v[0].kind, v[1]), row(one_of("!", "-", "+"), primary)))
     sums = signs("sum", signs("product", unary, "*", "/"), "+", "-")
@@ -430,10 +433,14 @@ def group():
 # ---- the query
 
 
+INSTANT = re.compile(
+    r"([0-9]{4})-([0-9]{2})-([0-9]{2})T([0-9]{2}):([0-9]{2}):([0-9]{2})(?:\.([0-9]{1,9}))?(?:Z|([+-])([0-9]{2}):([0-9]{2}))"
+)
+
+
 def instant(text):
-    found = re.fullmatch(
-        r"([0-9]{4})-([0-9]{2})-([0-9]{2})T([0-9]{2}):([0-9]{2}):([0-9]{2})(?:\.([0-9]{1,9}))?(?:Z|([+-])([0-9]{2}):([0-9]{2}))", text
-    )
+    """The instant that an xsd:dateTime says, in ms since 1970; None where it says none of those that are taken."""
+    found = INSTANT.fullmatch(text)
     if not found:
         return None
     year, month, day, hour, minute, second = map(int, found.groups()[:6])
@@ -480,19 +487,23 @@ query_body = mapped(
         "operator": v[1].kind, "output": v[2], "policy": v[3], "windows": v[6], "select": select_of(v[5], v[8], v[9]),
     },
     row(
-        one_of("REGISTER"), one_of("RSTREAM", "ISTREAM", "DSTREAM"), iri, maybe(policy), one_of("AS"), select_clause, some(window),
-        maybe(one_of("WHERE")), group(), tail,
+        one_of("REGISTER"), one_of("RSTREAM", "ISTREAM", "DSTREAM"), iri, maybe(policy), one_of("AS"), select_clause,
+        some(window), maybe(one_of("WHERE")), group(), tail,
     ),
 )
-prefix = row(
-    one_of("PREFIX"),
-    token(lambda said: said.kind == "Prefixed" and said.value[1] == "" and said.token.text.endswith(":"), lambda said: said.value[0]),
-    iri,
-)
+
+
+def is_declared(said):
+    """Whether the token is the `p:` of a declaration."""
+    return said.kind == "Prefixed" and said.value[1] == "" and said.token.text.endswith(":")
+
+
+prefix = row(one_of("PREFIX"), token(is_declared, lambda said: said.value[0]), iri)
 
 LEFT_OUT = (
-    "ASK DESCRIBE CONSTRUCT BASE REDUCED ORDER LIMIT OFFSET SERVICE VALUES NOT EXISTS REGEX REPLACE UCASE LCASE ENCODE_FOR_URI MD5 "
-    "SHA1 SHA256 SHA384 SHA512 RAND NOW UUID STRUUID BNODE GROUP_CONCAT SAMPLE YEAR MONTH DAY HOURS MINUTES SECONDS TIMEZONE TZ"
+    "ASK DESCRIBE CONSTRUCT BASE REDUCED ORDER LIMIT OFFSET SERVICE VALUES NOT EXISTS REGEX REPLACE UCASE LCASE "
+    "ENCODE_FOR_URI MD5 SHA1 SHA256 SHA384 SHA512 RAND NOW UUID STRUUID BNODE GROUP_CONCAT SAMPLE YEAR MONTH DAY "
+    "HOURS MINUTES SECONDS TIMEZONE TZ"
 ).split()
 
 
@@ -516,7 +527,8 @@ def read(text, saids):
     while place < len(saids) and saids[place].kind == "PREFIX":
         ways = prefix(lambda value: [Whole(value)])
         for said_here in saids[place:place + 3]:
-            seen = said_here if said_here.kind == "Prefixed" and place + 1 < len(saids) and said_here is saids[place + 1] else resolved(said_here, prefixes)
+            is_name = said_here.kind == "Prefixed" and said_here is saids[place + 1]
+            seen = said_here if is_name else resolved(said_here, prefixes)
             ways = [found for way in ways if isinstance(way, Way) and way.test(seen) for found in way.behind(seen)]
             if not ways:
                 raise wrong(text, said_here.token)
@@ -713,7 +725,11 @@ def operators(e):
 
 
 def groups_in(e):
-    return {"optional": e[1:2], "minus": e[1:2], "union": e[1:2] and e[1], "graph": e[3:4], "window": e[3:4], "exists": e[3:4]}.get(e[0], [])
+    if e[0] in ("optional", "minus"):
+        return e[1:2]
+    if e[0] == "union":
+        return e[1]
+    return e[3:4] if e[0] in ("graph", "window", "exists") else []
 
 
 def operators_in(select):
