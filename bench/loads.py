@@ -69,3 +69,60 @@ def matches(size):
         triples = [f"<a:{k}> <p:v> <b:{k}> .\n<b:{k}> <p:m> <c:{k}> .\n" for k in range(first, min(first + 500, size))]
         graphs.append(block(f"@item <s:a> {1000 + first // 500}", triples))
     return query + b"".join(graphs) + b"@tick 10000\n"
+
+
+USUAL = """PREFIX sosa: <http://www.w3.org/ns/sosa/>
+PREFIX ex: <http://example.org/>
+REGISTER RSTREAM ex:hot REPORT CLOSE AND NONEMPTY TICK TIME AS
+SELECT ?room (AVG(?value) AS ?mean)
+FROM NAMED WINDOW ex:minute ON ex:sensors [RANGE PT1M STEP PT10S]
+WHERE {
+  WINDOW ex:minute { ?reading sosa:madeBySensor ?sensor ; sosa:hasSimpleResult ?value . ?sensor ex:in ?room }
+  FILTER(?value > 30 && LANGMATCHES(LANG(?room), "en"))
+}
+GROUP BY ?room
+"""
+
+
+def registrations(size):
+    """So many registrations of a usual text. The engine refuses them, after their texts were read."""
+    return block("@register q", [USUAL]) * size
+
+
+# texts that are read slowly where a reader looks back, goes down or looks up in a list: the front, what is repeated, the end
+HOSTILE = {
+    "points in a name": ("", "a.", ""),
+    "open braces": ("", "{", ""),
+    "quotes": ("", '"', ""),
+    "comments": ("", "#\n", ""),
+    "prefixes": ("", "PREFIX p%d:<a:> ", ""),
+    "sums": ("%s{ FILTER(1", "+1", ") }"),
+    "alternatives": ("%s{ FILTER(1", "||1", ") }"),
+    "paths": ("%s{ ?s a", "/a", " ?o }"),
+    "triples": ("%s{ ", "?s a ?o .", " }"),
+    "objects": ("%s{ ?s a ?o", ",?o", " }"),
+    "unions": ("%s{ {}", "UNION{}", " }"),
+    "columns": ("%s{ VALUES (", "?v%d ", ") { } }"),
+    "variables": ("%s{ ", "?v%d a ?o .", " }"),
+    "arguments": ("%s{ FILTER CONCAT(1", ",1", ") }"),
+    "wrong at the end": ("%s{ ", "?s a ?o .", " ] }"),
+}
+HEAD = "REGISTER RSTREAM <q:o> AS SELECT ?s FROM NAMED WINDOW <w:1> ON <s:a> [RANGE PT1S] WHERE "
+MOST_TEXT = 65_536
+
+
+def hostile(name):
+    """A load of one registration of at most so many bytes, whose text is one of the hostile ones."""
+    front, repeated, end = HOSTILE[name]
+    front = front.replace("%s", HEAD)
+
+    def load(size):
+        left = min(size, MOST_TEXT) - len(front) - len(end) - 1
+        pieces, number = [], 0
+        while left >= len(piece := repeated.replace("%d", str(number))):
+            pieces.append(piece)
+            left -= len(piece)
+            number += 1
+        return block("@register q", [f"{front}{''.join(pieces)}{end}\n"])
+
+    return load
