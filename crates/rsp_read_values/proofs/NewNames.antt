@@ -1,10 +1,10 @@
 -- A loop that reads names, each of which is new, goes as their reader.
-use Rattle.std.proofs.Common.{◌≡◌, ℕ, Bool, true, false, not, ◌||◌, List, [], ◌∷◌, ◌++◌, cond, reverse, refl, sym, ap, ap₂, ◌∙◌, append_assoc, append-nil, Some, None, Ok, Err}
+use Rattle.std.proofs.Common.{◌≡◌, ℕ, Bool, true, false, not, ◌||◌, List, [], ◌∷◌, ◌++◌, cond, reverse, refl, sym, ap, ◌∙◌, append_assoc, append-nil, Some, None, Ok, Err}
 use Rattle.std.proofs.lemmas.List.{reverse-append}
 use Rattle.std.proofs.lemmas.List.Folds.{list_any-append}
 use Rattle.std.specs.List.{list_any}
 use Rattle.std.specs.Str.{bytes_eq}
-use Rattle.std.specs.Cmp.Lexicographic.{nat_list_eq_equiv}
+use Rattle.indexmap.specs.IndexSet.{insert_key}
 use Rattle.rsp_phrases.specs.Languages.{has}
 use Rattle.rsp_phrases.specs.Readers.{Reading, before, distinct_at, distinct_read}
 use Rattle.rsp_phrases.specs.Gathering.{gathered, as_read}
@@ -21,18 +21,32 @@ turned true false = refl
 turned false true = refl
 turned false false = refl
 
-among_backwards : (name : List ℕ) (names : List (List ℕ)) → list_any (λ y. bytes_eq y name) names ≡ list_any (bytes_eq name) (reverse names)
+among_backwards : (name : List ℕ) (names : List (List ℕ)) → list_any (bytes_eq name) names ≡ list_any (bytes_eq name) (reverse names)
 among_backwards name [] = refl
 among_backwards name (x ∷ names) =
-    ap₂ (λ a b. a || b) (nat_list_eq_equiv.symm x name) (among_backwards name names)
+    ap (λ b. bytes_eq name x || b) (among_backwards name names)
     ∙ turned (bytes_eq name x) (list_any (bytes_eq name) (reverse names))
     ∙ sym (list_any-append (bytes_eq name) (reverse names) (x ∷ []))
     ∙ ap (list_any (bytes_eq name)) (sym (reverse-append (x ∷ []) names))
 
 pub new_name_is : (names : List (List ℕ)) (said : Said) → has (numbers (kind.Variable ∷ [])) (kind_number said) ≡ true
-    → not (list_any (λ y. bytes_eq y said.text) names) ≡ is_new (reverse names) (name_if_variable said)
+    → not (list_any (bytes_eq said.text) names) ≡ is_new (reverse names) (name_if_variable said)
 new_name_is names said is =
     ap not (among_backwards said.text names) ∙ ap (λ b. is_new (reverse names) (cond b (Some said.text) None)) (sym is)
+
+-- a name that is new is put behind the others of the set
+pub name_inserted : (names : List (List ℕ)) (said : Said) → is_new (reverse names) (name_if_variable said) ≡ true
+    → insert_key bytes_eq names said.text ≡ names ++ (said.text ∷ [])
+name_inserted names said new = by (has (numbers (kind.Variable ∷ [])) (kind_number said)) refl new
+  where
+    put : (c : Bool) → not c ≡ true → cond c names (names ++ (said.text ∷ [])) ≡ names ++ (said.text ∷ [])
+    put true h = cc
+    put false h = refl
+
+    by : (b : Bool) → has (numbers (kind.Variable ∷ [])) (kind_number said) ≡ b
+        → is_new (reverse names) (cond b (Some said.text) None) ≡ true → insert_key bytes_eq names said.text ≡ names ++ (said.text ∷ [])
+    by true is h = put (list_any (bytes_eq said.text) names) (ap not (among_backwards said.text names) ∙ h)
+    by false is h = cc
 
 -- ---- the loop
 

@@ -1,5 +1,5 @@
 // Reading VALUES: rows of values for variables.
-ghost use Rattle.std.specs.Prelude.{◌≡◌, [], map, reverse};
+ghost use Rattle.std.specs.Prelude.{◌≡◌, [], IfOk, map, reverse};
 ghost use Rattle.rsp_phrases.specs.Gathering.{gathered, as_read, single};
 ghost use Rattle.rsp_phrases.specs.Languages.{has};
 ghost use Rattle.rsp_phrases.specs.Readers.{first_read, second_read, starts};
@@ -12,12 +12,13 @@ ghost use Rattle.rsp_written.specs.TripleReadings as readings;
 ghost use Rattle.rsp_written.specs.declared.said.Kind.TheVariants as kind;
 ghost use Rattle.rsp_written.specs.declared.said.Symbol.TheVariants as symbol;
 
+use indexmap::IndexSet;
 use rsp_terms::{Term, Text};
 use rsp_written::{
     Halt, Keyword, Kind, Said, Symbol, Values, first_is, first_is_among, iri, literal, sign,
     variable, word,
 };
-use std::alloc::Global;
+use std::alloc::{AllocError, Global};
 
 fn begins_literal(tokens: &[Said]) -> bool
     ensures { result ≡ starts kind_number (numbers readings.literal_first) tokens.now }
@@ -226,8 +227,8 @@ fn rows_in_braces(
 }
 
 // whether a token is a variable that isn't among these
-fn is_new_name(said: &Said, names: &[Text]) -> bool
-    ensures { result ≡ is_new (reverse names.now) (name_if_variable said.now) }
+fn is_new_name(said: &Said, names: &IndexSet<Text>) -> bool
+    ensures { result ≡ is_new (reverse names.now.keys) (name_if_variable said.now) }
 {
     if said.kind.number() != Kind::Variable.number() {
         return false;
@@ -235,21 +236,32 @@ fn is_new_name(said: &Said, names: &[Text]) -> bool
     !names.contains(&said.text)
 }
 
+// the names of a set, in its order
+fn listed(alloc: Global, names: &IndexSet<Text>) -> Result<Vec<Text>, AllocError>
+    ensures { IfOk result (λ list. list.items ≡ names.now.keys) }
+{
+    let mut list = Vec::new(alloc);
+    for name in names.as_slice() {
+        list.push(name.share()?)?;
+    }
+    Ok(list)
+}
+
 // variables as often as they stand here, up to the first that stood before
 #[tactic(auto, unfolding(rsp_written::specs::TripleReadings::columns_read))]
 fn columns(alloc: Global, tokens: &[Said]) -> Result<(Vec<Text>, &[Said]), Halt>
     ensures { Gives (λ x. (x.0.items, x.1.now)) result (readings.columns_read tokens.now) }
 {
-    let mut names = Vec::new(alloc);
+    let mut names = IndexSet::new(alloc);
     for said in tokens {
         if !is_new_name(said, &names) {
             let (_, rest) = tokens.split_at(names.len());
-            return Ok((names, rest));
+            return Ok((listed(alloc, &names)?, rest));
         }
-        names.push(said.text.share()?)?;
+        names.insert(said.text.share()?)?;
     }
     let (_, rest) = tokens.split_at(tokens.len());
-    Ok((names, rest))
+    Ok((listed(alloc, &names)?, rest))
 }
 
 // variables in parentheses, and rows of as many values

@@ -8,5 +8,5 @@ use Rattle.rsp_read_values.proofs.value_blocks.columns.Given as goal
 
 abbrev pub invariant-loop-said : goal.invariant-loop-said
 invariant-loop-said l =
-    (length l.names.items ≡ l.said-index)
-    × (gathered as_read l.names.items (distinct_read bytes_eq name_if_variable (reverse l.names.items) (drop l.said-index l.tokens)) ≡ columns_read l.tokens)
+    (length l.names.keys ≡ l.said-index)
+    × (gathered as_read l.names.keys (distinct_read bytes_eq name_if_variable (reverse l.names.keys) (drop l.said-index l.tokens)) ≡ columns_read l.tokens)

@@ -8,4 +8,4 @@ use Rattle.rsp_read_values.proofs.value_blocks.is_new_name.Goals as goal
 pub returns : goal.returns
 returns c =
     let is : has (numbers (kind.Variable ∷ [])) (kind_number c.args.said.now) ≡ true = search rules in
-    ap not c.contains.ensures.value ∙ new_name_is c.args.names.now c.args.said.now is
+    ap not c.contains.ensures ∙ new_name_is c.args.names.now.keys c.args.said.now is
