@@ -1,22 +1,29 @@
 // Why an event is refused, and why no report can be given.
+use rsp_syntax::LimitName;
+use rsp_terms::Text;
 use thiserror::Error;
 
-/// Why an event was refused. A refused event changes nothing, but for want of memory, which breaks the engine.
-#[derive(Clone, Copy, PartialEq, Eq, Debug, Error)]
+/// Why an event was refused. A refused event changes nothing, but for want of memory, which breaks the engine. A place
+/// `at` is a byte of the query's text, from 0.
+#[derive(Drop)]
 pub enum Refused {
     /// Memory was refused to the engine before.
-    #[error("broken")]
     Broken,
     /// Memory is refused to the engine in this call.
-    #[error("out of memory")]
     OutOfMemory,
+    /// The first place in the query's text at which no token begins.
+    BadToken { at: usize },
+    /// The first token that can't stand; the text's length where the text is unfinished.
+    Syntax { at: usize },
+    /// The first token that can't stand is a word or a sign of SPARQL that is left out here.
+    LeftOut { at: usize, what: Text },
+    /// The query's text has too much of something.
+    Limit { what: LimitName },
     /// The event's time lies in what is complete: an item's time is less than `next`, or a tick's time + 1 is.
     /// Both in ms since 1970.
-    #[error("late: time {time}, next {next}")]
     Late { time: u64, next: u64 },
-    /// The event is of a kind that isn't built yet: a text outside the query line, a second live query, a cancellation,
-    /// an insert, a delete, an item of more than a thousand triples, or an item after a thousand.
-    #[error("not built yet")]
+    /// The event is of a kind that isn't built yet: a text without fault outside the query line, a second live query, a
+    /// cancellation, an insert, a delete, an item of more than a thousand triples, or an item after a thousand.
     Unbuilt,
 }
 
