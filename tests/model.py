@@ -8,6 +8,7 @@ import re
 import sys
 from collections import namedtuple
 
+import query_model
 from query_model import LAST_INSTANT, instant
 
 USAGE = b"usage: rsp events [--json] | run [--json] [--store FILE] QUERY STREAM=FILE.. | check QUERY | gen COUNT\n"
@@ -275,6 +276,21 @@ def event_of(group):
     return head, *fields, [terms for terms in (statement(line.text) for line in body) if terms]
 
 
+# ---- the faults of a query's text
+
+FAULTS = {"BadToken": 7, "Syntax": 8, "LeftOut": 9, "Limit": 10}
+
+
+def text_refusal(text):
+    """The number, the name and the details of the first fault of a query's text, or None."""
+    why = query_model.answer(text.decode())
+    if why is None:
+        return None
+    name, *details = why
+    keys = ["what"] if name == "Limit" else ["at", "what"]
+    return f"{FAULTS[name]} {name}" + "".join(f" {key}={detail}" for key, detail in zip(keys, details))
+
+
 # ---- the query line
 
 VARIABLE = rb"\?[A-Za-z0-9]{1,16}"
@@ -366,7 +382,7 @@ class World:
         head, *values = event
         if head == b"@register":
             is_free = self.query is None and query_of(*values, len(self.items))
-            return None if is_free else "22 Unbuilt"
+            return text_refusal(values[1]) or (None if is_free else "22 Unbuilt")
         if head in (b"@cancel", b"@insert", b"@delete"):
             return "22 Unbuilt"
         if head == b"@item" and (len(values[2]) > MOST_TRIPLES or len(self.items) >= MOST_ITEMS):

@@ -3,7 +3,9 @@ use Rattle.std.specs.Prelude.{ℕ, Option, Some, option_map, List, [], ◌∷◌
 use Rattle.std.specs.Fmt.{decimal}
 use Rattle.rsp_events.specs.declared.event.BlockFault.{BlockFault}
 use Rattle.rsp_events.specs.declared.event.BlockFault.TheVariants.{BadBody, BadDirective, BlockTooLarge}
-use Rattle.rsp_engine.specs.Refusals.{Refusal, late, unbuilt, refusal_of}
+use Rattle.rsp_numbering.specs.declared.limit.LimitName.{LimitName}
+use Rattle.rsp_numbering.specs.declared.limit.LimitName.TheVariants as name
+use Rattle.rsp_engine.specs.Refusals.{Refusal, bad_token, syntax, left_out, limit, late, unbuilt, refusal_of}
 use Rattle.rsp_call.specs.declared.refusing.Place.{Place}
 use Rattle.rsp_call.specs.declared.refusing.Place.TheVariants.{Block}
 use Rattle.rsp_call.specs.declared.refusing.Answered.{Answered}
@@ -19,12 +21,32 @@ abbrev pub kind : Reason → ℕ × List ℕ
 kind (of_block BadDirective) = (3, codes "BadDirective")
 kind (of_block (BadBody line)) = (4, codes "BadBody")
 kind (of_block BlockTooLarge) = (5, codes "BlockTooLarge")
+kind (of_event (bad_token at)) = (7, codes "BadToken")
+kind (of_event (syntax at)) = (8, codes "Syntax")
+kind (of_event (left_out at what)) = (9, codes "LeftOut")
+kind (of_event (limit what)) = (10, codes "Limit")
 kind (of_event (late time next)) = (15, codes "Late")
 kind (of_event unbuilt) = (22, codes "Unbuilt")
+
+-- the word of a limit
+abbrev pub limit_word : LimitName → List ℕ
+limit_word name.Text = codes "text"
+limit_word name.Nesting = codes "nesting"
+limit_word name.Windows = codes "windows"
+limit_word name.Span = codes "span"
+limit_word name.Variables = codes "variables"
+limit_word name.Patterns = codes "patterns"
+limit_word name.Operators = codes "operators"
+limit_word name.Elements = codes "elements"
+limit_word name.Rows = codes "rows"
 
 -- the details of each
 abbrev pub details : Reason → List ℕ
 details (of_block (BadBody line)) = codes " line=" ++ decimal line
+details (of_event (bad_token at)) = codes " at=" ++ decimal at
+details (of_event (syntax at)) = codes " at=" ++ decimal at
+details (of_event (left_out at what)) = codes " at=" ++ (decimal at ++ (codes " what=" ++ what))
+details (of_event (limit what)) = codes " what=" ++ limit_word what
 details (of_event (late time next)) = codes " time=" ++ (decimal time ++ (codes " next=" ++ decimal next))
 details _ = []
 

@@ -1,12 +1,12 @@
 // The line of a refusal.
 ghost use Rattle.std.specs.Prelude.{◌≡◌, List, ℕ, Some, true, IfOk, IsSome, is_some, option_map, string_bytes};
-ghost use Rattle.rsp_call.specs.Refusals.{Reason, details, kind, place_text, reason_of, refusal_line};
+ghost use Rattle.rsp_call.specs.Refusals.{Reason, details, kind, limit_word, place_text, reason_of, refusal_line};
 ghost use Rattle.rsp_call.specs.Sinks.{sink_seen};
 ghost use Rattle.rsp_call.specs.Stops.{Ends, IsLineOf};
 
 use crate::stop::Stop;
 use crate::writing::write_all;
-use rsp_engine::Refused;
+use rsp_engine::{LimitName, Refused};
 use rsp_events::BlockFault;
 use rsp_io::Sink;
 use std::alloc::{AllocError, Global};
@@ -18,7 +18,7 @@ pub(crate) enum Place {
 }
 
 /// What a block was answered that isn't taken: it is no event, or the engine doesn't take its event.
-#[derive(Clone, Copy)]
+#[derive(Drop)]
 pub(crate) enum Answered {
     Fault(BlockFault),
     Event(Refused),
@@ -38,7 +38,7 @@ pub(crate) fn refuse<K: Sink>(
         text result }
     ensures refused { IfOk result (λ refused. (refused ≡ true) × (is_some (reason_of answered) ≡ true)) }
 {
-    match line(alloc, place, answered) {
+    match line(alloc, place, &answered) {
         Ok(Some(line)) => {
             write_all(out, line.as_bytes())?;
             Ok(true)
@@ -49,8 +49,8 @@ pub(crate) fn refuse<K: Sink>(
 }
 
 // the line, where the answer is a refusal
-fn line(alloc: Global, place: Place, answered: Answered) -> Result<Option<String>, AllocError>
-    ensures { IfOk result (λ line. option_map string_bytes line ≡ option_map (refusal_line place) (reason_of answered)) }
+fn line(alloc: Global, place: Place, answered: &Answered) -> Result<Option<String>, AllocError>
+    ensures { IfOk result (λ line. option_map string_bytes line ≡ option_map (refusal_line place) (reason_of answered.now)) }
 {
     match kind(answered) {
         None => Ok(None),
@@ -71,13 +71,17 @@ fn place_text(alloc: Global, place: Place) -> Result<String, AllocError>
 }
 
 // the number and the name of each refusal
-fn kind(answered: Answered) -> Option<(u64, &'static str)>
-    ensures { option_map (λ k. (k.0, k.1.now)) result ≡ option_map kind (reason_of answered) }
+fn kind(answered: &Answered) -> Option<(u64, &'static str)>
+    ensures { option_map (λ k. (k.0, k.1.now)) result ≡ option_map kind (reason_of answered.now) }
 {
     match answered {
         Answered::Fault(BlockFault::BadDirective) => Some((3, "BadDirective")),
         Answered::Fault(BlockFault::BadBody { .. }) => Some((4, "BadBody")),
         Answered::Fault(BlockFault::BlockTooLarge) => Some((5, "BlockTooLarge")),
+        Answered::Event(Refused::BadToken { .. }) => Some((7, "BadToken")),
+        Answered::Event(Refused::Syntax { .. }) => Some((8, "Syntax")),
+        Answered::Event(Refused::LeftOut { .. }) => Some((9, "LeftOut")),
+        Answered::Event(Refused::Limit { .. }) => Some((10, "Limit")),
         Answered::Event(Refused::Late { .. }) => Some((15, "Late")),
         Answered::Event(Refused::Unbuilt) => Some((22, "Unbuilt")),
         Answered::Event(Refused::Broken) | Answered::Event(Refused::OutOfMemory) => None,
@@ -85,14 +89,41 @@ fn kind(answered: Answered) -> Option<(u64, &'static str)>
 }
 
 // the details of each refusal
-fn details(alloc: Global, answered: Answered) -> Result<String, AllocError>
-    ensures { IfOk result (λ text. (reason : Reason) → reason_of answered ≡ Some reason → string_bytes text ≡ details reason) }
+fn details(alloc: Global, answered: &Answered) -> Result<String, AllocError>
+    ensures { IfOk result (λ text. (reason : Reason) → reason_of answered.now ≡ Some reason → string_bytes text ≡ details reason) }
 {
     match answered {
         Answered::Fault(BlockFault::BadBody { line }) => format!(in alloc; " line={line}"),
+        Answered::Event(Refused::BadToken { at } | Refused::Syntax { at }) => {
+            format!(in alloc; " at={at}")
+        }
+        Answered::Event(Refused::LeftOut { at, what }) => {
+            format!(in alloc; " at={at} what={what}")
+        }
+        Answered::Event(Refused::Limit { what }) => {
+            let word = limit_word(*what);
+            format!(in alloc; " what={word}")
+        }
         Answered::Event(Refused::Late { time, next }) => {
             format!(in alloc; " time={time} next={next}")
         }
         _ => Ok(String::new(alloc)),
+    }
+}
+
+// the word of a limit
+fn limit_word(what: LimitName) -> &'static str
+    ensures { result.now ≡ limit_word what }
+{
+    match what {
+        LimitName::Text => "text",
+        LimitName::Nesting => "nesting",
+        LimitName::Windows => "windows",
+        LimitName::Span => "span",
+        LimitName::Variables => "variables",
+        LimitName::Patterns => "patterns",
+        LimitName::Operators => "operators",
+        LimitName::Elements => "elements",
+        LimitName::Rows => "rows",
     }
 }

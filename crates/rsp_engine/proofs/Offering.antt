@@ -3,7 +3,7 @@ use Rattle.std.proofs.Common.{◌≡◌, ℕ, ◌+◌, ◌-◌, ◌<◌, ◌≤�
 use Rattle.std.proofs.lemmas.List.{append-nil}
 use Rattle.std.proofs.lemmas.Bool.{le-ltb, lt-leb}
 use Rattle.std.specs.List.{flat_map, range_with_len}
-use Rattle.std.specs.Option.{option_map_or}
+use Rattle.std.specs.Option.{is_some, option_map_or}
 use Rattle.std.specs.Cmp.Lexicographic.{bytes_decides}
 use Rattle.rsp_events.specs.declared.event.Event.{Event}
 use Rattle.rsp_events.specs.declared.event.Event.TheVariants.{Register, Item, Tick}
@@ -11,6 +11,10 @@ use Rattle.rsp_query_line.specs.declared.line.Line.{Line}
 use Rattle.rsp_query_line.specs.QueryLine.{query_line}
 use Rattle.rsp_terms.specs.declared.statement.Triple.{Triple}
 use Rattle.rsp_engine.specs.declared.item.Item as item
+use Rattle.rsp_syntax.specs.Parsing.{parse}
+use Rattle.rsp_engine.specs.declared.refused.Refused.{Refused}
+use Rattle.rsp_engine.specs.Offers.{Answers, Refuses}
+use Rattle.rsp_engine.specs.Refusals.{Refusal, refusal_of, text_fault}
 use Rattle.rsp_engine.specs.World.{World}
 use Rattle.rsp_engine.specs.Accept.{accept, next_of, most_items, most_triples, query_of_line}
 use Rattle.rsp_engine.specs.Moments.{moments, moments_from, moments_on, due_moments}
@@ -79,15 +83,15 @@ none_from world None = refl
 none_from world (Some next) = let none : next - next ≡ 0 = omega arith in rw none refl
 
 -- a query that became live where none was
-pub register_leads : (old : State) (name text : List ℕ) (line : Line) (world : World) → old.broken ≡ false → old.query ≡ None → query_line text ≡ Some line → Stands old world []
+pub register_leads : (old : State) (name text : List ℕ) (line : Line) (world : World) → old.broken ≡ false → old.query ≡ None → text_fault (parse text) ≡ None → query_line text ≡ Some line → Stands old world []
     → Leads world (Register name text) (record old { query = Some (record { name = name; line = line; first = length old.items; seen = [] }) })
-register_leads old name text line world ready none is stands =
+register_leads old name text line world ready none good is stands =
     let no_query : world.queries ≡ [] = rw none at stands.queries in
     let after : World = record world { queries = world.queries ++ query_of_line name line (length world.items) ∷ [] } in
     let left : moments world (Register name text) after ≡ [] = append-nil _ ∙ none_behind after world.next in
     let nothing : moments_from after (next_of world) ≡ [] = none_from after world.next in (
       after,
-      rw (no_query, is) refl,
+      rw (good, no_query, is) refl,
       record {
         ready = ready;
         next = stands.next;
@@ -97,3 +101,11 @@ register_leads old name text line world ready none is stands =
         at = rw left stands.at;
       },
     )
+
+-- a text with a fault is refused for it
+pub faulty_refuses : (old : State) (name text : List ℕ) (why : Refused) → old.broken ≡ false → text_fault (parse text) ≡ refusal_of why → is_some (refusal_of why) ≡ true → Refuses old (Register name text) why old
+faulty_refuses old name text why ready is some = by (refusal_of why) is some
+  where
+    by : (o : Option Refusal) → text_fault (parse text) ≡ o → is_some o ≡ true → Answers old (Register name text) why o old
+    by None is some = cc
+    by (Some refusal) is some = record { was_ready = ready; unchanged = refl; refused = λ world stands. rw is refl }

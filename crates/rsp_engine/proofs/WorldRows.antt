@@ -8,11 +8,13 @@ use Rattle.rsp_events.specs.declared.event.Event.{Event}
 use Rattle.rsp_events.specs.declared.event.Event.TheVariants.{Register, Cancel, Item, Tick, Insert, Delete}
 use Rattle.rsp_query_line.specs.declared.line.Line.{Line}
 use Rattle.rsp_query_line.specs.declared.written.Part.TheVariants.{Variable, Constant}
-use Rattle.rsp_query_line.specs.QueryLine.{query_line, line_of, line_of_fields, before_variables}
+use Rattle.rsp_query_line.specs.QueryLine.{query_line}
+use Rattle.rsp_syntax.specs.Parsing.{parse}
+use Rattle.rsp_syntax.specs.declared.fault.SyntaxFault.TheVariants as fault
 use Rattle.rsp_engine.specs.declared.item.Item as item
 use Rattle.rsp_engine.specs.declared.report.Report.{Report}
 use Rattle.rsp_engine.specs.declared.report.Outcome.TheVariants.{Rows}
-use Rattle.rsp_engine.specs.Refusals.{late, unbuilt}
+use Rattle.rsp_engine.specs.Refusals.{Refusal, left_out, late, unbuilt, text_fault}
 use Rattle.rsp_engine.specs.World.{World, Query, Strategy, StreamWindow, empty_world, close, change, nonempty, every}
 use Rattle.rsp_engine.specs.Accept.{accept, query_of_line}
 use Rattle.rsp_engine.specs.Contents.{content, in_content}
@@ -93,14 +95,21 @@ times_in w shape t = map (λ (i : item.Item). i.time) (content w (query shape) (
 -- ---- which events are accepted
 
 -- it sees the items from the second on
-pub query_line_is_registered : (text : List ℕ) (line : Line) → query_line text ≡ Some line
+pub query_line_is_registered : (text : List ℕ) (line : Line) → text_fault (parse text) ≡ None → query_line text ≡ Some line
     → accept (world (Some 4) (item_at 1 (codes "a:3") ∷ []) []) (Register (codes "q") text)
     ≡ Ok (world (Some 4) (item_at 1 (codes "a:3") ∷ []) (query_of_line (codes "q") line 1 ∷ []))
-query_line_is_registered text line is = rw is refl
+query_line_is_registered text line good is = rw (good, is) refl
 
-pub other_text_is_unbuilt : accept empty_world (Register (codes "q") (codes "SELECT")) ≡ Err unbuilt
-unfolding line_of line_of_fields before_variables
-other_text_is_unbuilt = refl
+pub other_text_is_unbuilt : (text : List ℕ) → text_fault (parse text) ≡ None → query_line text ≡ None → accept empty_world (Register (codes "q") text) ≡ Err unbuilt
+other_text_is_unbuilt text good none = rw (good, none) refl
+
+-- the words that a fault of a text goes by
+pub fault_keeps_its_details : text_fault {A = ℕ} (Err (fault.LeftOut 113 (codes "*"))) ≡ Some (left_out 113 (codes "*"))
+fault_keeps_its_details = refl
+
+-- whether a query is live or none
+pub faulty_text_is_refused_for_it : (w : World) (text : List ℕ) (why : Refusal) → text_fault (parse text) ≡ Some why → accept w (Register (codes "q") text) ≡ Err why
+faulty_text_is_refused_for_it w text why is = rw is refl
 
 -- the later item's text stands first
 abbrev two_items : List item.Item
@@ -112,8 +121,8 @@ waiting = world (Some 4) two_items (query side_by_side ∷ [])
 abbrev ticked : World
 ticked = world (Some 11) two_items (query side_by_side ∷ [])
 
-pub second_query_is_unbuilt : (text : List ℕ) → accept ticked (Register (codes "q2") text) ≡ Err unbuilt
-second_query_is_unbuilt text = refl
+pub second_query_is_unbuilt : (text : List ℕ) → text_fault (parse text) ≡ None → accept ticked (Register (codes "q2") text) ≡ Err unbuilt
+second_query_is_unbuilt text good = rw good refl
 
 pub cancel_is_unbuilt : accept ticked (Cancel (codes "q")) ≡ Err unbuilt
 cancel_is_unbuilt = refl

@@ -7,7 +7,8 @@ use Rattle.rsp_engine.specs.declared.item.Item as item
 use Rattle.rsp_query_line.specs.declared.line.Line.{Line}
 use Rattle.rsp_query_line.specs.QueryLine.{query_line}
 use Rattle.rsp_query_line.specs.Meaning.{node_of_line, width_of, shown_of}
-use Rattle.rsp_engine.specs.Refusals.{Refusal, late, unbuilt}
+use Rattle.rsp_syntax.specs.Parsing.{parse}
+use Rattle.rsp_engine.specs.Refusals.{Refusal, late, unbuilt, text_fault}
 use Rattle.rsp_engine.specs.World.{World, Query, close}
 
 -- the first instant that isn't complete, or 0 where none is set
@@ -37,8 +38,8 @@ query_of_line name line first =
     }
 
 -- a query becomes live, last in order; by now one alone can be live, and its text is a query line
-abbrev pub accept_register : World → List ℕ → List ℕ → Result World Refusal
-accept_register world name text =
+abbrev pub accept_query : World → List ℕ → List ℕ → Result World Refusal
+accept_query world name text =
     if nat_lt 0 (length world.queries)
     then Err unbuilt
     else
@@ -46,6 +47,10 @@ accept_register world name text =
     (λ line. Ok (record world { queries = world.queries ++ query_of_line name line (length world.items) ∷ [] }))
     (query_line text)
     (Err unbuilt)
+
+-- a text with a fault is refused for it
+abbrev pub accept_register : World → List ℕ → List ℕ → Result World Refusal
+accept_register world name text = option_map_or Err (accept_query world name text) (text_fault (parse text))
 
 -- an item is appended, and every instant before its time is complete
 abbrev pub accept_item : World → item.Item → Result World Refusal

@@ -40,9 +40,9 @@ pub record WasBroken (old new : State) : Type 0 where
   pub was_broken : old.broken ≡ true
   pub unchanged : new ≡ old
 
--- want of memory comes for no item that is refused, and for no query where one is live
+-- want of memory comes for no item that is refused
 abbrev pub MayTakeMemory : World → Event → Type 0
-MayTakeMemory world (Register name text) = world.queries ≡ []
+MayTakeMemory world (Register name text) = ⊤
 MayTakeMemory world (Cancel name) = ⊥
 MayTakeMemory world (Item stream time graph) = IsOk (accept world (Item stream time graph))
 MayTakeMemory world (Tick time) = ⊥

@@ -1,6 +1,8 @@
 -- Words of the way: what passing time does to an idle engine's state.
 use Rattle.std.specs.Prelude.{◌≡◌, ◌⊎◌, ℕ, Option, Bool, if◌then◌else◌, ◌+◌, ◌<◌, true, false, None, Some, codes, List, [], map, filter, drop, option_to_list}
-use Rattle.std.specs.Option.{option_map_or}
+use Rattle.std.specs.Option.{is_some, option_map_or}
+use Rattle.rsp_engine.specs.declared.refused.Refused.{Refused}
+use Rattle.rsp_engine.specs.Refusals.{Refusal, refusal_of}
 use Rattle.rsp_engine.specs.World.{World}
 use Rattle.rsp_engine.specs.Moments.{moments_from}
 use Rattle.rsp_spec.specs.Windows.{Shape, closes_at}
@@ -99,3 +101,8 @@ pub record IsRegistered (name text : List ℕ) (first : ℕ) (kept : Live) : Typ
   pub line : Line
   pub is : query_line text ≡ Some line
   pub live : kept ≡ record { name = name; line = line; first = first; seen = [] }
+
+-- the answer names this refusal, or there is none
+abbrev pub IsFaultOf : Option Refused → Option Refusal → Type 0
+IsFaultOf None fault = fault ≡ None
+IsFaultOf (Some why) fault = (fault ≡ refusal_of why) × (is_some (refusal_of why) ≡ true)

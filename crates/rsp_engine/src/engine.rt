@@ -4,7 +4,7 @@ ghost use Rattle.std.specs.Option.{option_map};
 ghost use Rattle.rsp_engine.specs.Inside.{live_of};
 ghost use Rattle.rsp_engine.specs.Passing.{is_overfull_outcome};
 
-use crate::registering::registered;
+use crate::registering::{fault_of, registered};
 use crate::seeing::report_at;
 use crate::walking::first_moment;
 use crate::{EngineFault, Item, LiveQuery, Outcome, Refused, Report};
@@ -55,6 +55,8 @@ impl<A: Answer> Engine<A> {
     ghost use Rattle.rsp_engine.specs.Passing.{Passes, ReportsFirst};
     ghost use Rattle.rsp_engine.specs.Inside.{Answers, live_of};
     ghost use Rattle.std.specs.Option.{option_map, option_map_or};
+    ghost use Rattle.rsp_syntax.specs.Parsing.{parse};
+    ghost use Rattle.rsp_engine.specs.Refusals.{text_fault};
     ghost use Rattle.rsp_engine.specs.World.{World, empty_world};
     ghost use Rattle.rsp_engine.specs.Moments.{Moment};
     ghost use Rattle.rsp_engine.specs.Kept.{triples_of};
@@ -119,8 +121,8 @@ impl<A: Answer> Engine<A> {
     ///
     /// Refused as `Broken` exactly where memory was refused before; with the definition's refusal, which changes nothing,
     /// only where the definition refuses the event so; as `OutOfMemory` where memory is refused, which breaks the engine:
-    /// never for a tick, never for an item that the definition refuses, and for no registration while a query is live.
-    /// One that the definition refuses for its text may be answered so.
+    /// never for a tick, never for an item that the definition refuses. A registration that the definition refuses may be
+    /// answered so.
     pub fn offer(&mut self, event: Event) -> Result<(), Refused>
         requires idle { IsTrue (is_idle self.old) }
         requires instant { IsInstant event }
@@ -150,6 +152,23 @@ impl<A: Answer> Engine<A> {
     fn register(&mut self, name: Text, text: Text) -> Result<(), Refused>
         requires idle { IsTrue (is_idle self.old) }
         requires ready { self.old.broken ≡ false }
+        ensures { Offers self.old (Event.Register name text) result self.new }
+    {
+        match fault_of(self.alloc, &text) {
+            Ok(None) => self.register_good(name, text),
+            Ok(Some(fault)) => Err(fault),
+            Err(AllocError) => {
+                self.broken = true;
+                Err(Refused::OutOfMemory)
+            }
+        }
+    }
+
+    // registers a text without fault
+    fn register_good(&mut self, name: Text, text: Text) -> Result<(), Refused>
+        requires idle { IsTrue (is_idle self.old) }
+        requires ready { self.old.broken ≡ false }
+        requires good { text_fault (parse text) ≡ None }
         ensures { Offers self.old (Event.Register name text) result self.new }
     {
         if self.has_query() {

@@ -23,3 +23,4 @@ use item::Item;
 use live_query::LiveQuery;
 pub use refused::{EngineFault, Refused};
 pub use report::{Outcome, Report};
+pub use rsp_syntax::LimitName;

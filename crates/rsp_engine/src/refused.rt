@@ -1,8 +1,11 @@
 // Why an event is refused, and why no report can be given.
+use rsp_syntax::LimitName;
+use rsp_terms::Text;
 use thiserror::Error;
 
-/// Why an event was refused. A refused event changes nothing, but for want of memory, which breaks the engine.
-#[derive(Clone, Copy, PartialEq, Eq, Debug, Error)]
+/// Why an event was refused. A refused event changes nothing, but for want of memory, which breaks the engine. A place
+/// `at` is a byte of the query's text, from 0.
+#[derive(Debug, Drop, Error)]
 pub enum Refused {
     /// Memory was refused to the engine before.
     #[error("broken")]
@@ -10,12 +13,24 @@ pub enum Refused {
     /// Memory is refused to the engine in this call.
     #[error("out of memory")]
     OutOfMemory,
+    /// The first place in the query's text at which no token begins.
+    #[error("no token: byte {at}")]
+    BadToken { at: usize },
+    /// The first token that can't stand; the text's length where the text is unfinished.
+    #[error("no query: byte {at}")]
+    Syntax { at: usize },
+    /// The first token that can't stand is a word or a sign of SPARQL that is left out here.
+    #[error("left out: byte {at}, {what}")]
+    LeftOut { at: usize, what: Text },
+    /// The query's text has too much of something.
+    #[error("past a limit: {what:?}")]
+    Limit { what: LimitName },
     /// The event's time lies in what is complete: an item's time is less than `next`, or a tick's time + 1 is.
     /// Both in ms since 1970.
     #[error("late: time {time}, next {next}")]
     Late { time: u64, next: u64 },
-    /// The event is of a kind that isn't built yet: a text outside the query line, a second live query, a cancellation,
-    /// an insert, a delete, an item of more than a thousand triples, or an item after a thousand.
+    /// The event is of a kind that isn't built yet: a text without fault outside the query line, a second live query, a
+    /// cancellation, an insert, a delete, an item of more than a thousand triples, or an item after a thousand.
     #[error("not built yet")]
     Unbuilt,
 }

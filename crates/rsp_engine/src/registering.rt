@@ -1,15 +1,44 @@
 // Queries that become live.
-ghost use Rattle.std.specs.Prelude.{◌≡◌, [], IfOk, IfSome, MatchOption, None, true, false};
+ghost use Rattle.std.specs.Prelude.{◌≡◌, [], IfOk, IfSome, MatchOption, None, Result, true, false};
+ghost use Rattle.rsp_query.specs.Queries.{Registered};
+ghost use Rattle.rsp_syntax.specs.Answers.{IsParsed};
+ghost use Rattle.rsp_syntax.specs.Parsing.{parse};
+ghost use Rattle.rsp_syntax.specs.declared.fault.SyntaxFault as fault;
+ghost use Rattle.rsp_engine.specs.Refusals.{text_fault};
 ghost use Rattle.rsp_query_line.specs.Meaning.{node_of_line, shown_of, width_of};
 ghost use Rattle.rsp_query_line.specs.QueryLine.{are_shown, query_line};
 ghost use Rattle.rsp_engine.specs.Inside.{Answers, live_of};
-ghost use Rattle.rsp_engine.specs.Passing.{IsRegistered};
+ghost use Rattle.rsp_engine.specs.Passing.{IsFaultOf, IsRegistered};
 
-use crate::LiveQuery;
+use crate::{LiveQuery, Refused};
 use rsp_algebra::{Answer, Translated};
+use rsp_query::Query;
 use rsp_query_line::{Line, query_line, translated};
+use rsp_syntax::{SyntaxFault, parse};
 use rsp_terms::{Listed, Text};
 use std::alloc::{AllocError, Global};
+
+/// The first fault of a text, by the grammar and its limits; None where it has none. Fails only where memory is refused.
+pub(crate) fn fault_of(alloc: Global, text: &Text) -> Result<Option<Refused>, AllocError>
+    ensures { IfOk result (λ fault. IsFaultOf fault (text_fault (parse text.now))) }
+{
+    refused(parse(alloc, text.as_str()))
+}
+
+// The fault that a reading of a text names. The query isn't used yet.
+fn refused(parsed: Result<Query, SyntaxFault>) -> Result<Option<Refused>, AllocError>
+    ensures { (wanted : Result Registered fault.SyntaxFault) → IsParsed parsed wanted
+        → IfOk result (λ fault. IsFaultOf fault (text_fault wanted)) }
+{
+    match parsed {
+        Ok(_) => Ok(None),
+        Err(SyntaxFault::BadToken { at }) => Ok(Some(Refused::BadToken { at })),
+        Err(SyntaxFault::Syntax { at }) => Ok(Some(Refused::Syntax { at })),
+        Err(SyntaxFault::LeftOut { at, what }) => Ok(Some(Refused::LeftOut { at, what })),
+        Err(SyntaxFault::Limit { what }) => Ok(Some(Refused::Limit { what })),
+        Err(SyntaxFault::OutOfMemory) => Err(AllocError),
+    }
+}
 
 /// The live query of a text, over no facts; None exactly where the text is no query line. It sees the items from number
 /// `first` on. Fails only where memory is refused.

@@ -12,7 +12,7 @@ returns-in_ok-format-in-Some c =
     let detail = string_bytes c.in_ok-details-in-Some.details in
     let is : line ≡ codes "# refused " ++ (spot ++ (codes " " ++ (decimal c.in-Some.number ++ (codes " " ++ (c.in-Some.name.now ++ (detail ++ (10 ∷ [])))))))
     = search rules in
-    line_is c.args.place (reason_of c.args.answered) c.in-Some.number c.in-Some.name.now spot detail line
+    line_is c.args.place (reason_of c.args.answered.now) c.in-Some.number c.in-Some.name.now spot detail line
     c.in-Some.ensures
     c.in_ok-place-in-Some.ensures
     c.in_ok-details-in-Some.ensures
