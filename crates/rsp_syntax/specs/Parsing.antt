@@ -103,5 +103,5 @@ abbrev pub parse_tokens : List ℕ → Result (List Token) ℕ → Result Regist
 parse_tokens text (Err at) = Err (BadToken at)
 parse_tokens text (Ok ts) = parse_said text ts (map (said_token text) ts)
 
-abbrev pub parse : List ℕ → Result Registered SyntaxFault
+unfoldable pub parse : List ℕ → Result Registered SyntaxFault
 parse text = cond (nat_lt 65536 (length text)) (Err (Limit limit.Text)) (parse_tokens text (tokens text))
