@@ -1,4 +1,5 @@
 -- Definitions
 pub mod LeftOut
 pub mod Parsing
+pub mod Texts
 pub mod Answers

@@ -1,8 +1,11 @@
 // The query that a text is.
-ghost use Rattle.std.specs.Prelude.{Ok, map};
+ghost use Rattle.std.specs.Prelude.{◌≡◌, ◌↔◌, ℕ, List, Result, Ok, map};
 ghost use Rattle.rsp_written.specs.GroupMeanings.{written_of};
 ghost use Rattle.rsp_syntax.specs.Parsing as parsing;
+ghost use Rattle.rsp_query.specs.Queries.{Registered};
 ghost use Rattle.rsp_syntax.specs.Answers.{IsParsed, IsFault, IsRegistered};
+ghost use Rattle.rsp_syntax.specs.Texts.{IsText};
+ghost use Rattle.rsp_syntax.specs.declared.fault.SyntaxFault as fault;
 
 use crate::SyntaxFault;
 use crate::left_out::is_left_out;
@@ -25,6 +28,15 @@ const MOST_BYTES: usize = 65_536;
 /// `parse(alloc, "ASK")` is LeftOut at 0; `parse(alloc, "REGISTER RSTREAM <q:o> AS")` is Syntax at 25.
 #[tactic(auto, unfolding(crate::specs::Parsing::parse))]
 pub fn parse(alloc: Global, text: &str) -> Result<Query, SyntaxFault>
+    ensures value { IsParsed result (parsing.parse text.now) }
+    ensures grammar { (text : List ℕ) (answer : Result Registered fault.SyntaxFault)
+        → (parsing.parse text ≡ answer) ↔ IsText text answer }
+{
+    parsed(alloc, text)
+}
+
+#[tactic(auto, unfolding(crate::specs::Parsing::parse))]
+fn parsed(alloc: Global, text: &str) -> Result<Query, SyntaxFault>
     ensures { IsParsed result (parsing.parse text.now) }
 {
     if MOST_BYTES < text.len() {
