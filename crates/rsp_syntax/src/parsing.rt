@@ -26,7 +26,6 @@ const MOST_BYTES: usize = 65_536;
 /// than 32 deep; a token can't stand, or the text is unfinished; it passes a further limit, in the order of [`LimitName`].
 ///
 /// `parse(alloc, "ASK")` is LeftOut at 0; `parse(alloc, "REGISTER RSTREAM <q:o> AS")` is Syntax at 25.
-#[tactic(auto, unfolding(crate::specs::Parsing::parse))]
 pub fn parse(alloc: Global, text: &str) -> Result<Query, SyntaxFault>
     ensures value { IsParsed result (parsing.parse text.now) }
     ensures grammar { (text : List ℕ) (answer : Result Registered fault.SyntaxFault)
@@ -35,6 +34,7 @@ pub fn parse(alloc: Global, text: &str) -> Result<Query, SyntaxFault>
     parsed(alloc, text)
 }
 
+// the same, apart from the clause in the grammar's words
 #[tactic(auto, unfolding(crate::specs::Parsing::parse))]
 fn parsed(alloc: Global, text: &str) -> Result<Query, SyntaxFault>
     ensures { IsParsed result (parsing.parse text.now) }
