@@ -94,9 +94,8 @@ fn details(alloc: Global, answered: &Answered) -> Result<String, AllocError>
 {
     match answered {
         Answered::Fault(BlockFault::BadBody { line }) => format!(in alloc; " line={line}"),
-        Answered::Event(Refused::BadToken { at } | Refused::Syntax { at }) => {
-            format!(in alloc; " at={at}")
-        }
+        Answered::Event(Refused::BadToken { at }) => format!(in alloc; " at={at}"),
+        Answered::Event(Refused::Syntax { at }) => format!(in alloc; " at={at}"),
         Answered::Event(Refused::LeftOut { at, what }) => {
             format!(in alloc; " at={at} what={what}")
         }

@@ -12,7 +12,7 @@ use Rattle.rsp_spec.specs.Windows.{closes_at}
 use Rattle.rsp_engine.specs.declared.report.Outcome.{Outcome}
 use Rattle.rsp_engine.specs.declared.report.Outcome.TheVariants as outcomes
 use Rattle.rsp_engine.specs.declared.report.Report.{Report}
-use Rattle.rsp_engine.specs.World.{World, Query}
+use Rattle.rsp_engine.specs.World.{World}
 use Rattle.rsp_engine.specs.Contents.{facts}
 use Rattle.rsp_engine.specs.Moments.{Moment, due_moments, moments_from}
 use Rattle.rsp_engine.specs.Reports.{IsOutcome, after_report, is_overfull, live_query, moments_behind, next_step, report_of}

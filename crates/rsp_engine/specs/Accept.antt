@@ -50,7 +50,7 @@ accept_query world name text =
 
 -- a text with a fault is refused for it
 abbrev pub accept_register : World → List ℕ → List ℕ → Result World Refusal
-accept_register world name text = option_map_or Err (accept_query world name text) (text_fault (parse text))
+accept_register world name text = option_map_or Err (text_fault (parse text)) (accept_query world name text)
 
 -- an item is appended, and every instant before its time is complete
 abbrev pub accept_item : World → item.Item → Result World Refusal

@@ -1,5 +1,5 @@
 -- Definitions: what the engine's calls do, for every world and moments that the engine stands for.
-use Rattle.std.specs.Prelude.{◌≡◌, ◌<◌, true, false, Option, None, Some, Result, Ok, Err, IsOk, MatchResult, List, [], ◌∷◌, ⊤}
+use Rattle.std.specs.Prelude.{◌≡◌, ◌<◌, true, false, Option, None, Some, Result, Ok, Err, IsOk, MatchResult, List, [], ⊤}
 use Rattle.rsp_events.specs.declared.event.Event.{Event}
 use Rattle.rsp_events.specs.declared.event.Event.TheVariants.{Register, Cancel, Item, Tick, Insert, Delete}
 use Rattle.rsp_engine.specs.declared.refused.Refused.{Refused}

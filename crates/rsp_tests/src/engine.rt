@@ -17,7 +17,19 @@ const SUBJECTS: &str = "@register q\nREGISTER RSTREAM <q:o> REPORT CLOSE TICK TI
      FROM NAMED WINDOW <w:1> ON <s:a> [RANGE PT10S STEP PT5S] \
      WHERE { WINDOW <w:1> { ?s <p:v> ?o } }\n@end";
 
-const OTHER_TEXT: &str = "@register q\nSELECT ?s\n@end";
+// a query of another form than the one that is run
+const OTHER_TEXT: &str =
+    "@register q\nREGISTER RSTREAM <q:o> AS SELECT ?s FROM NAMED WINDOW <w:1> ON <s:a> [RANGE PT10S] \
+     WHERE { WINDOW <w:1> { ?s <p:v> ?o } }\n@end";
+
+// texts with a fault of each kind
+const UNCLOSED: &str = "@register r\nSELECT \"\n@end";
+
+const NO_REGISTER: &str = "@register r\nSELECT ?s\n@end";
+
+const ASK: &str = "@register r\nask { }\n@end";
+
+const DEEP: &str = "@register r\n{{{{{{{{{{{{{{{{{{{{{{{{{{{{{{{{{\n@end";
 
 // the event that a text says, whose last line has no line feed
 fn event_of(alloc: Global, text: &str) -> Result<Event, Fail>
@@ -182,6 +194,33 @@ taken; held 0
 Unbuilt; held 0
 Unbuilt; held 0
 Unbuilt; held 0
+";
+    assert_eq!(rt; said(rt.alloc(), &events)?.as_slice(), answers.as_bytes());
+    Ok(())
+}
+
+#[test]
+fn a_text_is_refused_for_its_fault(rt: HostRuntime) -> Result<(), Fail> {
+    let events = [
+        UNCLOSED,
+        NO_REGISTER,
+        ASK,
+        DEEP,
+        SUBJECTS,
+        UNCLOSED,
+        NO_REGISTER,
+        ASK,
+        DEEP,
+    ];
+    let answers = "BadToken { at: 7 }; held 0
+Syntax { at: 0 }; held 0
+LeftOut { at: 0, what: \"ask\" }; held 0
+Limit { what: Nesting }; held 0
+taken; held 0
+BadToken { at: 7 }; held 0
+Syntax { at: 0 }; held 0
+LeftOut { at: 0, what: \"ask\" }; held 0
+Limit { what: Nesting }; held 0
 ";
     assert_eq!(rt; said(rt.alloc(), &events)?.as_slice(), answers.as_bytes());
     Ok(())
