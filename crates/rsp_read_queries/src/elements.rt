@@ -13,7 +13,8 @@ ghost use Rattle.rsp_written.specs.TripleReadings.{same_first, triples_read};
 ghost use Rattle.rsp_written.specs.declared.said.Symbol.TheVariants as symbol;
 
 use crate::selects::{Named, named_expression};
-use rsp_read_triples::{begins_triples, triples, values};
+use rsp_read_triples::{begins_triples, triples};
+use rsp_read_values::values;
 use rsp_written::{
     Element, GraphName, Halt, Keyword, Kind, Said, Subject, Symbol, first_is, first_is_among, iri,
     sign, variable, word,

@@ -1,3 +1,1 @@
 pub mod Present
-pub mod RowLaws
-pub mod NewNames

@@ -1,3 +1,2 @@
 -- Words of the way
 pub mod Within
-pub mod Rows

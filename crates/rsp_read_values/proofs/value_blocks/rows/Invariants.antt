@@ -5,7 +5,7 @@ use Rattle.rsp_written.specs.declared.said.Symbol.TheVariants as symbol
 use Rattle.rsp_written.specs.Grammar.{kind_number, numbers}
 use Rattle.rsp_written.specs.Readings.{repeated_read, sign_kinds, sign_read}
 use Rattle.rsp_written.specs.TripleReadings.{value_row_read}
-use Rattle.rsp_read_triples.proofs.value_blocks.rows.Given as goal
+use Rattle.rsp_read_values.proofs.value_blocks.rows.Given as goal
 
 abbrev pub invariant-loop : goal.invariant-loop
 invariant-loop l =

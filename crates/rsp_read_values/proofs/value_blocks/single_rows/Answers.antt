@@ -6,9 +6,9 @@ use Rattle.rsp_phrases.proofs.Gathering.{more_at, none_at, end_at}
 use Rattle.rsp_written.specs.Grammar.{kind_number, numbers}
 use Rattle.rsp_written.specs.TripleReadings.{value_read, value_first}
 use Rattle.rsp_written.proofs.Halting.{fails_at}
-use Rattle.rsp_read_triples.specs.Rows.{one_value}
-use Rattle.rsp_read_triples.proofs.RowLaws.{each_single}
-use Rattle.rsp_read_triples.proofs.value_blocks.single_rows.Goals as goal
+use Rattle.rsp_read_values.specs.Rows.{one_value}
+use Rattle.rsp_read_values.proofs.RowLaws.{each_single}
+use Rattle.rsp_read_values.proofs.value_blocks.single_rows.Goals as goal
 
 pub returns-then-not-begins_value : goal.returns-then-not-begins_value
 returns-then-not-begins_value c =

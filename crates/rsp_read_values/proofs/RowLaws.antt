@@ -10,7 +10,7 @@ use Rattle.rsp_written.specs.declared.said.Symbol.TheVariants as symbol
 use Rattle.rsp_written.specs.Gives.{Fails}
 use Rattle.rsp_written.specs.Readings.{sign_read}
 use Rattle.rsp_written.specs.TripleReadings.{value_read, value_row_read}
-use Rattle.rsp_read_triples.specs.Rows.{one_value, so_many_read}
+use Rattle.rsp_read_values.specs.Rows.{one_value, so_many_read}
 
 -- values as rows of one
 pub each_single : {A : Type 0} → Gathers (one_value {A = A}) (map (single {A = A}))

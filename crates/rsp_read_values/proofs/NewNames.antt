@@ -11,7 +11,7 @@ use Rattle.rsp_phrases.specs.Gathering.{gathered, as_read}
 use Rattle.rsp_written.specs.declared.said.Kind.TheVariants as kind
 use Rattle.rsp_written.specs.declared.said.Said.{Said}
 use Rattle.rsp_written.specs.Grammar.{kind_number, numbers, name_if_variable}
-use Rattle.rsp_read_triples.specs.Rows.{is_new}
+use Rattle.rsp_read_values.specs.Rows.{is_new}
 
 -- ---- names backwards
 

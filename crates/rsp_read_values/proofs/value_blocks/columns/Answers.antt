@@ -5,9 +5,9 @@ use Rattle.rsp_phrases.specs.Gathering.{gathered, as_read}
 use Rattle.rsp_phrases.specs.Readers.{distinct_read}
 use Rattle.rsp_written.specs.Grammar.{name_if_variable}
 use Rattle.rsp_written.specs.TripleReadings.{columns_read}
-use Rattle.rsp_read_triples.specs.Rows.{is_new}
-use Rattle.rsp_read_triples.proofs.NewNames.{name_more_at, name_old_at, name_end_at}
-use Rattle.rsp_read_triples.proofs.value_blocks.columns.Goals as goal
+use Rattle.rsp_read_values.specs.Rows.{is_new}
+use Rattle.rsp_read_values.proofs.NewNames.{name_more_at, name_old_at, name_end_at}
+use Rattle.rsp_read_values.proofs.value_blocks.columns.Goals as goal
 
 pub returns-then-not-is_new_name : goal.returns-then-not-is_new_name
 returns-then-not-is_new_name c =

@@ -8,7 +8,7 @@ use Rattle.rsp_written.specs.Grammar.{kind_number, numbers}
 use Rattle.rsp_written.specs.Readings.{sign_kinds, sign_read}
 use Rattle.rsp_written.specs.TripleReadings.{value_row_read}
 use Rattle.rsp_written.proofs.Halting.{fails_at}
-use Rattle.rsp_read_triples.proofs.value_blocks.rows.Goals as goal
+use Rattle.rsp_read_values.proofs.value_blocks.rows.Goals as goal
 
 pub returns-then-not-first_is : goal.returns-then-not-first_is
 returns-then-not-first_is c =

@@ -2,8 +2,8 @@ use Rattle.std.proofs.Common.{rules, ◌≡◌, ◌∙◌, ap, not, true, [], �
 use Rattle.rsp_phrases.specs.Languages.{has}
 use Rattle.rsp_written.specs.declared.said.Kind.TheVariants as kind
 use Rattle.rsp_written.specs.Grammar.{kind_number, numbers}
-use Rattle.rsp_read_triples.proofs.NewNames.{new_name_is}
-use Rattle.rsp_read_triples.proofs.value_blocks.is_new_name.Goals as goal
+use Rattle.rsp_read_values.proofs.NewNames.{new_name_is}
+use Rattle.rsp_read_values.proofs.value_blocks.is_new_name.Goals as goal
 
 pub returns : goal.returns
 returns c =

@@ -1,7 +1,7 @@
 use Rattle.std.proofs.lemmas.Result.{err_from_is_err_and}
 use Rattle.rsp_written.specs.TripleReadings.{value_read}
-use Rattle.rsp_read_triples.proofs.RowLaws.{value_more_at, value_fails_at, value_end_at}
-use Rattle.rsp_read_triples.proofs.value_blocks.values_of_row.Goals as goal
+use Rattle.rsp_read_values.proofs.RowLaws.{value_more_at, value_fails_at, value_end_at}
+use Rattle.rsp_read_values.proofs.value_blocks.values_of_row.Goals as goal
 
 pub returns-in_err-more : goal.returns-in_err-more
 returns-in_err-more c =

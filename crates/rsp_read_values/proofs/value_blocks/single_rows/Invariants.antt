@@ -4,7 +4,7 @@ use Rattle.rsp_phrases.specs.Readers.{at_most_read}
 use Rattle.rsp_written.specs.Grammar.{kind_number, numbers}
 use Rattle.rsp_written.specs.Readings.{repeated_read}
 use Rattle.rsp_written.specs.TripleReadings.{value_read, value_first}
-use Rattle.rsp_read_triples.proofs.value_blocks.single_rows.Given as goal
+use Rattle.rsp_read_values.proofs.value_blocks.single_rows.Given as goal
 
 abbrev pub invariant-loop : goal.invariant-loop
 invariant-loop l =

@@ -3,7 +3,7 @@ ghost use Rattle.std.specs.Prelude.{◌≡◌, [], map, reverse};
 ghost use Rattle.rsp_phrases.specs.Gathering.{gathered, as_read, single};
 ghost use Rattle.rsp_phrases.specs.Languages.{has};
 ghost use Rattle.rsp_phrases.specs.Readers.{first_read, second_read, starts};
-ghost use Rattle.rsp_read_triples.specs.Rows.{is_new, one_value, so_many_read};
+ghost use Rattle.rsp_read_values.specs.Rows.{is_new, one_value, so_many_read};
 ghost use Rattle.rsp_written.specs.Gives.{Gives};
 ghost use Rattle.rsp_written.specs.Grammar.{kind_number, name_if_variable, numbers};
 ghost use Rattle.rsp_written.specs.GroupMeanings.{values_of};

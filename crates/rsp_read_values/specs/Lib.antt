@@ -1,0 +1,2 @@
+-- Words of the way
+pub mod Rows
