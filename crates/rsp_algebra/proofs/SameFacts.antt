@@ -3,10 +3,11 @@ use Rattle.std.proofs.Common.{◌≡◌, ℕ, Bool, ◌||◌, List, [], ◌∷�
 use Rattle.std.specs.Prelude.{option_to_list}
 use Rattle.std.specs.List.{list_any}
 use Rattle.rsp_multiset.specs.Rows.{Cells, compatible}
+use Rattle.rsp_multiset.specs.RowLists.{merged_pairs, without_partner}
 use Rattle.rsp_multiset.specs.RowSame.{row_decides}
 use Rattle.rsp_multiset.specs.Weights.{only, sum_z, times}
 use Rattle.rsp_multiset.proofs.Linear.{length-same, sum-same}
-use Rattle.rsp_multiset.proofs.SameLists.{same-map, same-append, same-filter, same-once, same-pairs}
+use Rattle.rsp_multiset.proofs.SameLists.{same-map, same-append, same-filter, same-once, same-pairs, same-with_partner, same-without_partner}
 use Rattle.rsp_multiset.proofs.Sums.{sum_z-filter_map}
 use Rattle.rsp_terms.specs.declared.term.Term.{Term}
 use Rattle.rsp_terms.specs.declared.statement.Fact.{Fact}
@@ -15,7 +16,7 @@ use Rattle.rsp_expr.specs.Values.{truth}
 use Rattle.rsp_algebra.specs.Nodes as node
 use Rattle.rsp_algebra.specs.Nodes.{Node}
 use Rattle.rsp_algebra.specs.Patterns.{solution}
-use Rattle.rsp_algebra.specs.Solutions.{same_row, eval, projection, extended_by}
+use Rattle.rsp_algebra.specs.Solutions.{same_row, eval, pass_together, takes_away, projection, extended_by}
 use Rattle.rsp_algebra.specs.Overfull.{most_rows, overfull, subtrees, too_many}
 
 abbrev pub SameFacts : List Fact → List Fact → Type 0
@@ -38,8 +39,25 @@ same_solutions width (node.pattern place triple) facts others same =
 same_solutions width (node.join left right) facts others same =
     same-pairs term_same (compatible term_eq) (eval width left facts) (eval width left others) (eval width right facts) (eval width right others)
     (same_solutions width left facts others same) (same_solutions width right facts others same)
+same_solutions width (node.left_join left right condition) facts others same =
+    same-append (row_decides term_same)
+    (merged_pairs (pass_together condition) (eval width left facts) (eval width right facts)) (merged_pairs (pass_together condition) (eval width left others) (eval width right others))
+    (without_partner (pass_together condition) (eval width left facts) (eval width right facts)) (without_partner (pass_together condition) (eval width left others) (eval width right others))
+    (same-pairs term_same (pass_together condition) (eval width left facts) (eval width left others) (eval width right facts) (eval width right others)
+    (same_solutions width left facts others same) (same_solutions width right facts others same))
+    (same-without_partner term_same (pass_together condition) (eval width left facts) (eval width left others) (eval width right facts) (eval width right others)
+    (same_solutions width left facts others same) (same_solutions width right facts others same))
 same_solutions width (node.union left right) facts others same =
     same-append (row_decides term_same) (eval width left facts) (eval width left others) (eval width right facts) (eval width right others)
+    (same_solutions width left facts others same) (same_solutions width right facts others same)
+same_solutions width (node.minus left right) facts others same =
+    same-without_partner term_same takes_away (eval width left facts) (eval width left others) (eval width right facts) (eval width right others)
+    (same_solutions width left facts others same) (same_solutions width right facts others same)
+same_solutions width (node.exists left right condition) facts others same =
+    same-with_partner term_same (pass_together condition) (eval width left facts) (eval width left others) (eval width right facts) (eval width right others)
+    (same_solutions width left facts others same) (same_solutions width right facts others same)
+same_solutions width (node.not_exists left right condition) facts others same =
+    same-without_partner term_same (pass_together condition) (eval width left facts) (eval width left others) (eval width right facts) (eval width right others)
     (same_solutions width left facts others same) (same_solutions width right facts others same)
 same_solutions width (node.filter child condition) facts others same =
     same-filter (row_decides term_same) (truth condition) (eval width child facts) (eval width child others) (same_solutions width child facts others same)

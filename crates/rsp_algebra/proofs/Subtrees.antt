@@ -3,7 +3,8 @@ use Rattle.std.proofs.Common.{◌≡◌, ℕ, Bool, true, false, ◌||◌, nat_l
 use Rattle.std.specs.List.{list_any}
 use Rattle.std.proofs.lemmas.List.{length-map}
 use Rattle.rsp_terms.specs.declared.statement.Fact.{Fact}
-use Rattle.rsp_algebra.specs.Nodes.{Node, unit, pattern, join, union, filter, extend, values, project, distinct}
+use Rattle.rsp_algebra.specs.Nodes as node
+use Rattle.rsp_algebra.specs.Nodes.{Node, join, project}
 use Rattle.rsp_algebra.specs.Solutions.{eval, joins, projection}
 use Rattle.rsp_algebra.specs.Overfull.{most_rows, too_many, subtrees, overfull}
 
@@ -23,17 +24,25 @@ overfull-join width left right facts =
 
 -- a tree is a subtree of itself
 pub overfull-itself : (width : ℕ) (node : Node) (facts : List Fact) → too_many (eval width node facts) ≡ true → overfull width node facts ≡ true
-overfull-itself width unit facts many = ap (λ b. b || false) many
-overfull-itself width (pattern place triple) facts many = ap (λ b. b || false) many
-overfull-itself width (join left right) facts many =
+overfull-itself width node.unit facts many = ap (λ b. b || false) many
+overfull-itself width (node.pattern place triple) facts many = ap (λ b. b || false) many
+overfull-itself width (node.join left right) facts many =
     ap (λ b. b || list_any (λ (subtree : Node). too_many (eval width subtree facts)) (subtrees left ++ subtrees right)) many
-overfull-itself width (union left right) facts many =
+overfull-itself width (node.left_join left right condition) facts many =
     ap (λ b. b || list_any (λ (subtree : Node). too_many (eval width subtree facts)) (subtrees left ++ subtrees right)) many
-overfull-itself width (filter child condition) facts many = ap (λ b. b || overfull width child facts) many
-overfull-itself width (extend child variable formula) facts many = ap (λ b. b || overfull width child facts) many
-overfull-itself width (values rows) facts many = ap (λ b. b || false) many
-overfull-itself width (project child variables) facts many = ap (λ b. b || overfull width child facts) many
-overfull-itself width (distinct child) facts many = ap (λ b. b || overfull width child facts) many
+overfull-itself width (node.union left right) facts many =
+    ap (λ b. b || list_any (λ (subtree : Node). too_many (eval width subtree facts)) (subtrees left ++ subtrees right)) many
+overfull-itself width (node.minus left right) facts many =
+    ap (λ b. b || list_any (λ (subtree : Node). too_many (eval width subtree facts)) (subtrees left ++ subtrees right)) many
+overfull-itself width (node.exists left right condition) facts many =
+    ap (λ b. b || list_any (λ (subtree : Node). too_many (eval width subtree facts)) (subtrees left ++ subtrees right)) many
+overfull-itself width (node.not_exists left right condition) facts many =
+    ap (λ b. b || list_any (λ (subtree : Node). too_many (eval width subtree facts)) (subtrees left ++ subtrees right)) many
+overfull-itself width (node.filter child condition) facts many = ap (λ b. b || overfull width child facts) many
+overfull-itself width (node.extend child variable formula) facts many = ap (λ b. b || overfull width child facts) many
+overfull-itself width (node.values rows) facts many = ap (λ b. b || false) many
+overfull-itself width (node.project child variables) facts many = ap (λ b. b || overfull width child facts) many
+overfull-itself width (node.distinct child) facts many = ap (λ b. b || overfull width child facts) many
 
 or-known : (a b : Bool) → (a ≡ true → b ≡ true) → (a || b) ≡ b
 or-known true b h = sym (h refl)

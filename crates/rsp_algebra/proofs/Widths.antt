@@ -3,7 +3,7 @@ use Rattle.std.proofs.Common.{◌≡◌, ℕ, suc, Bool, true, false, not, ◌&&
 use Rattle.std.specs.Bool.{then_some}
 use Rattle.std.specs.List.{AllByRecursion, filter_map, cons_option}
 use Rattle.std.proofs.lemmas.List.FromFn.{length-map-range_with_len}
-use Rattle.rsp_multiset.specs.RowLists.{merged_pair, merged_pairs, each_once}
+use Rattle.rsp_multiset.specs.RowLists.{merged_pair, merged_pairs, has_partner, without_partner, each_once}
 use Rattle.rsp_multiset.specs.Rows.{Cells, compatible, merge}
 use Rattle.rsp_terms.specs.declared.term.Term.{Term}
 use Rattle.rsp_terms.specs.declared.statement.Fact.{Fact}
@@ -15,7 +15,7 @@ use Rattle.rsp_expr.specs.Values.{truth}
 use Rattle.rsp_algebra.specs.Nodes as node
 use Rattle.rsp_algebra.specs.Nodes.{Node, Fits}
 use Rattle.rsp_algebra.specs.Patterns.{row_by, is_at, is_instance, binding, solution}
-use Rattle.rsp_algebra.specs.Solutions.{same_row, projection, extended_by, eval}
+use Rattle.rsp_algebra.specs.Solutions.{same_row, pass_together, takes_away, projection, extended_by, eval}
 
 -- each row has so many cells
 abbrev pub AllHave : ℕ → List (Cells Term) → Type 0
@@ -70,6 +70,11 @@ all-filter P test (x ∷ xs) all = by (test x) (all-filter P test xs all.1)
     by true rest = (all.0, rest)
     by false rest = rest
 
+-- rows that are chosen by their partners
+without-length : (width : ℕ) (test : Cells Term → Cells Term → Bool) (lefts rights : List (Cells Term)) → AllHave width lefts → AllHave width (without_partner test lefts rights)
+without-length width test lefts rights all =
+    all-filter (λ row. length row ≡ width) (λ left. not (has_partner test rights left)) lefts all
+
 all-once : {X : Type 0} (P : X → Type 0) (eq : X → X → Bool) (xs : List X) → AllByRecursion P xs → AllByRecursion P (each_once eq xs)
 all-once P eq [] all = tt
 all-once P eq (x ∷ xs) all = (all.0, all-filter P (λ y. not (eq x y)) (each_once eq xs) (all-once P eq xs all.1))
@@ -87,8 +92,20 @@ eval-length width node.unit facts fits = (row_by-length width (λ _. None), tt)
 eval-length width (node.pattern place triple) facts fits = solutions-length width place triple facts
 eval-length width (node.join left right) facts fits =
     pairs-length width (compatible term_eq) (eval width left facts) (eval width right facts) (eval-length width left facts fits.0) (eval-length width right facts fits.1)
+eval-length width (node.left_join left right condition) facts fits =
+    all-append (λ row. length row ≡ width)
+    (merged_pairs (pass_together condition) (eval width left facts) (eval width right facts))
+    (without_partner (pass_together condition) (eval width left facts) (eval width right facts))
+    (pairs-length width (pass_together condition) (eval width left facts) (eval width right facts) (eval-length width left facts fits.1.0) (eval-length width right facts fits.1.1))
+    (without-length width (pass_together condition) (eval width left facts) (eval width right facts) (eval-length width left facts fits.1.0))
 eval-length width (node.union left right) facts fits =
     all-append (λ row. length row ≡ width) (eval width left facts) (eval width right facts) (eval-length width left facts fits.0) (eval-length width right facts fits.1)
+eval-length width (node.minus left right) facts fits =
+    without-length width takes_away (eval width left facts) (eval width right facts) (eval-length width left facts fits.0)
+eval-length width (node.exists left right condition) facts fits =
+    all-filter (λ row. length row ≡ width) (has_partner (pass_together condition) (eval width right facts)) (eval width left facts) (eval-length width left facts fits.1.0)
+eval-length width (node.not_exists left right condition) facts fits =
+    without-length width (pass_together condition) (eval width left facts) (eval width right facts) (eval-length width left facts fits.1.0)
 eval-length width (node.filter child condition) facts fits =
     all-filter (λ row. length row ≡ width) (truth condition) (eval width child facts) (eval-length width child facts fits.1)
 eval-length width (node.extend child variable formula) facts fits = extended-length width variable formula (eval width child facts)

@@ -4,11 +4,11 @@ use Rattle.rsp_terms.specs.declared.term.Term.{Term}
 use Rattle.rsp_terms.specs.declared.term.Term.TheVariants.{Iri}
 use Rattle.rsp_terms.specs.declared.statement.Fact.{Fact}
 use Rattle.rsp_terms.specs.declared.statement.Spot.TheVariants as spot
-use Rattle.rsp_expr.specs.Formulas.{variable}
+use Rattle.rsp_expr.specs.Formulas.{Formula, variable}
 use Rattle.rsp_expr.specs.declared.slot.Slot.TheVariants.{Variable, Constant}
 use Rattle.rsp_algebra.specs.declared.tree.Place.TheVariants as place
 use Rattle.rsp_algebra.specs.declared.tree.TriplePattern.{TriplePattern}
-use Rattle.rsp_algebra.specs.Nodes.{Node, pattern, union, extend, values, project, left_deep}
+use Rattle.rsp_algebra.specs.Nodes.{Node, pattern, left_join, union, minus, exists, not_exists, extend, values, project, left_deep}
 use Rattle.rsp_algebra.specs.Work.{certain_variables, key, join_work, work}
 
 abbrev a : Term
@@ -43,6 +43,16 @@ projection_forgets = refl
 pub union_binds_what_both_bind : certain_variables (union both (pattern (place.Window 0) incoming)) ≡ 0 ∷ 0 ∷ []
 union_binds_what_both_bind = refl
 
+-- the condition of nodes that match rows
+abbrev condition : Formula
+condition = variable 0
+
+pub left_rows_may_stay_bare : certain_variables (left_join (pattern (place.Window 0) incoming) (pattern (place.Window 0) outgoing) condition) ≡ 0 ∷ []
+left_rows_may_stay_bare = refl
+
+pub chosen_rows_bind_what_left_rows_bind : certain_variables (minus (exists (pattern (place.Window 0) outgoing) both condition) both) ≡ 0 ∷ 1 ∷ []
+chosen_rows_bind_what_left_rows_bind = refl
+
 pub extension_may_be_unbound : certain_variables (extend both 1 (variable 0)) ≡ 0 ∷ 0 ∷ []
 extension_may_be_unbound = refl
 
@@ -54,6 +64,10 @@ no_values_bind_nothing = refl
 
 pub union_adds_nothing : work 2 (union both both) (fact a a ∷ []) (fact a a ∷ []) ≡ 8
 union_adds_nothing = refl
+
+-- as the join of the same rows
+pub rows_without_partner_are_matched : work 2 (not_exists (pattern (place.Window 0) outgoing) (pattern (place.Window 0) incoming) condition) (fact a a ∷ []) (fact a a ∷ fact a b ∷ []) ≡ 24
+rows_without_partner_are_matched = refl
 
 pub rows_are_matched_by_shared_variables : key (pattern (place.Window 0) outgoing) (pattern (place.Window 0) incoming) ≡ 0 ∷ []
 rows_are_matched_by_shared_variables = refl

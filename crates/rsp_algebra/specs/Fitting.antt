@@ -14,7 +14,14 @@ pub Fits-prop : (width : ℕ) (tree : Node) → IsProp (Fits width tree)
 Fits-prop width node.unit = Unit-prop
 Fits-prop width (node.pattern _ triple) = AreBelow-prop width (pattern_variables triple)
 Fits-prop width (node.join left right) = ×_prop (Fits-prop width left) (Fits-prop width right)
+Fits-prop width (node.left_join left right condition) =
+    ×_prop (AreBelow-prop width (formula_variables condition)) (×_prop (Fits-prop width left) (Fits-prop width right))
 Fits-prop width (node.union left right) = ×_prop (Fits-prop width left) (Fits-prop width right)
+Fits-prop width (node.minus left right) = ×_prop (Fits-prop width left) (Fits-prop width right)
+Fits-prop width (node.exists left right condition) =
+    ×_prop (AreBelow-prop width (formula_variables condition)) (×_prop (Fits-prop width left) (Fits-prop width right))
+Fits-prop width (node.not_exists left right condition) =
+    ×_prop (AreBelow-prop width (formula_variables condition)) (×_prop (Fits-prop width left) (Fits-prop width right))
 Fits-prop width (node.filter child condition) = ×_prop (AreBelow-prop width (formula_variables condition)) (Fits-prop width child)
 Fits-prop width (node.extend child v formula) =
     ×_prop le_prop (×_prop (AreBelow-prop width (formula_variables formula)) (Fits-prop width child))

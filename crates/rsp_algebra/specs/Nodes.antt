@@ -10,14 +10,18 @@ use Rattle.rsp_expr.specs.declared.slot.Slot.TheVariants.{Variable, Constant}
 use Rattle.rsp_algebra.specs.declared.tree.Place.{Place}
 use Rattle.rsp_algebra.specs.declared.tree.TriplePattern.{TriplePattern}
 use Rattle.rsp_algebra.specs.declared.tree.Tree.{Tree}
-use Rattle.rsp_algebra.specs.declared.tree.Tree.TheVariants.{Unit, Pattern, Join', Union', Filter', Extend', Values, Project', Distinct'}
+use Rattle.rsp_algebra.specs.declared.tree.Tree.TheVariants.{Unit, Pattern, Join', LeftJoin', Union', Minus', Exists', NotExists', Filter', Extend', Values, Project', Distinct'}
 use Rattle.rsp_algebra.specs.declared.tree.Translated.{Translated}
 
 pub data Node : Type 0 where
   unit : Node
   pattern : Place → TriplePattern → Node
   join : Node → Node → Node
+  left_join : Node → Node → Formula → Node
   union : Node → Node → Node
+  minus : Node → Node → Node
+  exists : Node → Node → Formula → Node
+  not_exists : Node → Node → Formula → Node
   filter : Node → Formula → Node
   extend : Node → ℕ → Formula → Node
   values : List (Cells Term) → Node
@@ -30,7 +34,11 @@ node_of Unit = unit
 node_of (Pattern place subject predicate object) =
     pattern place (record { subject = subject; predicate = predicate; object = object })
 node_of (Join' _ left _ right) = join (node_of left) (node_of right)
+node_of (LeftJoin' _ left _ right condition) = left_join (node_of left) (node_of right) (formula_of condition)
 node_of (Union' _ left _ right) = union (node_of left) (node_of right)
+node_of (Minus' _ left _ right) = minus (node_of left) (node_of right)
+node_of (Exists' _ left _ right condition) = exists (node_of left) (node_of right) (formula_of condition)
+node_of (NotExists' _ left _ right condition) = not_exists (node_of left) (node_of right) (formula_of condition)
 node_of (Filter' _ child condition) = filter (node_of child) (formula_of condition)
 node_of (Extend' _ child variable expression) = extend (node_of child) variable (formula_of expression)
 node_of (Values rows) = values rows.items
@@ -79,7 +87,14 @@ abbrev pub Fits : ℕ → Node → Type 0
 Fits width unit = ⊤
 Fits width (pattern _ triple) = AreBelow width (pattern_variables triple)
 Fits width (join left right) = Fits width left × Fits width right
+Fits width (left_join left right condition) =
+    AreBelow width (formula_variables condition) × (Fits width left × Fits width right)
 Fits width (union left right) = Fits width left × Fits width right
+Fits width (minus left right) = Fits width left × Fits width right
+Fits width (exists left right condition) =
+    AreBelow width (formula_variables condition) × (Fits width left × Fits width right)
+Fits width (not_exists left right condition) =
+    AreBelow width (formula_variables condition) × (Fits width left × Fits width right)
 Fits width (filter child condition) = AreBelow width (formula_variables condition) × Fits width child
 Fits width (extend child v expression) = (v < width) × (AreBelow width (formula_variables expression) × Fits width child)
 Fits width (values rows) = AllByRecursion (λ row. length row ≡ width) rows

@@ -4,7 +4,8 @@ use Rattle.std.specs.List.{list_any}
 use Rattle.rsp_multiset.specs.Rows.{Cells}
 use Rattle.rsp_terms.specs.declared.term.Term.{Term}
 use Rattle.rsp_terms.specs.declared.statement.Fact.{Fact}
-use Rattle.rsp_algebra.specs.Nodes.{Node, unit, pattern, join, union, filter, extend, values, project, distinct}
+use Rattle.rsp_algebra.specs.Nodes as node
+use Rattle.rsp_algebra.specs.Nodes.{Node}
 use Rattle.rsp_algebra.specs.Solutions.{eval}
 
 -- the most rows that a tree may have, counted with multiplicities
@@ -16,15 +17,21 @@ too_many rows = nat_lt most_rows (length rows)
 
 -- the subtrees of a tree, itself among them
 abbrev pub subtrees : Node → List Node
-subtrees unit = unit ∷ []
-subtrees (pattern place triple) = pattern place triple ∷ []
-subtrees (join left right) = join left right ∷ (subtrees left ++ subtrees right)
-subtrees (union left right) = union left right ∷ (subtrees left ++ subtrees right)
-subtrees (filter child condition) = filter child condition ∷ subtrees child
-subtrees (extend child variable formula) = extend child variable formula ∷ subtrees child
-subtrees (values rows) = values rows ∷ []
-subtrees (project child variables) = project child variables ∷ subtrees child
-subtrees (distinct child) = distinct child ∷ subtrees child
+subtrees node.unit = node.unit ∷ []
+subtrees (node.pattern place triple) = node.pattern place triple ∷ []
+subtrees (node.join left right) = node.join left right ∷ (subtrees left ++ subtrees right)
+subtrees (node.left_join left right condition) =
+    node.left_join left right condition ∷ (subtrees left ++ subtrees right)
+subtrees (node.union left right) = node.union left right ∷ (subtrees left ++ subtrees right)
+subtrees (node.minus left right) = node.minus left right ∷ (subtrees left ++ subtrees right)
+subtrees (node.exists left right condition) = node.exists left right condition ∷ (subtrees left ++ subtrees right)
+subtrees (node.not_exists left right condition) =
+    node.not_exists left right condition ∷ (subtrees left ++ subtrees right)
+subtrees (node.filter child condition) = node.filter child condition ∷ subtrees child
+subtrees (node.extend child variable formula) = node.extend child variable formula ∷ subtrees child
+subtrees (node.values rows) = node.values rows ∷ []
+subtrees (node.project child variables) = node.project child variables ∷ subtrees child
+subtrees (node.distinct child) = node.distinct child ∷ subtrees child
 
 -- some subtree has too many rows over the facts
 abbrev pub overfull : ℕ → Node → List Fact → Bool

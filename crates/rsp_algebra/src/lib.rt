@@ -9,6 +9,7 @@
 
 mod answer;
 mod building;
+mod nodes;
 mod tree;
 
 pub use answer::{Answer, Turn};

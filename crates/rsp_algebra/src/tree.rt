@@ -2,8 +2,9 @@
 ghost use Rattle.std.specs.Prelude.{◌≡◌, IfOk};
 ghost use Rattle.rsp_algebra.specs.Nodes.{node_of};
 
+use crate::nodes;
 use rsp_expr::{Expression, Slot};
-use rsp_multiset::{Cell, Row};
+use rsp_multiset::Row;
 use rsp_terms::{Listed, Term};
 use std::alloc::{AllocError, Global};
 
@@ -36,10 +37,34 @@ pub enum Tree {
         left: Box<Tree>,
         right: Box<Tree>,
     },
+    /// Each pair of solutions that are compatible and on whose merge the condition is true, merged; and the left solutions
+    /// that are in no such pair.
+    LeftJoin {
+        left: Box<Tree>,
+        right: Box<Tree>,
+        condition: Expression,
+    },
     /// The solutions of both children.
     Union {
         left: Box<Tree>,
         right: Box<Tree>,
+    },
+    /// The left solutions that no right solution is compatible with while a variable is bound in both.
+    Minus {
+        left: Box<Tree>,
+        right: Box<Tree>,
+    },
+    /// The left solutions that some right solution is compatible with so that the condition is true on their merge.
+    Exists {
+        left: Box<Tree>,
+        right: Box<Tree>,
+        condition: Expression,
+    },
+    /// The left solutions that Exists leaves out.
+    NotExists {
+        left: Box<Tree>,
+        right: Box<Tree>,
+        condition: Expression,
     },
     /// The child's solutions on which the condition is true.
     Filter {
@@ -79,75 +104,46 @@ impl Tree {
                 subject,
                 predicate,
                 object,
-            } => Ok(Tree::Pattern {
-                place: *place,
-                subject: subject.share()?,
-                predicate: predicate.share()?,
-                object: object.share()?,
-            }),
+            } => nodes::pattern(*place, subject, predicate, object),
             Tree::Join { left, right } => {
-                let left = left.share(alloc)?;
-                let right = right.share(alloc)?;
-                Ok(Tree::Join {
-                    left: Box::new(alloc, left)?,
-                    right: Box::new(alloc, right)?,
-                })
+                nodes::join(alloc, left.share(alloc)?, right.share(alloc)?)
             }
+            Tree::LeftJoin {
+                left,
+                right,
+                condition,
+            } => nodes::left_join(alloc, left.share(alloc)?, right.share(alloc)?, condition),
             Tree::Union { left, right } => {
-                let left = left.share(alloc)?;
-                let right = right.share(alloc)?;
-                Ok(Tree::Union {
-                    left: Box::new(alloc, left)?,
-                    right: Box::new(alloc, right)?,
-                })
+                nodes::union(alloc, left.share(alloc)?, right.share(alloc)?)
             }
+            Tree::Minus { left, right } => {
+                nodes::minus(alloc, left.share(alloc)?, right.share(alloc)?)
+            }
+            Tree::Exists {
+                left,
+                right,
+                condition,
+            } => nodes::exists(alloc, left.share(alloc)?, right.share(alloc)?, condition),
+            Tree::NotExists {
+                left,
+                right,
+                condition,
+            } => nodes::not_exists(alloc, left.share(alloc)?, right.share(alloc)?, condition),
             Tree::Filter { child, condition } => {
-                let child = child.share(alloc)?;
-                Ok(Tree::Filter {
-                    child: Box::new(alloc, child)?,
-                    condition: condition.share(alloc)?,
-                })
+                nodes::filter(alloc, child.share(alloc)?, condition)
             }
             Tree::Extend {
                 child,
                 variable,
                 expression,
-            } => {
-                let child = child.share(alloc)?;
-                Ok(Tree::Extend {
-                    child: Box::new(alloc, child)?,
-                    variable: *variable,
-                    expression: expression.share(alloc)?,
-                })
-            }
-            Tree::Values { rows } => Ok(Tree::Values {
-                rows: share_rows(alloc, rows)?,
-            }),
+            } => nodes::extend(alloc, child.share(alloc)?, *variable, expression),
+            Tree::Values { rows } => nodes::values(alloc, rows),
             Tree::Project { child, variables } => {
-                let child = child.share(alloc)?;
-                Ok(Tree::Project {
-                    child: Box::new(alloc, child)?,
-                    variables: Vec::from_slice(alloc, variables)?,
-                })
+                nodes::project(alloc, child.share(alloc)?, variables)
             }
-            Tree::Distinct { child } => {
-                let child = child.share(alloc)?;
-                Ok(Tree::Distinct {
-                    child: Box::new(alloc, child)?,
-                })
-            }
+            Tree::Distinct { child } => nodes::distinct(alloc, child.share(alloc)?),
         }
     }
-}
-
-fn share_rows(alloc: Global, rows: &[Row<Term>]) -> Result<Vec<Row<Term>>, AllocError>
-    ensures { IfOk result (λ others. others.items ≡ rows.now) }
-{
-    let mut others = Vec::new(alloc);
-    for row in rows {
-        others.push(row.share()?)?;
-    }
-    Ok(others)
 }
 
 /// A query's tree, the number of its variables, and the numbers of those that it shows, in order.

@@ -1,10 +1,10 @@
 // An answer that is evaluated anew.
-ghost use Rattle.std.specs.Prelude.{◌≡◌, is_none, IfOk, IfSome, OnOk};
+ghost use Rattle.std.specs.Prelude.{◌≡◌, false, is_none, IfOk, IfSome, OnOk, []};
 ghost use Rattle.std.specs.Option.{ForSome};
 ghost use Rattle.rsp_multiset.specs.Weights.{IsChanged};
 ghost use Rattle.rsp_terms.specs.Same.{fact_eq};
 ghost use Rattle.rsp_algebra.specs.Fitting.{Fits-prop};
-ghost use Rattle.rsp_algebra.specs.Nodes.{node_of, Fits};
+ghost use Rattle.rsp_algebra.specs.Nodes.{node_of, Fits, IsPlaced};
 ghost use Rattle.rsp_algebra.specs.Solutions.{eval};
 ghost use Rattle.rsp_algebra.specs.Overfull.{overfull};
 ghost use Rattle.rsp_algebra.specs.Changing.{IsSet, MayChange};
@@ -61,6 +61,28 @@ fn evaluate_anew(
     }
 }
 
+// an answer over no facts; the tree is shared last, so that it is never let go
+fn with_rows(
+    alloc: Global,
+    translated: &Translated,
+    rows: Vec<Row<Term>>,
+) -> Result<Plain, AllocError>
+    requires placed { IsPlaced translated.now }
+    requires rows { rows.items ≡ eval translated.now.width (node_of translated.now.tree) [] }
+    ensures node { IfOk result (λ answer. node_of answer.tree ≡ node_of translated.now.tree) }
+    ensures width { IfOk result (λ answer. answer.width ≡ translated.now.width) }
+    ensures facts { IfOk result (λ answer. answer.facts.keys ≡ []) }
+    ensures ready { IfOk result (λ answer. is_none answer.rows ≡ false) }
+{
+    Ok(Plain {
+        alloc,
+        width: translated.width,
+        facts: IndexSet::new(alloc),
+        rows: Some(rows),
+        tree: translated.tree.share(alloc)?,
+    })
+}
+
 impl Answer for Plain {
     ghost use Rattle.std.specs.Prelude.{◌≡◌, ◌+◌, ◌≤◌, false, is_none, not, IfOk, List};
     ghost use Rattle.rsp_terms.specs.declared.statement.Fact.{Fact};
@@ -77,17 +99,9 @@ impl Answer for Plain {
     ghost spent = { λ p. is_none p.rows };
 
     fn start(alloc: Global, translated: &Translated) -> Result<Option<Plain>, AllocError> {
-        let facts = IndexSet::new(alloc);
-        let tree = translated.tree.share(alloc)?;
         match evaluate(alloc, &translated.tree, translated.width, &[])? {
             None => Ok(None),
-            Some(rows) => Ok(Some(Plain {
-                alloc,
-                tree,
-                width: translated.width,
-                facts,
-                rows: Some(rows),
-            })),
+            Some(rows) => Ok(Some(with_rows(alloc, translated, rows)?)),
         }
     }
 

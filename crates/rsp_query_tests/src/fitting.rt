@@ -87,7 +87,23 @@ pub fn fits(tree: &Tree, width: usize) -> bool
             ..
         } => slots_fit(subject, predicate, object, width),
         Tree::Join { left, right } => fits(left, width) && fits(right, width),
+        Tree::LeftJoin {
+            left,
+            right,
+            condition,
+        } => expression_fits(condition, width) && fits(left, width) && fits(right, width),
         Tree::Union { left, right } => fits(left, width) && fits(right, width),
+        Tree::Minus { left, right } => fits(left, width) && fits(right, width),
+        Tree::Exists {
+            left,
+            right,
+            condition,
+        } => expression_fits(condition, width) && fits(left, width) && fits(right, width),
+        Tree::NotExists {
+            left,
+            right,
+            condition,
+        } => expression_fits(condition, width) && fits(left, width) && fits(right, width),
         Tree::Filter { child, condition } => {
             expression_fits(condition, width) && fits(child, width)
         }

@@ -12,7 +12,20 @@ use std::test::Fail;
 #[derive(Clone, Copy, Debug)]
 enum Node {
     Join,
+    /// on ?1 = ?2
+    LeftJoin,
+    /// on ?0 < ?1
+    LeftJoinError,
     Union,
+    Minus,
+    /// with ?1 = ?2
+    Exists,
+    /// with ?0 < ?1
+    ExistsError,
+    /// with ?1 = ?2
+    NotExists,
+    /// with ?0 < ?1
+    NotExistsError,
     /// where ?1 = ?2
     FilterEqual,
     /// where ?0 < ?1
@@ -28,7 +41,7 @@ enum Node {
 }
 
 // a node, the rows of its left child, or of its only one, those of its right child, and its rows
-const NODES: [(Node, &str, &str, &str); 19] = [
+const NODES: [(Node, &str, &str, &str); 47] = [
     (
         Node::Join,
         "a - -|b - -",
@@ -44,6 +57,48 @@ const NODES: [(Node, &str, &str, &str); 19] = [
         "a - -|a - -|a - -|- b -",
     ),
     (Node::Union, "", "- - -", "- - -"),
+    // the bare row isn't kept beside a partner
+    (
+        Node::LeftJoin,
+        "a - -|b - -",
+        "a c c|a c d|a d d",
+        "a c c|a d d|b - -",
+    ),
+    // a condition on a variable of the left side alone
+    (Node::LeftJoin, "a b b|a b c", "a - -", "a b b|a b c"),
+    (Node::LeftJoin, "a b -|a c -", "a - b", "a b b|a c -"),
+    // an unbound cell fits each term
+    (Node::LeftJoin, "- b -|a - -", "c - b|a b b", "c b b|a b b|a b b"),
+    (Node::LeftJoin, "a - -|a - -", "a b b|a b b", "a b b|a b b|a b b|a b b"),
+    (Node::LeftJoin, "a - -|a - -", "", "a - -|a - -"),
+    (Node::LeftJoin, "", "a b b", ""),
+    // an error is false
+    (Node::LeftJoinError, "a - -|b - -", "a b -", "a - -|b - -"),
+    // a left row goes once, however many take it away
+    (Node::Minus, "a - -|b - -|a - c", "a b -|a c -", "b - -"),
+    // nothing is bound on both sides
+    (Node::Minus, "a - -|b - -", "- c -", "a - -|b - -"),
+    (Node::Minus, "a - -|b - -", "- - -", "a - -|b - -"),
+    // a variable is bound on both sides, but not in each pair
+    (Node::Minus, "a - -|- b -", "- b -|- c d", "a - -"),
+    (Node::Minus, "a b -|a - c", "a c d|a b d", "a - c"),
+    (Node::Minus, "a - -|a - -", "", "a - -|a - -"),
+    (Node::Minus, "", "a - -", ""),
+    // a partner that fails the condition doesn't count
+    (Node::Exists, "a - -|b - -|c - -", "a b c|a b b|b c d", "a - -"),
+    (Node::Exists, "a b -|a c -", "a - b", "a b -"),
+    (Node::Exists, "- b -|a - -", "c - b", "- b -"),
+    // each left row as often as it stands
+    (Node::Exists, "a - -|a - -", "a b b|a c c", "a - -|a - -"),
+    (Node::Exists, "a b b", "", ""),
+    (Node::Exists, "", "a b b", ""),
+    (Node::ExistsError, "a - -|b - -", "a b -", ""),
+    (Node::NotExists, "a - -|b - -|c - -", "a b c|a b b|b c d", "b - -|c - -"),
+    (Node::NotExists, "a b -|a c -", "a - b", "a c -"),
+    (Node::NotExists, "- b -|a - -", "c - b", "a - -"),
+    (Node::NotExists, "a b b|a b b", "", "a b b|a b b"),
+    (Node::NotExists, "", "a b b", ""),
+    (Node::NotExistsError, "a - -|b - -", "a b -", "a - -|b - -"),
     (Node::FilterEqual, "a b b|a b c|a b b", "", "a b b|a b b"),
     (Node::FilterEqual, "a b -|a - -", "", ""),
     (Node::FilterError, "a b -|a a -", "", ""),
@@ -142,10 +197,69 @@ fn union(alloc: Global, left: &str, right: &str) -> Result<Tree, AllocError> {
     Ok(Tree::Union { left, right })
 }
 
-fn tree(alloc: Global, node: Node, left: &str, right: &str) -> Result<Tree, AllocError> {
+// the condition of a node
+fn condition(alloc: Global, node: Node) -> Result<Expression, AllocError> {
+    match node {
+        Node::LeftJoinError | Node::ExistsError | Node::NotExistsError => {
+            compare(alloc, Sign::Less, 0, 1)
+        }
+        _ => compare(alloc, Sign::Equal, 1, 2),
+    }
+}
+
+fn left_join(alloc: Global, node: Node, left: &str, right: &str) -> Result<Tree, AllocError> {
+    let condition = condition(alloc, node)?;
+    let left = child(alloc, left)?;
+    let right = child(alloc, right)?;
+    Ok(Tree::LeftJoin {
+        left,
+        right,
+        condition,
+    })
+}
+
+fn minus(alloc: Global, left: &str, right: &str) -> Result<Tree, AllocError> {
+    let left = child(alloc, left)?;
+    let right = child(alloc, right)?;
+    Ok(Tree::Minus { left, right })
+}
+
+fn exists(alloc: Global, node: Node, left: &str, right: &str) -> Result<Tree, AllocError> {
+    let condition = condition(alloc, node)?;
+    let left = child(alloc, left)?;
+    let right = child(alloc, right)?;
+    Ok(Tree::Exists {
+        left,
+        right,
+        condition,
+    })
+}
+
+fn not_exists(alloc: Global, node: Node, left: &str, right: &str) -> Result<Tree, AllocError> {
+    let condition = condition(alloc, node)?;
+    let left = child(alloc, left)?;
+    let right = child(alloc, right)?;
+    Ok(Tree::NotExists {
+        left,
+        right,
+        condition,
+    })
+}
+
+// a node with two children
+fn binary(alloc: Global, node: Node, left: &str, right: &str) -> Result<Tree, AllocError> {
     match node {
         Node::Join => join(alloc, left, right),
-        Node::Union => union(alloc, left, right),
+        Node::LeftJoin | Node::LeftJoinError => left_join(alloc, node, left, right),
+        Node::Minus => minus(alloc, left, right),
+        Node::Exists | Node::ExistsError => exists(alloc, node, left, right),
+        Node::NotExists | Node::NotExistsError => not_exists(alloc, node, left, right),
+        _ => union(alloc, left, right),
+    }
+}
+
+fn tree(alloc: Global, node: Node, left: &str, right: &str) -> Result<Tree, AllocError> {
+    match node {
         Node::FilterEqual => filter(alloc, compare(alloc, Sign::Equal, 1, 2)?, left),
         Node::FilterError => filter(alloc, compare(alloc, Sign::Less, 0, 1)?, left),
         Node::FilterUnbound => filter(alloc, unbound(alloc, 1)?, left),
@@ -155,6 +269,7 @@ fn tree(alloc: Global, node: Node, left: &str, right: &str) -> Result<Tree, Allo
         Node::Distinct => Ok(Tree::Distinct {
             child: child(alloc, left)?,
         }),
+        _ => binary(alloc, node, left, right),
     }
 }
 

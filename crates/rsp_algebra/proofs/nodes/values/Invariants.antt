@@ -1,5 +1,5 @@
 use Rattle.std.proofs.Common.{◌≡◌, ◌++◌, drop}
-use Rattle.rsp_algebra.proofs.tree.share_rows.Given as goal
+use Rattle.rsp_algebra.proofs.nodes.values.Given as goal
 
 abbrev pub invariant-loop-row : goal.invariant-loop-row
 invariant-loop-row l = l.others.items ++ drop l.row-index l.rows ≡ l.rows
