@@ -90,7 +90,8 @@ fn kind(answered: &Answered) -> Option<(u64, &'static str)>
 
 // the details of each refusal
 fn details(alloc: Global, answered: &Answered) -> Result<String, AllocError>
-    ensures { IfOk result (λ text. (reason : Reason) → reason_of answered.now ≡ Some reason → string_bytes text ≡ details reason) }
+    ensures { IfOk result (λ text. (reason : Reason) → reason_of answered.now ≡ Some reason
+        → string_bytes text ≡ details reason) }
 {
     match answered {
         Answered::Fault(BlockFault::BadBody { line }) => format!(in alloc; " line={line}"),
