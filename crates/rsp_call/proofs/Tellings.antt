@@ -186,6 +186,11 @@ pub line_names : (place : Place) (reason : Option Reason) (line : List ℕ) → 
 line_names place None line is = cc
 line_names place (Some reason) line is = refl
 
+-- a line that is the one of the reason, and a text that is
+pub line_written : (place : Place) (reason : Option Reason) (line text : List ℕ) → Some line ≡ option_map (refusal_line place) reason → IsLineOf place reason text → text ≡ line
+line_written place None line text is wanted = cc
+line_written place (Some reason) line text is wanted = cc
+
 -- the line of a kind and details that are the reason's
 pub line_is : (place : Place) (reason : Option Reason) (number : ℕ) (name spot detail line : List ℕ) → Some (number, name) ≡ option_map kind reason → spot ≡ place_text place → ((r : Reason) → reason ≡ Some r → detail ≡ details r)
     → line ≡ codes "# refused " ++ (spot ++ (codes " " ++ (decimal number ++ (codes " " ++ (name ++ (detail ++ (10 ∷ []))))))) → Some line ≡ option_map (refusal_line place) reason
