@@ -1,5 +1,5 @@
 -- The reports of an event, written one behind another.
-use Rattle.std.proofs.Common.{◌≡◌, ℕ, suc, Bool, true, false, IsTrue, Ok, Err, Option, Some, None, List, [], ◌∷◌, ◌++◌, length, map, refl, sym, ◌∙◌, ap, append_assoc}
+use Rattle.std.proofs.Common.{◌≡◌, ℕ, suc, true, false, IsTrue, Ok, Option, Some, None, List, [], ◌∷◌, ◌++◌, length, map, refl, sym, ◌∙◌, ap, append_assoc}
 use Rattle.std.specs.List.{list_any}
 use Rattle.std.specs.Option.{is_some, option_map}
 use Rattle.std.proofs.lemmas.List.{append-nil}
@@ -185,6 +185,11 @@ line_given place (Some reason) line text is same = same ∙ sym (let made : line
 pub line_names : (place : Place) (reason : Option Reason) (line : List ℕ) → Some line ≡ option_map (refusal_line place) reason → is_some reason ≡ true
 line_names place None line is = cc
 line_names place (Some reason) line is = refl
+
+-- a line that is the one of the reason, and a text that is
+pub line_written : (place : Place) (reason : Option Reason) (line text : List ℕ) → Some line ≡ option_map (refusal_line place) reason → IsLineOf place reason text → text ≡ line
+line_written place None line text is wanted = cc
+line_written place (Some reason) line text is wanted = cc
 
 -- the line of a kind and details that are the reason's
 pub line_is : (place : Place) (reason : Option Reason) (number : ℕ) (name spot detail line : List ℕ) → Some (number, name) ≡ option_map kind reason → spot ≡ place_text place → ((r : Reason) → reason ≡ Some r → detail ≡ details r)

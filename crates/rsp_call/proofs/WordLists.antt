@@ -1,5 +1,5 @@
 -- Words taken one behind another.
-use Rattle.std.proofs.Common.{◌≡◌, ℕ, ◌<◌, List, [], ◌∷◌, ◌++◌, length, drop, map, Option, None, Some, option_to_list, refl, sym, ◌∙◌, ap, append_assoc, append-nil, arith}
+use Rattle.std.proofs.Common.{◌≡◌, ℕ, List, [], ◌∷◌, ◌++◌, length, drop, map, Option, None, Some, option_to_list, refl, sym, ◌∙◌, ap, append_assoc, append-nil, arith}
 
 pub words_on : {X : Type 0} (f : X → List ℕ) (words now : List (List ℕ)) (x : X) (items rest all : List X) → items ≡ x ∷ rest → now ≡ words ++ f x ∷ [] → words ++ map f items ≡ map f all → now ++ map f rest ≡ map f all
 words_on f words now x items rest all is more so_far =

@@ -1,5 +1,5 @@
 -- Definitions: the line of a refusal: where it is, its number and its name, and its details.
-use Rattle.std.specs.Prelude.{ℕ, Option, Some, option_map, List, [], ◌∷◌, ◌++◌, codes}
+use Rattle.std.specs.Prelude.{ℕ, Option, Some, option_map, List, [], ◌++◌, codes}
 use Rattle.std.specs.Fmt.{decimal}
 use Rattle.rsp_events.specs.declared.event.BlockFault.{BlockFault}
 use Rattle.rsp_events.specs.declared.event.BlockFault.TheVariants.{BadBody, BadDirective, BlockTooLarge}

@@ -38,7 +38,24 @@ pub(crate) fn refuse<K: Sink>(
         text result }
     ensures refused { IfOk result (λ refused. (refused ≡ true) × (is_some (reason_of answered) ≡ true)) }
 {
-    match line(alloc, place, &answered) {
+    write_line(alloc, place, &answered, out)
+}
+
+// writes the line, where the answer is a refusal
+fn write_line<K: Sink>(
+    alloc: Global,
+    place: Place,
+    answered: &Answered,
+    out: &mut K,
+) -> Result<bool, Stop>
+    ensures text { (text : List ℕ) → IsLineOf place (reason_of answered.now) text
+        → Ends
+        (sink_seen (K.taken out.old) (K.room out.old) (K.faults out.old))
+        (sink_seen (K.taken out.new) (K.room out.new) (K.faults out.new))
+        text result }
+    ensures refused { IfOk result (λ refused. (refused ≡ true) × (is_some (reason_of answered.now) ≡ true)) }
+{
+    match line(alloc, place, answered) {
         Ok(Some(line)) => {
             write_all(out, line.as_bytes())?;
             Ok(true)

@@ -1,5 +1,5 @@
 use Rattle.rsp_engine.specs.Moments.{moments}
-use Rattle.rsp_call.proofs.Tellings.{accepted_stands, accepted_text, refused_stands, refused_text}
+use Rattle.rsp_call.proofs.Tellings.{accepted_stands, accepted_text}
 use Rattle.rsp_call.proofs.taking.take_event.Goals as goal
 
 pub returns-in-Err-tell_reports-clause-text : goal.returns-in-Err-tell_reports-clause-text
