@@ -68,8 +68,18 @@ const NODES: [(Node, &str, &str, &str); 47] = [
     (Node::LeftJoin, "a b b|a b c", "a - -", "a b b|a b c"),
     (Node::LeftJoin, "a b -|a c -", "a - b", "a b b|a c -"),
     // an unbound cell fits each term
-    (Node::LeftJoin, "- b -|a - -", "c - b|a b b", "c b b|a b b|a b b"),
-    (Node::LeftJoin, "a - -|a - -", "a b b|a b b", "a b b|a b b|a b b|a b b"),
+    (
+        Node::LeftJoin,
+        "- b -|a - -",
+        "c - b|a b b",
+        "c b b|a b b|a b b",
+    ),
+    (
+        Node::LeftJoin,
+        "a - -|a - -",
+        "a b b|a b b",
+        "a b b|a b b|a b b|a b b",
+    ),
     (Node::LeftJoin, "a - -|a - -", "", "a - -|a - -"),
     (Node::LeftJoin, "", "a b b", ""),
     // an error is false
@@ -85,7 +95,12 @@ const NODES: [(Node, &str, &str, &str); 47] = [
     (Node::Minus, "a - -|a - -", "", "a - -|a - -"),
     (Node::Minus, "", "a - -", ""),
     // a partner that fails the condition doesn't count
-    (Node::Exists, "a - -|b - -|c - -", "a b c|a b b|b c d", "a - -"),
+    (
+        Node::Exists,
+        "a - -|b - -|c - -",
+        "a b c|a b b|b c d",
+        "a - -",
+    ),
     (Node::Exists, "a b -|a c -", "a - b", "a b -"),
     (Node::Exists, "- b -|a - -", "c - b", "- b -"),
     // each left row as often as it stands
@@ -93,7 +108,12 @@ const NODES: [(Node, &str, &str, &str); 47] = [
     (Node::Exists, "a b b", "", ""),
     (Node::Exists, "", "a b b", ""),
     (Node::ExistsError, "a - -|b - -", "a b -", ""),
-    (Node::NotExists, "a - -|b - -|c - -", "a b c|a b b|b c d", "b - -|c - -"),
+    (
+        Node::NotExists,
+        "a - -|b - -|c - -",
+        "a b c|a b b|b c d",
+        "b - -|c - -",
+    ),
     (Node::NotExists, "a b -|a c -", "a - b", "a c -"),
     (Node::NotExists, "- b -|a - -", "c - b", "a - -"),
     (Node::NotExists, "a b b|a b b", "", "a b b|a b b"),
