@@ -26,15 +26,26 @@ fn solutions_after<A: Answer, L: Ledger>(
     requires allowed { MayChange (A.facts answer.old) changes.now }
     ensures facts { IfOk result (λ _. IsChanged fact_eq (A.facts answer.old) changes.now (A.facts answer.new)) }
     ensures set { IfOk result (λ _. IsSet (A.facts answer.new)) }
+    ensures node { IfOk result (λ _. A.node answer.new ≡ A.node answer.old) }
+    ensures width { IfOk result (λ _. A.width answer.new ≡ A.width answer.old) }
     ensures some { IfOk result (λ solutions. IfSome solutions (λ bag. (q : _) → weight (row_eq term_eq) bag q
-        ≡ times (row_eq term_eq) (eval (A.width answer.old) (A.node answer.old) (A.facts answer.new)) q)) }
+        ≡ times (row_eq term_eq) (eval (A.width answer.new) (A.node answer.new) (A.facts answer.new)) q)) }
     ensures fits { IfOk result (λ solutions. IfSome solutions (λ _.
         overfull (A.width answer.old) (A.node answer.old) (A.facts answer.new) ≡ false)) }
 {
     match answer.change(changes, steps)? {
         Turn::Overfull => Ok(None),
-        Turn::Net(_) => Ok(Some(answer.solutions()?)),
+        Turn::Net(_) => held(answer),
     }
+}
+
+// the solutions that an answer holds
+fn held<A: Answer>(answer: &A) -> Result<Option<Bag<Term>>, AllocError>
+    requires { A.spent answer.now ≡ false }
+    ensures { IfOk result (λ solutions. IfSome solutions (λ bag. (q : _) → weight (row_eq term_eq) bag q
+        ≡ times (row_eq term_eq) (eval (A.width answer.now) (A.node answer.now) (A.facts answer.now)) q)) }
+{
+    Ok(Some(answer.solutions()?))
 }
 
 // the change and the old solutions give the new ones

@@ -85,13 +85,16 @@ fn rows_of(
     }
 }
 
+fn rows_of_a_variable_twice(alloc: Global) -> Result<Option<usize>, AllocError> {
+    let facts = chain(alloc)?;
+    let tree = links(alloc, 1, "p:v", 1)?;
+    rows_of(alloc, &tree, 2, &facts)
+}
+
 // of the chain's triples one has its subject as its object
 #[test]
 fn a_variable_twice_is_one_term(rt: HostRuntime) -> Result<(), Fail> {
-    let alloc = rt.alloc();
-    let facts = chain(alloc)?;
-    let tree = links(alloc, 1, "p:v", 1)?;
-    assert_eq!(rt; rows_of(alloc, &tree, 2, &facts)?, Some(1));
+    assert_eq!(rt; rows_of_a_variable_twice(rt.alloc())?, Some(1));
     Ok(())
 }
 
@@ -101,13 +104,16 @@ fn subjects_and_links(alloc: Global) -> Result<Tree, AllocError> {
     join(alloc, subjects, links(alloc, 0, "p:v", 1)?)
 }
 
+fn rows_of_subjects_and_links(alloc: Global) -> Result<Option<usize>, AllocError> {
+    let facts = chain(alloc)?;
+    let tree = subjects_and_links(alloc)?;
+    rows_of(alloc, &tree, 2, &facts)
+}
+
 // SPARQL 1.1 Query, section 18.3: an unbound variable is compatible with each term
 #[test]
 fn an_unbound_variable_fits_each_term(rt: HostRuntime) -> Result<(), Fail> {
-    let alloc = rt.alloc();
-    let facts = chain(alloc)?;
-    let tree = subjects_and_links(alloc)?;
-    assert_eq!(rt; rows_of(alloc, &tree, 2, &facts)?, Some(3));
+    assert_eq!(rt; rows_of_subjects_and_links(rt.alloc())?, Some(3));
     Ok(())
 }
 
@@ -128,13 +134,16 @@ fn each_with_each(alloc: Global) -> Result<Tree, AllocError> {
     join(alloc, left, right)
 }
 
-// 1,002,001 pairs
-#[test]
-fn a_join_of_too_many_pairs_is_left(rt: HostRuntime) -> Result<(), Fail> {
-    let alloc = rt.alloc();
+// of 1,002,001 pairs
+fn rows_of_too_many_pairs(alloc: Global) -> Result<Option<usize>, AllocError> {
     let facts = two_kinds(alloc, 1001)?;
     let tree = each_with_each(alloc)?;
-    assert_eq!(rt; rows_of(alloc, &tree, 4, &facts)?, None);
+    rows_of(alloc, &tree, 4, &facts)
+}
+
+#[test]
+fn a_join_of_too_many_pairs_is_left(rt: HostRuntime) -> Result<(), Fail> {
+    assert_eq!(rt; rows_of_too_many_pairs(rt.alloc())?, None);
     Ok(())
 }
 
@@ -167,15 +176,18 @@ fn solutions_after_one<A: Answer, L: Ledger>(
     }
 }
 
-#[test]
-fn plain_is_an_answer(rt: HostRuntime) -> Result<(), Fail> {
-    let alloc = rt.alloc();
+// the plain answer of the tree that has one row over any facts
+fn solutions_of_unit(alloc: Global) -> Result<Option<u64>, AllocError> {
     let query = Translated {
         tree: Tree::Unit,
         width: 1,
         shown: Listed::new(alloc),
     };
-    let rows = solutions_after_one::<Plain, Brand>(alloc, &query, Blank::new(1))?;
-    assert_eq!(rt; rows, Some(1));
+    solutions_after_one::<Plain, Brand>(alloc, &query, Blank::new(1))
+}
+
+#[test]
+fn plain_is_an_answer(rt: HostRuntime) -> Result<(), Fail> {
+    assert_eq!(rt; solutions_of_unit(rt.alloc())?, Some(1));
     Ok(())
 }
