@@ -10,7 +10,7 @@ use rsp_multiset::{Cell, Row};
 use rsp_terms::Term;
 use std::alloc::{AllocError, Global};
 
-pub fn pattern(
+pub(crate) fn pattern(
     place: Place,
     subject: &Slot,
     predicate: &Slot,
@@ -27,7 +27,7 @@ pub fn pattern(
     })
 }
 
-pub fn join(alloc: Global, left: Tree, right: Tree) -> Result<Tree, AllocError>
+pub(crate) fn join(alloc: Global, left: Tree, right: Tree) -> Result<Tree, AllocError>
     ensures { IfOk result (λ tree. node_of tree ≡ node.join (node_of left) (node_of right)) }
 {
     Ok(Tree::Join {
@@ -36,7 +36,7 @@ pub fn join(alloc: Global, left: Tree, right: Tree) -> Result<Tree, AllocError>
     })
 }
 
-pub fn left_join(
+pub(crate) fn left_join(
     alloc: Global,
     left: Tree,
     right: Tree,
@@ -52,7 +52,7 @@ pub fn left_join(
     })
 }
 
-pub fn union(alloc: Global, left: Tree, right: Tree) -> Result<Tree, AllocError>
+pub(crate) fn union(alloc: Global, left: Tree, right: Tree) -> Result<Tree, AllocError>
     ensures { IfOk result (λ tree. node_of tree ≡ node.union (node_of left) (node_of right)) }
 {
     Ok(Tree::Union {
@@ -61,7 +61,7 @@ pub fn union(alloc: Global, left: Tree, right: Tree) -> Result<Tree, AllocError>
     })
 }
 
-pub fn minus(alloc: Global, left: Tree, right: Tree) -> Result<Tree, AllocError>
+pub(crate) fn minus(alloc: Global, left: Tree, right: Tree) -> Result<Tree, AllocError>
     ensures { IfOk result (λ tree. node_of tree ≡ node.minus (node_of left) (node_of right)) }
 {
     Ok(Tree::Minus {
@@ -70,7 +70,7 @@ pub fn minus(alloc: Global, left: Tree, right: Tree) -> Result<Tree, AllocError>
     })
 }
 
-pub fn exists(
+pub(crate) fn exists(
     alloc: Global,
     left: Tree,
     right: Tree,
@@ -86,7 +86,7 @@ pub fn exists(
     })
 }
 
-pub fn not_exists(
+pub(crate) fn not_exists(
     alloc: Global,
     left: Tree,
     right: Tree,
@@ -102,7 +102,7 @@ pub fn not_exists(
     })
 }
 
-pub fn filter(alloc: Global, child: Tree, condition: &Expression) -> Result<Tree, AllocError>
+pub(crate) fn filter(alloc: Global, child: Tree, condition: &Expression) -> Result<Tree, AllocError>
     ensures { IfOk result (λ tree. node_of tree ≡ node.filter (node_of child) (formula_of condition.now)) }
 {
     Ok(Tree::Filter {
@@ -111,7 +111,7 @@ pub fn filter(alloc: Global, child: Tree, condition: &Expression) -> Result<Tree
     })
 }
 
-pub fn extend(
+pub(crate) fn extend(
     alloc: Global,
     child: Tree,
     variable: usize,
@@ -126,7 +126,7 @@ pub fn extend(
     })
 }
 
-pub fn values(alloc: Global, rows: &[Row<Term>]) -> Result<Tree, AllocError>
+pub(crate) fn values(alloc: Global, rows: &[Row<Term>]) -> Result<Tree, AllocError>
     ensures { IfOk result (λ tree. node_of tree ≡ node.values rows.now) }
 {
     let mut others = Vec::new(alloc);
@@ -136,7 +136,7 @@ pub fn values(alloc: Global, rows: &[Row<Term>]) -> Result<Tree, AllocError>
     Ok(Tree::Values { rows: others })
 }
 
-pub fn project(alloc: Global, child: Tree, variables: &[usize]) -> Result<Tree, AllocError>
+pub(crate) fn project(alloc: Global, child: Tree, variables: &[usize]) -> Result<Tree, AllocError>
     ensures { IfOk result (λ tree. node_of tree ≡ node.project (node_of child) variables.now) }
 {
     Ok(Tree::Project {
@@ -145,7 +145,7 @@ pub fn project(alloc: Global, child: Tree, variables: &[usize]) -> Result<Tree, 
     })
 }
 
-pub fn distinct(alloc: Global, child: Tree) -> Result<Tree, AllocError>
+pub(crate) fn distinct(alloc: Global, child: Tree) -> Result<Tree, AllocError>
     ensures { IfOk result (λ tree. node_of tree ≡ node.distinct (node_of child)) }
 {
     Ok(Tree::Distinct {

@@ -36,7 +36,7 @@ pub(crate) struct Session {
 
 impl Session {
     /// A session that has read nothing. Takes no memory.
-    pub fn new(alloc: Global) -> Session
+    pub(crate) fn new(alloc: Global) -> Session
         ensures at { IsAt result.blocks result.engine result.refused [] }
         ensures idle { IsTrue (is_idle result.engine) }
         ensures prefix { (bytes more : List ℕ) → (rest : List Block)
@@ -51,7 +51,7 @@ impl Session {
     }
 
     /// Works off the blocks that end in this piece of the log, and writes what they give.
-    pub fn work<K: Sink, L: Ledger>(
+    pub(crate) fn work<K: Sink, L: Ledger>(
         &mut self,
         piece: &[u8],
         out: &mut K,
@@ -85,7 +85,7 @@ impl Session {
 
     /// Works off the block that the end of the log ends, where there is one, and writes what it gives. The answer is
     /// whether some block of the log was refused.
-    pub fn finish<K: Sink, L: Ledger>(
+    pub(crate) fn finish<K: Sink, L: Ledger>(
         &mut self,
         out: &mut K,
         steps: &mut Steps<L>,

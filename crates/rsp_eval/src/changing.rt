@@ -30,7 +30,7 @@ fn take_rows(net: &mut Changes<Row<Term>>, rows: Vec<Row<Term>>) -> Result<(), A
 }
 
 /// The rows after less those before.
-pub fn difference(
+pub(crate) fn difference(
     alloc: Global,
     after: &[Row<Term>],
     before: Vec<Row<Term>>,
@@ -44,7 +44,7 @@ pub fn difference(
 }
 
 /// The bag of the rows.
-pub fn bag_of(alloc: Global, rows: &[Row<Term>]) -> Result<Bag<Term>, AllocError>
+pub(crate) fn bag_of(alloc: Global, rows: &[Row<Term>]) -> Result<Bag<Term>, AllocError>
     ensures { IfOk result (λ bag. (q : Cells Term) → weight same_row bag q ≡ times same_row rows.now q) }
 {
     let mut bag = Bag::new(alloc);

@@ -67,7 +67,7 @@ fn extend_by_value(
 }
 
 /// The rows with the expression's value for the variable, in their order; an error leaves it unbound.
-pub fn extend_rows(
+pub(crate) fn extend_rows(
     alloc: Global,
     width: usize,
     variable: usize,

@@ -45,7 +45,10 @@ fn change_fact(facts: &mut IndexSet<Fact>, fact: &Fact, by: Count) -> Result<(),
 }
 
 /// Takes the changes into the facts.
-pub fn change_facts(facts: &mut IndexSet<Fact>, changes: &Changes<Fact>) -> Result<(), AllocError>
+pub(crate) fn change_facts(
+    facts: &mut IndexSet<Fact>,
+    changes: &Changes<Fact>,
+) -> Result<(), AllocError>
     requires { MayChange facts.old.keys changes.now }
     ensures { OnOk result (IsChanged fact_eq facts.old.keys changes.now facts.new.keys) }
 {

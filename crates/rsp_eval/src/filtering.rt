@@ -13,7 +13,7 @@ use rsp_terms::Term;
 use std::alloc::{AllocError, Global};
 
 /// The rows on which the condition is true, in their order.
-pub fn filter_rows(
+pub(crate) fn filter_rows(
     alloc: Global,
     condition: &Expression,
     rows: Vec<Row<Term>>,
@@ -41,7 +41,10 @@ fn set_of_rows(alloc: Global, rows: Vec<Row<Term>>) -> Result<IndexSet<Row<Term>
 }
 
 /// Each row once, at its first place.
-pub fn distinct_rows(alloc: Global, rows: Vec<Row<Term>>) -> Result<Vec<Row<Term>>, AllocError>
+pub(crate) fn distinct_rows(
+    alloc: Global,
+    rows: Vec<Row<Term>>,
+) -> Result<Vec<Row<Term>>, AllocError>
     ensures { IfOk result (λ kept. kept.items ≡ each_once same_row rows.items) }
 {
     let mut kept = Vec::new(alloc);

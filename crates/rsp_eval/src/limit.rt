@@ -7,10 +7,10 @@ use rsp_terms::Term;
 use std::alloc::{AllocError, Global};
 
 /// How many rows a tree may have at most, counted with multiplicities.
-pub const MOST_ROWS: usize = 1_000_000;
+pub(crate) const MOST_ROWS: usize = 1_000_000;
 
 /// The rows; None exactly where they are too many.
-pub fn within_limit(rows: Vec<Row<Term>>) -> Option<Vec<Row<Term>>>
+pub(crate) fn within_limit(rows: Vec<Row<Term>>) -> Option<Vec<Row<Term>>>
     ensures none { is_none result ≡ too_many rows.items }
     ensures some { IfSome result (λ kept. kept.items ≡ rows.items) }
 {
@@ -21,7 +21,7 @@ pub fn within_limit(rows: Vec<Row<Term>>) -> Option<Vec<Row<Term>>>
 }
 
 /// The same rows; None exactly where they are too many.
-pub fn share_within_limit(
+pub(crate) fn share_within_limit(
     alloc: Global,
     rows: &[Row<Term>],
 ) -> Result<Option<Vec<Row<Term>>>, AllocError>
@@ -48,7 +48,7 @@ fn move_rows(rows: &mut Vec<Row<Term>>, others: Vec<Row<Term>>) -> Result<(), Al
 }
 
 /// The rows of both lists; None exactly where they are too many.
-pub fn unite_rows(
+pub(crate) fn unite_rows(
     lefts: Vec<Row<Term>>,
     rights: Vec<Row<Term>>,
 ) -> Result<Option<Vec<Row<Term>>>, AllocError>

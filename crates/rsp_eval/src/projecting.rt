@@ -8,7 +8,7 @@ use rsp_terms::Term;
 use std::alloc::{AllocError, Global};
 
 /// The row of this width that binds nothing.
-pub fn unbound_row(alloc: Global, width: usize) -> Result<Row<Term>, AllocError>
+pub(crate) fn unbound_row(alloc: Global, width: usize) -> Result<Row<Term>, AllocError>
     ensures { IfOk result (λ row. row ≡ row_by width (λ _. None)) }
 {
     let mut cells = Vec::new(alloc);
@@ -51,7 +51,7 @@ fn project_row(
 }
 
 /// The rows with all variables but these unbound, in their order.
-pub fn project_rows(
+pub(crate) fn project_rows(
     alloc: Global,
     width: usize,
     variables: &[usize],

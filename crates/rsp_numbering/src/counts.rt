@@ -13,7 +13,7 @@ use std::alloc::AllocError;
 
 /// What is counted at each element.
 #[derive(Clone, Copy)]
-pub enum Count {
+pub(crate) enum Count {
     /// The steps of a triple's path.
     Steps,
     /// The `/` of a triple's path.

@@ -14,7 +14,7 @@ use rsp_text::{leading_digits, read_u64};
 use std::alloc::{AllocError, Global};
 
 /// The fields of a line, with single spaces between. Fails only where memory is refused.
-pub fn fields_of(alloc: Global, line: &[u8]) -> Result<Vec<Listed<u8>>, AllocError>
+pub(crate) fn fields_of(alloc: Global, line: &[u8]) -> Result<Vec<Listed<u8>>, AllocError>
     ensures { IfOk result (λ fields. fields.items ≡ form.fields_of line.now) }
 {
     let mut fields = Vec::new(alloc);
@@ -62,7 +62,7 @@ fn first_space(line: &[u8]) -> usize
 
 /// The text without the line feed at its end.
 #[tactic(auto, unfolding(crate::specs::QueryLine::line_of))]
-pub fn line_of(text: &[u8]) -> &[u8]
+pub(crate) fn line_of(text: &[u8]) -> &[u8]
     ensures { result.now ≡ form.line_of text.now }
 {
     if text.is_empty() {
@@ -77,7 +77,7 @@ pub fn line_of(text: &[u8]) -> &[u8]
 }
 
 /// What stands behind these fields, where the fields begin with them.
-pub fn behind<'a>(fields: &'a [Listed<u8>], front: &[Listed<u8>]) -> Option<&'a [Listed<u8>]>
+pub(crate) fn behind<'a>(fields: &'a [Listed<u8>], front: &[Listed<u8>]) -> Option<&'a [Listed<u8>]>
     ensures { MatchOption result
         (form.behind front.now fields.now ≡ None)
         (λ rest. form.behind front.now fields.now ≡ Some rest.now) }
@@ -86,7 +86,7 @@ pub fn behind<'a>(fields: &'a [Listed<u8>], front: &[Listed<u8>]) -> Option<&'a 
 }
 
 /// The same of the fields of a line.
-pub fn behind_line<'a>(
+pub(crate) fn behind_line<'a>(
     alloc: Global,
     fields: &'a [Listed<u8>],
     front: &[u8],
@@ -103,7 +103,7 @@ pub fn behind_line<'a>(
 
 /// The name of a variable: `?` and 1 to 16 letters and digits. Fails only where memory is refused.
 #[tactic(auto, unfolding(crate::specs::QueryLine::name_of))]
-pub fn name_of(alloc: Global, field: &[u8]) -> Result<Option<Text>, AllocError>
+pub(crate) fn name_of(alloc: Global, field: &[u8]) -> Result<Option<Text>, AllocError>
     ensures { IfOk result (λ name. name ≡ form.name_of field.now) }
 {
     let Some((mark, name)) = field.split_first() else {
@@ -123,7 +123,7 @@ fn is_alphanumeric(name: &[u8]) -> bool
 
 /// An absolute IRI in brackets, of ASCII characters. Fails only where memory is refused.
 #[tactic(auto, unfolding(crate::specs::QueryLine::iri_of))]
-pub fn iri_of(alloc: Global, field: &[u8]) -> Result<Option<Text>, AllocError>
+pub(crate) fn iri_of(alloc: Global, field: &[u8]) -> Result<Option<Text>, AllocError>
     ensures { IfOk result (λ iri. iri ≡ form.iri_of field.now) }
 {
     if !is_bracketed(field) {
@@ -178,7 +178,7 @@ fn inner_of(field: &[u8]) -> &[u8]
 
 /// A variable or an IRI. Fails only where memory is refused.
 #[tactic(auto, unfolding(crate::specs::QueryLine::part_of))]
-pub fn part_of(alloc: Global, field: &[u8]) -> Result<Option<Part>, AllocError>
+pub(crate) fn part_of(alloc: Global, field: &[u8]) -> Result<Option<Part>, AllocError>
     ensures { IfOk result (λ part. part ≡ form.part_of field.now) }
 {
     if let Some(name) = name_of(alloc, field)? {
@@ -195,7 +195,7 @@ pub fn part_of(alloc: Global, field: &[u8]) -> Result<Option<Part>, AllocError>
 /// The milliseconds of `PT`, 1 to 5 digits of a number of seconds from 1 to a day, and this suffix. Fails only where
 /// memory is refused.
 #[tactic(auto, unfolding(crate::specs::QueryLine::span_of))]
-pub fn span_of(alloc: Global, suffix: &[u8], field: &[u8]) -> Result<Option<u64>, AllocError>
+pub(crate) fn span_of(alloc: Global, suffix: &[u8], field: &[u8]) -> Result<Option<u64>, AllocError>
     ensures value { IfOk result (λ span. span ≡ form.span_of suffix.now field.now) }
     ensures range { IfOk result (λ span. IfSome span (λ ms. (1 ≤ ms) × (ms ≤ 86400000))) }
 {

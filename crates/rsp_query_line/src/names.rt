@@ -8,7 +8,7 @@ use rsp_terms::{Listed, Text};
 use std::alloc::{AllocError, Global};
 
 /// The variables of the patterns, each at its first place. Fails only where memory is refused.
-pub fn variables_of(alloc: Global, patterns: &[Written]) -> Result<Listed<Text>, AllocError>
+pub(crate) fn variables_of(alloc: Global, patterns: &[Written]) -> Result<Listed<Text>, AllocError>
     ensures { IfOk result (λ names. names ≡ form.variables_of patterns.now) }
 {
     let mut names = Listed::new(alloc);
@@ -52,7 +52,11 @@ fn is_among(names: &[Text], name: &Text) -> bool
 }
 
 /// Whether these are 1 to 8 variables of the patterns, each once. Fails only where memory is refused.
-pub fn are_shown(alloc: Global, names: &[Text], patterns: &[Written]) -> Result<bool, AllocError>
+pub(crate) fn are_shown(
+    alloc: Global,
+    names: &[Text],
+    patterns: &[Written],
+) -> Result<bool, AllocError>
     ensures { IfOk result (λ shown. shown ≡ form.are_shown names.now patterns.now) }
 {
     if names.len() < 1 || 8 < names.len() {

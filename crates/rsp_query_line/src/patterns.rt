@@ -10,7 +10,10 @@ use std::alloc::{AllocError, Global};
 
 /// The pattern that three fields are. Fails only where memory is refused.
 #[tactic(auto, unfolding(crate::specs::QueryLine::pattern_of))]
-pub fn pattern_of(alloc: Global, fields: &[Listed<u8>]) -> Result<Option<Written>, AllocError>
+pub(crate) fn pattern_of(
+    alloc: Global,
+    fields: &[Listed<u8>],
+) -> Result<Option<Written>, AllocError>
     ensures { IfOk result (λ pattern. pattern ≡ form.pattern_of fields.now) }
 {
     let [subject, predicate, object] = fields else {
@@ -36,7 +39,7 @@ pub fn pattern_of(alloc: Global, fields: &[Listed<u8>]) -> Result<Option<Written
 const MOST_PATTERNS: usize = 8;
 
 /// The 1 to 8 patterns that the fields are, up to the brackets that close. Fails only where memory is refused.
-pub fn patterns_of(
+pub(crate) fn patterns_of(
     alloc: Global,
     fields: &[Listed<u8>],
 ) -> Result<Option<Listed<Written>>, AllocError>
@@ -88,7 +91,7 @@ fn closes(alloc: Global, fields: &[Listed<u8>]) -> Result<bool, AllocError>
 }
 
 /// The first fields, as many as there are up to `count`, and those behind.
-pub fn front(fields: &[Listed<u8>], count: usize) -> (&[Listed<u8>], &[Listed<u8>])
+pub(crate) fn front(fields: &[Listed<u8>], count: usize) -> (&[Listed<u8>], &[Listed<u8>])
     ensures first { result.0.now ≡ take count fields.now }
     ensures behind { result.1.now ≡ drop count fields.now }
 {
@@ -97,7 +100,7 @@ pub fn front(fields: &[Listed<u8>], count: usize) -> (&[Listed<u8>], &[Listed<u8
 
 /// The window that three fields say: its width, `STEP`, and its slide. Fails only where memory is refused.
 #[tactic(auto, unfolding(crate::specs::QueryLine::shape_of))]
-pub fn window_of(alloc: Global, fields: &[Listed<u8>]) -> Result<Option<Window>, AllocError>
+pub(crate) fn window_of(alloc: Global, fields: &[Listed<u8>]) -> Result<Option<Window>, AllocError>
     ensures { IfOk result (λ window. window ≡ form.shape_of fields.now) }
 {
     let [width, step, slide] = fields else {

@@ -75,7 +75,7 @@ fn expression_fits(expression: &Expression, width: usize) -> bool
 }
 
 /// Whether the tree fits the width.
-pub fn fits(tree: &Tree, width: usize) -> bool
+pub(crate) fn fits(tree: &Tree, width: usize) -> bool
     ensures { result ≡ true → Fits width (node_of tree.now) }
 {
     match tree {

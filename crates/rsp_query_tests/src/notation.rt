@@ -9,7 +9,7 @@ use rsp_terms::{Term, Text};
 use std::alloc::{AllocError, Global};
 use std::test::Fail;
 
-pub fn expression(alloc: Global, text: &str) -> Result<Expression, Fail> {
+pub(crate) fn expression(alloc: Global, text: &str) -> Result<Expression, Fail> {
     let mut parts = Vec::new(alloc);
     for word in text.split('|') {
         push_word(alloc, word, &mut parts)?;
@@ -122,7 +122,7 @@ fn push_member(
 }
 
 // the term that a word is, and None where it is no term
-pub fn constant(alloc: Global, word: &str) -> Result<Option<Term>, AllocError> {
+pub(crate) fn constant(alloc: Global, word: &str) -> Result<Option<Term>, AllocError> {
     if let Some(text) = word.strip_prefix("\"") {
         return Ok(Some(typed(alloc, text, "string")?));
     }

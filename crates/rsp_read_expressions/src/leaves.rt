@@ -14,7 +14,7 @@ use rsp_written::{
 };
 use std::alloc::Global;
 
-pub fn begins_unary(tokens: &[Said]) -> bool
+pub(crate) fn begins_unary(tokens: &[Said]) -> bool
     ensures { result ≡ starts kind_number (numbers unary_signs) tokens.now }
 {
     first_is_among(
@@ -27,7 +27,7 @@ pub fn begins_unary(tokens: &[Said]) -> bool
     )
 }
 
-pub fn unary_sign(tokens: &[Said]) -> Result<(&Said, &[Said]), Halt>
+pub(crate) fn unary_sign(tokens: &[Said]) -> Result<(&Said, &[Said]), Halt>
     ensures { Gives (λ x. (x.0.now, x.1.now)) result (readings.one_read unary_signs tokens.now) }
 {
     one(
@@ -49,20 +49,20 @@ const COMPARISONS: [Kind; 6] = [
     Kind::Symbol(Symbol::GreaterEqual),
 ];
 
-pub fn compares(tokens: &[Said]) -> bool
+pub(crate) fn compares(tokens: &[Said]) -> bool
     ensures { result ≡ starts kind_number (numbers comparisons) tokens.now }
 {
     first_is_among(&COMPARISONS, tokens)
 }
 
-pub fn comparison_sign(tokens: &[Said]) -> Result<(&Said, &[Said]), Halt>
+pub(crate) fn comparison_sign(tokens: &[Said]) -> Result<(&Said, &[Said]), Halt>
     ensures { Gives (λ x. (x.0.now, x.1.now)) result (readings.one_read comparisons tokens.now) }
 {
     one(&COMPARISONS, tokens)
 }
 
 /// Whether a comparison, IN or NOT IN is next.
-pub fn begins_relation(tokens: &[Said]) -> bool
+pub(crate) fn begins_relation(tokens: &[Said]) -> bool
     ensures { result ≡ starts kind_number (numbers readings.relation_first) tokens.now }
 {
     compares(tokens) || first_is_among(&[Kind::Word(Keyword::Not), Kind::Word(Keyword::In)], tokens)
@@ -117,14 +117,14 @@ pub fn begins_call(tokens: &[Said]) -> bool
     first_is(Kind::Word(Keyword::Bound), tokens) || first_is_among(&CALL_NAMES, tokens)
 }
 
-pub fn call_name(tokens: &[Said]) -> Result<(&Said, &[Said]), Halt>
+pub(crate) fn call_name(tokens: &[Said]) -> Result<(&Said, &[Said]), Halt>
     ensures { Gives (λ x. (x.0.now, x.1.now)) result (readings.one_read call_names tokens.now) }
 {
     one(&CALL_NAMES, tokens)
 }
 
 #[tactic(auto, unfolding(rsp_written::specs::Readings::bound_read))]
-pub fn bound(tokens: &[Said]) -> Result<(Expression, &[Said]), Halt>
+pub(crate) fn bound(tokens: &[Said]) -> Result<(Expression, &[Said]), Halt>
     ensures { Gives (λ x. (expr_of x.0, x.1.now)) result (readings.bound_read tokens.now) }
 {
     let (_, rest) = word(Keyword::Bound, tokens)?;
@@ -135,7 +135,7 @@ pub fn bound(tokens: &[Said]) -> Result<(Expression, &[Said]), Halt>
 }
 
 /// A name, a variable or a literal.
-pub fn leaf(alloc: Global, tokens: &[Said]) -> Result<(Expression, &[Said]), Halt>
+pub(crate) fn leaf(alloc: Global, tokens: &[Said]) -> Result<(Expression, &[Said]), Halt>
     ensures { Gives (λ x. (expr_of x.0, x.1.now)) result (leaf_read tokens.now) }
 {
     if first_is(Kind::Iri, tokens) {
@@ -151,7 +151,7 @@ pub fn leaf(alloc: Global, tokens: &[Said]) -> Result<(Expression, &[Said]), Hal
 }
 
 /// Whether a list of arguments ends before its first one.
-pub fn ends_empty(arity: Arity, tokens: &[Said]) -> bool
+pub(crate) fn ends_empty(arity: Arity, tokens: &[Said]) -> bool
     ensures { result ≡ lists.ends_empty arity tokens.now }
 {
     match arity {

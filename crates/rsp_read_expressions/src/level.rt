@@ -13,7 +13,7 @@ use std::alloc::{AllocError, Global};
 
 /// The rows of signs, those that bind least first. A comparison binds more than `&&` and less than `+`.
 #[derive(Clone, Copy, Drop)]
-pub enum Level {
+pub(crate) enum Level {
     /// `||`
     Or,
     /// `&&`
@@ -26,7 +26,7 @@ pub enum Level {
 
 /// What is read one after another with signs between.
 #[derive(Clone, Copy, Drop)]
-pub enum Parts {
+pub(crate) enum Parts {
     Row(Level),
     /// Expressions with `,` between.
     Arguments,
@@ -34,7 +34,7 @@ pub enum Parts {
 
 impl Parts {
     /// Whether a sign between two parts is next.
-    pub fn go_on(self, tokens: &[Said]) -> bool
+    pub(crate) fn go_on(self, tokens: &[Said]) -> bool
         ensures { result ≡ starts kind_number (numbers (signs_of self)) tokens.now }
     {
         match self {
@@ -53,7 +53,7 @@ impl Parts {
     }
 
     /// The sign between two parts.
-    pub fn sign<'a>(self, tokens: &'a [Said]) -> Result<(&'a Said, &'a [Said]), Halt>
+    pub(crate) fn sign<'a>(self, tokens: &'a [Said]) -> Result<(&'a Said, &'a [Said]), Halt>
         ensures { Gives (λ x. (x.0.now, x.1.now)) result (one_read (signs_of self) tokens.now) }
     {
         match self {
@@ -73,7 +73,7 @@ impl Parts {
 }
 
 /// The parts without their signs.
-pub fn unsigned(
+pub(crate) fn unsigned(
     alloc: Global,
     first: Expression,
     rest: Vec<Operand>,
@@ -89,7 +89,7 @@ pub fn unsigned(
 }
 
 /// The row of these parts; one part alone is itself.
-pub fn joined(
+pub(crate) fn joined(
     level: Level,
     alloc: Global,
     first: Expression,

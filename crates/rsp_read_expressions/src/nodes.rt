@@ -10,7 +10,7 @@ use crate::level::unsigned;
 use rsp_written::{Arity, Expression, Halt, Kind, Operand, Said};
 use std::alloc::{AllocError, Global};
 
-pub fn comparison(
+pub(crate) fn comparison(
     alloc: Global,
     sign: Kind,
     left: Expression,
@@ -23,7 +23,7 @@ pub fn comparison(
     Ok(Expression::Compared { sign, left, right })
 }
 
-pub fn membership(
+pub(crate) fn membership(
     alloc: Global,
     negated: bool,
     item: Expression,
@@ -39,14 +39,18 @@ pub fn membership(
     })
 }
 
-pub fn with_sign(alloc: Global, sign: Kind, part: Expression) -> Result<Expression, AllocError>
+pub(crate) fn with_sign(
+    alloc: Global,
+    sign: Kind,
+    part: Expression,
+) -> Result<Expression, AllocError>
     ensures { IfOk result (λ e. expr_of e ≡ signed sign (expr_of part)) }
 {
     let part = Box::new(alloc, part)?;
     Ok(Expression::Signed { sign, part })
 }
 
-pub fn aggregate_of(
+pub(crate) fn aggregate_of(
     alloc: Global,
     kind: Kind,
     distinct: bool,
@@ -62,7 +66,7 @@ pub fn aggregate_of(
     })
 }
 
-pub fn one_more(
+pub(crate) fn one_more(
     operands: Vec<Operand>,
     sign: Kind,
     part: Expression,
@@ -86,7 +90,7 @@ fn needed(arity: Arity) -> usize
 }
 
 /// How many arguments may follow the first, where so many tokens are left.
-pub fn most(arity: Arity, left: usize) -> usize
+pub(crate) fn most(arity: Arity, left: usize) -> usize
     ensures { result ≡ most_of arity left }
 {
     match arity {
@@ -98,7 +102,7 @@ pub fn most(arity: Arity, left: usize) -> usize
 }
 
 /// The list of the arguments, where there are enough of them.
-pub fn checked(
+pub(crate) fn checked(
     alloc: Global,
     arity: Arity,
     first: Expression,

@@ -11,7 +11,7 @@ use rsp_written::{Expression, Halt, Said};
 use std::alloc::Global;
 
 /// What else may be a primary expression.
-pub trait Primaries {
+pub(crate) trait Primaries {
     /// The kinds that begin it.
     ghost first: { List ℕ };
     /// How it is read.
@@ -27,7 +27,7 @@ pub trait Primaries {
 }
 
 /// Nothing else.
-pub struct Plain;
+pub(crate) struct Plain;
 
 impl Primaries for Plain {
     ghost first = { [] };

@@ -23,7 +23,7 @@ use std::alloc::{AllocError, Global};
 
 /// What stands behind GRAPH.
 #[tactic(auto, unfolding(rsp_written::specs::GroupReadings::graph_name_read))]
-pub fn graph_name(tokens: &[Said]) -> Result<(GraphName, &[Said]), Halt>
+pub(crate) fn graph_name(tokens: &[Said]) -> Result<(GraphName, &[Said]), Halt>
     ensures { Gives (λ x. (graph_of x.0, x.1.now)) result (readings.graph_name_read tokens.now) }
 {
     if first_is(Kind::Variable, tokens) {
@@ -37,7 +37,7 @@ pub fn graph_name(tokens: &[Said]) -> Result<(GraphName, &[Said]), Halt>
 
 /// BIND.
 #[tactic(auto, unfolding(rsp_written::specs::GroupReadings::bind_rule_read))]
-pub fn bound_element(alloc: Global, tokens: &[Said]) -> Result<(Element, &[Said]), Halt>
+pub(crate) fn bound_element(alloc: Global, tokens: &[Said]) -> Result<(Element, &[Said]), Halt>
     ensures { Gives (λ x. (element_of x.0, x.1.now)) result (readings.bind_rule_read tokens.now) }
 {
     let (_, rest) = word(Keyword::Bind, tokens)?;
@@ -48,7 +48,7 @@ pub fn bound_element(alloc: Global, tokens: &[Said]) -> Result<(Element, &[Said]
 
 /// VALUES.
 #[tactic(auto, unfolding(rsp_written::specs::GroupReadings::values_rule_read))]
-pub fn values_element(alloc: Global, tokens: &[Said]) -> Result<(Element, &[Said]), Halt>
+pub(crate) fn values_element(alloc: Global, tokens: &[Said]) -> Result<(Element, &[Said]), Halt>
     ensures { Gives (λ x. (element_of x.0, x.1.now)) result (readings.values_rule_read tokens.now) }
 {
     let (_, rest) = word(Keyword::Values, tokens)?;
@@ -57,7 +57,7 @@ pub fn values_element(alloc: Global, tokens: &[Said]) -> Result<(Element, &[Said
 }
 
 /// Whether this sign is next, and what stands behind it.
-pub fn maybe_dot(tokens: &[Said]) -> Result<(bool, &[Said]), Halt>
+pub(crate) fn maybe_dot(tokens: &[Said]) -> Result<(bool, &[Said]), Halt>
     ensures { Gives (λ x. (x.0, x.1.now)) result
         (mapped_read is_some (maybe_read (sign_kinds symbol.Dot) (sign_read symbol.Dot)) tokens.now) }
 {
@@ -81,7 +81,7 @@ fn with_subjects(before: Vec<Element>, subjects: Vec<Subject>) -> Result<Vec<Ele
 }
 
 /// The elements, and behind them the triples that stand here.
-pub fn with_triples(
+pub(crate) fn with_triples(
     alloc: Global,
     before: Vec<Element>,
     tokens: &[Said],
@@ -97,7 +97,7 @@ pub fn with_triples(
 }
 
 /// Whether an element other than triples begins here.
-pub fn begins_other(tokens: &[Said]) -> bool
+pub(crate) fn begins_other(tokens: &[Said]) -> bool
     ensures { result ≡ starts kind_number (numbers readings.other_first) tokens.now }
 {
     first_is_among(

@@ -23,7 +23,7 @@ use std::alloc::{AllocError, Global};
 
 /// A word that opens an element with a group.
 #[derive(Clone, Copy, Drop)]
-pub enum Opening {
+pub(crate) enum Opening {
     Optional,
     Minus,
     Graph,

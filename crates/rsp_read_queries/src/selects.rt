@@ -37,14 +37,14 @@ fn wide_expression(
 
 /// `(expression AS ?name)`
 #[derive(Drop)]
-pub struct Named {
+pub(crate) struct Named {
     pub expression: Expression,
     pub name: Text,
 }
 
 /// An expression and its name, in parentheses.
 #[tactic(auto, unfolding(rsp_written::specs::GroupReadings::as_variable_read))]
-pub fn named_expression(
+pub(crate) fn named_expression(
     wide: bool,
     alloc: Global,
     tokens: &[Said],

@@ -56,7 +56,7 @@ fn origin_of(said: &Said) -> Option<u64>
 
 /// The START of a window: milliseconds since 1970-01-01T00:00:00Z, or a text that says an instant.
 #[tactic(auto, unfolding(rsp_written::specs::GroupReadings::origin_read))]
-pub fn origin(tokens: &[Said]) -> Result<(u64, &[Said]), Halt>
+pub(crate) fn origin(tokens: &[Said]) -> Result<(u64, &[Said]), Halt>
     ensures { Gives (λ x. (x.0, x.1.now)) result (readings.origin_read tokens.now) }
 {
     let Some((said, rest)) = tokens.split_first() else {

@@ -123,7 +123,7 @@ fn profile(tokens: &[Said]) -> Result<(&Said, &[Said]), Halt>
 
 /// A policy.
 #[tactic(auto, unfolding(rsp_written::specs::GroupReadings::policy_read))]
-pub fn policy(alloc: Global, tokens: &[Said]) -> Result<(Policy, &[Said]), Halt>
+pub(crate) fn policy(alloc: Global, tokens: &[Said]) -> Result<(Policy, &[Said]), Halt>
     ensures { Gives (λ x. (policy_of x.0, x.1.now)) result (readings.policy_read tokens.now) }
 {
     if !first_is(Kind::Word(Keyword::Under), tokens) {
@@ -135,7 +135,7 @@ pub fn policy(alloc: Global, tokens: &[Said]) -> Result<(Policy, &[Said]), Halt>
 }
 
 /// Whether a policy begins here.
-pub fn begins_policy(tokens: &[Said]) -> bool
+pub(crate) fn begins_policy(tokens: &[Said]) -> bool
     ensures { result ≡ starts kind_number (numbers readings.policy_first) tokens.now }
 {
     first_is_among(

@@ -15,7 +15,7 @@ use std::alloc::Global;
 
 /// A span of time as it is written.
 #[tactic(auto, unfolding(rsp_written::specs::GroupReadings::span_read))]
-pub fn span(tokens: &[Said]) -> Result<(Text, &[Said]), Halt>
+pub(crate) fn span(tokens: &[Said]) -> Result<(Text, &[Said]), Halt>
     ensures { Gives (λ x. (x.0, x.1.now)) result (readings.span_read tokens.now) }
 {
     let (said, rest) = one(&[Kind::Span], tokens)?;

@@ -14,7 +14,7 @@ use std::alloc::Global;
 
 /// A name as a subject: a variable, an IRI or a label.
 #[tactic(auto, unfolding(rsp_written::specs::TripleReadings::subject_name_read))]
-pub fn subject_name(tokens: &[Said]) -> Result<(Node, &[Said]), Halt>
+pub(crate) fn subject_name(tokens: &[Said]) -> Result<(Node, &[Said]), Halt>
     ensures { Gives (λ x. (node_of x.0, x.1.now)) result (readings.subject_name_read tokens.now) }
 {
     if first_is(Kind::Variable, tokens) {
@@ -30,7 +30,7 @@ pub fn subject_name(tokens: &[Said]) -> Result<(Node, &[Said]), Halt>
 }
 
 /// Whether a name begins here that can be a subject.
-pub fn begins_subject_name(tokens: &[Said]) -> bool
+pub(crate) fn begins_subject_name(tokens: &[Said]) -> bool
     ensures { result ≡ starts kind_number (numbers readings.subject_name_first) tokens.now }
 {
     first_is_among(&[Kind::Variable, Kind::Iri, Kind::Label], tokens)
@@ -38,7 +38,7 @@ pub fn begins_subject_name(tokens: &[Said]) -> bool
 
 /// A name or a literal as an object.
 #[tactic(auto, unfolding(rsp_written::specs::TripleReadings::node_name_read))]
-pub fn node_name(alloc: Global, tokens: &[Said]) -> Result<(Node, &[Said]), Halt>
+pub(crate) fn node_name(alloc: Global, tokens: &[Said]) -> Result<(Node, &[Said]), Halt>
     ensures { Gives (λ x. (node_of x.0, x.1.now)) result (readings.node_name_read tokens.now) }
 {
     if begins_subject_name(tokens) {
@@ -50,7 +50,7 @@ pub fn node_name(alloc: Global, tokens: &[Said]) -> Result<(Node, &[Said]), Halt
 }
 
 /// Whether a name or a literal begins here.
-pub fn begins_node_name(tokens: &[Said]) -> bool
+pub(crate) fn begins_node_name(tokens: &[Said]) -> bool
     ensures { result ≡ starts kind_number (numbers readings.node_name_first) tokens.now }
 {
     first_is_among(
@@ -72,7 +72,7 @@ pub fn begins_node_name(tokens: &[Said]) -> bool
 
 /// The `]` of `[ ]`.
 #[tactic(auto, unfolding(rsp_written::specs::TripleReadings::no_properties_read))]
-pub fn no_properties(tokens: &[Said]) -> Result<(Node, &[Said]), Halt>
+pub(crate) fn no_properties(tokens: &[Said]) -> Result<(Node, &[Said]), Halt>
     ensures { Gives (λ x. (node_of x.0, x.1.now)) result (readings.no_properties_read tokens.now) }
 {
     let (_, rest) = sign(Symbol::CloseBracket, tokens)?;

@@ -235,7 +235,7 @@ pub fn verb(alloc: Global, tokens: &[Said]) -> Result<(Verb, &[Said]), Halt>
 }
 
 /// Whether a verb begins here.
-pub fn begins_verb(tokens: &[Said]) -> bool
+pub(crate) fn begins_verb(tokens: &[Said]) -> bool
     ensures { result ≡ starts kind_number (numbers readings.verb_first) tokens.now }
 {
     let caret = Kind::Symbol(Symbol::Caret);

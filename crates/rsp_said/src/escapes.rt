@@ -11,7 +11,7 @@ use std::alloc::{AllocError, Global};
 
 /// How far an escape is read.
 #[derive(Clone, Copy, Drop)]
-pub enum State {
+pub(crate) enum State {
     /// In none.
     Plain,
     /// Behind its `\`.
@@ -121,7 +121,7 @@ fn push_some(text: &mut String, character: Option<char>) -> Result<(), AllocErro
 }
 
 /// The text with its escapes replaced, read from this state on.
-pub fn unescaped(alloc: Global, from: State, text: &str) -> Result<Text, AllocError>
+pub(crate) fn unescaped(alloc: Global, from: State, text: &str) -> Result<Text, AllocError>
     ensures { IfOk result (λ plain. plain ≡ escapes.unescaped_text from text.now) }
 {
     let mut plain = String::new(alloc);

@@ -4,7 +4,7 @@ ghost use Rattle.rsp_scan.specs.Readers.{sign};
 ghost use Rattle.rsp_said.specs.Saying as saying;
 
 /// The text behind this ASCII sign, where the sign begins it.
-pub fn behind(mark: char, text: &str) -> Option<&str>
+pub(crate) fn behind(mark: char, text: &str) -> Option<&str>
     requires { mark < 128 }
     ensures { MatchOption result (sign mark text.now ≡ None) (λ rest. sign mark text.now ≡ Some rest.now) }
 {
@@ -21,7 +21,7 @@ fn before(mark: char, text: &str) -> Option<&str>
 }
 
 /// What stands between two ASCII signs.
-pub fn enclosed(opening: char, closing: char, text: &str) -> Option<&str>
+pub(crate) fn enclosed(opening: char, closing: char, text: &str) -> Option<&str>
     requires first { opening < 128 }
     requires last { closing < 128 }
     ensures { MatchOption result (saying.enclosed opening closing text.now ≡ None)
@@ -40,7 +40,7 @@ fn thrice(quote: char, text: &str) -> Option<&str>
 }
 
 /// What stands within one pair of these quotes, or within three.
-pub fn quoted(quote: char, text: &str) -> Option<&str>
+pub(crate) fn quoted(quote: char, text: &str) -> Option<&str>
     requires { quote < 128 }
     ensures { MatchOption result (saying.quoted quote text.now ≡ None) (λ inner. saying.quoted quote text.now ≡ Some inner.now) }
 {
@@ -51,7 +51,7 @@ pub fn quoted(quote: char, text: &str) -> Option<&str>
 }
 
 /// The prefix of a prefixed name, and what stands behind its `:`.
-pub fn prefix_and_local(text: &str) -> (&str, &str)
+pub(crate) fn prefix_and_local(text: &str) -> (&str, &str)
     ensures { (result.0.now ≡ saying.prefix_of text.now) × (result.1.now ≡ saying.behind_colon text.now) }
 {
     match text.split_once(':') {

@@ -135,7 +135,7 @@ fn is_in_any_case(name: &str, text: &str) -> bool
 
 /// The kind of a word.
 #[tactic(auto, unfolding(crate::specs::Tables::word_kind))]
-pub fn word_kind(text: &str) -> Kind
+pub(crate) fn word_kind(text: &str) -> Kind
     ensures { result ≡ tables.word_kind text.now }
 {
     if text == "a" {
@@ -147,7 +147,7 @@ pub fn word_kind(text: &str) -> Kind
 
 /// The kind of a symbol.
 #[tactic(auto, unfolding(crate::specs::Tables::symbol_kind))]
-pub fn symbol_kind(text: &str) -> Kind
+pub(crate) fn symbol_kind(text: &str) -> Kind
     ensures { result ≡ tables.symbol_kind text.now }
 {
     kind_in(&SYMBOLS, text)
