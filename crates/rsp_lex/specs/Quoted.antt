@@ -1,45 +1,21 @@
 -- Definitions: IRIs and strings as automata: the state behind each character, and the states in which one may end
 -- (SPARQL 1.1, section 19.8: IRIREF, STRING_LITERAL1, STRING_LITERAL2, STRING_LITERAL_LONG1, STRING_LITERAL_LONG2, ECHAR,
 -- UCHAR).
-use Rattle.std.specs.Prelude.{ℕ, ◌+◌, ◌-◌, ◌*◌, Bool, true, false, ◌&&◌, ◌||◌, ◌==◌, nat_le, nat_lt, if◌then◌else◌, Option, None, Some}
-use Rattle.std.specs.Char.{is_ascii_hexdigit, digit_value}
+use Rattle.std.specs.Prelude.{ℕ, ◌+◌, Bool, true, false, ◌||◌, ◌==◌, nat_lt, if◌then◌else◌, Option, None, Some}
 use Rattle.std.specs.Option.{option_map, option_and_then}
 use Rattle.std.specs.Str.{byte}
 use Rattle.rsp_terms.specs.Characters.{is_iri_character}
 use Rattle.rsp_scan.specs.declared.enclosed.Quote.{Quote}
 use Rattle.rsp_scan.specs.declared.enclosed.Quote.TheVariants.{Double, Single}
-use Rattle.rsp_scan.specs.Enclosed.{is_scalar, quote_sign}
-use Rattle.rsp_lex.specs.declared.quoted.Escape.{Escape}
-use Rattle.rsp_lex.specs.declared.quoted.Escape.TheVariants.{Begun, Digits}
-use Rattle.rsp_lex.specs.declared.quoted.Escaped.{Escaped}
-use Rattle.rsp_lex.specs.declared.quoted.Escaped.TheVariants.{More, Whole}
+use Rattle.rsp_scan.specs.declared.escaping.Escape.TheVariants.{Begun}
+use Rattle.rsp_scan.specs.declared.escaping.Escaped.{Escaped}
+use Rattle.rsp_scan.specs.declared.escaping.Escaped.TheVariants.{More, Whole}
+use Rattle.rsp_scan.specs.Enclosed.{quote_sign}
+use Rattle.rsp_scan.specs.Escaping.{uchar_step, escape_step}
 use Rattle.rsp_lex.specs.declared.quoted.IriState.{IriState}
 use Rattle.rsp_lex.specs.declared.quoted.IriState.TheVariants as iri
 use Rattle.rsp_lex.specs.declared.quoted.StringState.{StringState}
 use Rattle.rsp_lex.specs.declared.quoted.StringState.TheVariants as string
-
--- ---- escapes, behind their `\`
-
--- UCHAR: the last digit makes a Unicode scalar value
-abbrev pub behind_digit : ℕ → ℕ → Option Escaped
-behind_digit left value =
-    if nat_le left 1 then (if is_scalar value then Some (Whole value) else None) else Some (More (Digits (left - 1) value))
-
-abbrev pub uchar_step : Escape → ℕ → Option Escaped
-uchar_step Begun c =
-    if c == byte "u" then Some (More (Digits 4 0)) else (if c == byte "U" then Some (More (Digits 8 0)) else None)
-uchar_step (Digits left value) c =
-    if is_ascii_hexdigit c && nat_le value 0x10FFFF then behind_digit left (16 * value + digit_value c) else None
-
--- ECHAR: the names of single characters
-abbrev pub is_name : ℕ → Bool
-is_name c =
-    c == byte "t" || (c == byte "b" || (c == byte "n" || (c == byte "r" || (c == byte "f" || (c == byte "\""
-    || (c == byte "'" || c == byte "\\"))))))
-
-abbrev pub escape_step : Escape → ℕ → Option Escaped
-escape_step Begun c = if is_name c then Some (Whole c) else uchar_step Begun c
-escape_step (Digits left value) c = uchar_step (Digits left value) c
 
 -- ---- IRIs
 

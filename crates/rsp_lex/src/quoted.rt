@@ -1,26 +1,10 @@
 // IRIs in brackets and strings, character by character.
-ghost use Rattle.std.specs.Prelude.{◌≡◌, ◌<◌, true};
-ghost use Rattle.std.specs.Char.{is_ascii_hexdigit};
+ghost use Rattle.std.specs.Prelude.{◌≡◌};
 ghost use Rattle.rsp_scan.specs.Enclosed.{quote_sign, is_string_character};
 ghost use Rattle.rsp_lex.specs.Quoted as words;
 
-use rsp_scan::Quote;
+use rsp_scan::{Escape, Escaped, Quote, escape_step, uchar_step};
 use rsp_terms::characters::is_iri_character;
-
-/// An escape, behind its `\`.
-#[derive(Clone, Copy)]
-pub(crate) enum Escape {
-    Begun,
-    /// So many hexadecimal digits are left, and those before have this value.
-    Digits { left: u8, value: u32 },
-}
-
-/// An escape with one character more.
-#[derive(Clone, Copy)]
-pub(crate) enum Escaped {
-    More(Escape),
-    Whole(char),
-}
 
 /// How far an IRI is read.
 #[derive(Clone, Copy)]
@@ -45,58 +29,6 @@ pub(crate) enum StringState {
     Long(Quote, u8),
     LongEscape(Quote, Escape),
     Closed,
-}
-
-fn uchar_step(escape: Escape, c: char) -> Option<Escaped>
-    ensures { result ≡ words.uchar_step escape c }
-{
-    match escape {
-        Escape::Begun => match c {
-            'u' => Some(Escaped::More(Escape::Digits { left: 4, value: 0 })),
-            'U' => Some(Escaped::More(Escape::Digits { left: 8, value: 0 })),
-            _ => None,
-        },
-        Escape::Digits { left, value } => {
-            if !is_hexadecimal(c) || 0x10FFFF < value {
-                return None;
-            }
-            behind_digit(left, 16 * value + digit_value(c))
-        }
-    }
-}
-
-fn behind_digit(left: u8, value: u32) -> Option<Escaped>
-    ensures { result ≡ words.behind_digit left value }
-{
-    if left <= 1 {
-        match char::from_u32(value) {
-            None => None,
-            Some(character) => Some(Escaped::Whole(character)),
-        }
-    } else {
-        Some(Escaped::More(Escape::Digits {
-            left: left - 1,
-            value,
-        }))
-    }
-}
-
-fn is_hexadecimal(c: char) -> bool
-    ensures { result ≡ is_ascii_hexdigit c }
-{
-    c.is_ascii_hexdigit()
-}
-
-fn digit_value(c: char) -> u32
-    requires { is_ascii_hexdigit c ≡ true }
-    ensures value { result ≡ Rattle.std.specs.Char.digit_value c }
-    ensures bound { result < 16 }
-{
-    match c {
-        '0'..='9' => c as u32 - '0' as u32,
-        'A'..='F' => c as u32 - 'A' as u32 + 10,
-        _ => c as u32 - 'a' as u32 + 10,
-    }
 }
 
 /// The state of an IRI with one character more; None where no IRI goes on so.
@@ -242,28 +174,6 @@ fn long_step(quote: Quote, quotes: u8, c: char) -> StringState
     } else {
         StringState::Long(quote, 0)
     }
-}
-
-fn escape_step(escape: Escape, c: char) -> Option<Escaped>
-    ensures { result ≡ words.escape_step escape c }
-{
-    match escape {
-        Escape::Begun => {
-            if is_name(c) {
-                Some(Escaped::Whole(c))
-            } else {
-                uchar_step(escape, c)
-            }
-        }
-        Escape::Digits { .. } => uchar_step(escape, c),
-    }
-}
-
-// whether an ECHAR has this name
-fn is_name(c: char) -> bool
-    ensures { result ≡ words.is_name c }
-{
-    matches!(c, 't' | 'b' | 'n' | 'r' | 'f' | '"' | '\'' | '\\')
 }
 
 /// Whether a string may end in this state.

@@ -3,7 +3,6 @@
 ghost use Rattle.std.specs.Prelude.{◌≡◌, map};
 ghost use Rattle.rsp_read_expressions.specs.Lists.{bracketed_list_read, list_read};
 ghost use Rattle.rsp_read_expressions.specs.Levels.{inner_read, level_read, operand_read, operands_at_most, part_read};
-ghost use Rattle.rsp_phrases.specs.Fronts.{with_last};
 ghost use Rattle.rsp_written.specs.Gives.{Gives};
 ghost use Rattle.rsp_written.specs.Meanings.{expr_of, operand_of};
 ghost use Rattle.rsp_written.specs.Readings as readings;
@@ -54,7 +53,7 @@ fn row<P: Primaries>(
 
 // what stands between signs
 #[cycle(rows)]
-#[tactic(auto, unfolding(rsp_written::specs::Readings::and_read, rsp_written::specs::Readings::product_read))]
+#[tactic(auto, unfolding(rsp_written::specs::Readings::and_read, rsp_written::specs::Readings::product_read, rsp_written::specs::Readings::unary_read))]
 fn part<P: Primaries>(
     parts: Parts,
     depth: usize,
@@ -68,7 +67,14 @@ fn part<P: Primaries>(
         Parts::Row(Level::Or) => row::<P>(Level::And, depth, alloc, tokens),
         Parts::Row(Level::And) => relation::<P>(depth, alloc, tokens),
         Parts::Row(Level::Sum) => row::<P>(Level::Product, depth, alloc, tokens),
-        Parts::Row(Level::Product) => unary::<P>(depth, alloc, tokens),
+        Parts::Row(Level::Product) => {
+            if !begins_unary(tokens) {
+                return primary::<P>(depth, alloc, tokens);
+            }
+            let (sign, rest) = unary_sign(tokens)?;
+            let (part, rest) = primary::<P>(depth, alloc, rest)?;
+            Ok((with_sign(alloc, sign.kind, part)?, rest))
+        }
         Parts::Arguments => expression::<P>(depth, alloc, tokens),
     }
 }
@@ -91,29 +97,12 @@ fn operands<P: Primaries>(
         if !parts.go_on(rest) {
             return Ok((operands, rest));
         }
-        let (more, behind) = operand::<P>(parts, depth, alloc, operands, rest)?;
-        operands = more;
+        let (sign, behind) = parts.sign(rest)?;
+        let (part, behind) = part::<P>(parts, depth, alloc, behind)?;
+        operands = one_more(operands, sign.kind, part)?;
         rest = behind;
     }
     Ok((operands, rest))
-}
-
-// a sign and the part behind it, put behind those before
-#[cycle(rows)]
-fn operand<P: Primaries>(
-    parts: Parts,
-    depth: usize,
-    alloc: Global,
-    before: Vec<Operand>,
-    tokens: &[Said],
-) -> Result<(Vec<Operand>, &[Said]), Halt>
-    ensures { Gives (λ x. (map operand_of x.0.items, x.1.now)) result
-        (with_last (map operand_of before.items)
-        (operand_read parts P.first P.reading (inner_read P.first P.reading depth) tokens.now)) }
-{
-    let (sign, rest) = parts.sign(tokens)?;
-    let (part, rest) = part::<P>(parts, depth, alloc, rest)?;
-    Ok((one_more(before, sign.kind, part)?, rest))
 }
 
 #[cycle(rows)]
@@ -142,24 +131,6 @@ fn relation<P: Primaries>(
 }
 
 #[cycle(rows)]
-#[tactic(auto, unfolding(rsp_written::specs::Readings::unary_read))]
-fn unary<P: Primaries>(
-    depth: usize,
-    alloc: Global,
-    tokens: &[Said],
-) -> Result<(Expression, &[Said]), Halt>
-    ensures { Gives (λ x. (expr_of x.0, x.1.now)) result
-        (readings.unary_read P.first P.reading (inner_read P.first P.reading depth) tokens.now) }
-{
-    if !begins_unary(tokens) {
-        return primary::<P>(depth, alloc, tokens);
-    }
-    let (sign, rest) = unary_sign(tokens)?;
-    let (part, rest) = primary::<P>(depth, alloc, rest)?;
-    Ok((with_sign(alloc, sign.kind, part)?, rest))
-}
-
-#[cycle(rows)]
 #[tactic(auto, unfolding(rsp_written::specs::Readings::primary_read, rsp_written::specs::Readings::simple_read))]
 fn primary<P: Primaries>(
     depth: usize,
@@ -172,27 +143,15 @@ fn primary<P: Primaries>(
     if P::begins(tokens) {
         P::read(alloc, tokens)
     } else if first_is(Kind::Symbol(Symbol::OpenParen), tokens) {
-        in_parens::<P>(depth, alloc, tokens)
+        let (_, rest) = sign(Symbol::OpenParen, tokens)?;
+        let (inner, rest) = expression::<P>(depth, alloc, rest)?;
+        let (_, rest) = sign(Symbol::CloseParen, rest)?;
+        Ok((inner, rest))
     } else if begins_call(tokens) {
         call::<P>(depth, alloc, tokens)
     } else {
         leaf(alloc, tokens)
     }
-}
-
-#[cycle(rows)]
-fn in_parens<P: Primaries>(
-    depth: usize,
-    alloc: Global,
-    tokens: &[Said],
-) -> Result<(Expression, &[Said]), Halt>
-    ensures { Gives (λ x. (expr_of x.0, x.1.now)) result
-        (readings.in_parens_read (inner_read P.first P.reading depth) tokens.now) }
-{
-    let (_, rest) = sign(Symbol::OpenParen, tokens)?;
-    let (inner, rest) = expression::<P>(depth, alloc, rest)?;
-    let (_, rest) = sign(Symbol::CloseParen, rest)?;
-    Ok((inner, rest))
 }
 
 /// A call whose arguments hold themselves at most so deep.

@@ -1,5 +1,6 @@
 -- Definitions
 pub mod Enclosed
+pub mod Escaping
 pub mod Fronts
 pub mod Names
 -- Words of the way

@@ -1,11 +1,11 @@
 // Escapes: the character that one stands for, and the text behind it.
-ghost use Rattle.std.specs.Prelude.{◌≡◌, ◌≤◌, ◌<◌, MatchOption, Some, None, length, IsTrue};
+ghost use Rattle.std.specs.Prelude.{◌≡◌, ◌≤◌, MatchOption, Some, None, length, IsTrue};
 ghost use Rattle.std.specs.Char.{is_ascii_hexdigit};
 ghost use Rattle.std.specs.List.{list_all};
 ghost use Rattle.std.specs.Str.Parse.{digits_value};
-ghost use Rattle.rsp_scan.specs.Enclosed.{named_character};
 ghost use Rattle.rsp_scan.specs.Readers as part;
 
+use crate::escaping::{digit_value, is_hexadecimal, named_character};
 use rsp_terms::characters::is_iri_character;
 
 /// An escape in an IRI: a UCHAR that names an IRI character.
@@ -41,24 +41,8 @@ fn echar(text: &[u8]) -> Option<(char, &[u8])>
     let [b'\\', name, rest @ ..] = text else {
         return None;
     };
-    let character = named_character(*name)?;
+    let character = named_character(char::from(*name))?;
     Some((character, rest))
-}
-
-fn named_character(name: u8) -> Option<char>
-    ensures { result ≡ named_character name }
-{
-    match name {
-        b't' => Some('\t'),
-        b'b' => Some('\u{8}'),
-        b'n' => Some('\n'),
-        b'r' => Some('\r'),
-        b'f' => Some('\u{C}'),
-        b'"' => Some('"'),
-        b'\'' => Some('\''),
-        b'\\' => Some('\\'),
-        _ => None,
-    }
 }
 
 #[tactic(auto, unfolding(crate::specs::Readers::uchar))]
@@ -92,13 +76,7 @@ fn code_point(count: usize, text: &[u8]) -> Option<(char, &[u8])>
 fn are_hexadecimal(digits: &[u8]) -> bool
     ensures { result ≡ list_all is_ascii_hexdigit digits.now }
 {
-    digits.iter().all(|c| is_hexadecimal(*c))
-}
-
-fn is_hexadecimal(c: u8) -> bool
-    ensures { result ≡ is_ascii_hexdigit c }
-{
-    c.is_ascii_hexdigit()
+    digits.iter().all(|c| is_hexadecimal(char::from(*c)))
 }
 
 fn value_of(digits: &[u8]) -> u32
@@ -108,19 +86,7 @@ fn value_of(digits: &[u8]) -> u32
 {
     let mut value = 0;
     for digit in digits {
-        value = 16 * value + digit_value(*digit);
+        value = 16 * value + digit_value(char::from(*digit));
     }
     value
-}
-
-fn digit_value(digit: u8) -> u32
-    requires { IsTrue (is_ascii_hexdigit digit) }
-    ensures value { result ≡ Rattle.std.specs.Char.digit_value digit }
-    ensures bound { result < 16 }
-{
-    match digit {
-        b'0'..=b'9' => u32::from(digit - b'0'),
-        b'A'..=b'F' => u32::from(digit - b'A') + 10,
-        _ => u32::from(digit - b'a') + 10,
-    }
 }

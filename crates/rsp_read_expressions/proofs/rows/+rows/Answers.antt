@@ -1,9 +1,12 @@
-use Rattle.std.proofs.Common.{rules, ◌≡◌, suc, ◌+◌, ◌-◌, true, false, sym, ◌∙◌, arith, subst, Err}
+use Rattle.std.proofs.Common.{rules, map, ◌≡◌, suc, ◌+◌, ◌-◌, true, false, sym, ◌∙◌, arith, subst, Err}
 use Rattle.rsp_phrases.proofs.LoopSteps.{more_at, wrong_at, none_at, end_at}
 use Rattle.rsp_written.specs.Gives.{Gives}
 use Rattle.rsp_written.specs.Grammar.{kind_number}
+use Rattle.rsp_written.specs.Meanings.{operand_of}
+use Rattle.rsp_read_expressions.specs.Levels.{inner_read}
 use Rattle.rsp_read_expressions.proofs.ArgumentLaws.{arguments_same}
 use Rattle.rsp_read_expressions.proofs.ListSteps.{list_wrong, list_right}
+use Rattle.rsp_read_expressions.proofs.OperandSteps.{part_wrong, operand_right}
 use Rattle.rsp_read_expressions.proofs.Failing.{fails_of}
 use Rattle.rsp_read_expressions.proofs.rows.+rows.Goals as goal
 
@@ -22,15 +25,23 @@ pub operands-loop-preserved : goal.operands-loop-preserved
 operands-loop-preserved g t c =
     let on : c.go_on.result ≡ true = search rules in
     let next : c.args.most - c.loop.counter ≡ suc (c.args.most - (c.loop.counter + 1)) = omega arith in
-    sym (more_at kind_number _ _ _ _ _ _ _ _ next (sym c.go_on.ensures ∙ on) c.in_ok-more.ensures) ∙ c.loop.invariant
+    rw c.in_ok-operands.ensures
+    (sym (more_at kind_number _ _ _ _ _ _ _ _ next (sym c.go_on.ensures ∙ on)
+    (operand_right c.args.parts g.P.Primaries.first g.P.Primaries.reading
+    (inner_read g.P.Primaries.first g.P.Primaries.reading c.args.depth) (map operand_of c.loop.operands.items) c.loop.rest.now
+    _ _ c.in_ok-sign.ensures _ _ c.in_ok-part.ensures)) ∙ c.loop.invariant)
 
-pub operands-returns-in_err-more : goal.operands-returns-in_err-more
-operands-returns-in_err-more g t c =
+pub operands-returns-in_err-part : goal.operands-returns-in_err-part
+operands-returns-in_err-part g t c =
     let on : c.go_on.result ≡ true = search rules in
     let next : c.args.most - c.loop.counter ≡ suc (c.args.most - (c.loop.counter + 1)) = omega arith in
-    let err : c.from_residual.result ≡ Err c.in_err-more.field-0.0 = search rules in
+    let err : c.from_residual-in_err-part.result ≡ Err c.in_err-part.field-0.0 = search rules in
     rw err (fails_of _ _ _
-    (λ left h. sym c.loop.invariant ∙ wrong_at kind_number _ _ _ _ _ left _ next (sym c.go_on.ensures ∙ on) h) c.in_err-more.ensures)
+    (λ left h. sym c.loop.invariant
+    ∙ wrong_at kind_number _ _ _ _ _ left _ next (sym c.go_on.ensures ∙ on) (part_wrong c.args.parts g.P.Primaries.first g.P.Primaries.reading
+    (inner_read g.P.Primaries.first g.P.Primaries.reading c.args.depth) (map operand_of c.loop.operands.items) c.loop.rest.now
+    _ _ c.in_ok-sign.ensures left h))
+    c.in_err-part.ensures)
 
 pub list-returns-in_err-others : goal.list-returns-in_err-others
 list-returns-in_err-others g t c =

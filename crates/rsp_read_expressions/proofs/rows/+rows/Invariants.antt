@@ -19,20 +19,11 @@ decreases-part g l = 32 * l.depth + part_rank l.parts
 abbrev pub decreases-operands : goal.decreases-operands
 decreases-operands g l = 32 * l.depth + (part_rank l.parts + 2)
 
-abbrev pub decreases-operand : goal.decreases-operand
-decreases-operand g l = 32 * l.depth + (part_rank l.parts + 1)
-
 abbrev pub decreases-relation : goal.decreases-relation
 decreases-relation g l = 32 * l.depth + 18
 
-abbrev pub decreases-unary : goal.decreases-unary
-decreases-unary g l = 32 * l.depth + 9
-
 abbrev pub decreases-primary : goal.decreases-primary
 decreases-primary g l = 32 * l.depth + 8
-
-abbrev pub decreases-in_parens : goal.decreases-in_parens
-decreases-in_parens g l = 32 * l.depth + 1
 
 abbrev pub decreases-call : goal.decreases-call
 decreases-call g l = 32 * l.depth + 7
