@@ -1,5 +1,5 @@
 -- An engine's state behind a report.
-use Rattle.std.proofs.Common.{◌≡◌, ℕ, ◌+◌, ◌<◌, ◌≤◌, Bool, true, false, List, length, map, Option, None, Some, refl, sym, ◌∙◌, ap, subst, arith, option_to_list, ◌||◌, ◌⊎◌, inl, inr}
+use Rattle.std.proofs.Common.{◌≡◌, ℕ, ◌+◌, ◌<◌, ◌≤◌, Bool, true, false, List, length, Option, None, Some, refl, sym, ◌∙◌, ap, subst, arith, option_to_list, ◌||◌, ◌⊎◌, inl, inr}
 use Rattle.std.specs.Prelude.{if◌then◌else◌, ◌==◌}
 use Rattle.std.specs.Option.{option_map, option_map_or, ForSome}
 use Rattle.std.proofs.lemmas.Bool.Decides.{nat_tests}
@@ -10,11 +10,12 @@ use Rattle.rsp_engine.specs.declared.item.Item.{Item}
 use Rattle.rsp_engine.specs.declared.live_query.LiveQuery.{LiveQuery}
 use Rattle.rsp_engine.specs.declared.report.Outcome.{Outcome}
 use Rattle.rsp_engine.specs.declared.report.Outcome.TheVariants as outcomes
-use Rattle.rsp_engine.specs.World.{World}
+use Rattle.rsp_engine.specs.World.{Query, World}
 use Rattle.rsp_engine.specs.Moments.{moments_from}
 use Rattle.rsp_engine.specs.Inside.{Answers, live_of}
-use Rattle.rsp_engine.specs.Passing.{IsDue, IsReported, WorksOff, is_overfull_outcome, seeing}
-use Rattle.rsp_engine.specs.Stands.{IsState, Live, State, closes_for, closes_in, first_instant, is_idle, query_of}
+use Rattle.rsp_engine.specs.Passing.{Has, IsDue, IsReported, WorksOff, is_overfull_outcome, seeing}
+use Rattle.rsp_engine.specs.Stands.{IsAtClosings, IsState, Live, State, closes_in, first_instant, is_idle, query_of, shapes_of}
+use Rattle.rsp_engine.proofs.Walks.{closes_as, kept_at_closings}
 
 -- a busy engine has an instant left below `next`
 or_false : (a b : Bool) → (a || b) ≡ false → b ≡ false
@@ -36,30 +37,27 @@ due_query s next live state busy is query =
       complete = (next, is, below);
     }
 
-shape_of : Option Live → Option Shape
-shape_of = option_map (λ (live : Live). live.line.shape)
+-- ---- the query that is left, if it is
 
-closes_as : (query : Option Live) (t : ℕ) → closes_in (option_map (λ (live : Live). live.line.shape) query) t ≡ closes_for query t
-closes_as None t = refl
-closes_as (Some live) t = refl
-
-first_kept : (b : Bool) (live : Live) (items : List Item) (t count : ℕ) → live.first ≤ count → ForSome (if b then None else Some (seeing live items t)) (λ (l : Live). l.first ≤ count)
-first_kept true live items t count first = λ x is. cc
-first_kept false live items t count first = λ x is. let same : seeing live items t ≡ x = cc in subst (λ (l : Live). l.first ≤ count) same first
+-- what was asked of the query
+left_so : (P : Live → Type 0) (b : Bool) (live : Live) → P live → ForSome (if b then None else Some live) P
+left_so P true live holds = λ x is. cc
+left_so P false live holds = λ x is. let same : live ≡ x = cc in subst P same holds
 
 pub state_behind : (old : State) (next at : ℕ) (live : Live) (kept : Option Live) (window : Option Shape) (b : Bool) → IsState old → old.next ≡ Some next → old.query ≡ Some live
-    → kept ≡ (if b then None else Some (seeing live old.items old.at)) → window ≡ option_map (λ (l : Live). l.line.shape) kept → at ≤ next
+    → kept ≡ (if b then None else Some (seeing live old.items old.at)) → shapes_of (option_map query_of kept) ≡ option_to_list window → at ≤ next
     → (at < next → closes_in window at ≡ true) → IsState (record old { query = kept; at = at })
 state_behind old next at live kept window b state is query kept_is window_is low waits = record {
   unset = λ none. cc;
   within = λ n some. let same : next ≡ n = cc in subst (λ m. (at ≤ m) × (m ≤ last_instant + 1)) same (low, (state.within next is).1);
-  waits = λ n some below. let same : n ≡ next = cc in sym (closes_as kept at) ∙ (ap (λ w. closes_in w at) (sym window_is) ∙ waits (subst (λ m. at < m) same below));
-  first = subst (λ o. ForSome o (λ (l : Live). l.first ≤ length old.items)) (sym kept_is) (first_kept b live old.items old.at (length old.items) (state.first live query));
+  waits = λ n some below. let same : n ≡ next = cc in closes_as (option_map query_of kept) window window_is at ∙ waits (subst (λ m. at < m) same below);
+  first = subst (λ o. ForSome o (λ (l : Live). l.first ≤ length old.items)) (sym kept_is)
+      (left_so (λ (l : Live). l.first ≤ length old.items) b (seeing live old.items old.at) (state.first live query));
 }
 
-pub works_off : (old : State) (next at : ℕ) (kept : Option Live) (window : Option Shape) → old.next ≡ Some next → old.at < next → window ≡ option_map (λ (l : Live). l.line.shape) kept → old.at + 1 ≤ at
-    → ((world : World) (query : Option Live) → option_map (λ (l : Live). l.line.shape) query ≡ window → world.queries ≡ map query_of (option_to_list query) → world.next ≡ Some next → moments_from world (old.at + 1) ≡ moments_from world at)
-    → ((world : World) (query : Option Live) → option_map (λ (l : Live). l.line.shape) query ≡ window → world.queries ≡ map query_of (option_to_list query) → world.next ≡ Some next → at ≡ first_instant world (moments_from world at))
+pub works_off : (old : State) (next at : ℕ) (kept : Option Live) (window : Option Shape) → old.next ≡ Some next → old.at < next → shapes_of (option_map query_of kept) ≡ option_to_list window → old.at + 1 ≤ at
+    → ((world : World) (query : Option Query) → shapes_of query ≡ option_to_list window → IsAtClosings query → Has world query (Some next) → moments_from world (old.at + 1) ≡ moments_from world at)
+    → ((world : World) (query : Option Query) → shapes_of query ≡ option_to_list window → IsAtClosings query → Has world query (Some next) → at ≡ first_instant world (moments_from world at))
     → WorksOff old kept (record old { query = kept; at = at })
 works_off old next at kept window is below window_is low moments first = record {
   next = refl;
@@ -67,8 +65,8 @@ works_off old next at kept window is below window_is low moments first = record 
   items = refl;
   broken = refl;
   nearer = rw is (omega (arith, below, low));
-  moments = λ world queries next_is. moments world kept (sym window_is) queries (next_is ∙ is);
-  at = λ world queries next_is. first world kept (sym window_is) queries (next_is ∙ is);
+  moments = λ world has. moments world (option_map query_of kept) window_is (kept_at_closings kept) (record { queries = has.queries; next = has.next ∙ is });
+  at = λ world has. first world (option_map query_of kept) window_is (kept_at_closings kept) (record { queries = has.queries; next = has.next ∙ is });
 }
 
 module _ {A : Type 0} (node : A → Node) (width : A → ℕ) (facts : A → List Fact) (spent : A → Bool) where

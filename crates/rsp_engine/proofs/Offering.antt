@@ -7,20 +7,18 @@ use Rattle.std.specs.Option.{is_some, option_map_or}
 use Rattle.std.specs.Cmp.Lexicographic.{bytes_decides}
 use Rattle.rsp_events.specs.declared.event.Event.{Event}
 use Rattle.rsp_events.specs.declared.event.Event.TheVariants.{Register, Item, Tick}
-use Rattle.rsp_query_line.specs.declared.line.Line.{Line}
-use Rattle.rsp_query_line.specs.QueryLine.{query_line}
 use Rattle.rsp_terms.specs.declared.statement.Triple.{Triple}
 use Rattle.rsp_engine.specs.declared.item.Item as item
 use Rattle.rsp_syntax.specs.Parsing.{parse}
 use Rattle.rsp_engine.specs.declared.refused.Refused.{Refused}
 use Rattle.rsp_engine.specs.Offers.{Answers, Refuses}
 use Rattle.rsp_engine.specs.Refusals.{Refusal, refusal_of, text_fault}
-use Rattle.rsp_engine.specs.World.{World}
-use Rattle.rsp_engine.specs.Accept.{accept, next_of, most_items, most_triples, query_of_line}
+use Rattle.rsp_engine.specs.World.{Reading, World}
+use Rattle.rsp_engine.specs.Accept.{accept, next_of, most_items, most_triples, new_query, reading_of}
 use Rattle.rsp_engine.specs.Moments.{moments, moments_from, moments_on, due_moments}
-use Rattle.rsp_engine.specs.Stands.{State, Stands}
-use Rattle.rsp_engine.specs.Passing.{Passes}
-use Rattle.rsp_engine.proofs.Walks.{none_on_items}
+use Rattle.rsp_engine.specs.Stands.{Live, State, Stands, query_in, query_of}
+use Rattle.rsp_engine.specs.Passing.{Has, Passes}
+use Rattle.rsp_engine.proofs.Walks.{kept_at_closings, none_on_items}
 
 pub same_bytes : (name : List ℕ) → bytes_eq name name ≡ true
 same_bytes name = (bytes_decides name name).1 refl
@@ -33,9 +31,10 @@ Leads world event new = (after : World) × (accept world event ≡ Ok after) × 
 pub tick_leads : (old new : State) (time : ℕ) (world : World) → old.broken ≡ false → unwrap_or old.next 0 ≤ time + 1 → Passes old (time + 1) new → Stands old world [] → Leads world (Tick time) new
 tick_leads old new time world ready late passes stands =
     let after : World = record world { next = Some (time + 1) } in
+    let has : Has after (query_in old) (Some (time + 1)) = record { queries = stands.queries; next = refl } in
     let in_time : nat_lt (time + 1) (next_of world) ≡ false = le-ltb _ _ (rw stands.next at late) in
     let left : moments world (Tick time) after ≡ moments_from after new.at =
-    append-nil _ ∙ rw (← stands.next) (passes.moments after stands.queries refl) in (
+    append-nil _ ∙ rw (← stands.next) (passes.moments after has) in (
       after,
       rw in_time refl,
       record {
@@ -44,7 +43,7 @@ tick_leads old new time world ready late passes stands =
         items = passes.items ∙ stands.items;
         queries = rw passes.query stands.queries;
         moments = left;
-        at = rw left (passes.at after stands.queries refl);
+        at = rw left (passes.at after has);
       },
     )
 
@@ -53,14 +52,15 @@ pub item_leads : (old kept new : State) (stream : List ℕ) (time : ℕ) (graph 
 item_leads old kept new stream time graph world ready small few late is passes stands =
     let arrived : item.Item = record { stream = stream; time = time; graph = graph } in
     let after : World = record world { next = Some time; items = world.items ++ arrived ∷ [] } in
+    let has : Has after (query_in old) (Some time) = record { queries = stands.queries; next = refl } in
     let few_items : nat_le most_items (length world.items) ≡ false = lt-leb _ _ (rw stands.items at few) in
     let few_triples : nat_lt most_triples (length graph) ≡ false = le-ltb _ _ small in
     let in_time : nat_lt time (next_of world) ≡ false = le-ltb _ _ (rw stands.next at late) in
     let then : Passes (record old { items = old.items ++ arrived ∷ [] }) time new =
     let P : State → Type 0 = λ s. Passes s time new in subst P is passes in
-    let on_item : moments_on after (Item stream time graph) ≡ [] = none_on_items after old.query stands.queries time arrived in
+    let on_item : moments_on after (Item stream time graph) ≡ [] = none_on_items after (query_in old) stands.queries (kept_at_closings old.query) time arrived in
     let left : moments world (Item stream time graph) after ≡ moments_from after new.at =
-    rw on_item (append-nil _ ∙ rw (← stands.next) (then.moments after stands.queries refl)) in (
+    rw on_item (append-nil _ ∙ rw (← stands.next) (then.moments after has)) in (
       after,
       rw (few_triples, few_items, in_time) refl,
       record {
@@ -69,7 +69,7 @@ item_leads old kept new stream time graph world ready small few late is passes s
         items = rw (← stands.items) then.items;
         queries = rw then.query stands.queries;
         moments = left;
-        at = rw left (then.at after stands.queries refl);
+        at = rw left (then.at after has);
       },
     )
 
@@ -83,11 +83,11 @@ none_from world None = refl
 none_from world (Some next) = let none : next - next ≡ 0 = omega arith in rw none refl
 
 -- a query that became live where none was
-pub register_leads : (old : State) (name text : List ℕ) (line : Line) (world : World) → old.broken ≡ false → old.query ≡ None → text_fault (parse text) ≡ None → query_line text ≡ Some line → Stands old world []
-    → Leads world (Register name text) (record old { query = Some (record { name = name; line = line; first = length old.items; seen = [] }) })
-register_leads old name text line world ready none good is stands =
+pub register_leads : (old : State) (name text : List ℕ) (reading : Reading) (kept : Live) (world : World) → query_of kept ≡ new_query name reading (length old.items) → old.broken ≡ false → old.query ≡ None → text_fault (parse text) ≡ None → reading_of text ≡ Some reading → Stands old world []
+    → Leads world (Register name text) (record old { query = Some kept })
+register_leads old name text reading kept world made ready none good is stands =
     let no_query : world.queries ≡ [] = rw none at stands.queries in
-    let after : World = record world { queries = world.queries ++ query_of_line name line (length world.items) ∷ [] } in
+    let after : World = record world { queries = world.queries ++ new_query name reading (length world.items) ∷ [] } in
     let left : moments world (Register name text) after ≡ [] = append-nil _ ∙ none_behind after world.next in
     let nothing : moments_from after (next_of world) ≡ [] = none_from after world.next in (
       after,
@@ -96,7 +96,7 @@ register_leads old name text line world ready none good is stands =
         ready = ready;
         next = stands.next;
         items = stands.items;
-        queries = rw (no_query, stands.items) refl;
+        queries = rw (no_query, made, stands.items) refl;
         moments = left ∙ sym (rw stands.at nothing);
         at = rw left stands.at;
       },

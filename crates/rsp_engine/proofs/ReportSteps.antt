@@ -2,7 +2,7 @@
 use Rattle.std.proofs.Common.{◌≡◌, ℕ, zero, suc, ◌≤◌, Bool, true, false, List, [], ◌∷◌, length, filter, Option, None, Some, refl, ◌∙◌, ap, arith}
 use Rattle.std.specs.Prelude.{if◌then◌else◌, not, bytes_eq}
 use Rattle.std.specs.Option.{option_map_or}
-use Rattle.rsp_engine.specs.World.{World, Query}
+use Rattle.rsp_engine.specs.World.{World, Registration}
 use Rattle.rsp_engine.specs.Moments.{Moment}
 use Rattle.rsp_engine.specs.Reports.{ReportStep, after_report, is_overfull, live_query, moments_behind, next_step, report_of, reports, reports_within, world_behind, world_within}
 
@@ -22,7 +22,7 @@ struck_fewer true test left = filtered test left
 struck_fewer false test left = omega arith
 
 -- the step of a moment, by its live query
-abbrev step_of : World → Moment → List Moment → Option Query → Option ReportStep
+abbrev step_of : World → Moment → List Moment → Option Registration → Option ReportStep
 step_of world moment left query =
     option_map_or
     (λ query.
@@ -39,7 +39,7 @@ fewer : (world : World) (left : List Moment) (step : ReportStep) → next_step w
 fewer world [] step is = cc
 fewer world (moment ∷ left) step is = by (live_query world moment.query) (fewer world left step) is
   where
-    by : (query : Option Query) → (next_step world left ≡ Some step → suc (length step.left) ≤ length left) → step_of world moment left query ≡ Some step → suc (length step.left) ≤ suc (length left)
+    by : (query : Option Registration) → (next_step world left ≡ Some step → suc (length step.left) ≤ length left) → step_of world moment left query ≡ Some step → suc (length step.left) ≤ suc (length left)
     by None later is = let less = later is in omega (arith, less)
     by (Some query) later is =
         let behind : moments_behind world query moment.at left ≡ step.left = cc in

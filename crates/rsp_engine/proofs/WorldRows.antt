@@ -16,7 +16,7 @@ use Rattle.rsp_engine.specs.declared.report.Report.{Report}
 use Rattle.rsp_engine.specs.declared.report.Outcome.TheVariants.{Rows}
 use Rattle.rsp_engine.specs.Refusals.{Refusal, left_out, late, unbuilt, text_fault}
 use Rattle.rsp_engine.specs.World.{World, Query, Strategy, StreamWindow, empty_world, close, change, nonempty, every}
-use Rattle.rsp_engine.specs.Accept.{accept, query_of_line}
+use Rattle.rsp_engine.specs.Accept.{accept, new_query, reading_of_line}
 use Rattle.rsp_engine.specs.Contents.{content, in_content}
 use Rattle.rsp_engine.specs.Moments.{Moment, moments}
 use Rattle.rsp_engine.specs.Reports.{reports, is_overfull, after_report, moments_behind}
@@ -53,7 +53,7 @@ line shape =
 
 -- one query that sees the items from a number on
 abbrev query_from : ℕ → Shape → Query
-query_from first shape = query_of_line (codes "q") (line shape) first
+query_from first shape = new_query (codes "q") (reading_of_line (line shape)) first
 
 abbrev query : Shape → Query
 query shape = query_from 0 shape
@@ -90,14 +90,14 @@ report_of t subjects =
 
 -- the times of the items in the query's content at t
 abbrev times_in : World → Shape → ℕ → List ℕ
-times_in w shape t = map (λ (i : item.Item). i.time) (content w (query shape) (on_a shape) t)
+times_in w shape t = map (λ (i : item.Item). i.time) (content w (query shape).registration (on_a shape) t)
 
 -- ---- which events are accepted
 
 -- it sees the items from the second on
 pub query_line_is_registered : (text : List ℕ) (line : Line) → text_fault (parse text) ≡ None → query_line text ≡ Some line
     → accept (world (Some 4) (item_at 1 (codes "a:3") ∷ []) []) (Register (codes "q") text)
-    ≡ Ok (world (Some 4) (item_at 1 (codes "a:3") ∷ []) (query_of_line (codes "q") line 1 ∷ []))
+    ≡ Ok (world (Some 4) (item_at 1 (codes "a:3") ∷ []) (new_query (codes "q") (reading_of_line line) 1 ∷ []))
 query_line_is_registered text line good is = rw (good, is) refl
 
 pub other_text_is_unbuilt : (text : List ℕ) → text_fault (parse text) ≡ None → query_line text ≡ None → accept empty_world (Register (codes "q") text) ≡ Err unbuilt
@@ -175,7 +175,8 @@ first_tick_has_no_moments = refl
 
 -- a query that looks at instants, by these strategies
 abbrev looks_at_instants : List Strategy → Query
-looks_at_instants strategies = record (query side_by_side) { policy = record { strategies = strategies; on_items = false } }
+looks_at_instants strategies =
+    new_query (codes "q") (record (reading_of_line (line side_by_side)) { policy = record { strategies = strategies; on_items = false } }) 0
 
 -- when the query reports, where an item of time 4 lies before and a tick 20 comes
 abbrev reports_at : List Strategy → List ℕ
@@ -225,14 +226,14 @@ later_items_alone_are_reported = refl
 
 -- whatever the items are
 pub overfull_report_ends_the_query : (items : List item.Item)
-    → is_overfull (world (Some 11) items (query side_by_side ∷ [])) (query side_by_side) 10 ≡ true
-    → after_report (world (Some 11) items (query side_by_side ∷ [])) (query side_by_side) 10 ≡ world (Some 11) items []
+    → is_overfull (world (Some 11) items (query side_by_side ∷ [])) (query side_by_side).registration 10 ≡ true
+    → after_report (world (Some 11) items (query side_by_side ∷ [])) (query side_by_side).registration 10 ≡ world (Some 11) items []
 overfull_report_ends_the_query items over = rw over refl
 
 -- and its moments
 pub overfull_report_strikes_its_moments : (items : List item.Item)
-    → is_overfull (world (Some 21) items (query side_by_side ∷ [])) (query side_by_side) 10 ≡ true
-    → moments_behind (world (Some 21) items (query side_by_side ∷ [])) (query side_by_side) 10 (at 20 ∷ record { at = 20; query = codes "r" } ∷ [])
+    → is_overfull (world (Some 21) items (query side_by_side ∷ [])) (query side_by_side).registration 10 ≡ true
+    → moments_behind (world (Some 21) items (query side_by_side ∷ [])) (query side_by_side).registration 10 (at 20 ∷ record { at = 20; query = codes "r" } ∷ [])
     ≡ record { at = 20; query = codes "r" } ∷ []
 overfull_report_strikes_its_moments items over = rw over refl
 

@@ -1,6 +1,6 @@
 -- Definitions: which events are accepted, and what an accepted event makes of the world.
-use Rattle.std.specs.Prelude.{ℕ, ◌+◌, false, nat_lt, nat_le, ◌||◌, if◌then◌else◌, Some, Result, Ok, Err, List, [], ◌∷◌, ◌++◌, length, codes}
-use Rattle.std.specs.Option.{unwrap_or, option_map_or}
+use Rattle.std.specs.Prelude.{ℕ, ◌+◌, nat_lt, nat_le, ◌||◌, if◌then◌else◌, Option, Some, Result, Ok, Err, List, [], ◌∷◌, ◌++◌, length, codes}
+use Rattle.std.specs.Option.{unwrap_or, option_map, option_map_or}
 use Rattle.rsp_events.specs.declared.event.Event.{Event}
 use Rattle.rsp_events.specs.declared.event.Event.TheVariants.{Register, Cancel, Item, Tick, Insert, Delete}
 use Rattle.rsp_engine.specs.declared.item.Item as item
@@ -9,7 +9,7 @@ use Rattle.rsp_query_line.specs.QueryLine.{query_line}
 use Rattle.rsp_query_line.specs.Meaning.{node_of_line, width_of, shown_of}
 use Rattle.rsp_syntax.specs.Parsing.{parse}
 use Rattle.rsp_engine.specs.Refusals.{Refusal, late, unbuilt, text_fault}
-use Rattle.rsp_engine.specs.World.{World, Query, close}
+use Rattle.rsp_engine.specs.World.{World, Query, Reading, at_closings}
 
 -- the first instant that isn't complete, or 0 where none is set
 abbrev pub next_of : World → ℕ
@@ -22,20 +22,25 @@ most_items = 1000
 abbrev pub most_triples : ℕ
 most_triples = 1000
 
--- the query of a text of the form that is built: it reports where its window closes
-abbrev pub query_of_line : List ℕ → Line → ℕ → Query
-query_of_line name line first =
+-- what a text of the form that is built says: it reports where its window closes
+abbrev pub reading_of_line : Line → Reading
+reading_of_line line =
     record {
-      name = name;
-      policy = record { strategies = close ∷ []; on_items = false };
+      policy = at_closings;
       windows = record { stream = codes "s:a"; shape = line.shape } ∷ [];
       node = node_of_line line;
       width = width_of line;
       shown = shown_of line;
       variables = line.shown;
-      first = first;
-      seen = [];
     }
+
+-- what a text says, where it is of this form
+abbrev pub reading_of : List ℕ → Option Reading
+reading_of text = option_map reading_of_line (query_line text)
+
+-- a query that has not reported
+abbrev pub new_query : List ℕ → Reading → ℕ → Query
+new_query name reading first = record { registration = record { name = name; reading = reading; first = first }; seen = [] }
 
 -- a query becomes live, last in order; by now one alone can be live, and its text is a query line
 abbrev pub accept_query : World → List ℕ → List ℕ → Result World Refusal
@@ -44,8 +49,8 @@ accept_query world name text =
     then Err unbuilt
     else
     option_map_or
-    (λ line. Ok (record world { queries = world.queries ++ query_of_line name line (length world.items) ∷ [] }))
-    (query_line text)
+    (λ reading. Ok (record world { queries = world.queries ++ new_query name reading (length world.items) ∷ [] }))
+    (reading_of text)
     (Err unbuilt)
 
 -- a text with a fault is refused for it

@@ -8,7 +8,7 @@ use Rattle.rsp_terms.specs.declared.statement.Fact.{Fact}
 use Rattle.rsp_terms.specs.declared.statement.Spot.TheVariants as spot
 use Rattle.rsp_terms.specs.contracts.statement.TriplePartialEq.TheImpl.{ghosts as triple}
 use Rattle.rsp_engine.specs.declared.item.Item.{Item}
-use Rattle.rsp_engine.specs.World.{World, Query, StreamWindow}
+use Rattle.rsp_engine.specs.World.{World, Registration, StreamWindow}
 
 -- the item is in the window's content at t: its stream is the window's, and its time lies in the active window, up to t
 abbrev pub in_content : StreamWindow → ℕ → Item → Bool
@@ -19,11 +19,11 @@ in_content w t item =
     false
 
 -- the items that the query may see: those accepted since it was registered
-abbrev pub visible_items : World → Query → List Item
+abbrev pub visible_items : World → Registration → List Item
 visible_items world query = drop query.first world.items
 
 -- the content of one of the query's windows at t, in the order of acceptance
-abbrev pub content : World → Query → StreamWindow → ℕ → List Item
+abbrev pub content : World → Registration → StreamWindow → ℕ → List Item
 content world query w t = filter (in_content w t) (visible_items world query)
 
 -- a triple at the end, unless it is there
@@ -35,17 +35,17 @@ abbrev pub distinct_triples : List Triple → List Triple
 distinct_triples triples = fold add_once [] triples
 
 -- the window's graph: the distinct triples of its content
-abbrev pub graph : World → Query → StreamWindow → ℕ → List Triple
+abbrev pub graph : World → Registration → StreamWindow → ℕ → List Triple
 graph world query w t = distinct_triples (flat_map (λ (item : Item). item.graph) (content world query w t))
 
 -- the triples of the graph of window k as facts
 abbrev pub facts_of : ℕ → List Triple → List Fact
 facts_of k triples = map (λ t. record { spot = spot.Window k; triple = t }) triples
 
-abbrev pub facts_from : World → Query → ℕ → ℕ → List StreamWindow → List Fact
+abbrev pub facts_from : World → Registration → ℕ → ℕ → List StreamWindow → List Fact
 facts_from world query t k [] = []
 facts_from world query t k (w ∷ ws) = facts_of k (graph world query w t) ++ facts_from world query t (k + 1) ws
 
 -- the facts that a query sees at t: the graphs of all its windows
-abbrev pub facts : World → Query → ℕ → List Fact
-facts world query t = facts_from world query t 0 query.windows
+abbrev pub facts : World → Registration → ℕ → List Fact
+facts world query t = facts_from world query t 0 query.reading.windows

@@ -4,7 +4,7 @@ use Rattle.std.specs.List.{list_any, range_with_len, enumerate_from}
 use Rattle.std.specs.Option.{option_map_or}
 use Rattle.rsp_spec.specs.Windows.{closing, contains}
 use Rattle.rsp_engine.specs.declared.item.Item.{Item}
-use Rattle.rsp_engine.specs.World.{World, Query, StreamWindow}
+use Rattle.rsp_engine.specs.World.{World, Registration, StreamWindow, registrations}
 
 -- some window over the item's stream contains it and closes at `next` or later; none opens at the item's time or later
 abbrev pub is_needed_by : ℕ → Item → StreamWindow → Bool
@@ -20,8 +20,8 @@ is_needed world entry =
     option_map_or
     (λ next.
     list_any
-    (λ (query : Query). nat_le query.first entry.0 && list_any (is_needed_by next entry.1) query.windows)
-    world.queries)
+    (λ (query : Registration). nat_le query.first entry.0 && list_any (is_needed_by next entry.1) query.reading.windows)
+    (registrations world))
     world.next
     false
 

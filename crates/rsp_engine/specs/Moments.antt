@@ -4,7 +4,7 @@ use Rattle.std.specs.List.{flat_map, range_with_len}
 use Rattle.std.specs.Option.{option_map_or}
 use Rattle.rsp_events.specs.declared.event.Event.{Event}
 use Rattle.rsp_events.specs.declared.event.Event.TheVariants.{Register, Cancel, Item, Tick, Insert, Delete}
-use Rattle.rsp_engine.specs.World.{World, Query}
+use Rattle.rsp_engine.specs.World.{World, Registration, registrations}
 use Rattle.rsp_engine.specs.Due.{is_due, is_due_on}
 
 -- the query of this name reports at this instant
@@ -13,8 +13,8 @@ pub record Moment : Type 0 where
   pub query : List ℕ
 
 -- those of the live queries that pass the test report at t, in order of registration
-abbrev pub moments_at : World → ℕ → (Query → Bool) → List Moment
-moments_at world t test = map (λ (query : Query). record { at = t; query = query.name }) (filter test world.queries)
+abbrev pub moments_at : World → ℕ → (Registration → Bool) → List Moment
+moments_at world t test = map (λ (query : Registration). record { at = t; query = query.name }) (filter test (registrations world))
 
 -- at a complete instant the queries that are due
 abbrev pub due_moments : World → ℕ → List Moment

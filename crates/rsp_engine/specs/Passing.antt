@@ -1,29 +1,32 @@
 -- Words of the way: what passing time does to an idle engine's state.
-use Rattle.std.specs.Prelude.{◌≡◌, ◌⊎◌, ℕ, Option, Bool, if◌then◌else◌, ◌+◌, ◌<◌, true, false, None, Some, codes, List, [], map, filter, drop, option_to_list}
-use Rattle.std.specs.Option.{is_some, option_map_or}
-use Rattle.rsp_engine.specs.declared.refused.Refused.{Refused}
-use Rattle.rsp_engine.specs.Refusals.{Refusal, refusal_of}
-use Rattle.rsp_engine.specs.World.{World}
-use Rattle.rsp_engine.specs.Moments.{moments_from}
-use Rattle.rsp_spec.specs.Windows.{Shape, closes_at}
-use Rattle.rsp_terms.specs.declared.statement.Fact.{Fact}
+use Rattle.std.specs.Prelude.{◌≡◌, ◌⊎◌, ℕ, Option, Bool, if◌then◌else◌, ◌+◌, ◌<◌, true, false, None, Some, List, [], map, filter, drop, option_to_list}
 use Rattle.std.specs.List.{flat_map}
-use Rattle.rsp_engine.specs.declared.item.Item.{Item}
-use Rattle.rsp_engine.specs.Contents.{distinct_triples, facts_of, in_content}
-use Rattle.rsp_engine.specs.declared.live_query.LiveQuery.{LiveQuery}
-use Rattle.rsp_engine.specs.declared.report.Outcome.{Outcome}
-use Rattle.rsp_engine.specs.declared.report.Outcome.TheVariants as outcomes
-use Rattle.rsp_engine.specs.declared.report.Report.{Report}
+use Rattle.std.specs.Option.{is_some, option_map, option_map_or}
+use Rattle.rsp_spec.specs.Windows.{Shape}
+use Rattle.rsp_terms.specs.declared.statement.Fact.{Fact}
 use Rattle.rsp_algebra.specs.Nodes.{Node}
-use Rattle.rsp_query_line.specs.Meaning.{node_of_line, shown_of, width_of}
 use Rattle.rsp_algebra.specs.Solutions.{eval}
 use Rattle.rsp_algebra.specs.Overfull.{overfull}
 use Rattle.rsp_streams_out.specs.Rows.{in_order}
-use Rattle.rsp_query_line.specs.declared.line.Line.{Line}
-use Rattle.rsp_query_line.specs.QueryLine.{query_line}
-use Rattle.rsp_engine.specs.Reports.{IsOutcome, cells_at}
+use Rattle.rsp_engine.specs.declared.item.Item.{Item}
+use Rattle.rsp_engine.specs.declared.live_query.LiveQuery.{LiveQuery}
+use Rattle.rsp_engine.specs.declared.refused.Refused.{Refused}
+use Rattle.rsp_engine.specs.declared.report.Outcome.{Outcome}
+use Rattle.rsp_engine.specs.declared.report.Outcome.TheVariants as outcomes
+use Rattle.rsp_engine.specs.declared.report.Report.{Report}
+use Rattle.rsp_engine.specs.Accept.{new_query, reading_of}
+use Rattle.rsp_engine.specs.Contents.{distinct_triples, facts, facts_of, in_content}
 use Rattle.rsp_engine.specs.Inside.{Answers}
-use Rattle.rsp_engine.specs.Stands.{State, Live, query_of, first_instant, instants_left}
+use Rattle.rsp_engine.specs.Moments.{moments_from}
+use Rattle.rsp_engine.specs.Refusals.{Refusal, refusal_of}
+use Rattle.rsp_engine.specs.Reports.{IsOutcome, cells_at}
+use Rattle.rsp_engine.specs.Stands.{State, Live, closes_for, first_instant, instants_left, query_in, query_of, reading_in}
+use Rattle.rsp_engine.specs.World.{World, Query, Reading, Registration}
+
+-- the world has this live query, if there is one, and no other, and `next`
+pub record Has (world : World) (query : Option Query) (first : Option ℕ) : Type 0 where
+  pub queries : world.queries ≡ option_to_list query
+  pub next : world.next ≡ first
 
 -- every instant before `to` is complete; the moments left are those of the instants that became complete, and nothing
 -- else has changed
@@ -32,8 +35,8 @@ pub record Passes (old : State) (to : ℕ) (new : State) : Type 0 where
   pub query : new.query ≡ old.query
   pub items : new.items ≡ old.items
   pub broken : new.broken ≡ old.broken
-  pub moments : (world : World) → world.queries ≡ map query_of (option_to_list old.query) → world.next ≡ Some to → option_map_or (λ from. moments_from world from) old.next [] ≡ moments_from world new.at
-  pub at : (world : World) → world.queries ≡ map query_of (option_to_list old.query) → world.next ≡ Some to → new.at ≡ first_instant world (moments_from world new.at)
+  pub moments : (world : World) → Has world (query_in old) (Some to) → option_map_or (moments_from world) old.next [] ≡ moments_from world new.at
+  pub at : (world : World) → Has world (query_in old) (Some to) → new.at ≡ first_instant world (moments_from world new.at)
 
 -- the moment at the first instant left is worked off, by a report that leaves this query live, if one; those behind it
 -- are left, and nothing else has changed
@@ -43,13 +46,13 @@ pub record WorksOff (old : State) (kept : Option Live) (new : State) : Type 0 wh
   pub items : new.items ≡ old.items
   pub broken : new.broken ≡ old.broken
   pub nearer : instants_left new < instants_left old
-  pub moments : (world : World) → world.queries ≡ map query_of (option_to_list kept) → world.next ≡ old.next → moments_from world (old.at + 1) ≡ moments_from world new.at
-  pub at : (world : World) → world.queries ≡ map query_of (option_to_list kept) → world.next ≡ old.next → new.at ≡ first_instant world (moments_from world new.at)
+  pub moments : (world : World) → Has world (option_map query_of kept) old.next → moments_from world (old.at + 1) ≡ moments_from world new.at
+  pub at : (world : World) → Has world (option_map query_of kept) old.next → new.at ≡ first_instant world (moments_from world new.at)
 
 -- a live query reports at the first instant left, which is complete
 pub record IsDue (engine : State) (live : Live) : Type 0 where
   pub query : engine.query ≡ Some live
-  pub closes : closes_at live.line.shape engine.at ≡ true
+  pub closes : closes_for (Some (query_of live)) engine.at ≡ true
   pub complete : (next : ℕ) × (engine.next ≡ Some next) × (engine.at < next)
 
 -- the facts of a window on a stream at t, of the items from a number on
@@ -62,29 +65,29 @@ window_facts stream shape first items t =
     (λ (i : Item). i.graph)
     (filter (in_content (record { stream = stream; shape = shape }) t) (drop first items))))
 
--- the facts that a live query sees at t
-abbrev pub live_facts : Live → List Item → ℕ → List Fact
-live_facts live items t = window_facts (codes "s:a") live.line.shape live.first items t
+-- the facts that a query sees at t, by the items alone
+abbrev pub facts_over : List Item → Registration → ℕ → List Fact
+facts_over items query t = facts (record { next = None; items = items; queries = [] }) query t
 
 -- the live query once it has seen them
 abbrev pub seeing : Live → List Item → ℕ → Live
-seeing live items t = record live { seen = live_facts live items t }
+seeing live items t = record live { seen = facts_over items (query_of live).registration t }
 
 -- that a report is overfull
 abbrev pub is_overfull_outcome : Outcome → Bool
 is_overfull_outcome outcomes.Overfull = true
 is_overfull_outcome (outcomes.Rows rows) = false
 
--- what it reports over some facts
-abbrev pub outcome_over : Live → List Fact → Outcome
-outcome_over live facts =
-    if overfull (width_of live.line) (node_of_line live.line) facts
+-- what is reported over some facts
+abbrev pub outcome_over : Reading → List Fact → Outcome
+outcome_over reading facts =
+    if overfull reading.width reading.node facts
     then outcomes.Overfull
-    else outcomes.Rows (in_order (map (cells_at (shown_of live.line)) (eval (width_of live.line) (node_of_line live.line) facts)))
+    else outcomes.Rows (in_order (map (cells_at reading.shown) (eval reading.width reading.node facts)))
 
 -- a live query reported at t, and stands for the facts of t where it is still live
 pub record IsReported {A : Type 0} (node : A → Node) (width : A → ℕ) (facts : A → List Fact) (spent : A → Bool) (live : Live) (items : List Item) (t : ℕ) (new : LiveQuery A) (given : Outcome) : Type 0 where
-  pub outcome : IsOutcome given (outcome_over live (live_facts live items t))
+  pub outcome : IsOutcome given (outcome_over (reading_in live) (facts_over items (query_of live).registration t))
   pub answers : (given ≡ outcomes.Overfull) ⊎ Answers node width facts spent new
 
 -- the report at the first instant left was given; the query is live where it isn't overfull, and those behind are left
@@ -93,14 +96,14 @@ pub record ReportsFirst (old : State) (report : Report) (new : State) : Type 0 w
   pub due : IsDue old live
   pub query : report.query ≡ live.name
   pub at : report.at ≡ old.at
-  pub variables : report.variables ≡ live.line.shown
-  pub outcome : IsOutcome report.outcome (outcome_over live (live_facts live old.items old.at))
+  pub variables : report.variables ≡ live.variables
+  pub outcome : IsOutcome report.outcome (outcome_over (reading_in live) (facts_over old.items (query_of live).registration old.at))
   pub works : WorksOff old (if is_overfull_outcome report.outcome then None else Some (seeing live old.items old.at)) new
 
 pub record IsRegistered (name text : List ℕ) (first : ℕ) (kept : Live) : Type 0 where
-  pub line : Line
-  pub is : query_line text ≡ Some line
-  pub live : kept ≡ record { name = name; line = line; first = first; seen = [] }
+  pub reading : Reading
+  pub is : reading_of text ≡ Some reading
+  pub live : query_of kept ≡ new_query name reading first
 
 -- the answer names this refusal, or there is none
 abbrev pub IsFaultOf : Option Refused → Option Refusal → Type 0

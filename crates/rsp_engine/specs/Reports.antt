@@ -12,7 +12,7 @@ use Rattle.rsp_streams_out.specs.Rows.{in_order, row_text}
 use Rattle.rsp_engine.specs.declared.report.Report.{Report}
 use Rattle.rsp_engine.specs.declared.report.Outcome.{Outcome}
 use Rattle.rsp_engine.specs.declared.report.Outcome.TheVariants as outcome
-use Rattle.rsp_engine.specs.World.{World, Query}
+use Rattle.rsp_engine.specs.World.{World, Registration, Query, registrations}
 use Rattle.rsp_engine.specs.Contents.{facts}
 use Rattle.rsp_engine.specs.Moments.{Moment}
 
@@ -21,19 +21,20 @@ abbrev pub cells_at : List ℕ → Cells Term → Cells Term
 cells_at places row = map (λ place. slice_index_or row place None) places
 
 -- the solutions of a query at t, each with its shown variables alone
-abbrev pub solutions : World → Query → ℕ → List (Cells Term)
-solutions world query t = map (cells_at query.shown) (eval query.width query.node (facts world query t))
+abbrev pub solutions : World → Registration → ℕ → List (Cells Term)
+solutions world query t =
+    map (cells_at query.reading.shown) (eval query.reading.width query.reading.node (facts world query t))
 
-abbrev pub is_overfull : World → Query → ℕ → Bool
-is_overfull world query t = overfull query.width query.node (facts world query t)
+abbrev pub is_overfull : World → Registration → ℕ → Bool
+is_overfull world query t = overfull query.reading.width query.reading.node (facts world query t)
 
 -- the query's report at t: that it is overfull, or all its solutions, in the byte order of their texts
-abbrev pub report_of : World → Query → ℕ → Report
+abbrev pub report_of : World → Registration → ℕ → Report
 report_of world query t =
     record {
       query = query.name;
       at = t;
-      variables = query.variables;
+      variables = query.reading.variables;
       outcome =
           if is_overfull world query t
           then outcome.Overfull
@@ -57,23 +58,24 @@ pub record IsReport (report wanted : Report) : Type 0 where
   pub variables : report.variables ≡ wanted.variables
   pub outcome : IsOutcome report.outcome wanted.outcome
 
--- the live query of a name
-abbrev pub live_query : World → List ℕ → Option Query
-live_query world name = find (λ query. bytes_eq query.name name) world.queries
+-- the live query of a name, as it was registered
+abbrev pub live_query : World → List ℕ → Option Registration
+live_query world name = find (λ (query : Registration). bytes_eq query.name name) (registrations world)
 
 -- the query of this name with the facts of its report at t as those of its last report
 abbrev pub query_after_report : World → ℕ → List ℕ → Query → Query
-query_after_report world t name query = if bytes_eq query.name name then record query { seen = facts world query t } else query
+query_after_report world t name query =
+    if bytes_eq query.registration.name name then record query { seen = facts world query.registration t } else query
 
 -- the world after a query's report: an overfull one ends the query
-abbrev pub after_report : World → Query → ℕ → World
+abbrev pub after_report : World → Registration → ℕ → World
 after_report world query t =
     if is_overfull world query t
-    then record world { queries = filter (λ other. not (bytes_eq other.name query.name)) world.queries }
+    then record world { queries = filter (λ other. not (bytes_eq other.registration.name query.name)) world.queries }
     else record world { queries = map (query_after_report world t query.name) world.queries }
 
 -- the moments that are left behind a query's report at t: an overfull one strikes those of its query
-abbrev pub moments_behind : World → Query → ℕ → List Moment → List Moment
+abbrev pub moments_behind : World → Registration → ℕ → List Moment → List Moment
 moments_behind world query t left =
     if is_overfull world query t then filter (λ (moment : Moment). not (bytes_eq moment.query query.name)) left else left
 

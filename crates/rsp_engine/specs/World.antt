@@ -1,5 +1,5 @@
 -- Definitions: the world: what every event that was accepted has made, kept for ever. All times are in milliseconds since 1970.
-use Rattle.std.specs.Prelude.{ℕ, Bool, Option, None, List, []}
+use Rattle.std.specs.Prelude.{ℕ, Bool, false, Option, None, List, [], ◌∷◌, map}
 use Rattle.rsp_spec.specs.Windows.{Shape}
 use Rattle.rsp_terms.specs.declared.statement.Fact.{Fact}
 use Rattle.rsp_algebra.specs.Nodes.{Node}
@@ -18,22 +18,34 @@ pub record Policy : Type 0 where
   pub strategies : List Strategy
   pub on_items : Bool
 
+-- at each complete instant at which a window closes
+abbrev pub at_closings : Policy
+at_closings = record { strategies = close ∷ []; on_items = false }
+
 -- a window over a stream
 pub record StreamWindow : Type 0 where
   pub stream : List ℕ
   pub shape : Shape
 
--- a live query: its tree over rows of this width, the places that it shows and the names of their variables; it sees the
--- items from number `first` on; the facts of its last report, none before the first
-pub record Query : Type 0 where
-  pub name : List ℕ
+-- what a query's text says: when it reports, over which windows, its tree over rows of this width, the places that it shows
+-- and the names of their variables
+pub record Reading : Type 0 where
   pub policy : Policy
   pub windows : List StreamWindow
   pub node : Node
   pub width : ℕ
   pub shown : List ℕ
   pub variables : List (List ℕ)
+
+-- what registration fixed; the query sees the items from number `first` on
+pub record Registration : Type 0 where
+  pub name : List ℕ
+  pub reading : Reading
   pub first : ℕ
+
+-- a live query, with what its reports change: the facts of its last report, none before the first
+pub record Query : Type 0 where
+  pub registration : Registration
   pub seen : List Fact
 
 -- the first instant that isn't complete, where one is set; all accepted items, in order, numbered from 0; the live
@@ -42,6 +54,10 @@ pub record World : Type 0 where
   pub next : Option ℕ
   pub items : List Item
   pub queries : List Query
+
+-- what registration fixed of the live queries, in order
+abbrev pub registrations : World → List Registration
+registrations world = map (λ (query : Query). query.registration) world.queries
 
 abbrev pub empty_world : World
 empty_world = record { next = None; items = []; queries = [] }

@@ -1,8 +1,9 @@
 // The engine's calls.
-ghost use Rattle.std.specs.Prelude.{◌≡◌, Some, None, if◌then◌else◌};
+ghost use Rattle.std.specs.Prelude.{◌≡◌, Some, None, if◌then◌else◌, option_to_list};
 ghost use Rattle.std.specs.Option.{option_map};
 ghost use Rattle.rsp_engine.specs.Inside.{live_of};
 ghost use Rattle.rsp_engine.specs.Passing.{is_overfull_outcome};
+ghost use Rattle.rsp_engine.specs.Stands.{query_of, shapes_of};
 
 use crate::registering::{fault_of, registered};
 use crate::seeing::report_at;
@@ -42,6 +43,11 @@ impl<A: Answer> Model for Engine<A> {
 
     ghost Value = { State };
 
+    ghost use Rattle.rsp_algebra.specs.contracts.tree.Tree as tree;
+    ghost use Rattle.std.specs.Coded.{codes};
+
+    ghost coded = { Prim.hlevel (codes, tree.the_row.coded) };
+
     ghost use Rattle.rsp_engine.specs.Inside.{state_of, IsEngine};
 
     ghost view = { state_of };
@@ -50,7 +56,7 @@ impl<A: Answer> Model for Engine<A> {
 }
 
 impl<A: Answer> Engine<A> {
-    ghost use Rattle.std.specs.Prelude.{◌≡◌, ◌<◌, None, ◌↔◌, ◌==◌, ◌≤◌, ◌+◌, ◌++◌, ◌∷◌, List, [], true, false, IsTrue, OnOk, OnErr, Some, is_some, length, IfOk, unwrap_or};
+    ghost use Rattle.std.specs.Prelude.{◌≡◌, ◌<◌, None, ◌↔◌, ◌==◌, ◌≤◌, ◌+◌, ◌++◌, ◌∷◌, List, [], true, false, IsTrue, OnOk, OnErr, Some, is_some, length, IfOk, unwrap_or, option_to_list};
     ghost use Rattle.rsp_spec.specs.Windows.{last_instant};
     ghost use Rattle.rsp_engine.specs.Passing.{Passes, ReportsFirst};
     ghost use Rattle.rsp_engine.specs.Inside.{Answers, live_of};
@@ -60,7 +66,7 @@ impl<A: Answer> Engine<A> {
     ghost use Rattle.rsp_engine.specs.World.{World, empty_world};
     ghost use Rattle.rsp_engine.specs.Moments.{Moment};
     ghost use Rattle.rsp_engine.specs.Kept.{triples_of};
-    ghost use Rattle.rsp_engine.specs.Stands.{Stands, is_idle};
+    ghost use Rattle.rsp_engine.specs.Stands.{Stands, is_idle, query_in, shapes_of};
     ghost use Rattle.rsp_engine.specs.Offers.{Offers, NextReport};
     ghost use Rattle.rsp_events.specs.Instants.{IsInstant};
 
@@ -238,7 +244,7 @@ impl<A: Answer> Engine<A> {
 
     // the live query's window
     fn window(&self) -> Option<Window>
-        ensures { result ≡ option_map (λ live. live.line.shape) self.now.query }
+        ensures { shapes_of (query_in self.now) ≡ option_to_list result }
     {
         window_of(&self.query)
     }
@@ -344,11 +350,11 @@ impl<A: Answer> Engine<A> {
 
 // the query's window, if there is one
 fn window_of<A>(query: &Option<LiveQuery<A>>) -> Option<Window>
-    ensures { result ≡ option_map (λ live. live.line.shape) (option_map live_of query.now) }
+    ensures { shapes_of (option_map query_of (option_map live_of query.now)) ≡ option_to_list result }
 {
     match query {
         None => None,
-        Some(live) => Some(live.line.shape),
+        Some(live) => Some(live.shape),
     }
 }
 

@@ -1,16 +1,18 @@
 // Live queries.
-use rsp_query_line::Line;
+use rsp_algebra::Translated;
 use rsp_terms::{Fact, Listed, Text};
+use rsp_windows::Window;
 
-/// A query that is live, by its line. It sees the items of a stream from number `first` on, counted from 0 in the order
-/// of acceptance. Its answer stands for the facts of its last report.
+/// A query that is live. It reports where its window over a stream closes, and sees the items from number `first` on,
+/// counted from 0 in the order of acceptance. Its answer stands for the facts of its last report.
 #[derive(Drop)]
 pub(crate) struct LiveQuery<A> {
     pub name: Text,
-    pub line: Line,
     pub stream: Text,
-    /// The places of a row that are shown.
-    pub shown: Listed<usize>,
+    pub shape: Window,
+    pub query: Box<Translated>,
+    /// The names of the variables that are shown.
+    pub variables: Listed<Text>,
     pub first: usize,
     pub seen: Listed<Fact>,
     pub answer: A,

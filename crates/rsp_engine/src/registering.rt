@@ -6,8 +6,11 @@ ghost use Rattle.rsp_syntax.specs.Parsing.{parse};
 ghost use Rattle.rsp_syntax.specs.declared.fault.SyntaxFault as fault;
 ghost use Rattle.rsp_engine.specs.Refusals.{text_fault};
 ghost use Rattle.rsp_query_line.specs.Meaning.{node_of_line, shown_of, width_of};
-ghost use Rattle.rsp_query_line.specs.QueryLine.{are_shown, query_line};
+ghost use Rattle.rsp_query_line.specs.QueryLine.{are_shown};
+ghost use Rattle.rsp_engine.specs.Accept.{new_query, reading_of, reading_of_line};
+ghost use Rattle.rsp_algebra.specs.Nodes.{node_of};
 ghost use Rattle.rsp_engine.specs.Inside.{Answers, live_of};
+ghost use Rattle.rsp_engine.specs.Stands.{query_of};
 ghost use Rattle.rsp_engine.specs.Passing.{IsFaultOf, IsRegistered};
 
 use crate::{LiveQuery, Refused};
@@ -49,8 +52,9 @@ pub(crate) fn registered<A: Answer>(
     first: usize,
 ) -> Result<Option<LiveQuery<A>>, AllocError>
     ensures query { IfOk result (λ query. MatchOption query
-        (query_line text.now ≡ None)
+        (reading_of text.now ≡ None)
         (λ live. IsRegistered name text.now first (live_of live))) }
+    ensures first { IfOk result (λ query. IfSome query (λ live. live.first ≡ first)) }
     ensures answers { IfOk result (λ query. IfSome query (Answers A.node A.width A.facts A.spent)) }
 {
     match query_line(alloc, text.as_str().as_bytes())? {
@@ -59,27 +63,22 @@ pub(crate) fn registered<A: Answer>(
     }
 }
 
-fn shown_places(query: Translated) -> Listed<usize>
-    ensures { result ≡ query.shown }
-{
-    let Translated { shown, .. } = query;
-    shown
-}
-
-// an answer over no facts, and the places that the query shows
-fn started<A: Answer>(alloc: Global, line: &Line) -> Result<(A, Listed<usize>), AllocError>
+// an answer over no facts
+fn started<A: Answer>(alloc: Global, line: &Line) -> Result<(A, Translated), AllocError>
     requires { are_shown line.now.shown line.now.patterns ≡ true }
-    ensures node { IfOk result (λ begun. A.node begun.0 ≡ node_of_line line.now) }
-    ensures width { IfOk result (λ begun. A.width begun.0 ≡ width_of line.now) }
+    ensures tree { IfOk result (λ begun. node_of begun.1.tree ≡ node_of_line line.now) }
+    ensures width { IfOk result (λ begun. begun.1.width ≡ width_of line.now) }
+    ensures shown { IfOk result (λ begun. begun.1.shown ≡ shown_of line.now) }
+    ensures answer_node { IfOk result (λ begun. A.node begun.0 ≡ node_of begun.1.tree) }
+    ensures answer_width { IfOk result (λ begun. A.width begun.0 ≡ begun.1.width) }
     ensures facts { IfOk result (λ begun. A.facts begun.0 ≡ []) }
     ensures ready { IfOk result (λ begun. A.spent begun.0 ≡ false) }
-    ensures shown { IfOk result (λ begun. begun.1 ≡ shown_of line.now) }
 {
     let query = translated(alloc, line)?;
     let Some(answer) = A::start(alloc, &query)? else {
         unreachable!()
     };
-    Ok((answer, shown_places(query)))
+    Ok((answer, query))
 }
 
 fn live_query<A: Answer>(
@@ -89,17 +88,24 @@ fn live_query<A: Answer>(
     first: usize,
 ) -> Result<LiveQuery<A>, AllocError>
     requires { are_shown line.shown line.patterns ≡ true }
-    ensures query { IfOk result (λ live. live_of live ≡ record { name = name; line = line; first = first; seen = [] }) }
+    ensures query { IfOk result (λ live. query_of (live_of live) ≡ new_query name (reading_of_line line) first) }
+    ensures first { IfOk result (λ live. live.first ≡ first) }
     ensures answers { IfOk result (Answers A.node A.width A.facts A.spent) }
 {
     let stream = Text::new(alloc, "s:a")?;
-    let begun: (A, Listed<usize>) = started(alloc, &line)?;
-    let (answer, shown) = begun;
+    let begun: (A, Translated) = started(alloc, &line)?;
+    let (answer, query) = begun;
+    let Line {
+        shape,
+        shown: variables,
+        ..
+    } = line;
     Ok(LiveQuery {
         name,
-        line,
         stream,
-        shown,
+        shape,
+        query: Box::new(alloc, query)?,
+        variables,
         first,
         seen: Listed::new(alloc),
         answer,

@@ -36,7 +36,7 @@ fn outcome_at<A: Answer, L: Ledger>(
     ensures seen { OnOk result (live_of live.new ≡ seeing (live_of live.old) items.now at) }
     ensures reported { IfOk result (IsReported A.node A.width A.facts A.spent (live_of live.old) items.now at live.new) }
 {
-    let now = facts(alloc, &live.stream, &live.line.shape, live.first, items, at)?;
+    let now = facts(alloc, &live.stream, &live.shape, live.first, items, at)?;
     let changes = changes(alloc, live.seen.as_slice(), now.as_slice())?;
     let turn = live.answer.change(&changes, steps)?;
     live.seen = now;
@@ -60,12 +60,12 @@ pub(crate) fn report_at<A: Answer, L: Ledger>(
     ensures seen { OnOk result (live_of live.new ≡ seeing (live_of live.old) items.now at) }
     ensures query { IfOk result (λ report. report.query ≡ live.old.name) }
     ensures at { IfOk result (λ report. report.at ≡ at) }
-    ensures variables { IfOk result (λ report. report.variables ≡ live.old.line.shown) }
+    ensures variables { IfOk result (λ report. report.variables ≡ live.old.variables) }
     ensures reported { IfOk result (λ report.
         IsReported A.node A.width A.facts A.spent (live_of live.old) items.now at live.new report.outcome) }
 {
     let query = live.name.share()?;
-    let variables = shared(alloc, live.line.shown.as_slice())?;
+    let variables = shared(alloc, live.variables.as_slice())?;
     let outcome = outcome_at(alloc, live, items, at, steps)?;
     Ok(Report {
         query,
@@ -89,11 +89,11 @@ fn rows_of<A: Answer>(alloc: Global, live: &LiveQuery<A>) -> Result<Outcome, All
     requires { A.spent live.now.answer ≡ false }
     ensures { IfOk result (λ outcome. (facts : List Fact)
         → ((q : _) → times fact_eq (A.facts live.now.answer) q ≡ times fact_eq facts q)
-        → IsOutcome outcome (outcomes.Rows (in_order (map (cells_at live.now.shown)
+        → IsOutcome outcome (outcomes.Rows (in_order (map (cells_at live.now.query.value.shown)
         (eval (A.width live.now.answer) (A.node live.now.answer) facts))))) }
 {
     let solutions = live.answer.solutions()?;
-    Ok(Outcome::Rows(shown_rows(alloc, &solutions, live.shown.as_slice())?))
+    Ok(Outcome::Rows(shown_rows(alloc, &solutions, live.query.shown.as_slice())?))
 }
 
 // the change from one list of facts to another

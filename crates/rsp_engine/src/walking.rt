@@ -1,10 +1,11 @@
 // The next instant at which a query reports, found by walking.
-ghost use Rattle.std.specs.Prelude.{◌≡◌, ℕ, ◌+◌, Option, ◌<◌, ◌≤◌, false, true, Some, [], map, option_to_list, unwrap_or};
-ghost use Rattle.std.specs.Option.{option_map, option_map_or};
+ghost use Rattle.std.specs.Prelude.{◌≡◌, ℕ, ◌+◌, Option, ◌<◌, ◌≤◌, false, true, Some, [], option_to_list, unwrap_or};
+ghost use Rattle.std.specs.Option.{option_map_or};
 ghost use Rattle.rsp_spec.specs.Windows.{closes_at, last_instant};
-ghost use Rattle.rsp_engine.specs.World.{World};
+ghost use Rattle.rsp_engine.specs.World.{Query, World};
 ghost use Rattle.rsp_engine.specs.Moments.{moments_from};
-ghost use Rattle.rsp_engine.specs.Stands.{Live, closes_in, query_of, first_instant};
+ghost use Rattle.rsp_engine.specs.Passing.{Has};
+ghost use Rattle.rsp_engine.specs.Stands.{IsAtClosings, closes_in, first_instant, shapes_of};
 
 use rsp_windows::Window;
 
@@ -42,19 +43,17 @@ fn first_of(window: Option<Window>, from: u64, to: u64) -> u64
 }
 
 /// The instant of the first moment left once every instant before `to` is complete, where those before `next` are worked
-/// off and the live query, if there is one, has this window; `to` where no moment is left.
+/// off and the live query, if there is one, reports where this window closes; `to` where no moment is left.
 pub(crate) fn first_moment(next: Option<u64>, window: Option<Window>, to: u64) -> u64
     requires order { unwrap_or next 0 ≤ to }
     requires instant { to ≤ last_instant + 1 }
     ensures low { unwrap_or next 0 ≤ result }
     ensures high { result ≤ to }
     ensures waits { result < to → closes_in window result ≡ true }
-    ensures moments { (world : World) (query : Option Live) → option_map (λ live. live.line.shape) query ≡ window
-        → world.queries ≡ map query_of (option_to_list query) → world.next ≡ Some to
-        → option_map_or (λ from. moments_from world from) next [] ≡ moments_from world result }
-    ensures at { (world : World) (query : Option Live) → option_map (λ live. live.line.shape) query ≡ window
-        → world.queries ≡ map query_of (option_to_list query) → world.next ≡ Some to
-        → result ≡ first_instant world (moments_from world result) }
+    ensures moments { (world : World) (query : Option Query) → shapes_of query ≡ option_to_list window → IsAtClosings query
+        → Has world query (Some to) → option_map_or (moments_from world) next [] ≡ moments_from world result }
+    ensures at { (world : World) (query : Option Query) → shapes_of query ≡ option_to_list window → IsAtClosings query
+        → Has world query (Some to) → result ≡ first_instant world (moments_from world result) }
 {
     match next {
         None => to,

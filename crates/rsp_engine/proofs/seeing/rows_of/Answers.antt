@@ -9,4 +9,5 @@ returns g c facts same =
     let rows = c.in_ok-shown_rows.ensures
     (eval (g.A.Answer.width answer) (g.A.Answer.node answer) facts)
     (λ q. c.in_ok-solutions.ensures q ∙ same_solutions (g.A.Answer.width answer) (g.A.Answer.node answer) (g.A.Answer.facts answer) facts same q) in
-    rw c.as_slice.ensures at rows
+    let slice = rw c.as_slice.ensures at rows in
+    rw c.deref.ensures at slice

@@ -1,5 +1,6 @@
-use Rattle.std.proofs.Common.{◌∙◌, ◌≡◌, None, Some, [], length, ap, rules}
-use Rattle.rsp_engine.specs.Stands.{State, Live}
+use Rattle.std.proofs.Common.{◌∙◌, ◌≡◌, None, ap, rules}
+use Rattle.rsp_engine.specs.Accept.{new_query}
+use Rattle.rsp_engine.specs.Stands.{State}
 use Rattle.rsp_engine.proofs.Offering.{register_leads}
 use Rattle.rsp_engine.proofs.engine.Engine.register_good.Goals as goal
 
@@ -8,12 +9,10 @@ returns-in-Ok-Some g c =
     let old = c.args.self.now in
     let none : old.query ≡ None = search rules in
     let is = rw c.in-Ok-Some.field-0-is at c.in-Ok-Some.ensures.query in
-    let live : Live = record { name = c.args.name; line = is.line; first = length old.items; seen = [] } in
-    let made : c.go_live.new.self ≡ record old { query = Some live }
-    = c.go_live.ensures
-    ∙ ap (λ l. record old { query = Some l }) (is.live ∙ ap (λ n. record { name = c.args.name; line = is.line; first = n; seen = [] }) c.accepted.ensures) in
+    let live = is.live ∙ ap (new_query c.args.name is.reading) c.accepted.ensures in
     record {
       was_ready = c.requires.ready;
-      ready = ap (λ (s : State). s.broken) made ∙ c.requires.ready;
-      stands = λ world stands. rw made (register_leads old c.args.name c.args.text is.line world c.requires.ready none c.requires.good is.is stands);
+      ready = ap (λ (s : State). s.broken) c.go_live.ensures ∙ c.requires.ready;
+      stands = λ world stands. rw c.go_live.ensures
+          (register_leads old c.args.name c.args.text is.reading _ world live c.requires.ready none c.requires.good is.is stands);
     }
