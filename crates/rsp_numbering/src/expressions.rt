@@ -1,8 +1,9 @@
 // Expressions with numbers in place of names.
 ghost use Rattle.std.specs.Prelude.{◌≡◌, ◌++◌, ◌∷◌, [], IfOk, OnOk, map};
-ghost use Rattle.rsp_expr.specs.Formulas.{arithmetic, formula_of, maybe_formula};
+ghost use Rattle.rsp_expr.specs.Formulas.{arithmetic, call, comparison, formula_of, formulas_in, maybe_formula, membership};
 ghost use Rattle.rsp_written.specs.Building.{exprs_in, operands_in};
 ghost use Rattle.rsp_written.specs.Meanings.{expr_of, operand_of};
+ghost use Rattle.rsp_written.specs.Trees as trees;
 ghost use Rattle.rsp_numbering.specs.Expressions as numbered;
 ghost use Rattle.rsp_numbering.specs.Naming as naming;
 ghost use Rattle.rsp_numbering.specs.Seeing.{aggregations_of, scopes_of, signed_formulas};
@@ -12,8 +13,7 @@ use crate::scopes::{Scope, number_of};
 use crate::words::{fold_of, function_of, sign_of};
 use rsp_expr::{Aggregate, Expression, Kind as Fold, Sign};
 use rsp_terms::Term;
-use rsp_written as written;
-use rsp_written::{Kind, Operand, Symbol};
+use rsp_written::{Expression as Written, Kind, Operand, Symbol};
 use std::alloc::{AllocError, Global};
 
 /// The expression with numbers in place of names; its aggregates are put behind those that are there. Fails only where
@@ -24,7 +24,7 @@ pub(crate) fn numbered(
     at: &[Scope<'_>],
     before: &mut Before,
     aggregates: &mut Vec<(usize, Aggregate)>,
-    expression: &written::Expression,
+    expression: &Written,
 ) -> Result<Expression, AllocError>
     ensures formula { IfOk result (λ e. formula_of e
         ≡ numbered.numbered_expr (scopes_of at.now) before.old (expr_of expression.now)) }
@@ -34,81 +34,205 @@ pub(crate) fn numbered(
         (expr_of expression.now)) }
 {
     match expression {
-        written::Expression::Variable(name) => Ok(Expression::Variable(number_of(
-            at, before, name,
-        )?)),
-        written::Expression::Iri(name) => Ok(Expression::Constant(Term::Iri(name.share()?))),
-        written::Expression::Constant(term) => Ok(Expression::Constant(term.share()?)),
-        written::Expression::AnyOf(parts) => {
-            Ok(Expression::Or(all(alloc, at, before, aggregates, parts)?))
-        }
-        written::Expression::AllOf(parts) => {
-            Ok(Expression::And(all(alloc, at, before, aggregates, parts)?))
-        }
-        written::Expression::Compared { sign, left, right } => {
+        Written::Variable(name) => Ok(Expression::Variable(number_of(at, before, name)?)),
+        Written::Iri(name) => Ok(Expression::Constant(Term::Iri(name.share()?))),
+        Written::Constant(term) => Ok(Expression::Constant(term.share()?)),
+        Written::AnyOf(parts) => Ok(Expression::Or(all(alloc, at, before, aggregates, parts)?)),
+        Written::AllOf(parts) => Ok(Expression::And(all(alloc, at, before, aggregates, parts)?)),
+        Written::Compared { sign, left, right } => {
             let left = boxed(alloc, at, before, aggregates, left)?;
-            let right = boxed(alloc, at, before, aggregates, right)?;
-            let sign = sign_of(*sign);
-            Ok(Expression::Compare { sign, left, right })
+            compared(alloc, at, before, aggregates, right, *sign, left)
         }
-        written::Expression::Member {
+        Written::Member {
             negated,
             item,
             list,
         } => {
             let item = boxed(alloc, at, before, aggregates, item)?;
-            let list = all(alloc, at, before, aggregates, list)?;
-            Ok(Expression::Member {
-                negated: *negated,
-                item,
-                list,
-            })
+            member(alloc, at, before, aggregates, list, *negated, item)
         }
-        written::Expression::Sum { first, rest } => {
+        Written::Sum { first, rest } => {
             let first = numbered(alloc, at, before, aggregates, first)?;
-            let rest = operands(alloc, at, before, aggregates, rest)?;
-            from_left(alloc, first, rest)
+            row(alloc, at, before, aggregates, rest, first)
         }
-        written::Expression::Product { first, rest } => {
+        Written::Product { first, rest } => {
             let first = numbered(alloc, at, before, aggregates, first)?;
-            let rest = operands(alloc, at, before, aggregates, rest)?;
-            from_left(alloc, first, rest)
+            row(alloc, at, before, aggregates, rest, first)
         }
-        written::Expression::Signed { sign, part } => {
-            let part = boxed(alloc, at, before, aggregates, part)?;
-            Ok(signed(*sign, part))
-        }
-        written::Expression::Bound(name) => Ok(Expression::Bound(number_of(at, before, name)?)),
-        written::Expression::Call {
+        Written::Signed { sign, part } => prefixed(alloc, at, before, aggregates, *sign, part),
+        Written::Bound(name) => Ok(Expression::Bound(number_of(at, before, name)?)),
+        Written::Call {
             function,
             arguments,
-        } => Ok(Expression::Call {
-            function: function_of(*function),
-            arguments: all(alloc, at, before, aggregates, arguments)?,
-        }),
-        written::Expression::CountRows => {
-            let number = before.aggregate()?;
-            put_aggregate(aggregates, number, Fold::Count, false, None)?;
-            Ok(Expression::Variable(number))
-        }
-        written::Expression::Aggregate {
+        } => called(alloc, at, before, aggregates, *function, arguments),
+        Written::CountRows => counted_rows(before, aggregates),
+        Written::Aggregate {
             kind,
             distinct,
             argument,
-        } => {
-            let number = before.aggregate()?;
-            let mut within = Vec::new(alloc);
-            let argument = numbered(alloc, at, before, &mut within, argument)?;
-            put_aggregate(
-                aggregates,
-                number,
-                fold_of(*kind),
-                *distinct,
-                Some(argument),
-            )?;
-            Ok(Expression::Variable(number))
-        }
+        } => aggregated(alloc, at, before, aggregates, *kind, *distinct, argument),
     }
+}
+
+// a comparison with a left side. What is written comes first of these parameters, since the recursion goes down it
+#[cycle(numbering)]
+fn compared(
+    alloc: Global,
+    at: &[Scope<'_>],
+    before: &mut Before,
+    aggregates: &mut Vec<(usize, Aggregate)>,
+    right: &Written,
+    sign: Kind,
+    left: Box<Expression>,
+) -> Result<Expression, AllocError>
+    ensures formula { IfOk result (λ e. formula_of e
+        ≡ comparison (numbered.sign_of sign) (formula_of left.value)
+        (numbered.numbered_expr (scopes_of at.now) before.old (expr_of right.now))) }
+    ensures behind { OnOk result (before.new ≡ numbered.behind_expr (scopes_of at.now) before.old (expr_of right.now)) }
+    ensures aggregates { OnOk result (aggregations_of aggregates.new.items
+        ≡ numbered.with_aggregates (scopes_of at.now) before.old (aggregations_of aggregates.old.items) (expr_of right.now)) }
+{
+    let right = boxed(alloc, at, before, aggregates, right)?;
+    let sign = sign_of(sign);
+    Ok(Expression::Compare { sign, left, right })
+}
+
+// whether an item is in a list
+#[cycle(numbering)]
+fn member(
+    alloc: Global,
+    at: &[Scope<'_>],
+    before: &mut Before,
+    aggregates: &mut Vec<(usize, Aggregate)>,
+    list: &[Written],
+    negated: bool,
+    item: Box<Expression>,
+) -> Result<Expression, AllocError>
+    ensures formula { IfOk result (λ e. formula_of e
+        ≡ membership negated (formula_of item.value)
+        (formulas_in (numbered.numbered_exprs (scopes_of at.now) before.old (exprs_in (map expr_of list.now))))) }
+    ensures behind { OnOk result (before.new
+        ≡ numbered.behind_exprs (scopes_of at.now) before.old (exprs_in (map expr_of list.now))) }
+    ensures aggregates { OnOk result (aggregations_of aggregates.new.items
+        ≡ numbered.with_aggregates_of_all (scopes_of at.now) before.old (aggregations_of aggregates.old.items)
+        (exprs_in (map expr_of list.now))) }
+{
+    let list = all(alloc, at, before, aggregates, list)?;
+    Ok(Expression::Member {
+        negated,
+        item,
+        list,
+    })
+}
+
+// a row of signs behind its first part, `+` and `-` or `*` and `/`
+#[cycle(numbering)]
+fn row(
+    alloc: Global,
+    at: &[Scope<'_>],
+    before: &mut Before,
+    aggregates: &mut Vec<(usize, Aggregate)>,
+    rest: &[Operand],
+    first: Expression,
+) -> Result<Expression, AllocError>
+    ensures formula { IfOk result (λ e. formula_of e
+        ≡ numbered.from_left (formula_of first)
+        (numbered.numbered_operands (scopes_of at.now) before.old (operands_in (map operand_of rest.now)))) }
+    ensures behind { OnOk result (before.new
+        ≡ numbered.behind_operands (scopes_of at.now) before.old (operands_in (map operand_of rest.now))) }
+    ensures aggregates { OnOk result (aggregations_of aggregates.new.items
+        ≡ numbered.with_aggregates_of_row (scopes_of at.now) before.old (aggregations_of aggregates.old.items)
+        (operands_in (map operand_of rest.now))) }
+{
+    let rest = operands(alloc, at, before, aggregates, rest)?;
+    from_left(alloc, first, rest)
+}
+
+// a sign and what stands behind it
+#[cycle(numbering)]
+fn prefixed(
+    alloc: Global,
+    at: &[Scope<'_>],
+    before: &mut Before,
+    aggregates: &mut Vec<(usize, Aggregate)>,
+    sign: Kind,
+    part: &Written,
+) -> Result<Expression, AllocError>
+    ensures formula { IfOk result (λ e. formula_of e
+        ≡ numbered.signed_formula sign (numbered.numbered_expr (scopes_of at.now) before.old (expr_of part.now))) }
+    ensures behind { OnOk result (before.new ≡ numbered.behind_expr (scopes_of at.now) before.old (expr_of part.now)) }
+    ensures aggregates { OnOk result (aggregations_of aggregates.new.items
+        ≡ numbered.with_aggregates (scopes_of at.now) before.old (aggregations_of aggregates.old.items) (expr_of part.now)) }
+{
+    let part = boxed(alloc, at, before, aggregates, part)?;
+    Ok(signed(sign, part))
+}
+
+#[cycle(numbering)]
+fn called(
+    alloc: Global,
+    at: &[Scope<'_>],
+    before: &mut Before,
+    aggregates: &mut Vec<(usize, Aggregate)>,
+    function: Kind,
+    arguments: &[Written],
+) -> Result<Expression, AllocError>
+    ensures formula { IfOk result (λ e. formula_of e
+        ≡ call (numbered.function_of function)
+        (formulas_in (numbered.numbered_exprs (scopes_of at.now) before.old (exprs_in (map expr_of arguments.now))))) }
+    ensures behind { OnOk result (before.new
+        ≡ numbered.behind_exprs (scopes_of at.now) before.old (exprs_in (map expr_of arguments.now))) }
+    ensures aggregates { OnOk result (aggregations_of aggregates.new.items
+        ≡ numbered.with_aggregates_of_all (scopes_of at.now) before.old (aggregations_of aggregates.old.items)
+        (exprs_in (map expr_of arguments.now))) }
+{
+    let function = function_of(function);
+    let arguments = all(alloc, at, before, aggregates, arguments)?;
+    Ok(Expression::Call {
+        function,
+        arguments,
+    })
+}
+
+// an aggregate's argument holds no other: the grammar has none in it
+#[cycle(numbering)]
+fn aggregated(
+    alloc: Global,
+    at: &[Scope<'_>],
+    before: &mut Before,
+    aggregates: &mut Vec<(usize, Aggregate)>,
+    kind: Kind,
+    distinct: bool,
+    argument: &Written,
+) -> Result<Expression, AllocError>
+    ensures formula { IfOk result (λ e. formula_of e
+        ≡ numbered.numbered_expr (scopes_of at.now) before.old (trees.aggregate kind distinct (expr_of argument.now))) }
+    ensures behind { OnOk result (before.new
+        ≡ numbered.behind_expr (scopes_of at.now) before.old (trees.aggregate kind distinct (expr_of argument.now))) }
+    ensures aggregates { OnOk result (aggregations_of aggregates.new.items
+        ≡ numbered.with_aggregates (scopes_of at.now) before.old (aggregations_of aggregates.old.items)
+        (trees.aggregate kind distinct (expr_of argument.now))) }
+{
+    let number = before.aggregate()?;
+    let mut within = Vec::new(alloc);
+    let argument = numbered(alloc, at, before, &mut within, argument)?;
+    put_aggregate(aggregates, number, fold_of(kind), distinct, Some(argument))?;
+    Ok(Expression::Variable(number))
+}
+
+// COUNT(*)
+fn counted_rows(
+    before: &mut Before,
+    aggregates: &mut Vec<(usize, Aggregate)>,
+) -> Result<Expression, AllocError>
+    ensures formula { IfOk result (λ e. formula_of e ≡ numbered.numbered_expr [] before.old trees.count_rows) }
+    ensures behind { OnOk result (before.new ≡ numbered.behind_expr [] before.old trees.count_rows) }
+    ensures aggregates { OnOk result (aggregations_of aggregates.new.items
+        ≡ numbered.with_aggregates [] before.old (aggregations_of aggregates.old.items) trees.count_rows) }
+{
+    let number = before.aggregate()?;
+    put_aggregate(aggregates, number, Fold::Count, false, None)?;
+    Ok(Expression::Variable(number))
 }
 
 #[cycle(numbering)]
@@ -117,7 +241,7 @@ fn boxed(
     at: &[Scope<'_>],
     before: &mut Before,
     aggregates: &mut Vec<(usize, Aggregate)>,
-    expression: &written::Expression,
+    expression: &Written,
 ) -> Result<Box<Expression>, AllocError>
     ensures formula { IfOk result (λ e. formula_of e.value
         ≡ numbered.numbered_expr (scopes_of at.now) before.old (expr_of expression.now)) }
@@ -136,7 +260,7 @@ fn all(
     at: &[Scope<'_>],
     before: &mut Before,
     aggregates: &mut Vec<(usize, Aggregate)>,
-    expressions: &[written::Expression],
+    expressions: &[Written],
 ) -> Result<Vec<Expression>, AllocError>
     ensures formulas { IfOk result (λ es. map formula_of es.items
         ≡ numbered.numbered_exprs (scopes_of at.now) before.old (exprs_in (map expr_of expressions.now))) }

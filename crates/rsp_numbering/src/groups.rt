@@ -3,6 +3,8 @@ ghost use Rattle.std.specs.Prelude.{◌≡◌, ◌++◌, ◌∷◌, [], IfOk, On
 ghost use Rattle.rsp_query.specs.Groups as query;
 ghost use Rattle.rsp_written.specs.Building.{elements_in, groups_in};
 ghost use Rattle.rsp_written.specs.GroupMeanings as written;
+ghost use Rattle.rsp_written.specs.Meanings.{expr_of};
+ghost use Rattle.rsp_written.specs.Trees as trees;
 ghost use Rattle.rsp_numbering.specs.Naming as naming;
 ghost use Rattle.rsp_numbering.specs.Seeing.{branches_of, scopes_of, written_branches_of};
 ghost use Rattle.rsp_numbering.specs.Selections as numbered;
@@ -14,7 +16,8 @@ use crate::items::{
 use crate::scopes::{Scope, number_of, within};
 use crate::triples::put_triples;
 use rsp_query::{Element, Select};
-use rsp_written::Values;
+use rsp_terms::Text;
+use rsp_written::{Element as Written, Expression, GraphName, Projection, Values};
 use std::alloc::{AllocError, Global};
 
 // puts an element's parts behind those that are there
@@ -23,7 +26,7 @@ fn put_element<'s>(
     alloc: Global,
     at: &[Scope<'s>],
     before: &mut Before,
-    element: &'s rsp_written::Element,
+    element: &'s Written,
     parts: &mut Vec<Element>,
 ) -> Result<(), AllocError>
     ensures parts { OnOk result (map query.part_of parts.new.items
@@ -33,70 +36,152 @@ fn put_element<'s>(
         ≡ numbered.behind_element (scopes_of at.now) before.old (written.element_of element.now)) }
 {
     match element {
-        rsp_written::Element::Triples(subject) => { put_triples(alloc, at, before, subject, parts) }
-        rsp_written::Element::Optional(body) => {
+        Written::Triples(subject) => put_triples(alloc, at, before, subject, parts),
+        Written::Optional(body) => {
             let body = group(alloc, at, before, body)?;
             put(parts, Element::Optional(body))
         }
-        rsp_written::Element::Minus(body) => {
+        Written::Minus(body) => {
             let body = group(alloc, at, before, body)?;
             put(parts, Element::Minus(body))
         }
-        rsp_written::Element::Union(branches) => {
+        Written::Union(branches) => {
             let branches = groups(alloc, at, before, branches)?;
             put(parts, Element::Union(branches))
         }
-        rsp_written::Element::Graph {
+        Written::Graph {
             name,
             at: place,
             body,
-        } => {
-            let name = graph_of(at, before, name)?;
-            let body = group(alloc, at, before, body)?;
-            let at = *place;
-            put(parts, Element::Graph { name, at, body })
-        }
-        rsp_written::Element::Window {
+        } => put_graph(alloc, at, before, name, *place, body, parts),
+        Written::Window {
             name,
             at: place,
             body,
-        } => {
-            let body = group(alloc, at, before, body)?;
-            let name = name.share()?;
-            let at = *place;
-            put(parts, Element::Window { name, at, body })
-        }
-        rsp_written::Element::Filter(expression) => {
-            let expression = plain(alloc, at, before, expression)?;
-            put(parts, Element::Filter(expression))
-        }
-        rsp_written::Element::Exists {
+        } => put_window(alloc, at, before, name, *place, body, parts),
+        Written::Filter(expression) => put_filter(alloc, at, before, expression, parts),
+        Written::Exists {
             negated,
             at: place,
             body,
-        } => {
-            let body = group(alloc, at, before, body)?;
-            let negated = *negated;
-            let at = *place;
-            put(parts, Element::Exists { negated, at, body })
+        } => put_exists(alloc, at, before, *negated, *place, body, parts),
+        Written::Bind { expression, name } => {
+            put_bind(alloc, at, before, expression, name, parts)
         }
-        rsp_written::Element::Bind { expression, name } => {
-            let expression = plain(alloc, at, before, expression)?;
-            let variable = number_of(at, before, name)?;
-            put(
-                parts,
-                Element::Bind {
-                    variable,
-                    expression,
-                },
-            )
-        }
-        rsp_written::Element::Values(block) => put_values(alloc, at, before, block, parts),
-        rsp_written::Element::Sub(inner) => {
+        Written::Values(block) => put_values(alloc, at, before, block, parts),
+        Written::Sub(inner) => {
             let inner = select(alloc, at, before, inner)?;
             put(parts, Element::Sub(Box::new(alloc, inner)?))
         }
     }
+}
+
+#[cycle(groups)]
+fn put_graph<'s>(
+    alloc: Global,
+    at: &[Scope<'s>],
+    before: &mut Before,
+    name: &GraphName,
+    place: usize,
+    body: &'s [Written],
+    parts: &mut Vec<Element>,
+) -> Result<(), AllocError>
+    ensures parts { OnOk result (map query.part_of parts.new.items
+        ≡ numbered.with_element (scopes_of at.now) before.old (map query.part_of parts.old.items)
+        (trees.graph_group (written.graph_of name.now) place (elements_in (map written.element_of body.now)))) }
+    ensures behind { OnOk result (before.new
+        ≡ numbered.behind_element (scopes_of at.now) before.old
+        (trees.graph_group (written.graph_of name.now) place (elements_in (map written.element_of body.now)))) }
+{
+    let name = graph_of(at, before, name)?;
+    let body = group(alloc, at, before, body)?;
+    let at = place;
+    put(parts, Element::Graph { name, at, body })
+}
+
+#[cycle(groups)]
+fn put_window<'s>(
+    alloc: Global,
+    at: &[Scope<'s>],
+    before: &mut Before,
+    name: &Text,
+    place: usize,
+    body: &'s [Written],
+    parts: &mut Vec<Element>,
+) -> Result<(), AllocError>
+    ensures parts { OnOk result (map query.part_of parts.new.items
+        ≡ numbered.with_element (scopes_of at.now) before.old (map query.part_of parts.old.items)
+        (trees.window_group name.now place (elements_in (map written.element_of body.now)))) }
+    ensures behind { OnOk result (before.new
+        ≡ numbered.behind_element (scopes_of at.now) before.old
+        (trees.window_group name.now place (elements_in (map written.element_of body.now)))) }
+{
+    let body = group(alloc, at, before, body)?;
+    let name = name.share()?;
+    let at = place;
+    put(parts, Element::Window { name, at, body })
+}
+
+#[cycle(groups)]
+fn put_exists<'s>(
+    alloc: Global,
+    at: &[Scope<'s>],
+    before: &mut Before,
+    negated: bool,
+    place: usize,
+    body: &'s [Written],
+    parts: &mut Vec<Element>,
+) -> Result<(), AllocError>
+    ensures parts { OnOk result (map query.part_of parts.new.items
+        ≡ numbered.with_element (scopes_of at.now) before.old (map query.part_of parts.old.items)
+        (trees.exists negated place (elements_in (map written.element_of body.now)))) }
+    ensures behind { OnOk result (before.new
+        ≡ numbered.behind_element (scopes_of at.now) before.old
+        (trees.exists negated place (elements_in (map written.element_of body.now)))) }
+{
+    let body = group(alloc, at, before, body)?;
+    let at = place;
+    put(parts, Element::Exists { negated, at, body })
+}
+
+fn put_filter(
+    alloc: Global,
+    at: &[Scope<'_>],
+    before: &mut Before,
+    expression: &Expression,
+    parts: &mut Vec<Element>,
+) -> Result<(), AllocError>
+    ensures parts { OnOk result (map query.part_of parts.new.items
+        ≡ numbered.with_element (scopes_of at.now) before.old (map query.part_of parts.old.items)
+        (trees.filter (expr_of expression.now))) }
+    ensures behind { OnOk result (before.new
+        ≡ numbered.behind_element (scopes_of at.now) before.old (trees.filter (expr_of expression.now))) }
+{
+    let expression = plain(alloc, at, before, expression)?;
+    put(parts, Element::Filter(expression))
+}
+
+fn put_bind(
+    alloc: Global,
+    at: &[Scope<'_>],
+    before: &mut Before,
+    expression: &Expression,
+    name: &Text,
+    parts: &mut Vec<Element>,
+) -> Result<(), AllocError>
+    ensures parts { OnOk result (map query.part_of parts.new.items
+        ≡ numbered.with_element (scopes_of at.now) before.old (map query.part_of parts.old.items)
+        (trees.bind (expr_of expression.now) name.now)) }
+    ensures behind { OnOk result (before.new
+        ≡ numbered.behind_element (scopes_of at.now) before.old (trees.bind (expr_of expression.now) name.now)) }
+{
+    let expression = plain(alloc, at, before, expression)?;
+    let variable = number_of(at, before, name)?;
+    let bound = Element::Bind {
+        variable,
+        expression,
+    };
+    put(parts, bound)
 }
 
 fn put(parts: &mut Vec<Element>, part: Element) -> Result<(), AllocError>
@@ -128,7 +213,7 @@ fn put_elements<'s>(
     alloc: Global,
     at: &[Scope<'s>],
     before: &mut Before,
-    elements: &'s [rsp_written::Element],
+    elements: &'s [Written],
     parts: &mut Vec<Element>,
 ) -> Result<(), AllocError>
     ensures parts { OnOk result (map query.part_of parts.new.items
@@ -148,7 +233,7 @@ fn group<'s>(
     alloc: Global,
     at: &[Scope<'s>],
     before: &mut Before,
-    elements: &'s [rsp_written::Element],
+    elements: &'s [Written],
 ) -> Result<Vec<Element>, AllocError>
     ensures parts { IfOk result (λ parts. map query.part_of parts.items
         ≡ numbered.with_elements (scopes_of at.now) before.old [] (elements_in (map written.element_of elements.now))) }
@@ -165,7 +250,7 @@ fn groups<'s>(
     alloc: Global,
     at: &[Scope<'s>],
     before: &mut Before,
-    branches: &'s [Vec<rsp_written::Element>],
+    branches: &'s [Vec<Written>],
 ) -> Result<Vec<Vec<Element>>, AllocError>
     ensures groups { IfOk result (λ made. branches_of made.items
         ≡ numbered.groups_of (scopes_of at.now) before.old (groups_in (written_branches_of branches.now))) }
@@ -228,11 +313,11 @@ fn select_within<'s>(
     })
 }
 
-fn is_star(projection: &rsp_written::Projection) -> bool
+fn is_star(projection: &Projection) -> bool
     ensures { result ≡ numbered.is_star (written.projection_of projection.now) }
 {
     match projection {
-        rsp_written::Projection::Every => true,
-        rsp_written::Projection::These(_) => false,
+        Projection::Every => true,
+        Projection::These(_) => false,
     }
 }

@@ -1,8 +1,9 @@
 //! From the query as it is written to the query as the algebra takes it: names become numbers, rows of signs become nodes,
 //! and limits are counted.
 //!
-//! So far this crate has the definitions alone, with the types that they speak of. Above: the reader of query texts. Below: both
-//! trees.
+//! [`query_of`] gives the query that a tree as written is, or the first limit that it passes. On the way [`Before`] keeps the
+//! variables by their numbers, and a [`Scope`] says which SELECT a name belongs to. Each definition in the specs has one
+//! function of its shape. Above: the reader of query texts. Below: both trees.
 #![tactic(auto)]
 
 mod before;
@@ -11,6 +12,7 @@ mod counts;
 mod expressions;
 mod groups;
 mod items;
+mod letting_go;
 mod limit;
 mod operators;
 mod paths;

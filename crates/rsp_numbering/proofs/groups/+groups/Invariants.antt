@@ -31,6 +31,15 @@ decreases-put_elements l = 8 * goal.size-put_elements l + 1
 abbrev pub decreases-group : goal.decreases-group
 decreases-group l = 8 * goal.size-group l + 2
 
+abbrev pub decreases-put_graph : goal.decreases-put_graph
+decreases-put_graph l = 8 * goal.size-put_graph l + 3
+
+abbrev pub decreases-put_window : goal.decreases-put_window
+decreases-put_window l = 8 * goal.size-put_window l + 3
+
+abbrev pub decreases-put_exists : goal.decreases-put_exists
+decreases-put_exists l = 8 * goal.size-put_exists l + 3
+
 abbrev pub decreases-groups : goal.decreases-groups
 decreases-groups l = 8 * goal.size-groups l + 3
 
