@@ -5,3 +5,7 @@ pub mod ComparingRows
 pub mod FunctionRows
 pub mod OrderRows
 pub mod AggregateRows
+pub mod Extremes
+pub mod Reordered
+pub mod SameAggregates
+pub mod TermOrder

@@ -1,10 +1,11 @@
 -- Definitions: aggregates (SPARQL 1.1 Query, section 18.5.1), of the list of the argument's values in the rows of a group.
 -- None is an error. How often a value stands in the list matters, and its place doesn't.
 use Rattle.std.specs.Prelude.{pos, Bool, if◌then◌else◌, Option, Some, None, is_some, List, [], ◌∷◌, map, length}
-use Rattle.std.specs.List.{list_any, count_by, fold, reduce}
+use Rattle.std.specs.List.{count_by, fold, reduce}
 use Rattle.std.specs.Option.{option_and_then, option_eq}
 use Rattle.std.specs.Ordering.{ord_min, ord_max}
 use Rattle.rsp_multiset.specs.Rows.{Cells}
+use Rattle.rsp_multiset.specs.RowLists.{each_once}
 use Rattle.rsp_number.specs.Numbers.{integer_result, quotient}
 use Rattle.rsp_number.specs.Tallies.{Tally}
 use Rattle.rsp_number.specs.Totals.{empty_tally, after_taking, value_of_total}
@@ -21,14 +22,9 @@ use Rattle.rsp_expr.specs.Values.{value}
 use Rattle.rsp_expr.specs.declared.aggregate.Kind.{Kind}
 use Rattle.rsp_expr.specs.declared.aggregate.Kind.TheVariants.{Count, Sum, Avg, Min, Max}
 
--- each item of a list once
-abbrev pub distinct_items : {A : Type 0} → (A → A → Bool) → List A → List A
-distinct_items eq [] = []
-distinct_items eq (x ∷ xs) = if list_any (eq x) xs then distinct_items eq xs else x ∷ distinct_items eq xs
-
 -- under DISTINCT each term counts once, and an error stays an error
 abbrev pub counted_values : Bool → List (Option Term) → List (Option Term)
-counted_values distinct values = if distinct then distinct_items (option_eq term_eq) values else values
+counted_values distinct values = if distinct then each_once (option_eq term_eq) values else values
 
 -- the numbers of the values; an error where a value is one, or has no number
 abbrev pub numbers_of : List (Option Term) → Option (List Number)

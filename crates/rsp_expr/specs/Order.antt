@@ -20,13 +20,21 @@ abbrev pub rank : Option Term → ℕ
 rank None = 0
 rank (Some term) = term_rank term
 
--- by rank, then numbers by value, then by the bytes that are printed
+-- the number of a blank node's document
+abbrev pub document_number : Option Term → ℕ
+document_number (Some (Blank document label)) = document
+document_number term = 0
+
+-- By rank, then numbers by value, then by the bytes that are printed. At most 64 digits of a document's number are printed:
+-- longer numbers, of which a program has none, stand by themselves, so that only a term itself is equal to it.
 abbrev pub order : Option Term → Option Term → Ordering
 order =
     then_cmp (on rank nat_cmp)
     (then_cmp
     (on (option_and_then number_of) (option_cmp comparison))
-    (on (option_map term_text) (option_cmp (slice_cmp nat_cmp))))
+    (then_cmp
+    (on (option_map term_text) (option_cmp (slice_cmp nat_cmp)))
+    (on document_number nat_cmp)))
 
 -- the order of two terms that are bound
 abbrev pub term_order : Term → Term → Ordering
