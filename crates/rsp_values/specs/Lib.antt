@@ -1,2 +1,3 @@
 -- Words of the way:
 pub mod Parts
+pub mod Extremes

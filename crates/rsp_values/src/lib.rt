@@ -1,10 +1,15 @@
-//! The values of expressions (SPARQL 1.1 Query, section 17): the value in a row, and whether a row passes a filter.
+//! The values of expressions (SPARQL 1.1 Query, section 17): the value in a row, and whether a row passes a filter; and
+//! the values of aggregates in a group of rows (section 18.5.1).
 //!
-//! Both are exactly what `rsp_expr` defines. Parts that can't matter aren't valued, and where only the truth is asked
-//! tests make no term. Below: what a node makes of its parts' values.
+//! All are exactly what `rsp_expr` defines. Parts that can't matter aren't valued, and where only the truth is asked
+//! tests make no term. Below: what a node makes of its parts' values, and totals of numbers.
 #![tactic(auto)]
 
+mod aggregates;
 mod evaluation;
+mod extremes;
 mod nodes;
+mod sums;
 
+pub use aggregates::aggregate_value;
 pub use evaluation::{truth, value};
