@@ -40,7 +40,7 @@ solutions-length width place triple (fact ∷ facts) =
     by (is_instance (row_by width (binding place triple fact)) place triple fact) (solutions-length width place triple facts)
   where
     by : (b : Bool) → AllHave width (filter_map (solution width place triple) facts) → AllHave width (cons_option (then_some b (row_by width (binding place triple fact))) (filter_map (solution width place triple) facts))
-    by true rest = (row_by-length width (binding triple fact.triple), rest)
+    by true rest = (row_by-length width (binding place triple fact), rest)
     by false rest = rest
 
 pub all-append : {X : Type 0} (P : X → Type 0) (xs ys : List X) → AllByRecursion P xs → AllByRecursion P ys → AllByRecursion P (xs ++ ys)

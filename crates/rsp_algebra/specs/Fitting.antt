@@ -1,6 +1,6 @@
 -- Words of the way: that a tree fits a width is known in one way at most.
 use Rattle.std.specs.Prelude.{◌≡◌, ℕ, ◌<◌, true, List, length}
-use Rattle.std.specs.Coded.{Coded-set, coded_ℕ, coded_Bool, ×_prop, Unit-prop, le_prop}
+use Rattle.std.specs.Coded.{Coded-set, coded_ℕ, coded_bool, ×_prop, Unit-prop, le_prop}
 use Rattle.std.specs.List.{AllByRecursion-prop}
 use Rattle.rsp_multiset.specs.Rows.{Cells}
 use Rattle.rsp_terms.specs.declared.term.Term.{Term}
@@ -15,7 +15,7 @@ AggregateFits-prop : (width : ℕ) (entry : ℕ × Aggregation) → IsProp (Aggr
 AggregateFits-prop width (variable, aggregation) =
     ×_prop le_prop
     (×_prop (AreBelow-prop width (argument_variables aggregation.argument))
-    (Coded-set coded_Bool (has_form aggregation.kind aggregation.distinct aggregation.argument) true))
+    (Coded-set coded_bool (has_form aggregation.kind aggregation.distinct aggregation.argument) true))
 
 pub Fits-prop : (width : ℕ) (tree : Node) → IsProp (Fits width tree)
 Fits-prop width node.unit = Unit-prop
