@@ -1,2 +1,2 @@
 // What evaluation takes of expressions, named in this one place.
-pub use rsp_values::{truth, value};
+pub use rsp_values::{aggregate_value, truth, value};

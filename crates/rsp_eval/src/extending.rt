@@ -35,8 +35,8 @@ fn extended_cell(
     }
 }
 
-// the row with the term for the variable
-fn extend_row(
+/// The row with the term for the variable.
+pub(crate) fn extend_row(
     alloc: Global,
     width: usize,
     variable: usize,

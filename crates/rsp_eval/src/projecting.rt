@@ -1,5 +1,5 @@
 // Rows without bindings, and rows cut to some of their variables.
-ghost use Rattle.std.specs.Prelude.{◌≡◌, if◌then◌else◌, None, IfOk, map};
+ghost use Rattle.std.specs.Prelude.{◌≡◌, if◌then◌else◌, None, IfOk, map, ◌∷◌, []};
 ghost use Rattle.rsp_algebra.specs.Patterns.{row_by, cell, among};
 ghost use Rattle.rsp_algebra.specs.Solutions.{projection};
 
@@ -7,8 +7,8 @@ use rsp_multiset::Row;
 use rsp_terms::Term;
 use std::alloc::{AllocError, Global};
 
-/// The row of this width that binds nothing.
-pub(crate) fn unbound_row(alloc: Global, width: usize) -> Result<Row<Term>, AllocError>
+// the row of this width that binds nothing
+fn unbound_row(alloc: Global, width: usize) -> Result<Row<Term>, AllocError>
     ensures { IfOk result (λ row. row ≡ row_by width (λ _. None)) }
 {
     let mut cells = Vec::new(alloc);
@@ -16,6 +16,15 @@ pub(crate) fn unbound_row(alloc: Global, width: usize) -> Result<Row<Term>, Allo
         cells.push(None)?;
     }
     Ok(Row::new(cells))
+}
+
+/// One row, which binds nothing.
+pub(crate) fn unit_rows(alloc: Global, width: usize) -> Result<Vec<Row<Term>>, AllocError>
+    ensures { IfOk result (λ rows. rows.items ≡ row_by width (λ _. None) ∷ []) }
+{
+    let mut rows = Vec::new(alloc);
+    rows.push(unbound_row(alloc, width)?)?;
+    Ok(rows)
 }
 
 // what the row binds the variable to, if the variable is among those that are kept
@@ -35,7 +44,8 @@ fn projected_cell(
     }
 }
 
-fn project_row(
+/// The row with all variables but these unbound.
+pub(crate) fn project_row(
     alloc: Global,
     width: usize,
     variables: &[usize],

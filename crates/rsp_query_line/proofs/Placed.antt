@@ -8,7 +8,7 @@ use Rattle.rsp_algebra.specs.declared.tree.Place.{Place}
 use Rattle.rsp_algebra.specs.declared.tree.Place.TheVariants.{Window}
 use Rattle.rsp_algebra.specs.declared.tree.Translated.{Translated}
 use Rattle.rsp_algebra.specs.declared.tree.TriplePattern.{TriplePattern}
-use Rattle.rsp_algebra.specs.Nodes.{IsPlaced, node_of, AreBelow, Fits, Node, join, pattern, left_deep, pattern_variables, slot_variables}
+use Rattle.rsp_algebra.specs.Nodes.{IsPlaced, node_of, AreBelow, Fits, Node, join, pattern, left_deep, pattern_variables, triple_variables, slot_variables}
 use Rattle.rsp_algebra.specs.Overfull.{overfull}
 use Rattle.rsp_algebra.proofs.NoFacts.{no_facts-project}
 use Rattle.rsp_query_line.specs.declared.line.Line.{Line}
@@ -98,7 +98,7 @@ append_below width (x ∷ xs) ys hx hy = (hx.0, append_below width xs ys hx.1 hy
 slot_below : (names : List (List ℕ)) (part : Part) → AreAmong names (part_names part) → AreBelow (length names) (slot_variables (slot_of names part))
 slot_below names part all = rw (slot_places names part) (places_below names (part_names part) all)
 
-pattern_below : (names : List (List ℕ)) (written : Written) → AreAmong names (pattern_names written) → AreBelow (length names) (pattern_variables (triple_pattern_of names written))
+pattern_below : (names : List (List ℕ)) (written : Written) → AreAmong names (pattern_names written) → AreBelow (length names) (triple_variables (triple_pattern_of names written))
 pattern_below names written all =
     let P : List ℕ → Type 0 = λ name. is_among names name ≡ true in
     let s = part_names written.subject in
@@ -109,7 +109,7 @@ pattern_below names written all =
     (append_below (length names) _ _ (slot_below names written.predicate (first_part P p o behind)) (slot_below names written.object (last_part P p o behind)))
 
 abbrev EachBelow : List (List ℕ) → List Written → Type 0
-EachBelow names patterns = AllByRecursion (λ (t : TriplePattern). AreBelow (length names) (pattern_variables t)) (map (triple_pattern_of names) patterns)
+EachBelow names patterns = AllByRecursion (λ (t : TriplePattern). AreBelow (length names) (triple_variables t)) (map (triple_pattern_of names) patterns)
 
 each_below : (names : List (List ℕ)) (patterns : List Written) → AreAmong names (flat_map pattern_names patterns) → EachBelow names patterns
 each_below names [] all = tt
@@ -119,19 +119,19 @@ each_below names (x ∷ xs) all =
       each_below names xs (last_part P (pattern_names x) (flat_map pattern_names xs) all),
     )
 
-folded_fits : (width : ℕ) (place : Place) (node : Node) (others : List TriplePattern) → Fits width node → AllByRecursion (λ (t : TriplePattern). AreBelow width (pattern_variables t)) others
+folded_fits : (width : ℕ) (place : Place) (node : Node) (others : List TriplePattern) → Fits width node → AllByRecursion (λ (t : TriplePattern). AreBelow width (pattern_variables place t)) others
     → Fits width (fold (λ n triple. join n (pattern place triple)) node others)
 folded_fits width place node [] fits all = fits
 folded_fits width place node (t ∷ ts) fits all = folded_fits width place (join node (pattern place t)) ts (fits, all.0) all.1
 
-joined_fits : (width : ℕ) (place : Place) (triples : List TriplePattern) → AllByRecursion (λ (t : TriplePattern). AreBelow width (pattern_variables t)) triples → Fits width (left_deep place triples)
+joined_fits : (width : ℕ) (place : Place) (triples : List TriplePattern) → AllByRecursion (λ (t : TriplePattern). AreBelow width (pattern_variables place t)) triples → Fits width (left_deep place triples)
 joined_fits width place [] all = tt
 joined_fits width place (t ∷ ts) all = folded_fits width place (pattern place t) ts all.0 all.1
 
-pub patterns_fit : (place : Place) (patterns : List Written)
-    → Fits (length (variables_of patterns)) (left_deep place (map (triple_pattern_of (variables_of patterns)) patterns))
-patterns_fit place patterns =
-    joined_fits (length (variables_of patterns)) place (map (triple_pattern_of (variables_of patterns)) patterns)
+pub patterns_fit : (k : ℕ) (patterns : List Written)
+    → Fits (length (variables_of patterns)) (left_deep (Window k) (map (triple_pattern_of (variables_of patterns)) patterns))
+patterns_fit k patterns =
+    joined_fits (length (variables_of patterns)) (Window k) (map (triple_pattern_of (variables_of patterns)) patterns)
     (each_below (variables_of patterns) patterns (there_all [] (flat_map pattern_names patterns)))
 
 from_all : (names more : List (List ℕ)) → list_all (is_among names) more ≡ true → AreAmong names more
@@ -151,7 +151,7 @@ pub placed_query : (line : Line) (query : Translated) → are_shown line.shown l
     → node_of query.tree ≡ node_of_line line → query.width ≡ width_of line → query.shown ≡ shown_of line → IsPlaced query
 placed_query line query shown tree width places =
     let below = shown_fit line.shown line.patterns shown in
-    let fits : Fits (width_of line) (node_of_line line) = (below, patterns_fit (Window 0) line.patterns) in
+    let fits : Fits (width_of line) (node_of_line line) = (below, patterns_fit 0 line.patterns) in
     record {
       tree = subst (λ n. Fits n (node_of query.tree)) (sym width) (subst (λ node. Fits (width_of line) node) (sym tree) fits);
       shown = subst (λ n. AreBelow n query.shown) (sym width) (subst (λ vs. AreBelow (width_of line) vs) (sym places) below);
