@@ -1,0 +1,4 @@
+-- Definitions
+pub mod Visible
+pub mod Shapes
+pub mod Scopes
