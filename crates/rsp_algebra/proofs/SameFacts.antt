@@ -12,11 +12,14 @@ use Rattle.rsp_multiset.proofs.Sums.{sum_z-filter_map}
 use Rattle.rsp_terms.specs.declared.term.Term.{Term}
 use Rattle.rsp_terms.specs.declared.statement.Fact.{Fact}
 use Rattle.rsp_terms.specs.Same.{term_eq, term_same, fact_eq, fact_same}
+use Rattle.rsp_expr.specs.Formulas.{Aggregation}
+use Rattle.rsp_expr.specs.Aggregates.{aggregate_value}
 use Rattle.rsp_expr.specs.Values.{truth}
+use Rattle.rsp_expr.proofs.SameAggregates.{same_aggregate_value}
 use Rattle.rsp_algebra.specs.Nodes as node
 use Rattle.rsp_algebra.specs.Nodes.{Node}
 use Rattle.rsp_algebra.specs.Patterns.{solution}
-use Rattle.rsp_algebra.specs.Solutions.{same_row, eval, pass_together, takes_away, projection, extended_by}
+use Rattle.rsp_algebra.specs.Solutions.{same_row, eval, pass_together, takes_away, projection, extension, extended_by, group_keys, group_of, with_aggregates, grouped}
 use Rattle.rsp_algebra.specs.Overfull.{most_rows, overfull, subtrees, too_many}
 
 abbrev pub SameFacts : List Fact → List Fact → Type 0
@@ -27,6 +30,32 @@ SameRows rows others = (q : Cells Term) → times same_row rows q ≡ times same
 
 pub same_mapped : (f : Cells Term → Cells Term) (rows others : List (Cells Term)) → SameRows rows others → SameRows (map f rows) (map f others)
 same_mapped f rows others same = same-map (row_decides term_same) same_row f rows others same
+
+-- ---- groups
+
+map-alike : (f g : Cells Term → Cells Term) → ((row : Cells Term) → f row ≡ g row) → (rows : List (Cells Term)) → map f rows ≡ map g rows
+map-alike f g alike [] = refl
+map-alike f g alike (row ∷ rows) = (λ i. alike row i ∷ map-alike f g alike rows i)
+
+same-keys : (width : ℕ) (keys : List ℕ) (rows others : List (Cells Term)) → SameRows rows others → SameRows (group_keys width keys rows) (group_keys width keys others)
+same-keys width [] rows others same = λ q. refl
+same-keys width (key ∷ keys) rows others same =
+    same-once (row_decides term_same) (map (projection width (key ∷ keys)) rows) (map (projection width (key ∷ keys)) others)
+    (same_mapped (projection width (key ∷ keys)) rows others same)
+
+same-with_aggregates : (width : ℕ) (aggregates : List (ℕ × Aggregation)) (rows others : List (Cells Term)) (key : Cells Term) → SameRows rows others → with_aggregates width aggregates rows key ≡ with_aggregates width aggregates others key
+same-with_aggregates width [] rows others key same = refl
+same-with_aggregates width (aggregate ∷ aggregates) rows others key same =
+    (λ i. with_aggregates width aggregates rows (extension width aggregate.0 (same_aggregate_value aggregate.1 rows others same i) key))
+    ∙ same-with_aggregates width aggregates rows others (extension width aggregate.0 (aggregate_value aggregate.1 others) key) same
+
+same-grouped : (width : ℕ) (keys : List ℕ) (aggregates : List (ℕ × Aggregation)) (rows others : List (Cells Term)) → SameRows rows others → SameRows (grouped width keys aggregates rows) (grouped width keys aggregates others)
+same-grouped width keys aggregates rows others same q =
+    let made = λ (rows : List (Cells Term)) (key : Cells Term). with_aggregates width aggregates (group_of width keys rows key) key in
+    ap (λ made_rows. times same_row made_rows q) (map-alike (made rows) (made others) (λ key.
+    same-with_aggregates width aggregates (group_of width keys rows key) (group_of width keys others key) key
+    (same-filter (row_decides term_same) (λ row. same_row key (projection width keys row)) rows others same)) (group_keys width keys rows))
+    ∙ same_mapped (made others) (group_keys width keys rows) (group_keys width keys others) (same-keys width keys rows others same) q
 
 pub same_solutions : (width : ℕ) (tree : Node) (facts others : List Fact) → SameFacts facts others → SameRows (eval width tree facts) (eval width tree others)
 same_solutions width node.unit facts others same = λ q. refl
@@ -68,6 +97,8 @@ same_solutions width (node.project child variables) facts others same =
     same_mapped (projection width variables) (eval width child facts) (eval width child others) (same_solutions width child facts others same)
 same_solutions width (node.distinct child) facts others same =
     same-once (row_decides term_same) (eval width child facts) (eval width child others) (same_solutions width child facts others same)
+same_solutions width (node.group child keys aggregates) facts others same =
+    same-grouped width keys aggregates (eval width child facts) (eval width child others) (same_solutions width child facts others same)
 
 any_alike : {X : Type 0} (p q : X → Bool) → ((x : X) → p x ≡ q x) → (xs : List X) → list_any p xs ≡ list_any q xs
 any_alike p q alike [] = refl

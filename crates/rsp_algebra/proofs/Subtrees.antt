@@ -43,6 +43,7 @@ overfull-itself width (node.extend child variable formula) facts many = ap (λ b
 overfull-itself width (node.values rows) facts many = ap (λ b. b || false) many
 overfull-itself width (node.project child variables) facts many = ap (λ b. b || overfull width child facts) many
 overfull-itself width (node.distinct child) facts many = ap (λ b. b || overfull width child facts) many
+overfull-itself width (node.group child keys aggregates) facts many = ap (λ b. b || overfull width child facts) many
 
 or-known : (a b : Bool) → (a ≡ true → b ≡ true) → (a || b) ≡ b
 or-known true b h = sym (h refl)

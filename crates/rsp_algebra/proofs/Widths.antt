@@ -10,12 +10,13 @@ use Rattle.rsp_terms.specs.declared.statement.Fact.{Fact}
 use Rattle.rsp_algebra.specs.declared.tree.Place.{Place}
 use Rattle.rsp_algebra.specs.declared.tree.TriplePattern.{TriplePattern}
 use Rattle.rsp_terms.specs.Same.{term_eq}
-use Rattle.rsp_expr.specs.Formulas.{Formula}
+use Rattle.rsp_expr.specs.Formulas.{Formula, Aggregation}
+use Rattle.rsp_expr.specs.Aggregates.{aggregate_value}
 use Rattle.rsp_expr.specs.Values.{truth}
 use Rattle.rsp_algebra.specs.Nodes as node
 use Rattle.rsp_algebra.specs.Nodes.{Node, Fits}
-use Rattle.rsp_algebra.specs.Patterns.{row_by, is_at, is_instance, binding, solution}
-use Rattle.rsp_algebra.specs.Solutions.{same_row, pass_together, takes_away, projection, extended_by, eval}
+use Rattle.rsp_algebra.specs.Patterns.{row_by, is_instance, binding, solution}
+use Rattle.rsp_algebra.specs.Solutions.{same_row, pass_together, takes_away, projection, extension, extended_by, group_keys, group_of, with_aggregates, eval}
 
 -- each row has so many cells
 abbrev pub AllHave : ℕ → List (Cells Term) → Type 0
@@ -36,9 +37,9 @@ merged-length (x ∷ left) (y ∷ right) same =
 solutions-length : (width : ℕ) (place : Place) (triple : TriplePattern) (facts : List Fact) → AllHave width (filter_map (solution width place triple) facts)
 solutions-length width place triple [] = tt
 solutions-length width place triple (fact ∷ facts) =
-    by (is_at place fact.spot && is_instance (row_by width (binding triple fact.triple)) triple fact.triple) (solutions-length width place triple facts)
+    by (is_instance (row_by width (binding place triple fact)) place triple fact) (solutions-length width place triple facts)
   where
-    by : (b : Bool) → AllHave width (filter_map (solution width place triple) facts) → AllHave width (cons_option (then_some b (row_by width (binding triple fact.triple))) (filter_map (solution width place triple) facts))
+    by : (b : Bool) → AllHave width (filter_map (solution width place triple) facts) → AllHave width (cons_option (then_some b (row_by width (binding place triple fact))) (filter_map (solution width place triple) facts))
     by true rest = (row_by-length width (binding triple fact.triple), rest)
     by false rest = rest
 
@@ -87,6 +88,21 @@ extended-length : (width variable : ℕ) (formula : Formula) (rows : List (Cells
 extended-length width variable formula [] = tt
 extended-length width variable formula (row ∷ rows) = (row_by-length width _, extended-length width variable formula rows)
 
+keys-length : (width : ℕ) (keys : List ℕ) (rows : List (Cells Term)) → AllHave width (group_keys width keys rows)
+keys-length width [] rows = (row_by-length width (λ _. None), tt)
+keys-length width (key ∷ keys) rows =
+    all-once (λ row. length row ≡ width) same_row (map (projection width (key ∷ keys)) rows) (projected-length width (key ∷ keys) rows)
+
+pub aggregates-length : (width : ℕ) (aggregates : List (ℕ × Aggregation)) (rows : List (Cells Term)) (key : Cells Term) → length key ≡ width → length (with_aggregates width aggregates rows key) ≡ width
+aggregates-length width [] rows key long = long
+aggregates-length width (aggregate ∷ aggregates) rows key long =
+    aggregates-length width aggregates rows (extension width aggregate.0 (aggregate_value aggregate.1 rows) key) (row_by-length width _)
+
+grouped-length : (width : ℕ) (aggregates : List (ℕ × Aggregation)) (group : Cells Term → List (Cells Term)) (keys : List (Cells Term)) → AllHave width keys → AllHave width (map (λ key. with_aggregates width aggregates (group key) key) keys)
+grouped-length width aggregates group [] all = tt
+grouped-length width aggregates group (key ∷ keys) all =
+    (aggregates-length width aggregates (group key) key all.0, grouped-length width aggregates group keys all.1)
+
 pub eval-length : (width : ℕ) (tree : Node) (facts : List Fact) → Fits width tree → AllHave width (eval width tree facts)
 eval-length width node.unit facts fits = (row_by-length width (λ _. None), tt)
 eval-length width (node.pattern place triple) facts fits = solutions-length width place triple facts
@@ -113,3 +129,5 @@ eval-length width (node.values rows) facts fits = fits
 eval-length width (node.project child variables) facts fits = projected-length width variables (eval width child facts)
 eval-length width (node.distinct child) facts fits =
     all-once (λ row. length row ≡ width) same_row (eval width child facts) (eval-length width child facts fits)
+eval-length width (node.group child keys aggregates) facts fits =
+    grouped-length width aggregates (group_of width keys (eval width child facts)) (group_keys width keys (eval width child facts)) (keys-length width keys (eval width child facts))

@@ -1,14 +1,15 @@
 -- Worked rows: the work of small changes.
-use Rattle.std.specs.Prelude.{◌≡◌, refl, Some, None, [], ◌∷◌, codes}
+use Rattle.std.specs.Prelude.{◌≡◌, refl, false, Some, None, [], ◌∷◌, codes}
 use Rattle.rsp_terms.specs.declared.term.Term.{Term}
 use Rattle.rsp_terms.specs.declared.term.Term.TheVariants.{Iri}
 use Rattle.rsp_terms.specs.declared.statement.Fact.{Fact}
 use Rattle.rsp_terms.specs.declared.statement.Spot.TheVariants as spot
 use Rattle.rsp_expr.specs.Formulas.{Formula, variable}
+use Rattle.rsp_expr.specs.declared.aggregate.Kind.TheVariants.{Count}
 use Rattle.rsp_expr.specs.declared.slot.Slot.TheVariants.{Variable, Constant}
 use Rattle.rsp_algebra.specs.declared.tree.Place.TheVariants as place
 use Rattle.rsp_algebra.specs.declared.tree.TriplePattern.{TriplePattern}
-use Rattle.rsp_algebra.specs.Nodes.{Node, pattern, left_join, union, minus, exists, not_exists, extend, values, project, left_deep}
+use Rattle.rsp_algebra.specs.Nodes.{Node, pattern, left_join, union, minus, exists, not_exists, extend, values, project, group, left_deep}
 use Rattle.rsp_algebra.specs.Work.{certain_variables, key, join_work, work}
 
 abbrev a : Term
@@ -61,6 +62,16 @@ values_bind_what_each_row_binds = refl
 
 pub no_values_bind_nothing : certain_variables (values []) ≡ []
 no_values_bind_nothing = refl
+
+pub graph_variable_is_bound : certain_variables (pattern (place.AnyNamed 2) outgoing) ≡ 2 ∷ 0 ∷ 1 ∷ []
+graph_variable_is_bound = refl
+
+-- ?2 may be unbound, and ?1 is the aggregate's
+pub keys_bind_what_the_child_binds : certain_variables (group both (0 ∷ 1 ∷ 2 ∷ []) ((1, record { kind = Count; distinct = false; argument = None }) ∷ [])) ≡ 0 ∷ []
+keys_bind_what_the_child_binds = refl
+
+pub group_adds_nothing : work 2 (group both (0 ∷ []) []) (fact a a ∷ []) (fact a a ∷ []) ≡ 4
+group_adds_nothing = refl
 
 pub union_adds_nothing : work 2 (union both both) (fact a a ∷ []) (fact a a ∷ []) ≡ 8
 union_adds_nothing = refl

@@ -1,16 +1,20 @@
 -- Definitions: the nodes of an algebra tree (SPARQL 1.1 Query, section 18.2), apart from how the code keeps them.
-use Rattle.std.specs.Prelude.{◌≡◌, ℕ, ◌<◌, ⊤, List, [], ◌∷◌, ◌++◌, length}
+use Rattle.std.specs.Prelude.{◌≡◌, ℕ, ◌<◌, ⊤, Bool, true, false, Option, None, Some, List, [], ◌∷◌, ◌++◌, length, map}
 use Rattle.std.specs.List.{AllByRecursion, fold}
 use Rattle.rsp_multiset.specs.Rows.{Cells}
 use Rattle.rsp_terms.specs.declared.term.Term.{Term}
 use Rattle.rsp_expr.specs.Formulas as formula
-use Rattle.rsp_expr.specs.Formulas.{Formula, Formulas, no_formula, formula_then, formula_of}
+use Rattle.rsp_expr.specs.Formulas.{Formula, Formulas, no_formula, formula_then, formula_of, Aggregation, aggregation_of}
+use Rattle.rsp_expr.specs.declared.aggregate.Aggregate.{Aggregate}
+use Rattle.rsp_expr.specs.declared.aggregate.Kind.{Kind}
+use Rattle.rsp_expr.specs.declared.aggregate.Kind.TheVariants.{Count}
 use Rattle.rsp_expr.specs.declared.slot.Slot.{Slot}
 use Rattle.rsp_expr.specs.declared.slot.Slot.TheVariants.{Variable, Constant}
 use Rattle.rsp_algebra.specs.declared.tree.Place.{Place}
+use Rattle.rsp_algebra.specs.declared.tree.Place.TheVariants.{AnyNamed}
 use Rattle.rsp_algebra.specs.declared.tree.TriplePattern.{TriplePattern}
 use Rattle.rsp_algebra.specs.declared.tree.Tree.{Tree}
-use Rattle.rsp_algebra.specs.declared.tree.Tree.TheVariants.{Unit, Pattern, Join', LeftJoin', Union', Minus', Exists', NotExists', Filter', Extend', Values, Project', Distinct'}
+use Rattle.rsp_algebra.specs.declared.tree.Tree.TheVariants.{Unit, Pattern, Join', LeftJoin', Union', Minus', Exists', NotExists', Filter', Extend', Values, Project', Distinct', Group'}
 use Rattle.rsp_algebra.specs.declared.tree.Translated.{Translated}
 
 pub data Node : Type 0 where
@@ -27,6 +31,11 @@ pub data Node : Type 0 where
   values : List (Cells Term) → Node
   project : Node → List ℕ → Node
   distinct : Node → Node
+  group : Node → List ℕ → List (ℕ × Aggregation) → Node
+
+-- the aggregates of a group, each with its variable
+abbrev pub aggregations_of : List (ℕ × Aggregate) → List (ℕ × Aggregation)
+aggregations_of aggregates = map {B = ℕ × Aggregation} (λ entry. (entry.0, aggregation_of entry.1)) aggregates
 
 -- the node that a tree of the code is
 abbrev pub node_of : Tree → Node
@@ -44,6 +53,7 @@ node_of (Extend' _ child variable expression) = extend (node_of child) variable 
 node_of (Values rows) = values rows.items
 node_of (Project' _ child variables) = project (node_of child) variables.items
 node_of (Distinct' _ child) = distinct (node_of child)
+node_of (Group' _ child keys aggregates) = group (node_of child) keys.items (aggregations_of aggregates.items)
 
 -- the left-deep join of triple patterns at one place
 abbrev pub left_deep : Place → List TriplePattern → Node
@@ -55,9 +65,18 @@ abbrev pub slot_variables : Slot → List ℕ
 slot_variables (Variable v) = v ∷ []
 slot_variables (Constant _) = []
 
-abbrev pub pattern_variables : TriplePattern → List ℕ
-pattern_variables triple =
+abbrev pub triple_variables : TriplePattern → List ℕ
+triple_variables triple =
     slot_variables triple.subject ++ (slot_variables triple.predicate ++ slot_variables triple.object)
+
+-- the variable for the graph's name, if the place has one
+abbrev pub place_variables : Place → List ℕ
+place_variables (AnyNamed v) = v ∷ []
+place_variables _ = []
+
+-- the variables of a triple pattern at a place
+abbrev pub pattern_variables : Place → TriplePattern → List ℕ
+pattern_variables place triple = place_variables place ++ triple_variables triple
 
 -- the variables of a formula
 abbrev mutual
@@ -79,13 +98,30 @@ abbrev mutual
   variables_of_all no_formula = []
   variables_of_all (formula_then first others) = formula_variables first ++ variables_of_all others
 
+-- the variables of an aggregate's argument
+abbrev pub argument_variables : Option Formula → List ℕ
+argument_variables None = []
+argument_variables (Some argument) = formula_variables argument
+
+-- an aggregate without argument counts rows, each as often as it is there
+abbrev pub has_form : Kind → Bool → Option Formula → Bool
+has_form kind once (Some argument) = true
+has_form Count false None = true
+has_form kind once None = false
+
 -- each place of a row that the tree names is below the width of rows, and each of its own rows has that width
 abbrev pub AreBelow : ℕ → List ℕ → Type 0
 AreBelow width variables = AllByRecursion (λ v. v < width) variables
 
+abbrev pub AggregateFits : ℕ → ℕ × Aggregation → Type 0
+AggregateFits width (variable, aggregation) =
+    (variable < width)
+    × (AreBelow width (argument_variables aggregation.argument)
+    × (has_form aggregation.kind aggregation.distinct aggregation.argument ≡ true))
+
 abbrev pub Fits : ℕ → Node → Type 0
 Fits width unit = ⊤
-Fits width (pattern _ triple) = AreBelow width (pattern_variables triple)
+Fits width (pattern place triple) = AreBelow width (pattern_variables place triple)
 Fits width (join left right) = Fits width left × Fits width right
 Fits width (left_join left right condition) =
     AreBelow width (formula_variables condition) × (Fits width left × Fits width right)
@@ -100,6 +136,8 @@ Fits width (extend child v expression) = (v < width) × (AreBelow width (formula
 Fits width (values rows) = AllByRecursion (λ row. length row ≡ width) rows
 Fits width (project child variables) = AreBelow width variables × Fits width child
 Fits width (distinct child) = Fits width child
+Fits width (group child keys aggregates) =
+    AreBelow width keys × (AllByRecursion (AggregateFits width) aggregates × Fits width child)
 
 -- each place that a translated query names is below its width
 pub record IsPlaced (query : Translated) : Type 0 where

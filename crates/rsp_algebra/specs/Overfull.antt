@@ -32,6 +32,7 @@ subtrees (node.extend child variable formula) = node.extend child variable formu
 subtrees (node.values rows) = node.values rows ∷ []
 subtrees (node.project child variables) = node.project child variables ∷ subtrees child
 subtrees (node.distinct child) = node.distinct child ∷ subtrees child
+subtrees (node.group child keys aggregates) = node.group child keys aggregates ∷ subtrees child
 
 -- some subtree has too many rows over the facts
 abbrev pub overfull : ℕ → Node → List Fact → Bool

@@ -2,25 +2,25 @@
 ghost use Rattle.std.specs.Prelude.{◌≡◌, IfOk};
 ghost use Rattle.rsp_expr.specs.Formulas.{formula_of};
 ghost use Rattle.rsp_algebra.specs.Nodes as node;
-ghost use Rattle.rsp_algebra.specs.Nodes.{node_of};
+ghost use Rattle.rsp_algebra.specs.Nodes.{node_of, aggregations_of};
 
 use crate::{Place, Tree};
-use rsp_expr::{Expression, Slot};
+use rsp_expr::{Aggregate, Expression, Slot};
 use rsp_multiset::{Cell, Row};
 use rsp_terms::Term;
 use std::alloc::{AllocError, Global};
 
 pub(crate) fn pattern(
-    place: Place,
+    place: &Place,
     subject: &Slot,
     predicate: &Slot,
     object: &Slot,
 ) -> Result<Tree, AllocError>
-    ensures { IfOk result (λ tree. node_of tree ≡ node.pattern place
+    ensures { IfOk result (λ tree. node_of tree ≡ node.pattern place.now
         (record { subject = subject.now; predicate = predicate.now; object = object.now })) }
 {
     Ok(Tree::Pattern {
-        place,
+        place: place.share()?,
         subject: subject.share()?,
         predicate: predicate.share()?,
         object: object.share()?,
@@ -150,5 +150,35 @@ pub(crate) fn distinct(alloc: Global, child: Tree) -> Result<Tree, AllocError>
 {
     Ok(Tree::Distinct {
         child: Box::new(alloc, child)?,
+    })
+}
+
+fn share_aggregates(
+    alloc: Global,
+    aggregates: &[(usize, Aggregate)],
+) -> Result<Vec<(usize, Aggregate)>, AllocError>
+    ensures { IfOk result (λ others. aggregations_of others.items ≡ aggregations_of aggregates.now) }
+{
+    let mut others = Vec::new(alloc);
+    for entry in aggregates {
+        let (variable, aggregate) = entry;
+        others.push((*variable, aggregate.share(alloc)?))?;
+    }
+    Ok(others)
+}
+
+pub(crate) fn group(
+    alloc: Global,
+    child: Tree,
+    keys: &[usize],
+    aggregates: &[(usize, Aggregate)],
+) -> Result<Tree, AllocError>
+    ensures { IfOk result (λ tree. node_of tree
+        ≡ node.group (node_of child) keys.now (aggregations_of aggregates.now)) }
+{
+    Ok(Tree::Group {
+        child: Box::new(alloc, child)?,
+        keys: Vec::from_slice(alloc, keys)?,
+        aggregates: share_aggregates(alloc, aggregates)?,
     })
 }

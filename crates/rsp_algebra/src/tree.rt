@@ -3,15 +3,36 @@ ghost use Rattle.std.specs.Prelude.{◌≡◌, IfOk};
 ghost use Rattle.rsp_algebra.specs.Nodes.{node_of};
 
 use crate::nodes;
-use rsp_expr::{Expression, Slot};
+use rsp_expr::{Aggregate, Expression, Slot};
 use rsp_multiset::Row;
 use rsp_terms::{Listed, Term};
 use std::alloc::{AllocError, Global};
 
-/// The graph in which a pattern is matched: that of one of the query's windows, by its index.
-#[derive(Clone, Copy)]
+/// The graph in which a pattern is matched (SPARQL 1.1 Query, section 13.3).
+#[derive(Drop)]
 pub enum Place {
+    /// The stored default graph.
+    Default,
+    /// The stored graph of this name.
+    Named(Term),
+    /// Each stored graph that has a name, with the variable bound to its name.
+    AnyNamed(usize),
+    /// That of one of the query's windows, by its index.
     Window(u32),
+}
+
+impl Place {
+    /// An equal place. Fails only where memory is refused.
+    pub fn share(&self) -> Result<Place, AllocError>
+        ensures { IfOk result (λ other. other ≡ self.now) }
+    {
+        match self {
+            Place::Default => Ok(Place::Default),
+            Place::Named(name) => Ok(Place::Named(name.share()?)),
+            Place::AnyNamed(variable) => Ok(Place::AnyNamed(*variable)),
+            Place::Window(index) => Ok(Place::Window(*index)),
+        }
+    }
 }
 
 /// A triple pattern (SPARQL 1.1 Query, section 18.1.5).
@@ -90,6 +111,13 @@ pub enum Tree {
     Distinct {
         child: Box<Tree>,
     },
+    /// A solution for each group of the child's solutions with the same terms for the keys, which binds these and each
+    /// aggregate's variable to its value over the group. Without keys all of them are one group, also where there are none.
+    Group {
+        child: Box<Tree>,
+        keys: Vec<usize>,
+        aggregates: Vec<(usize, Aggregate)>,
+    },
 }
 
 impl Tree {
@@ -104,7 +132,7 @@ impl Tree {
                 subject,
                 predicate,
                 object,
-            } => nodes::pattern(*place, subject, predicate, object),
+            } => nodes::pattern(place, subject, predicate, object),
             Tree::Join { left, right } => {
                 nodes::join(alloc, left.share(alloc)?, right.share(alloc)?)
             }
@@ -142,6 +170,11 @@ impl Tree {
                 nodes::project(alloc, child.share(alloc)?, variables)
             }
             Tree::Distinct { child } => nodes::distinct(alloc, child.share(alloc)?),
+            Tree::Group {
+                child,
+                keys,
+                aggregates,
+            } => nodes::group(alloc, child.share(alloc)?, keys, aggregates),
         }
     }
 }
