@@ -1,9 +1,9 @@
 -- Definitions: variables that stand where the scope of their names doesn't allow it (SPARQL 1.1 Query, sections 10.1, 11.4, 18.2.1
 -- and 19.8, notes 12 to 14). Each word here gives the first such variable in the text, if there is one. An item's expression stands
 -- before its variable; the items of a SELECT stand before its group, and its keys and HAVING behind it.
-use Rattle.std.specs.Prelude.{ℕ, Bool, ◌||◌, ◌&&◌, not, cond, List, [], ◌∷◌, ◌++◌, Option, None, Some, is_some, map, filter as kept}
+use Rattle.std.specs.Prelude.{ℕ, nat_eq, Bool, ◌||◌, ◌&&◌, not, cond, List, [], ◌∷◌, ◌++◌, Option, None, Some, is_some}
 use Rattle.std.specs.Bool.{then_some}
-use Rattle.std.specs.List.{find}
+use Rattle.std.specs.List.{find, list_any}
 use Rattle.std.specs.Option.{option_or, option_map}
 use Rattle.rsp_expr.specs.Formulas.{Formula, Aggregation}
 use Rattle.rsp_query.specs.Groups.{Item, Part, Parts, Groups, Selection, triple, optional, minus, union, graph, window, filter, exists, bind, values, sub, no_part, part_then, no_group, group_then, selection, parts_in}
@@ -18,14 +18,14 @@ use Rattle.rsp_translation.specs.Visible.{is_visible_in, variables_of}
 abbrev pub where_true : Bool → ℕ → Option Unscoped
 where_true test v = then_some test (Variable v)
 
--- the variables that items compute
-abbrev pub computed : List Item → List ℕ
-computed items = variables_of (kept (λ item. is_some item.formula) items)
+-- some item computes the variable
+abbrev pub is_computed : List Item → ℕ → Bool
+is_computed items v = list_any (λ item. is_some item.formula && nat_eq v item.variable) items
 
 -- what a grouped SELECT may name outside aggregates: a key, what an earlier item computes, and what stands for an aggregate
 abbrev pub is_known : List Item → List Item → List (ℕ × Aggregation) → ℕ → Bool
 is_known keys before aggregates v =
-    among (variables_of keys) v || (among (computed before) v || among (map (λ entry. entry.0) aggregates) v)
+    among (variables_of keys) v || (is_computed before v || list_any (λ entry. nat_eq v entry.0) aggregates)
 
 abbrev pub unknown_in : Bool → List Item → List Item → List (ℕ × Aggregation) → Formula → Option Unscoped
 unknown_in grouped keys before aggregates formula =
@@ -38,7 +38,7 @@ abbrev pub item_fault : List (List ℕ) → Parts → Bool → List Item → Lis
     → Option Unscoped
 item_fault names body grouped keys aggregates before v None =
     where_true
-    (among (variables_of before) v || (grouped && not (among (variables_of keys) v || among (computed before) v)))
+    (among (variables_of before) v || (grouped && not (among (variables_of keys) v || is_computed before v)))
     v
 item_fault names body grouped keys aggregates before v (Some formula) =
     option_or (unknown_in grouped keys before aggregates formula)
