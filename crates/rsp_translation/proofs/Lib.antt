@@ -1,0 +1,5 @@
+pub mod FirstIn
+pub mod Rows
+pub mod Fitting
+mod TranslationRows
+mod FaultRows
