@@ -13,5 +13,5 @@ returns c =
     let firsts = rw c.deref.ensures.value at c.in_ok-firsts.ensures in
     IfOk-weaker c.aggregate_groups.result _ _ (λ made is.
     is
-    ∙ (same_groups c.args.width aggregates (bucket_of c.in_ok-buckets.field-0) group c.in_ok-buckets.ensures c.in_ok-firsts.field-0.items
+    ∙ (same_groups c.args.width aggregates (bucket_of c.in_ok-buckets.buckets) group c.in_ok-buckets.ensures c.in_ok-firsts.firsts.items
     ∙ ap (map (λ key. with_aggregates c.args.width aggregates (group key) key)) firsts)) c.aggregate_groups.ensures
