@@ -2,9 +2,9 @@
 ghost use Rattle.std.specs.Prelude.{◌≡◌, true, length, ◌++◌};
 ghost use Rattle.std.specs.List.{AllByRecursion};
 ghost use Rattle.rsp_expr.specs.Formulas.{formula_of};
-ghost use Rattle.rsp_algebra.specs.Nodes.{node_of, Fits, AreBelow, slot_variables, formula_variables};
+ghost use Rattle.rsp_algebra.specs.Nodes.{node_of, Fits, AreBelow, place_variables, slot_variables, formula_variables};
 
-use rsp_algebra::Tree;
+use rsp_algebra::{Place, Tree};
 use rsp_expr::{Expression, Slot};
 use rsp_multiset::Row;
 use rsp_terms::Term;
@@ -30,6 +30,34 @@ fn slots_fit(subject: &Slot, predicate: &Slot, object: &Slot, width: usize) -> b
         return false;
     }
     slot_fits(object, width)
+}
+
+fn place_fits(place: &Place, width: usize) -> bool
+    ensures { result ≡ true → AreBelow width (place_variables place.now) }
+{
+    match place {
+        Place::Default => true,
+        Place::Named(_) => true,
+        Place::AnyNamed(variable) => *variable < width,
+        Place::Window(_) => true,
+    }
+}
+
+#[tactic(auto, using(crate::proofs::Below::below_append))]
+fn pattern_fits(
+    place: &Place,
+    subject: &Slot,
+    predicate: &Slot,
+    object: &Slot,
+    width: usize,
+) -> bool
+    ensures { result ≡ true → AreBelow width (place_variables place.now
+        ++ (slot_variables subject.now ++ (slot_variables predicate.now ++ slot_variables object.now))) }
+{
+    if !place_fits(place, width) {
+        return false;
+    }
+    slots_fit(subject, predicate, object, width)
 }
 
 fn are_below(variables: &[usize], width: usize) -> bool
@@ -81,11 +109,11 @@ pub(crate) fn fits(tree: &Tree, width: usize) -> bool
     match tree {
         Tree::Unit => true,
         Tree::Pattern {
+            place,
             subject,
             predicate,
             object,
-            ..
-        } => slots_fit(subject, predicate, object, width),
+        } => pattern_fits(place, subject, predicate, object, width),
         Tree::Join { left, right } => fits(left, width) && fits(right, width),
         Tree::LeftJoin {
             left,
@@ -115,5 +143,7 @@ pub(crate) fn fits(tree: &Tree, width: usize) -> bool
         Tree::Values { rows } => have_width(rows, width),
         Tree::Project { child, variables } => are_below(variables, width) && fits(child, width),
         Tree::Distinct { child } => fits(child, width),
+        // no table has groups
+        Tree::Group { .. } => false,
     }
 }
