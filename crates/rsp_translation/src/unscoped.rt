@@ -2,7 +2,7 @@
 
 /// What is named where it can't be: a variable by its number, or all of them.
 #[derive(Clone, Copy)]
-pub enum Unscoped {
+pub(crate) enum Unscoped {
     Star,
     Variable(usize),
 }
