@@ -1,6 +1,6 @@
--- Definitions: variables that stand where the scope of their names doesn't allow it (SPARQL 1.1 Query, sections 10.1, 11.4, 18.2.1
--- and 19.8, notes 12 to 14). Each word here gives the first such variable in the text, if there is one. An item's expression stands
--- before its variable; the items of a SELECT stand before its group, and its keys and HAVING behind it.
+-- Definitions: variables that stand where the scope of their names doesn't allow it (SPARQL 1.1 Query, sections 10.1, 11.4,
+-- 18.2.1 and 19.8, notes 12 to 14). Each word here gives the first such variable in the text, if there is one. An item's
+-- expression stands before its variable; the items of a SELECT stand before its group, and its keys and HAVING behind it.
 use Rattle.std.specs.Prelude.{ℕ, nat_eq, Bool, ◌||◌, ◌&&◌, not, cond, List, [], ◌∷◌, ◌++◌, Option, None, Some, is_some}
 use Rattle.std.specs.Bool.{then_some}
 use Rattle.std.specs.List.{find, list_any}

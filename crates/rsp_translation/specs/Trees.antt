@@ -107,8 +107,8 @@ abbrev pub tested : Node → Test → Node
 tested left test =
     cond test.negated (node.not_exists left test.tree test.condition) (node.exists left test.tree test.condition)
 
--- A group so far: the tree of the elements before the run of triples at its end; the join of this run, if one stands there; and the
--- EXISTS of the group, which are tested at the end.
+-- A group so far: the tree of the elements before the run of triples at its end; the join of this run, if one stands there;
+-- and the EXISTS of the group, which are tested at the end.
 pub record Begun : Type 0 where
   pub tree : Node
   pub run : Option Node

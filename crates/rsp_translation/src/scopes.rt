@@ -276,7 +276,8 @@ fn tail_fault(
     having: &Option<Expression>,
 ) -> Option<Unscoped>
     ensures { result ≡ option_or
-        (scopes.keys_fault clauses.now.names.now (parts_in (map part_of clauses.now.body.now)) [] (map item_of clauses.now.keys.now))
+        (scopes.keys_fault clauses.now.names.now (parts_in (map part_of clauses.now.body.now)) []
+        (map item_of clauses.now.keys.now))
         (scopes.having_fault clauses.now.grouped (map item_of clauses.now.keys.now) (map item_of items.now)
         (map numbered_aggregation clauses.now.aggregates.now) (maybe_formula having.now)) }
 {
