@@ -1,5 +1,3 @@
-pub mod FirstIn
 pub mod Rows
 pub mod Fitting
 mod TranslationRows
-mod FaultRows
