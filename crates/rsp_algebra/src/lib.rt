@@ -9,7 +9,7 @@
 
 mod answer;
 mod building;
-mod nodes;
+pub mod nodes;
 mod tree;
 
 pub use answer::{Answer, Turn};
