@@ -145,9 +145,13 @@ mutual
       both (AggregateFits n) those _ fit ((number_below n before (naming.aggregate before) room, (tt, refl)), tt)
   aggregates_fit n at before those (aggregate k distinct argument) room fit =
       let inside = expr_grows at (behind before (naming.aggregate before)) argument in
-      both (AggregateFits n) those _ fit
-      ((number_below n before (naming.aggregate before) (through inside room),
-      (expr_below n at (behind before (naming.aggregate before)) argument room, refl)), tt)
+      both (AggregateFits n) those _ fit (
+        (
+          number_below n before (naming.aggregate before) (through inside room),
+          (expr_below n at (behind before (naming.aggregate before)) argument room, refl),
+        ),
+        tt,
+      )
 
   aggregates_of_all_fit : (n : ℕ) (at : List Scope) (before : Before) (those : List (ℕ × Aggregation)) (es : Exprs)
       → count (behind_exprs at before es) ≤ n → AllByRecursion (AggregateFits n) those

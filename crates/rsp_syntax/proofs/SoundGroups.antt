@@ -85,8 +85,7 @@ item_below : (n : ℕ) (at : List Scope) (before : Before) (item : Item) → cou
     → ItemIsBelow n (item_of at before item)
 item_below n at before (shown x) room = (number_below n before (naming.named at x) room, tt)
 item_below n at before (computed e x) room =
-    let named_by = naming.named at x in
-    (
+    let named_by = naming.named at x in (
       number_below n (behind_expr at before e) named_by room,
       expr_below n at before e (through (behind_grows (behind_expr at before e) named_by) room),
     )
@@ -162,9 +161,13 @@ mutual
       (groups_sound n at before groups room, tt)
   element_sound n at before those (written.graph_group name place body) room sound =
       let inner = behind_graph at before name in
-      both (PartIsSound n) those (graph (graph_of at before name) place (parts_in (with_elements at inner [] body)) ∷ []) sound
-      ((graph_below n at before name (through (elements_grow at inner body) room),
-      parts_sound n (with_elements at inner [] body) (elements_sound n at inner [] body room tt)), tt)
+      both (PartIsSound n) those (graph (graph_of at before name) place (parts_in (with_elements at inner [] body)) ∷ []) sound (
+        (
+          graph_below n at before name (through (elements_grow at inner body) room),
+          parts_sound n (with_elements at inner [] body) (elements_sound n at inner [] body room tt),
+        ),
+        tt,
+      )
   element_sound n at before those (written.window_group name place body) room sound =
       both (PartIsSound n) those (window name place (parts_in (with_elements at before [] body)) ∷ []) sound
       (parts_sound n (with_elements at before [] body) (elements_sound n at before [] body room tt), tt)
@@ -199,8 +202,7 @@ mutual
   groups_sound n at before written.no_group room = tt
   groups_sound n at before (written.group_then group more) room =
       let after = behind_elements at before group in
-      let inside = through (groups_grow at after more) room in
-      (
+      let inside = through (groups_grow at after more) room in (
         parts_sound n (with_elements at before [] group) (elements_sound n at before [] group inside tt),
         groups_sound n at after more room,
       )
@@ -215,8 +217,7 @@ mutual
       let keys_room = through (having_grows at behind_keys having) room in
       let body_room = through (items_grow at behind_body keys) keys_room in
       let clause_room = through (elements_grow at behind_clause body) body_room in
-      let folded = items_aggregates_fit n at before [] items clause_room tt in
-      (
+      let folded = items_aggregates_fit n at before [] items clause_room tt in (
         items_below n at before items clause_room,
         (
           parts_sound n (with_elements at behind_clause [] body) (elements_sound n at behind_clause [] body body_room tt),
