@@ -1,21 +1,11 @@
 -- The number of a variable is below how many variables stand behind it, and these only become more.
 use Rattle.std.proofs.Common.{◌≡◌, ℕ, suc, ◌+◌, ◌<◌, ◌≤◌, Bool, true, false, true≢false, not, ◌||◌, cond, List, [], ◌∷◌, ◌++◌, length, refl, sym, arith}
-use Rattle.std.specs.List.{AllByRecursion, list_any, position_or_len, prefix_len}
+use Rattle.std.specs.List.{list_any, position_or_len, prefix_len}
+use Rattle.std.proofs.Math.Nat.{le_trans}
 use Rattle.std.proofs.lemmas.List.{length-append}
 use Rattle.std.proofs.lemmas.List.Sums.{prefix_len-le-length}
 use Rattle.rsp_numbering.specs.declared.variable.Variable.{Variable}
 use Rattle.rsp_numbering.specs.Naming.{Before, behind, is_same, number, place_of, with_variable}
-
--- ---- numbers and lists
-
-pub through : {a b c : ℕ} → a ≤ b → b ≤ c → a ≤ c
-through h k = omega (arith, h, k)
-
-pub both : {X : Type 0} (P : X → Type 0) (xs ys : List X) → AllByRecursion P xs → AllByRecursion P ys → AllByRecursion P (xs ++ ys)
-both P [] ys left right = right
-both P (x ∷ xs) ys left right = (left.0, both P xs ys left.1 right)
-
--- ---- variables
 
 -- how many variables stand before a place
 abbrev pub count : Before → ℕ
@@ -49,4 +39,4 @@ place_below variables v = by (list_any (is_same v) variables) refl
         rw (length-append variables (v ∷ [])) (omega (arith, low))
 
 pub number_below : (n : ℕ) (before : Before) (v : Variable) → count (behind before v) ≤ n → number before v < n
-number_below n before v h = through (place_below before.variables v) h
+number_below n before v h = le_trans (place_below before.variables v) h

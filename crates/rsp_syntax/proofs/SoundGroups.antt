@@ -1,6 +1,7 @@
 -- Numbered groups and SELECTs name variables that stand before their end alone.
 use Rattle.std.proofs.Common.{ℕ, ◌≤◌, List, [], ◌∷◌, Option, None, Some, arith}
 use Rattle.std.specs.List.{AllByRecursion}
+use Rattle.std.proofs.Math.Nat.{le_trans}
 use Rattle.rsp_expr.specs.Formulas.{Aggregation}
 use Rattle.rsp_query.specs.Groups.{Part, optional, minus, union, graph, window, filter, exists, bind, values, sub, parts_in, groups_in}
 use Rattle.rsp_written.specs.Trees as written
@@ -10,8 +11,9 @@ use Rattle.rsp_numbering.specs.Naming as naming
 use Rattle.rsp_numbering.specs.Expressions.{behind_expr, numbered_expr}
 use Rattle.rsp_numbering.specs.Selections.{behind_element, behind_elements, behind_graph, behind_groups, behind_having, behind_item, behind_items, behind_names, behind_within, graph_of, groups_of, having_of, item_of, items_in, items_of, numbers_of, projection_of, selected_within, with_element, with_elements, with_having_aggregates, with_item_aggregates, with_items_aggregates}
 use Rattle.rsp_algebra.specs.Nodes.{AggregateFits, AreBelow, argument_variables, slot_variables}
+use Rattle.rsp_algebra.proofs.Widths.{all-append}
 use Rattle.rsp_shapes.specs.Sound.{GroupsAreSound, ItemIsBelow, PartIsSound, PartsAreSound, SelectionIsSound}
-use Rattle.rsp_syntax.proofs.Numbers.{behind_grows, both, count, number_below, through}
+use Rattle.rsp_syntax.proofs.Numbers.{behind_grows, count, number_below}
 use Rattle.rsp_syntax.proofs.SoundExpressions.{aggregates_fit, expr_below, expr_grows}
 use Rattle.rsp_syntax.proofs.SoundTriples.{triples_grow, triples_sound}
 
@@ -20,11 +22,11 @@ use Rattle.rsp_syntax.proofs.SoundTriples.{triples_grow, triples_sound}
 item_grows : (at : List Scope) (before : Before) (item : Item) → count before ≤ count (behind_item at before item)
 item_grows at before (shown x) = behind_grows before (naming.named at x)
 item_grows at before (computed e x) =
-    through (expr_grows at before e) (behind_grows (behind_expr at before e) (naming.named at x))
+    le_trans (expr_grows at before e) (behind_grows (behind_expr at before e) (naming.named at x))
 
 items_grow : (at : List Scope) (before : Before) (items : List Item) → count before ≤ count (behind_items at before items)
 items_grow at before [] = omega arith
-items_grow at before (item ∷ more) = through (item_grows at before item) (items_grow at (behind_item at before item) more)
+items_grow at before (item ∷ more) = le_trans (item_grows at before item) (items_grow at (behind_item at before item) more)
 
 having_grows : (at : List Scope) (before : Before) (having : Option written.Expr)
     → count before ≤ count (behind_having at before having)
@@ -38,7 +40,7 @@ graph_grows at before (graph_iri x) = omega arith
 names_grow : (at : List Scope) (before : Before) (names : List (List ℕ)) → count before ≤ count (behind_names at before names)
 names_grow at before [] = omega arith
 names_grow at before (x ∷ more) =
-    through (behind_grows before (naming.named at x)) (names_grow at (behind before (naming.named at x)) more)
+    le_trans (behind_grows before (naming.named at x)) (names_grow at (behind before (naming.named at x)) more)
 
 mutual
   element_grows : (at : List Scope) (before : Before) (element : Element)
@@ -48,12 +50,12 @@ mutual
   element_grows at before (written.minus_group body) = elements_grow at before body
   element_grows at before (written.union_of groups) = groups_grow at before groups
   element_grows at before (written.graph_group name place body) =
-      through (graph_grows at before name) (elements_grow at (behind_graph at before name) body)
+      le_trans (graph_grows at before name) (elements_grow at (behind_graph at before name) body)
   element_grows at before (written.window_group name place body) = elements_grow at before body
   element_grows at before (written.filter e) = expr_grows at before e
   element_grows at before (written.exists negated place body) = elements_grow at before body
   element_grows at before (written.bind e x) =
-      through (expr_grows at before e) (behind_grows (behind_expr at before e) (naming.named at x))
+      le_trans (expr_grows at before e) (behind_grows (behind_expr at before e) (naming.named at x))
   element_grows at before (written.values names rows) = names_grow at before names
   element_grows at before (written.sub_select inner) =
       within_grows (within before (projection_of inner) at) (behind_select before) inner
@@ -62,22 +64,22 @@ mutual
       → count before ≤ count (behind_elements at before elements)
   elements_grow at before no_element = omega arith
   elements_grow at before (element_then element more) =
-      through (element_grows at before element) (elements_grow at (behind_element at before element) more)
+      le_trans (element_grows at before element) (elements_grow at (behind_element at before element) more)
 
   groups_grow : (at : List Scope) (before : Before) (groups : written.Groups)
       → count before ≤ count (behind_groups at before groups)
   groups_grow at before written.no_group = omega arith
   groups_grow at before (written.group_then group more) =
-      through (elements_grow at before group) (groups_grow at (behind_elements at before group) more)
+      le_trans (elements_grow at before group) (groups_grow at (behind_elements at before group) more)
 
   within_grows : (at : List Scope) (before : Before) (s : Selected) → count before ≤ count (behind_within at before s)
   within_grows at before (selected distinct projection body keys having) =
       let behind_clause = behind_items at before (items_in projection) in
       let behind_body = behind_elements at behind_clause body in
       let behind_keys = behind_items at behind_body keys in
-      through (items_grow at before (items_in projection))
-      (through (elements_grow at behind_clause body)
-      (through (items_grow at behind_body keys) (having_grows at behind_keys having)))
+      le_trans (items_grow at before (items_in projection))
+      (le_trans (elements_grow at behind_clause body)
+      (le_trans (items_grow at behind_body keys) (having_grows at behind_keys having)))
 
 -- ---- items, HAVING and their aggregates
 
@@ -87,14 +89,14 @@ item_below n at before (shown x) room = (number_below n before (naming.named at 
 item_below n at before (computed e x) room =
     let named_by = naming.named at x in (
       number_below n (behind_expr at before e) named_by room,
-      expr_below n at before e (through (behind_grows (behind_expr at before e) named_by) room),
+      expr_below n at before e (le_trans (behind_grows (behind_expr at before e) named_by) room),
     )
 
 items_below : (n : ℕ) (at : List Scope) (before : Before) (items : List Item) → count (behind_items at before items) ≤ n
     → AllByRecursion (ItemIsBelow n) (items_of at before items)
 items_below n at before [] room = tt
 items_below n at before (item ∷ more) room = (
-  item_below n at before item (through (items_grow at (behind_item at before item) more) room),
+  item_below n at before item (le_trans (items_grow at (behind_item at before item) more) room),
   items_below n at (behind_item at before item) more room,
 )
 
@@ -108,7 +110,7 @@ item_aggregates_fit : (n : ℕ) (at : List Scope) (before : Before) (those : Lis
     → AllByRecursion (AggregateFits n) (with_item_aggregates at before those item)
 item_aggregates_fit n at before those (shown x) room fit = fit
 item_aggregates_fit n at before those (computed e x) room fit =
-    aggregates_fit n at before those e (through (behind_grows (behind_expr at before e) (naming.named at x)) room) fit
+    aggregates_fit n at before those e (le_trans (behind_grows (behind_expr at before e) (naming.named at x)) room) fit
 
 items_aggregates_fit : (n : ℕ) (at : List Scope) (before : Before) (those : List (ℕ × Aggregation)) (items : List Item)
     → count (behind_items at before items) ≤ n → AllByRecursion (AggregateFits n) those
@@ -116,7 +118,7 @@ items_aggregates_fit : (n : ℕ) (at : List Scope) (before : Before) (those : Li
 items_aggregates_fit n at before those [] room fit = fit
 items_aggregates_fit n at before those (item ∷ more) room fit =
     items_aggregates_fit n at (behind_item at before item) (with_item_aggregates at before those item) more room
-    (item_aggregates_fit n at before those item (through (items_grow at (behind_item at before item) more) room) fit)
+    (item_aggregates_fit n at before those item (le_trans (items_grow at (behind_item at before item) more) room) fit)
 
 having_aggregates_fit : (n : ℕ) (at : List Scope) (before : Before) (those : List (ℕ × Aggregation))
     (having : Option written.Expr) → count (behind_having at before having) ≤ n → AllByRecursion (AggregateFits n) those
@@ -136,7 +138,7 @@ names_below : (n : ℕ) (at : List Scope) (before : Before) (names : List (List 
 names_below n at before [] room = tt
 names_below n at before (x ∷ more) room =
     let after = behind before (naming.named at x) in
-    (number_below n before (naming.named at x) (through (names_grow at after more) room), names_below n at after more room)
+    (number_below n before (naming.named at x) (le_trans (names_grow at after more) room), names_below n at after more room)
 
 -- ---- groups and SELECTs
 
@@ -151,41 +153,41 @@ mutual
   element_sound n at before those (written.triples subject properties) room sound =
       triples_sound n at before those subject properties room sound
   element_sound n at before those (written.optional_group body) room sound =
-      both (PartIsSound n) those (optional (parts_in (with_elements at before [] body)) ∷ []) sound
+      all-append (PartIsSound n) those (optional (parts_in (with_elements at before [] body)) ∷ []) sound
       (parts_sound n (with_elements at before [] body) (elements_sound n at before [] body room tt), tt)
   element_sound n at before those (written.minus_group body) room sound =
-      both (PartIsSound n) those (minus (parts_in (with_elements at before [] body)) ∷ []) sound
+      all-append (PartIsSound n) those (minus (parts_in (with_elements at before [] body)) ∷ []) sound
       (parts_sound n (with_elements at before [] body) (elements_sound n at before [] body room tt), tt)
   element_sound n at before those (written.union_of groups) room sound =
-      both (PartIsSound n) those (union (groups_in (groups_of at before groups)) ∷ []) sound
+      all-append (PartIsSound n) those (union (groups_in (groups_of at before groups)) ∷ []) sound
       (groups_sound n at before groups room, tt)
   element_sound n at before those (written.graph_group name place body) room sound =
       let inner = behind_graph at before name in
-      both (PartIsSound n) those (graph (graph_of at before name) place (parts_in (with_elements at inner [] body)) ∷ []) sound (
+      all-append (PartIsSound n) those (graph (graph_of at before name) place (parts_in (with_elements at inner [] body)) ∷ []) sound (
         (
-          graph_below n at before name (through (elements_grow at inner body) room),
+          graph_below n at before name (le_trans (elements_grow at inner body) room),
           parts_sound n (with_elements at inner [] body) (elements_sound n at inner [] body room tt),
         ),
         tt,
       )
   element_sound n at before those (written.window_group name place body) room sound =
-      both (PartIsSound n) those (window name place (parts_in (with_elements at before [] body)) ∷ []) sound
+      all-append (PartIsSound n) those (window name place (parts_in (with_elements at before [] body)) ∷ []) sound
       (parts_sound n (with_elements at before [] body) (elements_sound n at before [] body room tt), tt)
   element_sound n at before those (written.filter e) room sound =
-      both (PartIsSound n) those (filter (numbered_expr at before e) ∷ []) sound (expr_below n at before e room, tt)
+      all-append (PartIsSound n) those (filter (numbered_expr at before e) ∷ []) sound (expr_below n at before e room, tt)
   element_sound n at before those (written.exists negated place body) room sound =
-      both (PartIsSound n) those (exists negated place (parts_in (with_elements at before [] body)) ∷ []) sound
+      all-append (PartIsSound n) those (exists negated place (parts_in (with_elements at before [] body)) ∷ []) sound
       (parts_sound n (with_elements at before [] body) (elements_sound n at before [] body room tt), tt)
   element_sound n at before those (written.bind e x) room sound =
       let after = behind_expr at before e in
       let named_by = naming.named at x in
-      both (PartIsSound n) those (bind (number after named_by) (numbered_expr at before e) ∷ []) sound
-      ((number_below n after named_by room, expr_below n at before e (through (behind_grows after named_by) room)), tt)
+      all-append (PartIsSound n) those (bind (number after named_by) (numbered_expr at before e) ∷ []) sound
+      ((number_below n after named_by room, expr_below n at before e (le_trans (behind_grows after named_by) room)), tt)
   element_sound n at before those (written.values names rows) room sound =
-      both (PartIsSound n) those (values (numbers_of at before names) rows ∷ []) sound (names_below n at before names room, tt)
+      all-append (PartIsSound n) those (values (numbers_of at before names) rows ∷ []) sound (names_below n at before names room, tt)
   element_sound n at before those (written.sub_select inner) room sound =
       let around = within before (projection_of inner) at in
-      both (PartIsSound n) those (sub (selected_within around (behind_select before) inner) ∷ []) sound
+      all-append (PartIsSound n) those (sub (selected_within around (behind_select before) inner) ∷ []) sound
       (within_sound n around (behind_select before) inner room, tt)
 
   elements_sound : (n : ℕ) (at : List Scope) (before : Before) (those : List Part) (elements : Elements)
@@ -195,14 +197,14 @@ mutual
   elements_sound n at before those (element_then element more) room sound =
       let after = behind_element at before element in
       elements_sound n at after (with_element at before those element) more room
-      (element_sound n at before those element (through (elements_grow at after more) room) sound)
+      (element_sound n at before those element (le_trans (elements_grow at after more) room) sound)
 
   groups_sound : (n : ℕ) (at : List Scope) (before : Before) (groups : written.Groups) → count (behind_groups at before groups) ≤ n
       → GroupsAreSound n (groups_in (groups_of at before groups))
   groups_sound n at before written.no_group room = tt
   groups_sound n at before (written.group_then group more) room =
       let after = behind_elements at before group in
-      let inside = through (groups_grow at after more) room in (
+      let inside = le_trans (groups_grow at after more) room in (
         parts_sound n (with_elements at before [] group) (elements_sound n at before [] group inside tt),
         groups_sound n at after more room,
       )
@@ -214,9 +216,9 @@ mutual
       let behind_clause = behind_items at before items in
       let behind_body = behind_elements at behind_clause body in
       let behind_keys = behind_items at behind_body keys in
-      let keys_room = through (having_grows at behind_keys having) room in
-      let body_room = through (items_grow at behind_body keys) keys_room in
-      let clause_room = through (elements_grow at behind_clause body) body_room in
+      let keys_room = le_trans (having_grows at behind_keys having) room in
+      let body_room = le_trans (items_grow at behind_body keys) keys_room in
+      let clause_room = le_trans (elements_grow at behind_clause body) body_room in
       let folded = items_aggregates_fit n at before [] items clause_room tt in (
         items_below n at before items clause_room,
         (

@@ -1,6 +1,7 @@
 -- Numbered triples name variables that stand before their end alone.
 use Rattle.std.proofs.Common.{ℕ, ◌≤◌, List, [], ◌∷◌, arith}
 use Rattle.std.specs.List.{AllByRecursion}
+use Rattle.std.proofs.Math.Nat.{le_trans}
 use Rattle.rsp_expr.specs.declared.slot.Slot.{Slot}
 use Rattle.rsp_query.specs.Paths.{Way, ways_in}
 use Rattle.rsp_query.specs.Groups.{Part, triple}
@@ -10,8 +11,9 @@ use Rattle.rsp_numbering.specs.Naming.{Scope, Before, behind, bracket, label}
 use Rattle.rsp_numbering.specs.Naming as naming
 use Rattle.rsp_numbering.specs.Triples.{behind_inner, behind_nodes, behind_properties, behind_slot, behind_triples, behind_verb, path_of, paths_of, slot_of, verb_of, with_inner, with_objects, with_properties, with_triples}
 use Rattle.rsp_algebra.specs.Nodes.{AreBelow, slot_variables}
+use Rattle.rsp_algebra.proofs.Widths.{all-append}
 use Rattle.rsp_shapes.specs.Sound.{PartIsSound, WayIsBelow, WaysAreBelow}
-use Rattle.rsp_syntax.proofs.Numbers.{behind_grows, both, count, number_below, through}
+use Rattle.rsp_syntax.proofs.Numbers.{behind_grows, count, number_below}
 
 -- ---- behind triples there are no fewer variables
 
@@ -39,23 +41,23 @@ mutual
   nodes_grow : (at : List Scope) (before : Before) (nodes : Nodes) → count before ≤ count (behind_nodes at before nodes)
   nodes_grow at before no_node = omega arith
   nodes_grow at before (node_then node more) =
-      through (slot_grows at before node)
-      (through (inner_grows at (behind_slot at before node) node)
+      le_trans (slot_grows at before node)
+      (le_trans (inner_grows at (behind_slot at before node) node)
       (nodes_grow at (behind_inner at (behind_slot at before node) node) more))
 
   properties_grow : (at : List Scope) (before : Before) (properties : Properties)
       → count before ≤ count (behind_properties at before properties)
   properties_grow at before no_property = omega arith
   properties_grow at before (property_then verb objects more) =
-      through (verb_grows at before verb)
-      (through (nodes_grow at (behind_verb at before verb) objects)
+      le_trans (verb_grows at before verb)
+      (le_trans (nodes_grow at (behind_verb at before verb) objects)
       (properties_grow at (behind_nodes at (behind_verb at before verb) objects) more))
 
 pub triples_grow : (at : List Scope) (before : Before) (node : Node) (properties : Properties)
     → count before ≤ count (behind_triples at before node properties)
 triples_grow at before node properties =
-    through (slot_grows at before node)
-    (through (inner_grows at (behind_slot at before node) node)
+    le_trans (slot_grows at before node)
+    (le_trans (inner_grows at (behind_slot at before node) node)
     (properties_grow at (behind_inner at (behind_slot at before node) node) properties))
 
 -- ---- paths, verbs and nodes
@@ -106,11 +108,11 @@ mutual
   objects_sound n at before those subject verb (node_then node more) room below way sound =
       let opened = behind_slot at before node in
       let closed = behind_inner at opened node in
-      let inside = through (nodes_grow at closed more) room in
-      let object = slot_below n at before node (through (inner_grows at opened node) inside) in
+      let inside = le_trans (nodes_grow at closed more) room in
+      let object = slot_below n at before node (le_trans (inner_grows at opened node) inside) in
       objects_sound n at closed _ subject verb more room below way
       (inner_sound n at opened _ (slot_of at before node) node inside object
-      (both (PartIsSound n) those (triple subject verb (slot_of at before node) ∷ []) sound ((below, (way, object)), tt)))
+      (all-append (PartIsSound n) those (triple subject verb (slot_of at before node) ∷ []) sound ((below, (way, object)), tt)))
 
   properties_sound : (n : ℕ) (at : List Scope) (before : Before) (those : List Part) (subject : Slot) (properties : Properties)
       → count (behind_properties at before properties) ≤ n → AreBelow n (slot_variables subject)
@@ -119,10 +121,10 @@ mutual
   properties_sound n at before those subject (property_then verb objects more) room below sound =
       let named_verb = behind_verb at before verb in
       let ended = behind_nodes at named_verb objects in
-      let inside = through (properties_grow at ended more) room in
+      let inside = le_trans (properties_grow at ended more) room in
       properties_sound n at ended _ subject more room below
       (objects_sound n at named_verb those subject (verb_of at before verb) objects inside below
-      (verb_below n at before verb (through (nodes_grow at named_verb objects) inside)) sound)
+      (verb_below n at before verb (le_trans (nodes_grow at named_verb objects) inside)) sound)
 
 pub triples_sound : (n : ℕ) (at : List Scope) (before : Before) (those : List Part) (node : Node) (properties : Properties)
     → count (behind_triples at before node properties) ≤ n → AllByRecursion (PartIsSound n) those
@@ -130,7 +132,7 @@ pub triples_sound : (n : ℕ) (at : List Scope) (before : Before) (those : List 
 triples_sound n at before those node properties room sound =
     let opened = behind_slot at before node in
     let closed = behind_inner at opened node in
-    let inside = through (properties_grow at closed properties) room in
-    let subject = slot_below n at before node (through (inner_grows at opened node) inside) in
+    let inside = le_trans (properties_grow at closed properties) room in
+    let subject = slot_below n at before node (le_trans (inner_grows at opened node) inside) in
     properties_sound n at closed _ (slot_of at before node) properties room subject
     (inner_sound n at opened those (slot_of at before node) node inside subject sound)
