@@ -1,0 +1,6 @@
+use Rattle.std.proofs.Common.{◌≡◌, Some}
+use Rattle.rsp_algebra.specs.Spines.{Leads}
+use Rattle.rsp_algebra.proofs.descent.spine.Given as goal
+
+abbrev pub invariant-loop-child : goal.invariant-loop-child
+invariant-loop-child l = Leads (Some l.tree) l.nodes.items (λ end. end ≡ l.end)
