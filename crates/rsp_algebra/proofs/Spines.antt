@@ -1,12 +1,8 @@
 -- The way from a tree down along its first children.
-use Rattle.std.proofs.Common.{◌≡◌, ◌≤◌, ◌<◌, Option, None, Some, List, [], ◌∷◌, ◌++◌, refl, sym, ap, ◌∙◌, Bor, IfSome, ℕ, arith}
-use Rattle.std.proofs.lemmas.Grind.{common_steps}
+use Rattle.std.proofs.Common.{◌≡◌, ◌≤◌, Option, None, Some, List, [], ◌∷◌, ◌++◌, refl, sym, ap, ◌∙◌, Bor, ℕ}
 use Rattle.std.specs.Option.{IsSomeAnd, option_copied}
-use Rattle.std.proofs.lemmas.Option.{IfSome_then}
 use Rattle.rsp_algebra.specs.declared.tree.Tree.{Tree, size-Tree}
-use Rattle.rsp_algebra.specs.declared.tree.Tree.TheVariants.{Unit, Pattern, Join', LeftJoin', Union', Minus', Exists', NotExists', Filter', Extend', Values, Project', Distinct', Group'}
-use Rattle.rsp_algebra.specs.Nodes.{node_of}
-use Rattle.rsp_algebra.specs.Spines.{first_of, Leads}
+use Rattle.rsp_algebra.specs.Spines.{first_of, Leads, AreNoDeeper}
 
 some_is : (tree : Option Tree) (node : Tree) → IsSomeAnd tree (λ end. end ≡ node) → tree ≡ Some node
 some_is None node is = elim is [ ]
@@ -39,46 +35,19 @@ leads_on None [] P Q on leads = elim leads [ ]
 leads_on (Some tree) [] P Q on leads = on tree leads
 leads_on tree (next ∷ nodes) P Q on leads = (leads.0, leads_on (first_of next.now) nodes P Q on leads.1)
 
--- a first child is less deep
-smaller : (tree : Tree) → IfSome (first_of tree) (λ child. size-Tree child < size-Tree tree)
-smaller Unit = tt
-smaller (Pattern place subject predicate object) = tt
-smaller (Join' p left q right) = grind (arith, common_steps)
-smaller (LeftJoin' p left q right condition) = grind (arith, common_steps)
-smaller (Union' p left q right) = grind (arith, common_steps)
-smaller (Minus' p left q right) = grind (arith, common_steps)
-smaller (Exists' p left q right condition) = grind (arith, common_steps)
-smaller (NotExists' p left q right condition) = grind (arith, common_steps)
-smaller (Filter' p child condition) = grind (arith, common_steps)
-smaller (Extend' p child variable expression) = grind (arith, common_steps)
-smaller (Values rows) = tt
-smaller (Project' p child variables) = grind (arith, common_steps)
-smaller (Distinct' p child) = grind (arith, common_steps)
-smaller (Group' p child keys aggregates) = grind (arith, common_steps)
+pub pushed_no_deeper : (depth : ℕ) (before after : List (Bor Tree)) (node : Bor Tree) → after ≡ before ++ node ∷ [] → AreNoDeeper depth before → size-Tree node.now ≤ depth → AreNoDeeper depth after
+pushed_no_deeper depth before after node is all less = rw is (go before all)
+  where
+    go : (nodes : List (Bor Tree)) → AreNoDeeper depth nodes → AreNoDeeper depth (nodes ++ node ∷ [])
+    go [] all = (less, tt)
+    go (next ∷ nodes) all = (all.0, go nodes all.1)
 
-below : (tree : Option Tree) (nodes : List (Bor Tree)) (node : Tree) (bound : ℕ) → IfSome tree (λ top. size-Tree top ≤ bound) → Leads tree nodes (λ end. end ≡ node) → size-Tree node ≤ bound
-below None [] node bound fits leads = elim leads [ ]
-below (Some tree) [] node bound fits leads = rw (sym leads) fits
-below tree (next ∷ nodes) node bound fits leads =
-    let here = rw leads.0 at fits in
-    below
-    (first_of next.now)
-    nodes
-    node
-    bound
-    (IfSome_then (first_of next.now) (smaller next.now) (λ child less. omega (arith, less, here)))
-    leads.1
-
--- the last node is no deeper than the top
-pub node_no_deeper : (top : Tree) (before after : List (Bor Tree)) (node : Bor Tree) (P : Tree → Type 0) → before ≡ after ++ node ∷ [] → Leads (Some top) before P → size-Tree node.now ≤ size-Tree top
-node_no_deeper top before after node P is leads =
-    below
-    (Some top)
-    after
-    node.now
-    (size-Tree top)
-    (omega arith)
-    (to_last (Some top) after node P (λ end. end ≡ node.now) (rw is at leads) refl)
+pub popped_no_deeper : (depth : ℕ) (before after : List (Bor Tree)) (node : Bor Tree) → before ≡ after ++ node ∷ [] → AreNoDeeper depth before → AreNoDeeper depth after × (size-Tree node.now ≤ depth)
+popped_no_deeper depth before after node is all = go after (rw is at all)
+  where
+    go : (nodes : List (Bor Tree)) → AreNoDeeper depth (nodes ++ node ∷ []) → AreNoDeeper depth nodes × (size-Tree node.now ≤ depth)
+    go [] all = (tt, all.0)
+    go (next ∷ nodes) all = let rest = go nodes all.1 in ((all.0, rest.0), rest.1)
 
 -- what holds of the last node holds of the end of the way without it, and the old end is its first child
 pub node_taken : (top : Tree) (before after : List (Bor Tree)) (node : Bor Tree) (P Q : Tree → Type 0) → before ≡ after ++ node ∷ [] → Leads (Some top) before P → Q node.now → Leads (Some top) after Q

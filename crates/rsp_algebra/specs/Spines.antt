@@ -1,8 +1,9 @@
 -- Words of the way: the nodes from a tree down along its first children.
-use Rattle.std.specs.Prelude.{◌≡◌, Option, None, Some, List, [], ◌∷◌}
+use Rattle.std.specs.Prelude.{◌≡◌, ℕ, ◌≤◌, Option, None, Some, List, [], ◌∷◌}
 use Rattle.std.specs.Borrow.{Bor}
 use Rattle.std.specs.Option.{IsSomeAnd}
-use Rattle.rsp_algebra.specs.declared.tree.Tree.{Tree}
+use Rattle.std.specs.List.{AllByRecursion}
+use Rattle.rsp_algebra.specs.declared.tree.Tree.{Tree, size-Tree}
 use Rattle.rsp_algebra.specs.declared.tree.Tree.TheVariants.{Unit, Pattern, Join', LeftJoin', Union', Minus', Exists', NotExists', Filter', Extend', Values, Project', Distinct', Group'}
 
 -- the left one of two children, or the only one
@@ -26,3 +27,7 @@ first_of (Group' _ child keys aggregates) = Some child
 abbrev pub Leads : Option Tree → List (Bor Tree) → (Tree → Type 0) → Type 0
 Leads tree [] P = IsSomeAnd tree P
 Leads tree (node ∷ nodes) P = (tree ≡ Some node.now) × Leads (first_of node.now) nodes P
+
+-- none of the nodes is deeper than this
+abbrev pub AreNoDeeper : ℕ → List (Bor Tree) → Type 0
+AreNoDeeper depth nodes = AllByRecursion (λ (node : Bor Tree). size-Tree node.now ≤ depth) nodes

@@ -3,7 +3,7 @@
 ghost use Rattle.std.specs.Prelude.{◌≡◌, ◌<◌, None, Some, IfOk, IfSome};
 ghost use Rattle.std.specs.Option.{option_copied};
 ghost use Rattle.rsp_algebra.specs.declared.tree.Tree.{size-Tree};
-ghost use Rattle.rsp_algebra.specs.Spines.{first_of, Leads};
+ghost use Rattle.rsp_algebra.specs.Spines.{first_of, Leads, AreNoDeeper};
 
 use crate::Tree;
 use std::alloc::{AllocError, Global};
@@ -35,6 +35,7 @@ fn first_child(tree: &Tree) -> Option<&Tree>
 /// where memory is refused.
 pub fn spine(alloc: Global, tree: &Tree) -> Result<(Vec<&Tree>, &Tree), AllocError>
     ensures way { IfOk result (λ way. Leads (Some tree.now) way.0.items (λ end. end ≡ way.1.now)) }
+    ensures deep { IfOk result (λ way. AreNoDeeper (size-Tree tree.now) way.0.items) }
     ensures leaf { IfOk result (λ way. first_of way.1.now ≡ None) }
 {
     let mut nodes = Vec::new(alloc);
