@@ -183,7 +183,7 @@ impl<A: Answer> Engine<A> {
     {
         match translated(self.alloc, query) {
             Ok(Ok(made)) => self.register_translated(name, query, made),
-            Ok(Err(fault)) => Err(fault),
+            Ok(Err(shape)) => Err(shape),
             Err(AllocError) => Err(self.break_off()),
         }
     }
@@ -220,8 +220,8 @@ impl<A: Answer> Engine<A> {
 
     // Memory is refused.
     fn break_off(&mut self) -> Refused
-        ensures { self.new ≡ record self.old { broken = true } }
-        ensures { result ≡ OutOfMemory }
+        ensures state { self.new ≡ record self.old { broken = true } }
+        ensures value { result ≡ OutOfMemory }
     {
         self.broken = true;
         Refused::OutOfMemory
