@@ -1,5 +1,5 @@
 // What a text asks for, and queries that become live.
-ghost use Rattle.std.specs.Prelude.{◌≡◌, ◌∷◌, [], IfOk, IfSome, MatchOption, MatchResult, Ok, Result, false, map, option_map, true};
+ghost use Rattle.std.specs.Prelude.{◌≡◌, ◌∷◌, [], IfOk, IfSome, MatchOption, MatchResult, Err, Ok, Result, false, map, option_map, true};
 ghost use Rattle.rsp_query.specs.Queries.{Registered, registered};
 ghost use Rattle.rsp_algebra.specs.Nodes.{IsPlaced, node_of};
 ghost use Rattle.rsp_shapes.specs.Sound.{IsSound};
@@ -24,10 +24,7 @@ use rsp_translation::{Shape, translate};
 use std::alloc::{AllocError, Global};
 
 /// The query that a text is, or its first fault by the grammar and its limits. Fails only where memory is refused.
-pub(crate) fn parsed(
-    alloc: Global,
-    text: &Text,
-) -> Result<Result<Box<Query>, Refused>, AllocError>
+pub(crate) fn parsed(alloc: Global, text: &Text) -> Result<Result<Box<Query>, Refused>, AllocError>
     ensures { IfOk result (λ read. MatchResult read
         (λ query. (parse text.now ≡ Ok (registered query.value)) × IsSound (registered query.value))
         (λ why. IsFaultOf why (text_fault (parse text.now)))) }
@@ -39,11 +36,11 @@ pub(crate) fn parsed(
 }
 
 // the refusal that a fault of the grammar is
-fn refused(fault: SyntaxFault) -> Result<Refused, AllocError>
-    ensures { (wanted : Result Registered fault.SyntaxFault) → IsParsed (Err fault) wanted
+fn refused(found: SyntaxFault) -> Result<Refused, AllocError>
+    ensures { (wanted : Result Registered fault.SyntaxFault) → IsParsed (Err found) wanted
         → IfOk result (λ why. IsFaultOf why (text_fault wanted)) }
 {
-    match fault {
+    match found {
         SyntaxFault::BadToken { at } => Ok(Refused::BadToken { at }),
         SyntaxFault::Syntax { at } => Ok(Refused::Syntax { at }),
         SyntaxFault::LeftOut { at, what } => Ok(Refused::LeftOut { at, what }),
@@ -96,7 +93,7 @@ fn reports_at_closings(policy: &PolicyWords) -> bool
 }
 
 fn only_window(windows: &[WindowClause]) -> Option<&WindowClause>
-    ensures { MatchOption result (readings.is_one windows.now ≡ false) (λ clause. windows.now ≡ clause ∷ []) }
+    ensures { MatchOption result (readings.is_one windows.now ≡ false) (λ clause. windows.now ≡ clause.now ∷ []) }
 {
     match windows {
         [clause] => Some(clause),
@@ -108,7 +105,7 @@ fn only_window(windows: &[WindowClause]) -> Option<&WindowClause>
 pub(crate) fn built_window(query: &Query) -> Option<&WindowClause>
     ensures { MatchOption result
         (readings.is_built (registered query.now) ≡ false)
-        (λ clause. (readings.is_built (registered query.now) ≡ true) × ((registered query.now).windows ≡ clause ∷ [])) }
+        (λ clause. (readings.is_built (registered query.now) ≡ true) × ((registered query.now).windows ≡ clause.now ∷ [])) }
 {
     if !is_rstream(&query.operator) {
         return None;
@@ -159,9 +156,7 @@ pub(crate) fn begun<A: Answer>(
 {
     match A::start(alloc, &made)? {
         None => Ok(None),
-        Some(answer) => Ok(Some(live_query(
-            alloc, name, query, window, made, first, answer,
-        )?)),
+        Some(answer) => Ok(Some(live_query(alloc, name, query, window, made, first, answer)?)),
     }
 }
 

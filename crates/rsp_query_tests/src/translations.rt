@@ -23,7 +23,11 @@ const CASES: [(&str, &str, &str); 18] = [
     ),
     ("?s", "WINDOW <w:2> { ?s <p:v> ?o }", "GraphShape 90"),
     ("?s", "GRAPH ?g { }", "GraphShape 90"),
-    ("?s", "GRAPH ?g { ?s <p:v> ?o OPTIONAL { } }", "GraphShape 90"),
+    (
+        "?s",
+        "GRAPH ?g { ?s <p:v> ?o OPTIONAL { } }",
+        "GraphShape 90",
+    ),
     ("?s", "GRAPH <g:1> { OPTIONAL { } }", "1 [0]"),
     (
         "?s",
@@ -35,11 +39,7 @@ const CASES: [(&str, &str, &str); 18] = [
         "FILTER NOT EXISTS { OPTIONAL { ?s ?p ?o } }",
         "ExistsShape 101",
     ),
-    (
-        "?s",
-        "FILTER EXISTS { ?s ?p ?o FILTER(?o > ?s) }",
-        "3 [0]",
-    ),
+    ("?s", "FILTER EXISTS { ?s ?p ?o FILTER(?o > ?s) }", "3 [0]"),
     ("?s", "?s ?p ?o BIND(1 AS ?o)", "Scope o"),
     ("?s", "BIND(1 AS ?o) ?s ?p ?o", "3 [0]"),
     ("(1 AS ?s)", "?s ?p ?o", "Scope s"),
@@ -89,7 +89,10 @@ fn is_told(alloc: Global, select: &str, body: &str, wanted: &str) -> Result<bool
 fn queries_have_trees_or_are_refused_by_name(rt: HostRuntime) -> Result<(), Fail> {
     let alloc = rt.alloc();
     for (select, body, wanted) in &CASES {
-        assert!(rt; is_told(alloc, select, body, wanted)?, "{select} {body}: {wanted}");
+        assert!(rt;
+            is_told(alloc, select, body, wanted)?,
+            "{select} {body}: {wanted}"
+        );
     }
     Ok(())
 }

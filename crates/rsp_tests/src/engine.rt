@@ -38,7 +38,8 @@ const NO_WINDOW: &str = "@register r\nREGISTER RSTREAM <q:o> REPORT CLOSE TICK T
 const TESTED_BIND: &str = "@register r\nREGISTER RSTREAM <q:o> REPORT CLOSE TICK TIME AS SELECT ?s \
      FROM NAMED WINDOW <w:1> ON <s:a> [RANGE PT10S] WHERE { FILTER EXISTS { BIND(1 AS ?s) } }\n@end";
 
-const NAME_TAKEN: &str = "@register r\nREGISTER RSTREAM <q:o> REPORT CLOSE TICK TIME AS SELECT (1 AS ?s) \
+const NAME_TAKEN: &str =
+    "@register r\nREGISTER RSTREAM <q:o> REPORT CLOSE TICK TIME AS SELECT (1 AS ?s) \
      FROM NAMED WINDOW <w:1> ON <s:a> [RANGE PT10S] WHERE { WINDOW <w:1> { ?s ?p ?o } }\n@end";
 
 // 2^20 rows
