@@ -25,4 +25,6 @@ mod texts;
 #[cfg(test)]
 mod tokens;
 #[cfg(test)]
+mod translations;
+#[cfg(test)]
 mod written;
