@@ -23,7 +23,8 @@ BEYOND, NO_FORM = "beyond", "no form"
 RANGES = {
     b"integer": (-math.inf, math.inf), b"nonPositiveInteger": (-math.inf, 0), b"negativeInteger": (-math.inf, -1),
     b"nonNegativeInteger": (0, math.inf), b"positiveInteger": (1, math.inf),
-    b"long": (-2 ** 63, 2 ** 63 - 1), b"int": (-2 ** 31, 2 ** 31 - 1), b"short": (-2 ** 15, 2 ** 15 - 1), b"byte": (-128, 127),
+    b"long": (-2 ** 63, 2 ** 63 - 1), b"int": (-2 ** 31, 2 ** 31 - 1), b"short": (-2 ** 15, 2 ** 15 - 1),
+    b"byte": (-128, 127),
     b"unsignedLong": (0, 2 ** 64 - 1), b"unsignedInt": (0, 2 ** 32 - 1), b"unsignedShort": (0, 2 ** 16 - 1),
     b"unsignedByte": (0, 255),
 }

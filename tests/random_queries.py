@@ -1,15 +1,15 @@
 """Random texts of registrations: queries of the whole grammar over one window, most of them without a fault.
 
-What can be seen is kept beside each text, so that names are mostly ones that are bound. Each part is out of its rules with the
-chance `fault`.
+What can be seen is kept beside each text, so that names are mostly ones that are bound. Each part is out of its rules
+with the chance `fault`.
 """
 XSD = "http://www.w3.org/2001/XMLSchema#"
 NAMES = ["s", "o", "x", "y", "z"]
 NODES = ["<a:1>", "<a:10>", "e:1", "<x+y.z-1:%20>"]
 PREDICATES = ["<p:v>", "<p:v>", "<p:m>", "p:v", "p:m"] * 3 + ["a"]
 CONSTANTS = [
-    "0", "1", "2", "5", "1.5", "-3", "0.10", "1e0", "true", "FALSE", '"a"', "'1'", "''", '"A"@en', '"a"@EN', f'"1"^^<{XSD}byte>',
-    f'"x"^^<{XSD}integer>', "9223372036854775807", "99999999999999999999", "<a:1>", "e:10", '"a:1"',
+    "0", "1", "2", "5", "1.5", "-3", "0.10", "1e0", "true", "FALSE", '"a"', "'1'", "''", '"A"@en', '"a"@EN',
+    f'"1"^^<{XSD}byte>', f'"x"^^<{XSD}integer>', "9223372036854775807", "99999999999999999999", "<a:1>", "e:10", '"a:1"',
 ]
 OBJECTS = CONSTANTS + NODES * 3
 COMPARISONS = ["=", "!=", "<", ">", "<=", ">="]
@@ -22,7 +22,9 @@ SPANS = ["PT2S", "PT5S", "PT5S", "PT10S", "PT10S", "PT20S"]
 ODD_SPANS = ["PT1S", "PT2.5S", "PT0.5S", "PT0H1M", "P1D"]
 STEPS = ["PT1S", "PT2S", "PT0.5S", "PT5S"]
 STARTS = ["", "", "", " START 0", " START 250", ' START "1970-01-01T00:00:01Z"', " start 00007"]
-POLICIES = ["UNDER CSPARQL", "", "REPORT CLOSE AND NONEMPTY TICK TIME", "REPORT CHANGE TICK TIME", "REPORT CLOSE TICK TUPLE"]
+POLICIES = [
+    "UNDER CSPARQL", "", "REPORT CLOSE AND NONEMPTY TICK TIME", "REPORT CHANGE TICK TIME", "REPORT CLOSE TICK TUPLE",
+]
 BUILT = ["REPORT CLOSE TICK TIME"] * 9 + ["Report close tick time"]
 ELSEWHERE = ["<w:2>", "e:1", "<w:1>"]
 
@@ -68,7 +70,8 @@ class QueryWriter:
             name = self.dice.choice(["COALESCE", "CONCAT"])
             return f"{name}({', '.join(one() for _ in range(self.dice.randrange(4)))})"
         if kind == 5:
-            return f"SUBSTR({one()}, {self.dice.choice(['1', '2', one()])}{self.dice.choice(['', ', 1', ', ' + one()])})"
+            count = self.dice.choice(["", ", 1", ", " + one()])
+            return f"SUBSTR({one()}, {self.dice.choice(['1', '2', one()])}{count})"
         return f"STR({one()})"
 
     def expression(self, seen, depth=2):
@@ -134,7 +137,9 @@ class QueryWriter:
         return self.noted(self.dice.choice(NAMES), seen)
 
     def verb(self, seen):
-        return self.noted(self.dice.choice(["p", "q"]), seen) if self.chance(0.08) else self.path(self.dice.choice([0, 0, 1, 2]))
+        if self.chance(0.08):
+            return self.noted(self.dice.choice(["p", "q"]), seen)
+        return self.path(self.dice.choice([0, 0, 1, 2]))
 
     def triple(self, seen):
         text = f"{self.subject(seen)} {self.verb(seen)} {self.node(seen)}"
@@ -268,7 +273,8 @@ class QueryWriter:
             items.append(f"({e} AS ?{shown[-1]})")
         tail = f" GROUP BY {' '.join(keys)}" if keys else ""
         if self.chance(0.25):
-            tail += f" HAVING ({self.aggregation(seen, known)} {self.dice.choice(COMPARISONS)} {self.dice.choice('0123')})"
+            sign, number = self.dice.choice(COMPARISONS), self.dice.choice("0123")
+            tail += f" HAVING ({self.aggregation(seen, known)} {sign} {number})"
         return items, tail, shown
 
     def plain(self, seen):

@@ -1,4 +1,4 @@
-"""What the definitions say of a query that no tree can be made of: shapes of GRAPH, WINDOW and EXISTS, and scopes of names.
+"""What the definitions say of a query that no tree is made of: shapes of GRAPH, WINDOW and EXISTS, scopes of names.
 
 A query is what `query_model.parse` gives. Each word gives the first place, or the first name, in the text.
 """
@@ -41,7 +41,8 @@ def is_plain(part):
     """Triples, WINDOW, GRAPH with an IRI, groups and UNION, of such."""
     if part[0] == "graph" and part[1][0] == "variable":
         return False
-    return part[0] in ("triple", "union", "graph", "window") and all(is_plain(p) for inner in groups_in(part) for p in inner)
+    is_one = part[0] in ("triple", "union", "graph", "window")
+    return is_one and all(is_plain(p) for inner in groups_in(part) for p in inner)
 
 
 def exists_faults(body, is_of_optional=False):
@@ -97,7 +98,8 @@ def projected(query, select):
 
 def unknown(select, before, e):
     """The variables that a grouped SELECT names where it mayn't, behind these items."""
-    known = [v for v, _ in select["keys"]] + [v for v, made in before if made] + [place for place, *_ in select["aggregates"]]
+    known = [v for v, _ in select["keys"]] + [v for v, made in before if made]
+    known += [place for place, *_ in select["aggregates"]]
     return [v for v in variables_in(e) if v not in known] if select["grouped"] else []
 
 

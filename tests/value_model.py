@@ -1,7 +1,7 @@
 """What the definitions say of values: expressions in a row, aggregates, the order of terms.
 
-A row binds numbers of variables to terms. None is an error wherever a value is wanted. `python3 tests/value_model.py --rows`
-compares expressions with values that were worked out by hand.
+A row binds numbers of variables to terms. None is an error wherever a value is wanted.
+`python3 tests/value_model.py --rows` compares expressions with values that were worked out by hand.
 """
 import math
 import re
@@ -95,7 +95,7 @@ def compared(sign, left, right):
     return {"<": a[1] < b[1], ">": a[1] > b[1], "<=": a[1] <= b[1], ">=": a[1] >= b[1]}[sign]
 
 
-# ---- functions of terms. An argument of another kind makes the result an error: a reader gives None, and `of` passes it on.
+# ---- functions of terms. An argument of another kind makes the result an error: its reader gives None, `of` passes that on.
 
 
 def of(change, *arguments):
