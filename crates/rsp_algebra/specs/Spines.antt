@@ -4,7 +4,8 @@ use Rattle.std.specs.Borrow.{Bor}
 use Rattle.std.specs.Option.{IsSomeAnd}
 use Rattle.std.specs.List.{AllByRecursion}
 use Rattle.rsp_algebra.specs.declared.tree.Tree.{Tree, size-Tree}
-use Rattle.rsp_algebra.specs.declared.tree.Tree.TheVariants.{Unit, Pattern, Join', LeftJoin', Union', Minus', Exists', NotExists', Filter', Extend', Values, Project', Distinct', Group'}
+use Rattle.rsp_algebra.specs.declared.tree.Tree.TheVariants.{Unit, Pattern, Join', LeftJoin', Union', Minus', Exists', NotExists'}
+use Rattle.rsp_algebra.specs.declared.tree.Tree.TheVariants.{Filter', Extend', Values, Project', Distinct', Group'}
 
 -- the left one of two children, or the only one
 abbrev pub first_of : Tree → Option Tree

@@ -4,8 +4,8 @@ ghost use Rattle.std.specs.Option.{IsSomeAnd};
 ghost use Rattle.rsp_algebra.specs.Nodes.{node_of};
 ghost use Rattle.rsp_algebra.specs.Spines.{first_of};
 
-use crate::nodes;
 use crate::descent::spine;
+use crate::nodes;
 use rsp_expr::{Aggregate, Expression, Slot};
 use rsp_multiset::Row;
 use rsp_terms::{Listed, Term};
@@ -122,7 +122,7 @@ pub enum Tree {
     },
 }
 
-// By a loop along first children, and by a recursion for the others.
+// By a loop along first children, which are as many as a union in a text has groups, and by a recursion for the others.
 impl Drop for Tree {
     fn drop(mut self) {
         'spine: loop {
@@ -217,15 +217,21 @@ impl Tree {
         match self {
             Tree::Join { right, .. } => nodes::join(alloc, first, right.share(alloc)?),
             Tree::LeftJoin {
-                right, condition, ..
+                right,
+                condition,
+                ..
             } => nodes::left_join(alloc, first, right.share(alloc)?, condition),
             Tree::Union { right, .. } => nodes::union(alloc, first, right.share(alloc)?),
             Tree::Minus { right, .. } => nodes::minus(alloc, first, right.share(alloc)?),
             Tree::Exists {
-                right, condition, ..
+                right,
+                condition,
+                ..
             } => nodes::exists(alloc, first, right.share(alloc)?, condition),
             Tree::NotExists {
-                right, condition, ..
+                right,
+                condition,
+                ..
             } => nodes::not_exists(alloc, first, right.share(alloc)?, condition),
             Tree::Filter { condition, .. } => nodes::filter(alloc, first, condition),
             Tree::Extend {
@@ -236,7 +242,9 @@ impl Tree {
             Tree::Project { variables, .. } => nodes::project(alloc, first, variables),
             Tree::Distinct { .. } => nodes::distinct(alloc, first),
             Tree::Group {
-                keys, aggregates, ..
+                keys,
+                aggregates,
+                ..
             } => nodes::group(alloc, first, keys, aggregates),
             _ => unreachable!(),
         }
