@@ -1,5 +1,5 @@
 -- The way from a tree down along its first children.
-use Rattle.std.proofs.Common.{◌≡◌, ◌≤◌, Option, None, Some, List, [], ◌∷◌, ◌++◌, refl, sym, ap, ◌∙◌, Bor, ℕ}
+use Rattle.std.proofs.Common.{◌≡◌, ◌≤◌, Option, None, Some, List, [], ◌∷◌, ◌++◌, refl, sym, ap, Bor, ℕ}
 use Rattle.std.specs.Option.{IsSomeAnd, option_copied}
 use Rattle.rsp_algebra.specs.declared.tree.Tree.{Tree, size-Tree}
 use Rattle.rsp_algebra.specs.Spines.{first_of, Leads, AreNoDeeper}
@@ -9,7 +9,7 @@ some_is None node is = elim is [ ]
 some_is (Some tree) node is = ap Some is
 
 -- one node more at the end
-pub one_deeper : (tree : Option Tree) (nodes : List (Bor Tree)) (node : Bor Tree) (P : Tree → Type 0) → Leads tree nodes (λ end. end ≡ node.now) → IsSomeAnd (first_of node.now) P → Leads tree (nodes ++ node ∷ []) P
+one_deeper : (tree : Option Tree) (nodes : List (Bor Tree)) (node : Bor Tree) (P : Tree → Type 0) → Leads tree nodes (λ end. end ≡ node.now) → IsSomeAnd (first_of node.now) P → Leads tree (nodes ++ node ∷ []) P
 one_deeper tree [] node P leads first = (some_is tree node.now leads, first)
 one_deeper tree (next ∷ nodes) node P leads first = (leads.0, one_deeper (first_of next.now) nodes node P leads.1 first)
 
@@ -18,7 +18,7 @@ deeper top before after node child pushed first leads =
     rw pushed (one_deeper (Some top) before node (λ end. end ≡ child.now) leads (rw (sym first) refl))
 
 -- the last node is the end of the way without it
-pub to_last : (tree : Option Tree) (nodes : List (Bor Tree)) (node : Bor Tree) (P Q : Tree → Type 0) → Leads tree (nodes ++ node ∷ []) P → Q node.now → Leads tree nodes Q
+to_last : (tree : Option Tree) (nodes : List (Bor Tree)) (node : Bor Tree) (P Q : Tree → Type 0) → Leads tree (nodes ++ node ∷ []) P → Q node.now → Leads tree nodes Q
 to_last tree [] node P Q leads holds = by tree leads.0
   where
     by : (t : Option Tree) → t ≡ Some node.now → IsSomeAnd t Q
@@ -26,7 +26,7 @@ to_last tree [] node P Q leads holds = by tree leads.0
 to_last tree (next ∷ nodes) node P Q leads holds = (leads.0, to_last (first_of next.now) nodes node P Q leads.1 holds)
 
 -- and the old end is its first child
-pub behind_last : (tree : Option Tree) (nodes : List (Bor Tree)) (node : Bor Tree) (P : Tree → Type 0) → Leads tree (nodes ++ node ∷ []) P → IsSomeAnd (first_of node.now) P
+behind_last : (tree : Option Tree) (nodes : List (Bor Tree)) (node : Bor Tree) (P : Tree → Type 0) → Leads tree (nodes ++ node ∷ []) P → IsSomeAnd (first_of node.now) P
 behind_last tree [] node P leads = leads.1
 behind_last tree (next ∷ nodes) node P leads = behind_last (first_of next.now) nodes node P leads.1
 
