@@ -17,7 +17,7 @@ ONE_ARGUMENT = (
     "isIRI isURI isBlank isLiteral isNumeric STR LANG DATATYPE IRI URI STRLEN ABS CEIL FLOOR ROUND str Strlen"
 ).split()
 TWO_ARGUMENTS = "sameTerm STRDT STRLANG CONTAINS STRSTARTS STRENDS STRBEFORE STRAFTER LANGMATCHES".split()
-AGGREGATES = ["COUNT", "SUM", "AVG", "MIN", "MAX", "count"]
+AGGREGATES = ["COUNT", "SUM", "AVG", "MIN", "MAX", "count", "Sum"]
 SPANS = ["PT2S", "PT5S", "PT5S", "PT10S", "PT10S", "PT20S"]
 ODD_SPANS = ["PT1S", "PT2.5S", "PT0.5S", "PT0H1M", "P1D"]
 STEPS = ["PT1S", "PT2S", "PT0.5S", "PT5S"]
@@ -89,7 +89,9 @@ class QueryWriter:
         return self.operand(seen) if self.chance(0.7) else f"({self.expression(seen, depth - 1)})"
 
     def condition(self, seen, depth=2):
-        kind = self.dice.randrange(10)
+        kind = self.dice.randrange(12)
+        if kind > 9:
+            return f"?{self.name(seen)} {self.dice.choice(['!=', '!=', '='])} <a:1>"
         if kind > 7:
             return f"?{self.name(seen)} {self.dice.choice(COMPARISONS)} {self.dice.choice('012')}"
         if kind < 3 or depth <= 0:
@@ -158,9 +160,16 @@ class QueryWriter:
 
     def optional(self, seen, depth, is_inside):
         inner = self.inner(seen)
-        text = self.group(inner, depth - 1, is_inside, "optional")
+        text = self.group(inner, depth - 1, is_inside, "optional") + self.test(seen, inner)
         seen += [name for name in inner if name not in seen]
         return f"OPTIONAL {{ {text} }}"
+
+    def test(self, seen, inner):
+        """A filter on a name that is seen round the group and one within it, or none."""
+        if not seen or not inner or self.chance(0.5):
+            return ""
+        sign = self.dice.choice(["=", "!=", "!=", "<", ">"])
+        return f" FILTER(?{self.dice.choice(seen)} {sign} ?{self.dice.choice(inner)})"
 
     def inner(self, seen):
         """For a group of its own: it mostly speaks of names that are seen round it."""
@@ -175,7 +184,8 @@ class QueryWriter:
         return " UNION ".join(parts)
 
     def exists(self, seen, depth, is_inside):
-        body = self.group(self.inner(seen), depth - 1, is_inside, "exists")
+        inner = self.inner(seen)
+        body = self.group(inner, depth - 1, is_inside, "exists") + self.test(seen, inner)
         return f"FILTER {self.dice.choice(['', 'NOT ', 'NOT '])}EXISTS {{ {body} }}"
 
     def bind(self, seen):
@@ -224,7 +234,7 @@ class QueryWriter:
         kinds.update({"bind": 1.5, "values": 1})
         if depth > 0:
             kinds.update({"optional": 2.5, "minus": 1, "graph": 0.2, "sub": 0.8})
-            kinds["exists"] = 1.2 if role != "optional" or self.slips() else 0
+            kinds["exists"] = 2 if role != "optional" or self.slips() else 0
         return kinds
 
     def group(self, seen, depth, is_inside, role=None):
@@ -232,7 +242,7 @@ class QueryWriter:
         parts = []
         if not self.chance(0.08):
             parts.append(self.triples(seen) if is_inside else self.window(seen, depth))
-        while self.chance(0.45 if depth > 0 else 0.25) and len(parts) < 4:
+        while self.chance(0.6 if depth > 0 else 0.25) and len(parts) < 4:
             kinds = self.kinds(depth, is_inside, role)
             kind = self.dice.choices(list(kinds), list(kinds.values()))[0]
             dot = ". " if kind == "triples" and parts and parts[-1][-1] not in "}.)" else ""
@@ -243,10 +253,12 @@ class QueryWriter:
 
     def aggregate(self, seen):
         name = self.dice.choice(AGGREGATES)
-        if name in ("COUNT", "count") and self.chance(0.5):
+        if name in ("COUNT", "count") and self.chance(0.3):
             return f"{name}(*)"
-        e = "?" + self.name(seen) if self.chance(0.7) else self.expression(seen, 1)
-        return f"{name}({'DISTINCT ' if self.chance(0.3) else ''}{e})"
+        e = f"?{self.name(seen)}"
+        if self.chance(0.4):
+            e = f"STRLEN(STR({e}))" if self.chance(0.6) else self.expression(seen, 1)
+        return f"{name}({'DISTINCT ' if self.chance(0.5) else ''}{e})"
 
     def aggregation(self, seen, known):
         """An expression over aggregates, and over what a grouped SELECT may name."""
@@ -292,7 +304,7 @@ class QueryWriter:
     def parts_of_select(self, depth, is_inside):
         seen = []
         body = self.group(seen, depth, is_inside)
-        items, tail, shown = self.grouped(seen) if self.chance(0.3) else self.plain(seen)
+        items, tail, shown = self.grouped(seen) if self.chance(0.35) else self.plain(seen)
         head = f"{self.dice.choice(['SELECT', 'SELECT', 'select'])} {'DISTINCT ' if self.chance(0.15) else ''}"
         return head + " ".join(items), f"{self.dice.choice(['WHERE ', ''])}{{ {body} }}{tail}", shown
 
@@ -301,7 +313,7 @@ class QueryWriter:
         return f"{head} {body}", shown
 
     def text(self):
-        head, body, _ = self.parts_of_select(self.dice.choice([0, 1, 1, 2, 2, 3]), False)
+        head, body, _ = self.parts_of_select(self.dice.choice([0, 1, 1, 1, 2, 2, 3]), False)
         operator = self.dice.choice(["ISTREAM", "DSTREAM"]) if self.slips(2) else "RSTREAM"
         policy = self.dice.choice(POLICIES if self.slips(3) else BUILT)
         step = f" STEP {self.dice.choice(STEPS)}" if self.chance(0.7) else ""
