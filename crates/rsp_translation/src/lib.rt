@@ -3,8 +3,13 @@
 //! Above: the engine. Below: the types of queries, their shapes and scopes, and the algebra.
 #![tactic(auto)]
 
+mod faults;
+mod folding;
+mod paths;
 mod shape;
-mod translate;
+mod slashes;
+mod sums;
+mod translation;
 
 pub use shape::Shape;
-pub use translate::translate;
+pub use translation::translate;
