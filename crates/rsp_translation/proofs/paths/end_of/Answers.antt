@@ -1,4 +1,4 @@
-use Rattle.std.proofs.Common.{◌≡◌, ℕ, ◌≤◌, List, [], ◌∷◌, length, map, refl, absurd, arith}
+use Rattle.std.proofs.Common.{◌≡◌, ℕ, ◌≤◌, List, [], ◌∷◌, length, map, refl, arith}
 use Rattle.rsp_expr.specs.declared.slot.Slot.{Slot}
 use Rattle.rsp_expr.specs.declared.slot.Slot.TheVariants.{Variable}
 use Rattle.rsp_query.specs.declared.path.Path.{Path}
