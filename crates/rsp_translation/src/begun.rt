@@ -1,10 +1,10 @@
 // The tree of a group while its elements are taken.
-ghost use Rattle.std.specs.Prelude.{◌≡◌, IfOk, None, map, []};
+ghost use Rattle.std.specs.Prelude.{◌≡◌, IfOk, None, cond, map, []};
 ghost use Rattle.std.specs.Option.{option_map};
 ghost use Rattle.rsp_expr.specs.Formulas.{formula_of};
 ghost use Rattle.rsp_query.specs.Groups.{part_of, parts_in};
 ghost use Rattle.rsp_algebra.specs.Nodes as node;
-ghost use Rattle.rsp_algebra.specs.Nodes.{node_of};
+ghost use Rattle.rsp_algebra.specs.Nodes.{Node, node_of};
 ghost use Rattle.rsp_translation.specs.Building.{begun_of};
 ghost use Rattle.rsp_translation.specs.Trees as trees;
 
@@ -37,14 +37,23 @@ fn ended(tree: Tree) -> Begun
     Begun { tree, run: None }
 }
 
+fn is_unit(tree: &Tree) -> bool
+    ensures { (right : Node) → trees.joined (node_of tree.now) right ≡ cond result right (node.join (node_of tree.now) right) }
+{
+    match tree {
+        Tree::Unit => true,
+        _ => false,
+    }
+}
+
 // the unit vanishes on the left of a join
 fn joined(alloc: Global, left: Tree, right: Tree) -> Result<Tree, AllocError>
     ensures { IfOk result (λ tree. node_of tree ≡ trees.joined (node_of left) (node_of right)) }
 {
-    match left {
-        Tree::Unit => Ok(right),
-        left => nodes::join(alloc, left, right),
+    if is_unit(&left) {
+        return Ok(right);
     }
+    nodes::join(alloc, left, right)
 }
 
 // at the end of a run

@@ -1,5 +1,5 @@
 // What the clauses of a SELECT make of the tree of its group.
-ghost use Rattle.std.specs.Prelude.{◌≡◌, ◌&&◌, IfOk, map};
+ghost use Rattle.std.specs.Prelude.{◌≡◌, ◌&&◌, ◌∷◌, [], ◌++◌, IfOk, OnOk, map};
 ghost use Rattle.rsp_expr.specs.Formulas.{maybe_formula};
 ghost use Rattle.rsp_query.specs.Groups.{item_of, numbered_aggregation, part_of, parts_in, selection_of};
 ghost use Rattle.rsp_algebra.specs.Nodes.{node_of};
@@ -33,11 +33,18 @@ fn every_variable(
 {
     let mut variables = Vec::new(alloc);
     for variable in 0..names.len() {
-        if is_shown(names, body, variable) {
-            variables.push(variable)?;
-        }
+        push_where(&mut variables, is_shown(names, body, variable), variable)?;
     }
     Ok(variables)
+}
+
+fn push_where(variables: &mut Vec<usize>, wanted: bool, variable: usize) -> Result<(), AllocError>
+    ensures { OnOk result (variables.new.items ≡ variables.old.items ++ (if wanted then variable ∷ [] else [])) }
+{
+    if wanted {
+        variables.push(variable)?;
+    }
+    Ok(())
 }
 
 fn variables_of(alloc: Global, items: &[SelectItem]) -> Result<Vec<usize>, AllocError>
