@@ -1,3 +1,4 @@
 pub mod Rows
+pub mod Building
 pub mod Fitting
 mod TranslationRows

@@ -3,3 +3,5 @@ pub mod Paths
 pub mod Selects
 pub mod Trees
 pub mod Translation
+-- Words of the way
+pub mod Building

@@ -3,8 +3,20 @@
 //! Above: the engine. Below: the types of queries, their shapes and scopes, and the algebra.
 #![tactic(auto)]
 
+mod begun;
+mod faults;
+mod filters;
+mod folding;
+mod groups;
+mod paths;
+mod places;
+mod selects;
+mod setting;
 mod shape;
-mod translate;
+mod slashes;
+mod sums;
+mod translation;
+mod values;
 
 pub use shape::Shape;
-pub use translate::translate;
+pub use translation::translate;
