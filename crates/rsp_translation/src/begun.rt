@@ -120,12 +120,7 @@ pub(crate) fn with_optional(
     Ok(ended(left_joined(alloc, left, right, body)?))
 }
 
-fn left_joined(
-    alloc: Global,
-    left: Tree,
-    right: Tree,
-    body: &[Element],
-) -> Result<Tree, AllocError>
+fn left_joined(alloc: Global, left: Tree, right: Tree, body: &[Element]) -> Result<Tree, AllocError>
     ensures { IfOk result (λ tree. node_of tree ≡ node.left_join (node_of left) (node_of right)
         (trees.condition_of (parts_in (map part_of body.now)))) }
 {
@@ -165,7 +160,10 @@ pub(crate) fn tested(
     body: &[Element],
 ) -> Result<Tree, AllocError>
     ensures { IfOk result (λ tree. node_of tree ≡ trees.tested (node_of left) (record {
-        negated = negated; tree = node_of right; condition = trees.condition_of (parts_in (map part_of body.now)) })) }
+      negated = negated;
+      tree = node_of right;
+      condition = trees.condition_of (parts_in (map part_of body.now));
+    })) }
 {
     let condition = condition(alloc, body)?;
     if negated {

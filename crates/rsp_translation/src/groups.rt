@@ -53,7 +53,11 @@ fn with_element(
             with_optional(alloc, group, right, body)
         }
         Element::Minus(body) => {
-            with_minus(alloc, group, group_tree(body, alloc, setting, place, fresh)?)
+            with_minus(
+                alloc,
+                group,
+                group_tree(body, alloc, setting, place, fresh)?,
+            )
         }
         Element::Union(branches) => {
             let trees = branch_trees(branches, alloc, setting, place, fresh)?;
@@ -61,11 +65,19 @@ fn with_element(
         }
         Element::Graph { name, body, .. } => {
             let place = graph_place(name)?;
-            with_joined(alloc, group, group_tree(body, alloc, setting, &place, fresh)?)
+            with_joined(
+                alloc,
+                group,
+                group_tree(body, alloc, setting, &place, fresh)?,
+            )
         }
         Element::Window { name, body, .. } => {
             let place = window_place(setting.windows, name)?;
-            with_joined(alloc, group, group_tree(body, alloc, setting, &place, fresh)?)
+            with_joined(
+                alloc,
+                group,
+                group_tree(body, alloc, setting, &place, fresh)?,
+            )
         }
         Element::Bind {
             variable,
@@ -76,7 +88,11 @@ fn with_element(
             with_joined(alloc, group, right)
         }
         Element::Sub(select) => {
-            with_joined(alloc, group, select_tree(select, alloc, setting, place, fresh)?)
+            with_joined(
+                alloc,
+                group,
+                select_tree(select, alloc, setting, place, fresh)?,
+            )
         }
     }
 }

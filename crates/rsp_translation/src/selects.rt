@@ -24,11 +24,7 @@ fn is_shown(names: &[Text], body: &[Element], variable: usize) -> bool
 }
 
 // the variables that `*` projects
-fn every_variable(
-    alloc: Global,
-    names: &[Text],
-    body: &[Element],
-) -> Result<Vec<usize>, AllocError>
+fn every_variable(alloc: Global, names: &[Text], body: &[Element]) -> Result<Vec<usize>, AllocError>
     ensures { IfOk result (λ variables. variables.items ≡ selects.every_variable names.now (parts_in (map part_of body.now))) }
 {
     let mut variables = Vec::new(alloc);
@@ -109,11 +105,7 @@ fn with_groups(
     nodes::group(alloc, tree, &keys, aggregates)
 }
 
-fn with_having(
-    alloc: Global,
-    tree: Tree,
-    having: &Option<Expression>,
-) -> Result<Tree, AllocError>
+fn with_having(alloc: Global, tree: Tree, having: &Option<Expression>) -> Result<Tree, AllocError>
     ensures { IfOk result (λ whole. node_of whole ≡ selects.with_having (maybe_formula having.now) (node_of tree)) }
 {
     match having {
@@ -140,7 +132,13 @@ fn with_keys(alloc: Global, tree: Tree, select: &Select) -> Result<Tree, AllocEr
         (selects.with_items (node_of tree) (map item_of select.now.keys.items)))) }
 {
     let keyed = with_items(alloc, tree, &select.keys)?;
-    let grouped = with_groups(alloc, keyed, select.grouped, &select.keys, &select.aggregates)?;
+    let grouped = with_groups(
+        alloc,
+        keyed,
+        select.grouped,
+        &select.keys,
+        &select.aggregates,
+    )?;
     with_having(alloc, grouped, &select.having)
 }
 
