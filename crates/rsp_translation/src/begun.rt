@@ -150,8 +150,8 @@ pub(crate) fn with_bind(
     Ok(ended(nodes::extend(alloc, child, variable, expression)?))
 }
 
-/// The tree under an EXISTS, or a NOT EXISTS where negated, of a group of these elements, which is `right` without its filters. Fails only
-/// where memory is refused.
+/// The tree under an EXISTS, or a NOT EXISTS where negated, of a group of these elements, which is `right` without its filters.
+/// Fails only where memory is refused.
 pub(crate) fn tested(
     alloc: Global,
     left: Tree,
