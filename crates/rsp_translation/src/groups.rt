@@ -165,7 +165,8 @@ fn with_tests(
     tree: Tree,
 ) -> Result<Tree, AllocError>
     ensures { IfOk result (λ whole. node_of whole
-        ≡ fold trees.tested (node_of tree) (tests_in (fixed_by setting.now) place.now fresh (parts_in (map part_of elements.now)))) }
+        ≡ fold trees.tested (node_of tree)
+        (tests_in (fixed_by setting.now) place.now fresh (parts_in (map part_of elements.now)))) }
 {
     let mut whole = tree;
     let mut next = fresh;
