@@ -228,17 +228,19 @@ fn project(alloc: Global, text: &str) -> Result<Tree, AllocError> {
     Ok(Tree::Project { child, variables })
 }
 
+fn aggregate(kind: Kind, argument: Option<Expression>) -> Aggregate {
+    Aggregate {
+        kind,
+        distinct: false,
+        argument,
+    }
+}
+
 // how many rows there are as ?1, and the sum of ?2 as ?2
 fn aggregates(alloc: Global) -> Result<Vec<(usize, Aggregate)>, AllocError> {
     let mut aggregates = Vec::new(alloc);
-    for (variable, kind, argument) in [(1, Kind::Count, None), (2, Kind::Sum, Some(2))] {
-        let aggregate = Aggregate {
-            kind,
-            distinct: false,
-            argument: argument.map(Expression::Variable),
-        };
-        aggregates.push((variable, aggregate))?;
-    }
+    aggregates.push((1, aggregate(Kind::Count, None)))?;
+    aggregates.push((2, aggregate(Kind::Sum, Some(Expression::Variable(2)))))?;
     Ok(aggregates)
 }
 

@@ -1,4 +1,4 @@
-use Rattle.std.proofs.Common.{◌≡◌, drop}
+use Rattle.std.proofs.Common.{drop}
 use Rattle.std.specs.List.{AllByRecursion}
 use Rattle.rsp_algebra.specs.Nodes.{AggregateFits, aggregations_of}
 use Rattle.rsp_query_tests.proofs.fitting.aggregates_fit.Given as goal
