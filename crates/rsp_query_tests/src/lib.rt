@@ -17,6 +17,8 @@ mod expressions;
 #[cfg(test)]
 mod fitting;
 #[cfg(test)]
+mod graphs;
+#[cfg(test)]
 mod nodes;
 #[cfg(test)]
 mod notation;
