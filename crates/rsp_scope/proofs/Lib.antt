@@ -1,0 +1,3 @@
+pub mod ScopeRows
+pub mod Turns
+pub mod Weights
