@@ -71,6 +71,29 @@ def matches(size):
     return query + b"".join(graphs) + b"@tick 10000\n"
 
 
+def by_key(select, body, keys_share, end=""):
+    """A query over so many rows, up to 500,000, by their keys: so many rows share a key, and every second key has a mark."""
+
+    def load(size):
+        query = block("@register q", [QUERY % (select, body) + end + "\n"])
+        graphs = []
+        for first in range(0, size, 500):
+            rows = range(first, min(first + 500, size))
+            triples = [f"<a:{k}> <p:v> <b:{k // keys_share}> .\n" for k in rows]
+            triples += [f"<b:{k}> <p:m> <c:{k}> .\n" for k in rows if k % 2]
+            graphs.append(block(f"@item <s:a> {1000 + first // 500}", triples))
+        return query + b"".join(graphs) + b"@tick 10000\n"
+
+    return load
+
+
+optional = by_key("?x ?z", "?x <p:v> ?y OPTIONAL { ?y <p:m> ?z }", 1)
+minus = by_key("?x ?y", "?x <p:v> ?y MINUS { ?y <p:m> ?z }", 1)
+not_exists = by_key("?x ?y", "?x <p:v> ?y FILTER NOT EXISTS { ?y <p:m> ?z }", 1)
+groups = by_key("?y (COUNT(*) AS ?n)", "?x <p:v> ?y", 4, " GROUP BY ?y")
+distinct = by_key("DISTINCT ?y", "?x <p:v> ?y", 4)
+
+
 USUAL = """PREFIX sosa: <http://www.w3.org/ns/sosa/>
 PREFIX ex: <http://example.org/>
 REGISTER RSTREAM ex:hot REPORT CLOSE AND NONEMPTY TICK TIME AS
@@ -107,7 +130,7 @@ HOSTILE = {
     "arguments": ("%s{ FILTER CONCAT(1", ",1", ") }"),
     "wrong at the end": ("%s{ ", "?s a ?o .", " ] }"),
 }
-HEAD = "REGISTER RSTREAM <q:o> AS SELECT ?s FROM NAMED WINDOW <w:1> ON <s:a> [RANGE PT1S] WHERE "
+HEAD = "REGISTER RSTREAM <q:o> REPORT CLOSE TICK TIME AS SELECT ?s FROM NAMED WINDOW <w:1> ON <s:a> [RANGE PT1S] WHERE "
 MOST_TEXT = 65_536
 
 

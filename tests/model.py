@@ -2,45 +2,20 @@
 
 `python3 tests/model.py events < LOG` writes it; `python3 tests/model.py --rows` compares all rows and examples with it.
 """
-import itertools
 import os
 import re
 import sys
 from collections import namedtuple
 
 import query_model
-from query_model import LAST_INSTANT, instant
+from algebra_model import Overfull, solutions, translated
+from query_model import LAST_INSTANT, instant, milliseconds
+from shape_model import fault
+from term_model import XSD_STRING, Blank, Iri, Literal, Tagged, is_absolute, printed
 
 USAGE = b"usage: rsp events [--json] | run [--json] [--store FILE] QUERY STREAM=FILE.. | check QUERY | gen COUNT\n"
-DOCUMENT = 1
 MOST_BYTES = 16_777_216
-MOST_ROWS = 1_000_000
 MOST_ITEMS = MOST_TRIPLES = 1_000
-
-# ---- terms
-
-Iri = namedtuple("Iri", "name")
-Blank = namedtuple("Blank", "label")
-Literal = namedtuple("Literal", "lexical datatype")
-Tagged = namedtuple("Tagged", "lexical language")
-
-XSD_STRING = b"http://www.w3.org/2001/XMLSchema#string"
-ESCAPES = {b'"': b'\\"', b"\\": b"\\\\", b"\t": b"\\t", b"\n": b"\\n", b"\r": b"\\r"}
-
-
-def printed(term):
-    if isinstance(term, Iri):
-        return b"<%s>" % term.name
-    if isinstance(term, Blank):
-        return b"_:b%dx%s" % (DOCUMENT, term.label)
-    text = b'"%s"' % re.sub(rb'["\\\t\n\r]', lambda found: ESCAPES[found[0]], term.lexical)
-    if isinstance(term, Tagged):
-        return text + b"@" + term.language
-    return text if term.datatype == XSD_STRING else b"%s^^<%s>" % (text, term.datatype)
-
-
-def is_absolute(name):
-    return re.match(rb"[A-Za-z][A-Za-z0-9+.-]*:", name) is not None
 
 
 def is_utf8(text):
@@ -276,74 +251,61 @@ def event_of(group):
     return head, *fields, [terms for terms in (statement(line.text) for line in body) if terms]
 
 
-# ---- the faults of a query's text
+# ---- queries
 
-FAULTS = {"BadToken": 7, "Syntax": 8, "LeftOut": 9, "Limit": 10}
-
-
-def text_refusal(text):
-    """The number, the name and the details of the first fault of a query's text, or None."""
-    why = query_model.answer(text.decode())
-    if why is None:
-        return None
-    name, *details = why
-    keys = ["what"] if name == "Limit" else ["at", "what"]
-    return f"{FAULTS[name]} {name}" + "".join(f" {key}={detail}" for key, detail in zip(keys, details))
+NUMBERS = {"BadToken": 7, "Syntax": 8, "LeftOut": 9, "Limit": 10, "GraphShape": 11, "ExistsShape": 12, "Scope": 13}
+KEYS = {"Limit": ["what"], "Scope": ["variable"]}
+Window = namedtuple("Window", "stream width slide origin")
+Query = namedtuple("Query", "name translated window first")
 
 
-# ---- the query line
-
-VARIABLE = rb"\?[A-Za-z0-9]{1,16}"
-SLOT = rb"(?:%s|<[A-Za-z][A-Za-z0-9+.-]*:[\x21\x23-\x3b\x3d\x3f-\x5b\x5d\x5f\x61-\x7a\x7e\x7f]*>)" % VARIABLE
-PATTERN = b" ".join([SLOT] * 3)
-QUERY = re.compile(
-    rb"REGISTER RSTREAM <q:o> REPORT CLOSE TICK TIME AS SELECT (%s(?: %s){0,7}) FROM NAMED WINDOW <w:1> ON <s:a> "
-    rb"\[RANGE PT([0-9]{1,5})S STEP PT([0-9]{1,5})S\] WHERE \{ WINDOW <w:1> \{ (%s(?: \. %s){0,7}) \} \}\n?"
-    % (VARIABLE, VARIABLE, PATTERN, PATTERN)
-)
-Query = namedtuple("Query", "name width slide shown patterns first")
+def text_refusal(name, *details):
+    """The number, the name and the details of a fault of a query's text."""
+    pairs = zip(KEYS.get(name, ["at", "what"]), details)
+    return f"{NUMBERS[name]} {name}" + "".join(f" {key}={detail}" for key, detail in pairs)
 
 
-def query_of(name, text, first):
-    """The query of a text of the one form that is built, or None."""
-    found = QUERY.fullmatch(text)
-    if not found:
-        return None
-    shown, width, slide, patterns = found[1].split(b" "), int(found[2]), int(found[3]), found[4].split(b" . ")
-    patterns = [pattern.split(b" ") for pattern in patterns]
-    known = {slot for pattern in patterns for slot in pattern if slot.startswith(b"?")}
-    if not (1 <= width <= 86400 and 1 <= slide <= 86400 and len(set(shown)) == len(shown) and known.issuperset(shown)):
-        return None
-    return Query(name, 1000 * width, 1000 * slide, shown, patterns, first)
+def is_built(query):
+    policy = ("report", [("CLOSE", None)], "TIME")
+    return query["operator"] == "RSTREAM" and len(query["windows"]) == 1 and query["policy"] == policy
 
 
-def row_of(pattern, triple):
-    """The row that makes the pattern the triple, or None."""
-    row = {}
-    for slot, term in zip(pattern, triple):
-        if not slot.startswith(b"?"):
-            if term != Iri(slot[1:-1]):
-                return None
-        elif row.setdefault(slot, term) != term:
-            return None
-    return row
+def window_of(clause):
+    width = milliseconds(clause["range"])
+    slide = milliseconds(clause["step"]) if clause["step"] else width
+    return Window(clause["stream"].encode(), width, slide, clause["start"] or 0)
 
 
-def joined(lefts, rights):
-    for left, right in itertools.product(lefts, rights):
-        if all(left.get(variable, term) == term for variable, term in right.items()):
-            yield {**left, **right}
+class Refused(Exception):
+    """The event is refused; the text is that of its refusal line."""
 
 
-def rows_of(patterns, graph):
-    """The rows of the left-deep join, or None where some part of it has too many."""
-    rows = [{}]
-    for pattern in patterns:
-        found = [row for row in (row_of(pattern, triple) for triple in graph) if row is not None]
-        rows = list(itertools.islice(joined(rows, found), MOST_ROWS + 1))
-        if max(len(found), len(rows)) > MOST_ROWS:
-            return None
-    return rows
+def query_of(name, text, items, has_query):
+    """The query of a registration behind so many items, or why it is refused."""
+    try:
+        query = query_model.parse(text.decode())
+    except query_model.Refused as why:
+        raise Refused(text_refusal(*why.args)) from None
+    why = fault(query)
+    if why:
+        raise Refused(text_refusal(*why))
+    if has_query or not is_built(query):
+        raise Refused("22 Unbuilt")
+    made = translated(query)
+    try:
+        solutions(made.tree, [])
+    except Overfull:
+        raise Refused("25 StartOverfull") from None
+    return Query(name, made, window_of(query["windows"][0]), items)
+
+
+# ---- windows
+
+
+def first_closing(window, time):
+    """The first closing that is at the time or behind it."""
+    first = window.origin + window.width
+    return first + max(0, -(-(time - first) // window.slide)) * window.slide
 
 
 # ---- the world
@@ -353,16 +315,22 @@ class World:
     def __init__(self):
         self.next, self.items, self.query = None, [], None
 
+    def graph(self, at):
+        """The facts of the query's window at one of its closings."""
+        stream, width, *_ = self.query.window
+        items = [item for item in self.items[self.query.first:] if item[0] == stream and at - width < item[1] <= at]
+        triples = dict.fromkeys(triple for _, _, graph in items for triple in graph)
+        return [(("window", 0), *triple) for triple in triples]
+
     def report(self, at):
-        name, width, slide, shown, patterns, first = self.query
-        opening = slide * max(0, -(-(at - width) // slide))
-        graph = {t for stream, time, triples in self.items[first:] if stream == b"s:a" and opening < time <= at for t in triples}
-        rows = rows_of(patterns, graph)
-        if rows is None:
+        name, (tree, shown, names), *_ = self.query
+        try:
+            rows = solutions(tree, self.graph(at))
+        except Overfull:
             self.query = None
             return b"# overfull %s %d\n" % (name, at)
-        texts = sorted(b"\t".join(printed(row[variable]) for variable in shown) for row in rows)
-        lines = [b"# report %s %d %d" % (name, at, len(texts)), b"\t".join(shown), *texts]
+        texts = sorted(b"\t".join(printed(row[v]) if v in row else b"" for v in shown) for row in rows)
+        lines = [b"# report %s %d %d" % (name, at, len(texts)), b"\t".join(b"?" + name for name in names), *texts]
         return b"".join(line + b"\n" for line in lines)
 
     def pass_to(self, to):
@@ -370,45 +338,37 @@ class World:
         start, self.next = self.next, to
         if start is None or self.query is None:
             return b""
-        width, slide = self.query.width, self.query.slide
-        at = width + max(0, -(-(start - width) // slide)) * slide
-        written = b""
+        at, slide = first_closing(self.query.window, start), self.query.window.slide
+        written = []
         while at < to and self.query:
-            written += self.report(at)
+            written.append(self.report(at))
             at += slide
-        return written
-
-    def refusal(self, event):
-        head, *values = event
-        if head == b"@register":
-            is_free = self.query is None and query_of(*values, len(self.items))
-            return text_refusal(values[1]) or (None if is_free else "22 Unbuilt")
-        if head in (b"@cancel", b"@insert", b"@delete"):
-            return "22 Unbuilt"
-        if head == b"@item" and (len(values[2]) > MOST_TRIPLES or len(self.items) >= MOST_ITEMS):
-            return "22 Unbuilt"
-        time, least = (values[1], values[1]) if head == b"@item" else (values[0], values[0] + 1)
-        return f"15 Late time={time} next={self.next}" if least < (self.next or 0) else None
+        return b"".join(written)
 
     def take(self, event):
+        """What the event gives; else Refused, and nothing is changed."""
         head, *values = event
         if head == b"@register":
-            self.query = query_of(*values, len(self.items))
+            self.query = query_of(*values, len(self.items), self.query is not None)
             return b""
-        if head == b"@tick":
-            return self.pass_to(values[0] + 1)
-        self.items.append(values)
-        return self.pass_to(values[1])
+        if head in (b"@cancel", b"@insert", b"@delete"):
+            raise Refused("22 Unbuilt")
+        if head == b"@item" and (len(values[2]) > MOST_TRIPLES or len(self.items) >= MOST_ITEMS):
+            raise Refused("22 Unbuilt")
+        time, least = (values[1], values[1]) if head == b"@item" else (values[0], values[0] + 1)
+        if least < (self.next or 0):
+            raise Refused(f"15 Late time={time} next={self.next}")
+        if head == b"@item":
+            self.items.append(values)
+        return self.pass_to(least)
 
 
 def answer(world, group):
     """What a block gives, and whether it is refused."""
     try:
-        event = event_of(group)
-        why = world.refusal(event)
-    except BadBlock as wrong:
-        why = str(wrong)
-    return (world.take(event), None) if why is None else (b"", why)
+        return world.take(event_of(group)), None
+    except (BadBlock, Refused) as why:
+        return b"", str(why)
 
 
 def run(words, log):

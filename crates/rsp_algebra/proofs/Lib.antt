@@ -8,3 +8,4 @@ pub mod NoFacts
 pub mod Bindings
 pub mod PatternRows
 pub mod BasicLaw
+pub mod Spines

@@ -6,7 +6,8 @@ use Rattle.rsp_multiset.specs.Rows.{Cells}
 use Rattle.rsp_terms.specs.declared.term.Term.{Term}
 use Rattle.rsp_expr.specs.Formulas.{Aggregation}
 use Rattle.rsp_algebra.specs.Nodes as node
-use Rattle.rsp_algebra.specs.Nodes.{Node, AreBelow, AggregateFits, Fits, pattern_variables, formula_variables, argument_variables, has_form}
+use Rattle.rsp_algebra.specs.Nodes.{Node, AreBelow, AggregateFits, Fits}
+use Rattle.rsp_algebra.specs.Nodes.{pattern_variables, formula_variables, argument_variables, has_form}
 
 AreBelow-prop : (width : ℕ) (variables : List ℕ) → IsProp (AreBelow width variables)
 AreBelow-prop width variables = AllByRecursion-prop (λ v. v < width) (λ v. le_prop) variables

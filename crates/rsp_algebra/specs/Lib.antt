@@ -8,3 +8,4 @@ pub mod Work
 -- Words of the way: they link code to definitions, and need no belief
 pub mod Changing
 pub mod Fitting
+pub mod Spines

@@ -14,7 +14,8 @@ use Rattle.rsp_algebra.specs.declared.tree.Place.{Place}
 use Rattle.rsp_algebra.specs.declared.tree.Place.TheVariants.{AnyNamed}
 use Rattle.rsp_algebra.specs.declared.tree.TriplePattern.{TriplePattern}
 use Rattle.rsp_algebra.specs.declared.tree.Tree.{Tree}
-use Rattle.rsp_algebra.specs.declared.tree.Tree.TheVariants.{Unit, Pattern, Join', LeftJoin', Union', Minus', Exists', NotExists', Filter', Extend', Values, Project', Distinct', Group'}
+use Rattle.rsp_algebra.specs.declared.tree.Tree.TheVariants.{Unit, Pattern, Join', LeftJoin', Union', Minus', Exists', NotExists'}
+use Rattle.rsp_algebra.specs.declared.tree.Tree.TheVariants.{Filter', Extend', Values, Project', Distinct', Group'}
 use Rattle.rsp_algebra.specs.declared.tree.Translated.{Translated}
 
 pub data Node : Type 0 where

@@ -9,9 +9,11 @@
 
 mod answer;
 mod building;
-mod nodes;
+mod descent;
+pub mod nodes;
 mod tree;
 
 pub use answer::{Answer, Turn};
 pub use building::basic_pattern;
+pub use descent::spine;
 pub use tree::{Place, Translated, Tree, TriplePattern};

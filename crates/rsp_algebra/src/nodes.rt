@@ -1,4 +1,4 @@
-// Trees of one node over its children.
+//! Trees of one node over its children. Each call fails only where memory is refused.
 ghost use Rattle.std.specs.Prelude.{◌≡◌, IfOk};
 ghost use Rattle.rsp_expr.specs.Formulas.{formula_of};
 ghost use Rattle.rsp_algebra.specs.Nodes as node;
@@ -10,7 +10,8 @@ use rsp_multiset::{Cell, Row};
 use rsp_terms::Term;
 use std::alloc::{AllocError, Global};
 
-pub(crate) fn pattern(
+/// A triple pattern at a place.
+pub fn pattern(
     place: &Place,
     subject: &Slot,
     predicate: &Slot,
@@ -27,7 +28,8 @@ pub(crate) fn pattern(
     })
 }
 
-pub(crate) fn join(alloc: Global, left: Tree, right: Tree) -> Result<Tree, AllocError>
+/// The join of two trees.
+pub fn join(alloc: Global, left: Tree, right: Tree) -> Result<Tree, AllocError>
     ensures { IfOk result (λ tree. node_of tree ≡ node.join (node_of left) (node_of right)) }
 {
     Ok(Tree::Join {
@@ -36,7 +38,8 @@ pub(crate) fn join(alloc: Global, left: Tree, right: Tree) -> Result<Tree, Alloc
     })
 }
 
-pub(crate) fn left_join(
+/// The left join of two trees on a condition.
+pub fn left_join(
     alloc: Global,
     left: Tree,
     right: Tree,
@@ -52,7 +55,8 @@ pub(crate) fn left_join(
     })
 }
 
-pub(crate) fn union(alloc: Global, left: Tree, right: Tree) -> Result<Tree, AllocError>
+/// The union of two trees.
+pub fn union(alloc: Global, left: Tree, right: Tree) -> Result<Tree, AllocError>
     ensures { IfOk result (λ tree. node_of tree ≡ node.union (node_of left) (node_of right)) }
 {
     Ok(Tree::Union {
@@ -61,7 +65,8 @@ pub(crate) fn union(alloc: Global, left: Tree, right: Tree) -> Result<Tree, Allo
     })
 }
 
-pub(crate) fn minus(alloc: Global, left: Tree, right: Tree) -> Result<Tree, AllocError>
+/// The left tree without what the right one is compatible with.
+pub fn minus(alloc: Global, left: Tree, right: Tree) -> Result<Tree, AllocError>
     ensures { IfOk result (λ tree. node_of tree ≡ node.minus (node_of left) (node_of right)) }
 {
     Ok(Tree::Minus {
@@ -70,7 +75,8 @@ pub(crate) fn minus(alloc: Global, left: Tree, right: Tree) -> Result<Tree, Allo
     })
 }
 
-pub(crate) fn exists(
+/// The left tree's solutions that the right one confirms on a condition.
+pub fn exists(
     alloc: Global,
     left: Tree,
     right: Tree,
@@ -86,7 +92,8 @@ pub(crate) fn exists(
     })
 }
 
-pub(crate) fn not_exists(
+/// The left tree's solutions that the right one doesn't confirm on a condition.
+pub fn not_exists(
     alloc: Global,
     left: Tree,
     right: Tree,
@@ -102,7 +109,8 @@ pub(crate) fn not_exists(
     })
 }
 
-pub(crate) fn filter(alloc: Global, child: Tree, condition: &Expression) -> Result<Tree, AllocError>
+/// The child's solutions on which a condition is true.
+pub fn filter(alloc: Global, child: Tree, condition: &Expression) -> Result<Tree, AllocError>
     ensures { IfOk result (λ tree. node_of tree ≡ node.filter (node_of child) (formula_of condition.now)) }
 {
     Ok(Tree::Filter {
@@ -111,7 +119,8 @@ pub(crate) fn filter(alloc: Global, child: Tree, condition: &Expression) -> Resu
     })
 }
 
-pub(crate) fn extend(
+/// The child's solutions with the value of an expression at a variable.
+pub fn extend(
     alloc: Global,
     child: Tree,
     variable: usize,
@@ -126,7 +135,8 @@ pub(crate) fn extend(
     })
 }
 
-pub(crate) fn values(alloc: Global, rows: &[Row<Term>]) -> Result<Tree, AllocError>
+/// These rows.
+pub fn values(alloc: Global, rows: &[Row<Term>]) -> Result<Tree, AllocError>
     ensures { IfOk result (λ tree. node_of tree ≡ node.values rows.now) }
 {
     let mut others = Vec::new(alloc);
@@ -136,7 +146,8 @@ pub(crate) fn values(alloc: Global, rows: &[Row<Term>]) -> Result<Tree, AllocErr
     Ok(Tree::Values { rows: others })
 }
 
-pub(crate) fn project(alloc: Global, child: Tree, variables: &[usize]) -> Result<Tree, AllocError>
+/// The child's solutions with these variables alone.
+pub fn project(alloc: Global, child: Tree, variables: &[usize]) -> Result<Tree, AllocError>
     ensures { IfOk result (λ tree. node_of tree ≡ node.project (node_of child) variables.now) }
 {
     Ok(Tree::Project {
@@ -145,7 +156,8 @@ pub(crate) fn project(alloc: Global, child: Tree, variables: &[usize]) -> Result
     })
 }
 
-pub(crate) fn distinct(alloc: Global, child: Tree) -> Result<Tree, AllocError>
+/// The child's solutions, each once.
+pub fn distinct(alloc: Global, child: Tree) -> Result<Tree, AllocError>
     ensures { IfOk result (λ tree. node_of tree ≡ node.distinct (node_of child)) }
 {
     Ok(Tree::Distinct {
@@ -167,7 +179,8 @@ fn share_aggregates(
     Ok(others)
 }
 
-pub(crate) fn group(
+/// The groups of the child's solutions by keys, with aggregates over them.
+pub fn group(
     alloc: Global,
     child: Tree,
     keys: &[usize],

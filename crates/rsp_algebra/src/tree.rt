@@ -1,7 +1,10 @@
 // Algebra trees.
-ghost use Rattle.std.specs.Prelude.{◌≡◌, IfOk};
+ghost use Rattle.std.specs.Prelude.{◌≡◌, None, IfOk};
+ghost use Rattle.std.specs.Option.{IsSomeAnd};
 ghost use Rattle.rsp_algebra.specs.Nodes.{node_of};
+ghost use Rattle.rsp_algebra.specs.Spines.{first_of};
 
+use crate::descent::spine;
 use crate::nodes;
 use rsp_expr::{Aggregate, Expression, Slot};
 use rsp_multiset::Row;
@@ -44,7 +47,6 @@ pub struct TriplePattern {
 }
 
 /// An algebra tree (SPARQL 1.1 Query, section 18.2).
-#[derive(Drop)]
 pub enum Tree {
     /// One solution, which binds nothing.
     Unit,
@@ -120,9 +122,77 @@ pub enum Tree {
     },
 }
 
+// By a loop along first children, which are as many as a union in a text has groups, and by a recursion for the others.
+impl Drop for Tree {
+    fn drop(mut self) {
+        'spine: loop {
+            match self {
+                Tree::Unit => return,
+                Tree::Pattern {
+                    place: _,
+                    subject: _,
+                    predicate: _,
+                    object: _,
+                } => return,
+                Tree::Join { left, right: _ } => self = Box::into_inner(left),
+                Tree::LeftJoin {
+                    left,
+                    right: _,
+                    condition: _,
+                } => self = Box::into_inner(left),
+                Tree::Union { left, right: _ } => self = Box::into_inner(left),
+                Tree::Minus { left, right: _ } => self = Box::into_inner(left),
+                Tree::Exists {
+                    left,
+                    right: _,
+                    condition: _,
+                } => self = Box::into_inner(left),
+                Tree::NotExists {
+                    left,
+                    right: _,
+                    condition: _,
+                } => self = Box::into_inner(left),
+                Tree::Filter {
+                    child,
+                    condition: _,
+                } => self = Box::into_inner(child),
+                Tree::Extend {
+                    child,
+                    variable: _,
+                    expression: _,
+                } => self = Box::into_inner(child),
+                Tree::Values { rows: _ } => return,
+                Tree::Project {
+                    child,
+                    variables: _,
+                } => self = Box::into_inner(child),
+                Tree::Distinct { child } => self = Box::into_inner(child),
+                Tree::Group {
+                    child,
+                    keys: _,
+                    aggregates: _,
+                } => self = Box::into_inner(child),
+            }
+        }
+    }
+}
+
 impl Tree {
     /// A tree of the same node. Fails only where memory is refused.
+    #[cycle(share)]
     pub fn share(&self, alloc: Global) -> Result<Tree, AllocError>
+        ensures { IfOk result (λ other. node_of other ≡ node_of self.now) }
+    {
+        let (mut nodes, leaf) = spine(alloc, self)?;
+        let mut tree = leaf.share_leaf(alloc)?;
+        while let Some(node) = nodes.pop() {
+            tree = node.share_over(alloc, tree)?;
+        }
+        Ok(tree)
+    }
+
+    fn share_leaf(&self, alloc: Global) -> Result<Tree, AllocError>
+        requires { first_of self.now ≡ None }
         ensures { IfOk result (λ other. node_of other ≡ node_of self.now) }
     {
         match self {
@@ -133,48 +203,50 @@ impl Tree {
                 predicate,
                 object,
             } => nodes::pattern(place, subject, predicate, object),
-            Tree::Join { left, right } => {
-                nodes::join(alloc, left.share(alloc)?, right.share(alloc)?)
-            }
+            Tree::Values { rows } => nodes::values(alloc, rows),
+            _ => unreachable!(),
+        }
+    }
+
+    // a tree of the same node, whose first child is this one
+    #[cycle(share)]
+    fn share_over(&self, alloc: Global, first: Tree) -> Result<Tree, AllocError>
+        requires { IsSomeAnd (first_of self.now) (λ child. node_of first ≡ node_of child) }
+        ensures { IfOk result (λ other. node_of other ≡ node_of self.now) }
+    {
+        match self {
+            Tree::Join { right, .. } => nodes::join(alloc, first, right.share(alloc)?),
             Tree::LeftJoin {
-                left,
                 right,
                 condition,
-            } => nodes::left_join(alloc, left.share(alloc)?, right.share(alloc)?, condition),
-            Tree::Union { left, right } => {
-                nodes::union(alloc, left.share(alloc)?, right.share(alloc)?)
-            }
-            Tree::Minus { left, right } => {
-                nodes::minus(alloc, left.share(alloc)?, right.share(alloc)?)
-            }
+                ..
+            } => nodes::left_join(alloc, first, right.share(alloc)?, condition),
+            Tree::Union { right, .. } => nodes::union(alloc, first, right.share(alloc)?),
+            Tree::Minus { right, .. } => nodes::minus(alloc, first, right.share(alloc)?),
             Tree::Exists {
-                left,
                 right,
                 condition,
-            } => nodes::exists(alloc, left.share(alloc)?, right.share(alloc)?, condition),
+                ..
+            } => nodes::exists(alloc, first, right.share(alloc)?, condition),
             Tree::NotExists {
-                left,
                 right,
                 condition,
-            } => nodes::not_exists(alloc, left.share(alloc)?, right.share(alloc)?, condition),
-            Tree::Filter { child, condition } => {
-                nodes::filter(alloc, child.share(alloc)?, condition)
-            }
+                ..
+            } => nodes::not_exists(alloc, first, right.share(alloc)?, condition),
+            Tree::Filter { condition, .. } => nodes::filter(alloc, first, condition),
             Tree::Extend {
-                child,
                 variable,
                 expression,
-            } => nodes::extend(alloc, child.share(alloc)?, *variable, expression),
-            Tree::Values { rows } => nodes::values(alloc, rows),
-            Tree::Project { child, variables } => {
-                nodes::project(alloc, child.share(alloc)?, variables)
-            }
-            Tree::Distinct { child } => nodes::distinct(alloc, child.share(alloc)?),
+                ..
+            } => nodes::extend(alloc, first, *variable, expression),
+            Tree::Project { variables, .. } => nodes::project(alloc, first, variables),
+            Tree::Distinct { .. } => nodes::distinct(alloc, first),
             Tree::Group {
-                child,
                 keys,
                 aggregates,
-            } => nodes::group(alloc, child.share(alloc)?, keys, aggregates),
+                ..
+            } => nodes::group(alloc, first, keys, aggregates),
+            _ => unreachable!(),
         }
     }
 }

@@ -5,7 +5,7 @@ use Rattle.rsp_events.specs.declared.event.BlockFault.{BlockFault}
 use Rattle.rsp_events.specs.declared.event.BlockFault.TheVariants.{BadBody, BadDirective, BlockTooLarge}
 use Rattle.rsp_numbering.specs.declared.limit.LimitName.{LimitName}
 use Rattle.rsp_numbering.specs.declared.limit.LimitName.TheVariants as name
-use Rattle.rsp_engine.specs.Refusals.{Refusal, bad_token, syntax, left_out, limit, late, unbuilt, refusal_of}
+use Rattle.rsp_engine.specs.Refusals.{Refusal, bad_token, syntax, left_out, limit, graph_shape, exists_shape, scope, late, unbuilt, start_overfull, refusal_of}
 use Rattle.rsp_call.specs.declared.refusing.Place.{Place}
 use Rattle.rsp_call.specs.declared.refusing.Place.TheVariants.{Block}
 use Rattle.rsp_call.specs.declared.refusing.Answered.{Answered}
@@ -25,8 +25,12 @@ kind (of_event (bad_token at)) = (7, codes "BadToken")
 kind (of_event (syntax at)) = (8, codes "Syntax")
 kind (of_event (left_out at what)) = (9, codes "LeftOut")
 kind (of_event (limit what)) = (10, codes "Limit")
+kind (of_event (graph_shape at)) = (11, codes "GraphShape")
+kind (of_event (exists_shape at)) = (12, codes "ExistsShape")
+kind (of_event (scope variable)) = (13, codes "Scope")
 kind (of_event (late time next)) = (15, codes "Late")
 kind (of_event unbuilt) = (22, codes "Unbuilt")
+kind (of_event start_overfull) = (25, codes "StartOverfull")
 
 -- the word of a limit
 abbrev pub limit_word : LimitName → List ℕ
@@ -47,6 +51,9 @@ details (of_event (bad_token at)) = codes " at=" ++ decimal at
 details (of_event (syntax at)) = codes " at=" ++ decimal at
 details (of_event (left_out at what)) = codes " at=" ++ (decimal at ++ (codes " what=" ++ what))
 details (of_event (limit what)) = codes " what=" ++ limit_word what
+details (of_event (graph_shape at)) = codes " at=" ++ decimal at
+details (of_event (exists_shape at)) = codes " at=" ++ decimal at
+details (of_event (scope variable)) = codes " variable=" ++ variable
 details (of_event (late time next)) = codes " time=" ++ (decimal time ++ (codes " next=" ++ decimal next))
 details _ = []
 

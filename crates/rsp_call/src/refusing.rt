@@ -99,8 +99,12 @@ fn kind(answered: &Answered) -> Option<(u64, &'static str)>
         Answered::Event(Refused::Syntax { .. }) => Some((8, "Syntax")),
         Answered::Event(Refused::LeftOut { .. }) => Some((9, "LeftOut")),
         Answered::Event(Refused::Limit { .. }) => Some((10, "Limit")),
+        Answered::Event(Refused::GraphShape { .. }) => Some((11, "GraphShape")),
+        Answered::Event(Refused::ExistsShape { .. }) => Some((12, "ExistsShape")),
+        Answered::Event(Refused::Scope { .. }) => Some((13, "Scope")),
         Answered::Event(Refused::Late { .. }) => Some((15, "Late")),
         Answered::Event(Refused::Unbuilt) => Some((22, "Unbuilt")),
+        Answered::Event(Refused::StartOverfull) => Some((25, "StartOverfull")),
         Answered::Event(Refused::Broken) | Answered::Event(Refused::OutOfMemory) => None,
     }
 }
@@ -120,6 +124,11 @@ fn details(alloc: Global, answered: &Answered) -> Result<String, AllocError>
         Answered::Event(Refused::Limit { what }) => {
             let word = limit_word(*what);
             format!(in alloc; " what={word}")
+        }
+        Answered::Event(Refused::GraphShape { at }) => format!(in alloc; " at={at}"),
+        Answered::Event(Refused::ExistsShape { at }) => format!(in alloc; " at={at}"),
+        Answered::Event(Refused::Scope { variable }) => {
+            format!(in alloc; " variable={variable}")
         }
         Answered::Event(Refused::Late { time, next }) => {
             format!(in alloc; " time={time} next={next}")

@@ -1,20 +1,24 @@
 -- An accepted event leads from an idle engine that stands for a world to one that stands for the next.
-use Rattle.std.proofs.Common.{◌≡◌, ℕ, ◌+◌, ◌-◌, ◌<◌, ◌≤◌, true, false, List, [], ◌∷◌, ◌++◌, length, Option, None, Some, Ok, refl, sym, ◌∙◌, subst, arith, nat_lt, nat_le, unwrap_or, bytes_eq}
+use Rattle.std.proofs.Common.{◌≡◌, ℕ, ◌+◌, ◌-◌, ◌<◌, ◌≤◌, Bool, true, false, ◌||◌, not, option_to_list, List, [], ◌∷◌, ◌++◌, length, Option, None, Some, Ok, refl, sym, ◌∙◌, subst, arith, nat_lt, nat_le, unwrap_or, bytes_eq}
 use Rattle.std.proofs.lemmas.List.{append-nil}
 use Rattle.std.proofs.lemmas.Bool.{le-ltb, lt-leb}
 use Rattle.std.specs.List.{flat_map, range_with_len}
-use Rattle.std.specs.Option.{is_some, option_map_or}
+use Rattle.std.specs.Option.{is_some, option_map, option_map_or}
 use Rattle.std.specs.Cmp.Lexicographic.{bytes_decides}
 use Rattle.rsp_events.specs.declared.event.Event.{Event}
 use Rattle.rsp_events.specs.declared.event.Event.TheVariants.{Register, Item, Tick}
 use Rattle.rsp_terms.specs.declared.statement.Triple.{Triple}
 use Rattle.rsp_engine.specs.declared.item.Item as item
+use Rattle.rsp_query.specs.Queries.{Registered}
 use Rattle.rsp_syntax.specs.Parsing.{parse}
+use Rattle.rsp_translation.specs.Translation.{first_fault}
+use Rattle.rsp_engine.specs.declared.refused.Refused.TheVariants.{StartOverfull, Unbuilt}
 use Rattle.rsp_engine.specs.declared.refused.Refused.{Refused}
 use Rattle.rsp_engine.specs.Offers.{Answers, Refuses}
 use Rattle.rsp_engine.specs.Refusals.{Refusal, refusal_of, text_fault}
-use Rattle.rsp_engine.specs.World.{Reading, World}
-use Rattle.rsp_engine.specs.Accept.{accept, next_of, most_items, most_triples, new_query, reading_of}
+use Rattle.rsp_engine.specs.World.{World}
+use Rattle.rsp_engine.specs.Readings.{is_built, reading_of}
+use Rattle.rsp_engine.specs.Accept.{accept, next_of, most_items, most_triples, new_query, starts_overfull}
 use Rattle.rsp_engine.specs.Moments.{moments, moments_from, moments_on, due_moments}
 use Rattle.rsp_engine.specs.Stands.{Live, State, Stands, query_in, query_of}
 use Rattle.rsp_engine.specs.Passing.{Has, Passes}
@@ -83,15 +87,15 @@ none_from world None = refl
 none_from world (Some next) = let none : next - next ≡ 0 = omega arith in rw none refl
 
 -- a query that became live where none was
-pub register_leads : (old : State) (name text : List ℕ) (reading : Reading) (kept : Live) (world : World) → query_of kept ≡ new_query name reading (length old.items) → old.broken ≡ false → old.query ≡ None → text_fault (parse text) ≡ None → reading_of text ≡ Some reading → Stands old world []
+pub register_leads : (old : State) (name text : List ℕ) (q : Registered) (kept : Live) (world : World) → query_of kept ≡ new_query name (reading_of q) (length old.items) → old.broken ≡ false → old.query ≡ None → parse text ≡ Ok q → first_fault q ≡ None → is_built q ≡ true → starts_overfull (reading_of q) ≡ false → Stands old world []
     → Leads world (Register name text) (record old { query = Some kept })
-register_leads old name text reading kept world made ready none good is stands =
+register_leads old name text q kept world made ready none is good built starts stands =
     let no_query : world.queries ≡ [] = rw none at stands.queries in
-    let after : World = record world { queries = world.queries ++ new_query name reading (length world.items) ∷ [] } in
+    let after : World = record world { queries = world.queries ++ new_query name (reading_of q) (length world.items) ∷ [] } in
     let left : moments world (Register name text) after ≡ [] = append-nil _ ∙ none_behind after world.next in
     let nothing : moments_from after (next_of world) ≡ [] = none_from after world.next in (
       after,
-      rw (good, no_query, is) refl,
+      rw (is, good, no_query, built, starts) refl,
       record {
         ready = ready;
         next = stands.next;
@@ -101,6 +105,40 @@ register_leads old name text reading kept world made ready none good is stands =
         at = rw left stands.at;
       },
     )
+
+-- a live query is among the world's
+some_live : (query : Option Live) (b : Bool) → is_some query ≡ true → (nat_lt 0 (length (option_to_list (option_map query_of query))) || b) ≡ true
+some_live (Some live) b is = refl
+some_live None b is = cc
+
+unbuilt_as : (old : State) (name text : List ℕ) (q : Registered) → old.broken ≡ false → parse text ≡ Ok q → first_fault q ≡ None → ((world : World) → Stands old world [] → (nat_lt 0 (length world.queries) || not (is_built q)) ≡ true) → Refuses old (Register name text) Unbuilt old
+unbuilt_as old name text q ready is good unbuilt =
+    record { was_ready = ready; unchanged = refl; refused = λ world stands. rw (is, good, unbuilt world stands) refl }
+
+-- where a query is live
+pub second_refuses : (old : State) (name text : List ℕ) (q : Registered) → old.broken ≡ false → is_some old.query ≡ true → parse text ≡ Ok q → first_fault q ≡ None → Refuses old (Register name text) Unbuilt old
+second_refuses old name text q ready live is good =
+    unbuilt_as old name text q ready is good (λ world stands. rw stands.queries (some_live old.query (not (is_built q)) live))
+
+or_true : (b : Bool) → (b || true) ≡ true
+or_true true = refl
+or_true false = refl
+
+-- a query that isn't built
+pub other_refuses : (old : State) (name text : List ℕ) (q : Registered) → old.broken ≡ false → is_built q ≡ false → parse text ≡ Ok q → first_fault q ≡ None → Refuses old (Register name text) Unbuilt old
+other_refuses old name text q ready other is good =
+    unbuilt_as old name text q ready is good (λ world stands. rw other (or_true _))
+
+-- one that has too many rows over no facts
+pub overfull_refuses : (old : State) (name text : List ℕ) (q : Registered) → old.broken ≡ false → old.query ≡ None → parse text ≡ Ok q → first_fault q ≡ None → is_built q ≡ true → starts_overfull (reading_of q) ≡ true → Refuses old (Register name text) StartOverfull old
+overfull_refuses old name text q ready none is good built starts =
+    record {
+      was_ready = ready;
+      unchanged = refl;
+      refused =
+          λ world stands.
+          let no_query : world.queries ≡ [] = rw none at stands.queries in rw (is, good, no_query, built, starts) refl;
+    }
 
 -- a text with a fault is refused for it
 pub faulty_refuses : (old : State) (name text : List ℕ) (why : Refused) → old.broken ≡ false → text_fault (parse text) ≡ refusal_of why → is_some (refusal_of why) ≡ true → Refuses old (Register name text) why old

@@ -6,17 +6,22 @@ use Rattle.rsp_terms.specs.declared.term.Term.TheVariants.{Iri}
 use Rattle.rsp_terms.specs.declared.statement.Triple.{Triple}
 use Rattle.rsp_events.specs.declared.event.Event.{Event}
 use Rattle.rsp_events.specs.declared.event.Event.TheVariants.{Register, Cancel, Item, Tick, Insert, Delete}
-use Rattle.rsp_query_line.specs.declared.line.Line.{Line}
-use Rattle.rsp_query_line.specs.declared.written.Part.TheVariants.{Variable, Constant}
-use Rattle.rsp_query_line.specs.QueryLine.{query_line}
+use Rattle.rsp_expr.specs.declared.slot.Slot.TheVariants as slot
+use Rattle.rsp_streams_out.specs.declared.operator.Operator.TheVariants.{Rstream}
+use Rattle.rsp_query.specs.Queries.{Registered}
+use Rattle.rsp_algebra.specs.declared.tree.Place.TheVariants.{Window}
+use Rattle.rsp_algebra.specs.Nodes as node
+use Rattle.rsp_translation.specs.declared.shape.Shape.TheVariants as shape
+use Rattle.rsp_translation.specs.Translation.{first_fault}
 use Rattle.rsp_syntax.specs.Parsing.{parse}
 use Rattle.rsp_syntax.specs.declared.fault.SyntaxFault.TheVariants as fault
 use Rattle.rsp_engine.specs.declared.item.Item as item
 use Rattle.rsp_engine.specs.declared.report.Report.{Report}
 use Rattle.rsp_engine.specs.declared.report.Outcome.TheVariants.{Rows}
-use Rattle.rsp_engine.specs.Refusals.{Refusal, left_out, late, unbuilt, text_fault}
-use Rattle.rsp_engine.specs.World.{World, Query, Strategy, StreamWindow, empty_world, close, change, nonempty, every}
-use Rattle.rsp_engine.specs.Accept.{accept, new_query, reading_of_line}
+use Rattle.rsp_engine.specs.Refusals.{Refusal, left_out, late, scope, start_overfull, unbuilt, text_fault}
+use Rattle.rsp_engine.specs.World.{World, Query, Reading, Strategy, StreamWindow, at_closings, empty_world, close, change, nonempty, every}
+use Rattle.rsp_engine.specs.Readings.{is_built, reading_of}
+use Rattle.rsp_engine.specs.Accept.{accept, accept_reading, new_query, starts_overfull}
 use Rattle.rsp_engine.specs.Contents.{content, in_content}
 use Rattle.rsp_engine.specs.Moments.{Moment, moments}
 use Rattle.rsp_engine.specs.Reports.{reports, is_overfull, after_report, moments_behind}
@@ -36,24 +41,28 @@ overlapping = record { width = 10; slide = 5; origin = 0 }
 abbrev apart : Shape
 apart = record { width = 2; slide = 5; origin = 0 }
 
--- the subjects of all triples
-abbrev line : Shape → Line
-line shape =
+-- the subjects of all triples of its window
+abbrev subjects : Shape → Reading
+subjects shape =
     record {
-      shape = shape;
-      shown = codes "s" ∷ [];
-      patterns =
-          record {
-            subject = Variable (codes "s");
-            predicate = Constant (codes "p:v");
-            object = Variable (codes "o");
-          }
-          ∷ [];
+      operator = Rstream;
+      output = codes "o:a";
+      policy = at_closings;
+      windows = record { stream = codes "s:a"; shape = shape } ∷ [];
+      node =
+          node.project
+          (node.pattern
+          (Window 0)
+          (record { subject = slot.Variable 0; predicate = slot.Constant (Iri (codes "p:v")); object = slot.Variable 1 }))
+          (0 ∷ []);
+      width = 2;
+      shown = 0 ∷ [];
+      variables = codes "s" ∷ [];
     }
 
 -- one query that sees the items from a number on
 abbrev query_from : ℕ → Shape → Query
-query_from first shape = new_query (codes "q") (reading_of_line (line shape)) first
+query_from first shape = new_query (codes "q") (subjects shape) first
 
 abbrev query : Shape → Query
 query shape = query_from 0 shape
@@ -95,16 +104,28 @@ times_in w shape t = map (λ (i : item.Item). i.time) (content w (query shape).r
 -- ---- which events are accepted
 
 -- it sees the items from the second on
-pub query_line_is_registered : (text : List ℕ) (line : Line) → text_fault (parse text) ≡ None → query_line text ≡ Some line
+pub query_is_registered : (text : List ℕ) (q : Registered) → parse text ≡ Ok q → first_fault q ≡ None → is_built q ≡ true
+    → starts_overfull (reading_of q) ≡ false
     → accept (world (Some 4) (item_at 1 (codes "a:3") ∷ []) []) (Register (codes "q") text)
-    ≡ Ok (world (Some 4) (item_at 1 (codes "a:3") ∷ []) (new_query (codes "q") (reading_of_line line) 1 ∷ []))
-query_line_is_registered text line good is = rw (good, is) refl
+    ≡ Ok (world (Some 4) (item_at 1 (codes "a:3") ∷ []) (new_query (codes "q") (reading_of q) 1 ∷ []))
+query_is_registered text q is good built starts = rw (is, good, built, starts) refl
 
-pub other_text_is_unbuilt : (text : List ℕ) → text_fault (parse text) ≡ None → query_line text ≡ None → accept empty_world (Register (codes "q") text) ≡ Err unbuilt
-other_text_is_unbuilt text good none = rw (good, none) refl
+pub other_query_is_unbuilt : (text : List ℕ) (q : Registered) → parse text ≡ Ok q → first_fault q ≡ None → is_built q ≡ false
+    → accept empty_world (Register (codes "q") text) ≡ Err unbuilt
+other_query_is_unbuilt text q is good other = rw (is, good, other) refl
+
+-- a fault of the query's shape is a fault of its text
+pub shape_is_looked_at_before_what_is_built : (text : List ℕ) (q : Registered) → parse text ≡ Ok q
+    → first_fault q ≡ Some (shape.Scope (codes "x"))
+    → accept empty_world (Register (codes "q") text) ≡ Err (scope (codes "x"))
+shape_is_looked_at_before_what_is_built text q is fault = rw (is, fault) refl
+
+pub overfull_start_is_refused : (w : World) (reading : Reading) → starts_overfull reading ≡ true
+    → accept_reading w (codes "q") reading ≡ Err start_overfull
+overfull_start_is_refused w reading starts = rw starts refl
 
 -- the words that a fault of a text goes by
-pub fault_keeps_its_details : text_fault {A = ℕ} (Err (fault.LeftOut 113 (codes "*"))) ≡ Some (left_out 113 (codes "*"))
+pub fault_keeps_its_details : text_fault (Err (fault.LeftOut 113 (codes "*"))) ≡ Some (left_out 113 (codes "*"))
 fault_keeps_its_details = refl
 
 -- whether a query is live or none
@@ -121,8 +142,9 @@ waiting = world (Some 4) two_items (query side_by_side ∷ [])
 abbrev ticked : World
 ticked = world (Some 11) two_items (query side_by_side ∷ [])
 
-pub second_query_is_unbuilt : (text : List ℕ) → text_fault (parse text) ≡ None → accept ticked (Register (codes "q2") text) ≡ Err unbuilt
-second_query_is_unbuilt text good = rw good refl
+pub second_query_is_unbuilt : (text : List ℕ) (q : Registered) → parse text ≡ Ok q → first_fault q ≡ None
+    → accept ticked (Register (codes "q2") text) ≡ Err unbuilt
+second_query_is_unbuilt text q is good = rw (is, good) refl
 
 pub cancel_is_unbuilt : accept ticked (Cancel (codes "q")) ≡ Err unbuilt
 cancel_is_unbuilt = refl
@@ -176,7 +198,10 @@ first_tick_has_no_moments = refl
 -- a query that looks at instants, by these strategies
 abbrev looks_at_instants : List Strategy → Query
 looks_at_instants strategies =
-    new_query (codes "q") (record (reading_of_line (line side_by_side)) { policy = record { strategies = strategies; on_items = false } }) 0
+    new_query
+    (codes "q")
+    (record (subjects side_by_side) { policy = record { strategies = strategies; on_items = false } })
+    0
 
 -- when the query reports, where an item of time 4 lies before and a tick 20 comes
 abbrev reports_at : List Strategy → List ℕ

@@ -1,15 +1,16 @@
 -- Definitions: which events are accepted, and what an accepted event makes of the world.
-use Rattle.std.specs.Prelude.{ℕ, ◌+◌, nat_lt, nat_le, ◌||◌, if◌then◌else◌, Option, Some, Result, Ok, Err, List, [], ◌∷◌, ◌++◌, length, codes}
-use Rattle.std.specs.Option.{unwrap_or, option_map, option_map_or}
+use Rattle.std.specs.Prelude.{ℕ, ◌+◌, Bool, not, nat_lt, nat_le, ◌||◌, if◌then◌else◌, Some, Result, Ok, Err, List, [], ◌∷◌, ◌++◌, length}
+use Rattle.std.specs.Option.{unwrap_or, option_map_or}
 use Rattle.rsp_events.specs.declared.event.Event.{Event}
 use Rattle.rsp_events.specs.declared.event.Event.TheVariants.{Register, Cancel, Item, Tick, Insert, Delete}
 use Rattle.rsp_engine.specs.declared.item.Item as item
-use Rattle.rsp_query_line.specs.declared.line.Line.{Line}
-use Rattle.rsp_query_line.specs.QueryLine.{query_line}
-use Rattle.rsp_query_line.specs.Meaning.{node_of_line, width_of, shown_of}
+use Rattle.rsp_query.specs.Queries.{Registered}
+use Rattle.rsp_algebra.specs.Overfull.{overfull}
 use Rattle.rsp_syntax.specs.Parsing.{parse}
-use Rattle.rsp_engine.specs.Refusals.{Refusal, late, unbuilt, text_fault}
-use Rattle.rsp_engine.specs.World.{World, Query, Reading, at_closings}
+use Rattle.rsp_syntax.specs.declared.fault.SyntaxFault.{SyntaxFault}
+use Rattle.rsp_engine.specs.Refusals.{Refusal, late, start_overfull, unbuilt, text_fault}
+use Rattle.rsp_engine.specs.Readings.{is_built, reading_of}
+use Rattle.rsp_engine.specs.World.{World, Query, Reading}
 
 -- the first instant that isn't complete, or 0 where none is set
 abbrev pub next_of : World → ℕ
@@ -22,40 +23,34 @@ most_items = 1000
 abbrev pub most_triples : ℕ
 most_triples = 1000
 
--- what a text of the form that is built says: it reports where its window closes
-abbrev pub reading_of_line : Line → Reading
-reading_of_line line =
-    record {
-      policy = at_closings;
-      windows = record { stream = codes "s:a"; shape = line.shape } ∷ [];
-      node = node_of_line line;
-      width = width_of line;
-      shown = shown_of line;
-      variables = line.shown;
-    }
-
--- what a text says, where it is of this form
-abbrev pub reading_of : List ℕ → Option Reading
-reading_of text = option_map reading_of_line (query_line text)
-
 -- a query that has not reported
 abbrev pub new_query : List ℕ → Reading → ℕ → Query
 new_query name reading first = record { registration = record { name = name; reading = reading; first = first }; seen = [] }
 
--- a query becomes live, last in order; by now one alone can be live, and its text is a query line
-abbrev pub accept_query : World → List ℕ → List ℕ → Result World Refusal
-accept_query world name text =
-    if nat_lt 0 (length world.queries)
-    then Err unbuilt
-    else
-    option_map_or
-    (λ reading. Ok (record world { queries = world.queries ++ new_query name reading (length world.items) ∷ [] }))
-    (reading_of text)
-    (Err unbuilt)
+-- a query that has too many rows over no facts can't begin
+abbrev pub starts_overfull : Reading → Bool
+starts_overfull reading = overfull reading.width reading.node []
+
+-- a query becomes live, last in order
+abbrev pub accept_reading : World → List ℕ → Reading → Result World Refusal
+accept_reading world name reading =
+    if starts_overfull reading
+    then Err start_overfull
+    else Ok (record world { queries = world.queries ++ new_query name reading (length world.items) ∷ [] })
+
+-- by now one query alone can be live
+abbrev pub accept_query : World → List ℕ → Registered → Result World Refusal
+accept_query world name q =
+    if nat_lt 0 (length world.queries) || not (is_built q) then Err unbuilt else accept_reading world name (reading_of q)
+
+-- what the text is, where it has no fault
+abbrev pub accept_parsed : World → List ℕ → Result Registered SyntaxFault → Result World Refusal
+accept_parsed world name (Ok q) = accept_query world name q
+accept_parsed world name (Err fault) = Err unbuilt
 
 -- a text with a fault is refused for it
 abbrev pub accept_register : World → List ℕ → List ℕ → Result World Refusal
-accept_register world name text = option_map_or Err (text_fault (parse text)) (accept_query world name text)
+accept_register world name text = option_map_or Err (text_fault (parse text)) (accept_parsed world name (parse text))
 
 -- an item is appended, and every instant before its time is complete
 abbrev pub accept_item : World → item.Item → Result World Refusal

@@ -4,6 +4,7 @@ pub mod Contents
 pub mod Due
 pub mod Moments
 pub mod Refusals
+pub mod Readings
 pub mod Accept
 pub mod Reports
 pub mod Kept

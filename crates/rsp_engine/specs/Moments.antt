@@ -14,7 +14,8 @@ pub record Moment : Type 0 where
 
 -- those of the live queries that pass the test report at t, in order of registration
 abbrev pub moments_at : World → ℕ → (Registration → Bool) → List Moment
-moments_at world t test = map (λ (query : Registration). record { at = t; query = query.name }) (filter test (registrations world))
+moments_at world t test =
+    map (λ (query : Registration). record { at = t; query = query.name }) (filter test (registrations world))
 
 -- at a complete instant the queries that are due
 abbrev pub due_moments : World → ℕ → List Moment

@@ -27,7 +27,8 @@ TakesMemory (Delete quads) = ⊥
 pub record Accepts (old : State) (event : Event) (new : State) : Type 0 where
   pub was_ready : old.broken ≡ false
   pub ready : new.broken ≡ false
-  pub stands : (world : World) → Stands old world [] → (after : World) × (accept world event ≡ Ok after) × Stands new after (moments world event after)
+  pub stands : (world : World) → Stands old world []
+      → (after : World) × (accept world event ≡ Ok after) × Stands new after (moments world event after)
 
 -- the event was refused with the refusal of the definition, and nothing has changed
 pub record RefusesAs (old : State) (event : Event) (refusal : Refusal) (new : State) : Type 0 where

@@ -4,6 +4,7 @@ use Rattle.std.specs.List.{flat_map}
 use Rattle.std.specs.Option.{is_some, option_map, option_map_or}
 use Rattle.rsp_spec.specs.Windows.{Shape}
 use Rattle.rsp_terms.specs.declared.statement.Fact.{Fact}
+use Rattle.rsp_query.specs.Queries.{Registered}
 use Rattle.rsp_algebra.specs.Nodes.{Node}
 use Rattle.rsp_algebra.specs.Solutions.{eval}
 use Rattle.rsp_algebra.specs.Overfull.{overfull}
@@ -14,10 +15,11 @@ use Rattle.rsp_engine.specs.declared.refused.Refused.{Refused}
 use Rattle.rsp_engine.specs.declared.report.Outcome.{Outcome}
 use Rattle.rsp_engine.specs.declared.report.Outcome.TheVariants as outcomes
 use Rattle.rsp_engine.specs.declared.report.Report.{Report}
-use Rattle.rsp_engine.specs.Accept.{new_query, reading_of}
+use Rattle.rsp_engine.specs.Accept.{new_query, starts_overfull}
 use Rattle.rsp_engine.specs.Contents.{distinct_triples, facts, facts_of, in_content}
 use Rattle.rsp_engine.specs.Inside.{Answers}
 use Rattle.rsp_engine.specs.Moments.{moments_from}
+use Rattle.rsp_engine.specs.Readings.{reading_of}
 use Rattle.rsp_engine.specs.Refusals.{Refusal, refusal_of}
 use Rattle.rsp_engine.specs.Reports.{IsOutcome, cells_at}
 use Rattle.rsp_engine.specs.Stands.{State, Live, closes_for, first_instant, instants_left, query_in, query_of, reading_in}
@@ -35,7 +37,8 @@ pub record Passes (old : State) (to : ℕ) (new : State) : Type 0 where
   pub query : new.query ≡ old.query
   pub items : new.items ≡ old.items
   pub broken : new.broken ≡ old.broken
-  pub moments : (world : World) → Has world (query_in old) (Some to) → option_map_or (moments_from world) old.next [] ≡ moments_from world new.at
+  pub moments : (world : World) → Has world (query_in old) (Some to)
+      → option_map_or (moments_from world) old.next [] ≡ moments_from world new.at
   pub at : (world : World) → Has world (query_in old) (Some to) → new.at ≡ first_instant world (moments_from world new.at)
 
 -- the moment at the first instant left is worked off, by a report that leaves this query live, if one; those behind it
@@ -46,8 +49,10 @@ pub record WorksOff (old : State) (kept : Option Live) (new : State) : Type 0 wh
   pub items : new.items ≡ old.items
   pub broken : new.broken ≡ old.broken
   pub nearer : instants_left new < instants_left old
-  pub moments : (world : World) → Has world (option_map query_of kept) old.next → moments_from world (old.at + 1) ≡ moments_from world new.at
-  pub at : (world : World) → Has world (option_map query_of kept) old.next → new.at ≡ first_instant world (moments_from world new.at)
+  pub moments : (world : World) → Has world (option_map query_of kept) old.next
+      → moments_from world (old.at + 1) ≡ moments_from world new.at
+  pub at : (world : World) → Has world (option_map query_of kept) old.next
+      → new.at ≡ first_instant world (moments_from world new.at)
 
 -- a live query reports at the first instant left, which is complete
 pub record IsDue (engine : State) (live : Live) : Type 0 where
@@ -86,7 +91,8 @@ outcome_over reading facts =
     else outcomes.Rows (in_order (map (cells_at reading.shown) (eval reading.width reading.node facts)))
 
 -- a live query reported at t, and stands for the facts of t where it is still live
-pub record IsReported {A : Type 0} (node : A → Node) (width : A → ℕ) (facts : A → List Fact) (spent : A → Bool) (live : Live) (items : List Item) (t : ℕ) (new : LiveQuery A) (given : Outcome) : Type 0 where
+pub record IsReported {A : Type 0} (node : A → Node) (width : A → ℕ) (facts : A → List Fact) (spent : A → Bool)
+    (live : Live) (items : List Item) (t : ℕ) (new : LiveQuery A) (given : Outcome) : Type 0 where
   pub outcome : IsOutcome given (outcome_over (reading_in live) (facts_over items (query_of live).registration t))
   pub answers : (given ≡ outcomes.Overfull) ⊎ Answers node width facts spent new
 
@@ -97,15 +103,16 @@ pub record ReportsFirst (old : State) (report : Report) (new : State) : Type 0 w
   pub query : report.query ≡ live.name
   pub at : report.at ≡ old.at
   pub variables : report.variables ≡ live.variables
-  pub outcome : IsOutcome report.outcome (outcome_over (reading_in live) (facts_over old.items (query_of live).registration old.at))
+  pub outcome : IsOutcome report.outcome
+      (outcome_over (reading_in live) (facts_over old.items (query_of live).registration old.at))
   pub works : WorksOff old (if is_overfull_outcome report.outcome then None else Some (seeing live old.items old.at)) new
 
-pub record IsRegistered (name text : List ℕ) (first : ℕ) (kept : Live) : Type 0 where
-  pub reading : Reading
-  pub is : reading_of text ≡ Some reading
-  pub live : query_of kept ≡ new_query name reading first
+-- the answer names this refusal
+abbrev pub IsFaultOf : Refused → Option Refusal → Type 0
+IsFaultOf why fault = (fault ≡ refusal_of why) × (is_some (refusal_of why) ≡ true)
 
--- the answer names this refusal, or there is none
-abbrev pub IsFaultOf : Option Refused → Option Refusal → Type 0
-IsFaultOf None fault = fault ≡ None
-IsFaultOf (Some why) fault = (fault ≡ refusal_of why) × (is_some (refusal_of why) ≡ true)
+-- the live query of a query's text, or none where it has too many rows over no facts
+abbrev pub IsBegun : List ℕ → Registered → ℕ → Option Live → Type 0
+IsBegun name q first None = starts_overfull (reading_of q) ≡ true
+IsBegun name q first (Some live) =
+    (starts_overfull (reading_of q) ≡ false) × (query_of live ≡ new_query name (reading_of q) first)

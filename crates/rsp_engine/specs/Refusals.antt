@@ -1,25 +1,42 @@
 -- Definitions: why an event is refused.
 use Rattle.std.specs.Prelude.{ℕ, List, Option, None, Some, Result, Ok, Err}
+use Rattle.rsp_query.specs.Queries.{Registered}
 use Rattle.rsp_numbering.specs.declared.limit.LimitName.{LimitName}
 use Rattle.rsp_syntax.specs.declared.fault.SyntaxFault.{SyntaxFault}
 use Rattle.rsp_syntax.specs.declared.fault.SyntaxFault.TheVariants as fault
+use Rattle.rsp_translation.specs.declared.shape.Shape.{Shape}
+use Rattle.rsp_translation.specs.declared.shape.Shape.TheVariants as shape
+use Rattle.rsp_translation.specs.Translation.{first_fault}
 use Rattle.rsp_engine.specs.declared.refused.Refused.{Refused}
 use Rattle.rsp_engine.specs.declared.refused.Refused.TheVariants as answer
 
 -- its query's text has a fault: the place at which no token begins, or of the first token that can't stand, with what it is
--- where it is left out, or the limit that is passed; its time lies in what is complete: the time, and the first instant
--- that isn't complete; or it is of a kind that isn't built
+-- where it is left out, or the limit that is passed; or the place of a window, a graph or an EXISTS of no shape that can be
+-- translated, or the variable that is out of scope; its time lies in what is complete: the time, and the first instant that
+-- isn't complete; it is of a kind that isn't built; or its query has too many rows before it sees a fact
 pub data Refusal : Type 0 where
   bad_token : ℕ → Refusal
   syntax : ℕ → Refusal
   left_out : ℕ → List ℕ → Refusal
   limit : LimitName → Refusal
+  graph_shape : ℕ → Refusal
+  exists_shape : ℕ → Refusal
+  scope : List ℕ → Refusal
   late : ℕ → ℕ → Refusal
   unbuilt : Refusal
+  start_overfull : Refusal
 
--- the fault of a text, by what the text is; want of memory is none
-abbrev pub text_fault : {A : Type 0} → Result A SyntaxFault → Option Refusal
-text_fault (Ok query) = None
+-- the fault of a query that has no translation; want of memory is none
+abbrev pub shape_fault : Option Shape → Option Refusal
+shape_fault None = None
+shape_fault (Some (shape.GraphShape at)) = Some (graph_shape at)
+shape_fault (Some (shape.ExistsShape at)) = Some (exists_shape at)
+shape_fault (Some (shape.Scope variable)) = Some (scope variable)
+shape_fault (Some shape.OutOfMemory) = None
+
+-- the first fault of a text, by what the text is: that of the grammar, or of the query's shape; want of memory is none
+abbrev pub text_fault : Result Registered SyntaxFault → Option Refusal
+text_fault (Ok q) = shape_fault (first_fault q)
 text_fault (Err (fault.BadToken at)) = Some (bad_token at)
 text_fault (Err (fault.Syntax at)) = Some (syntax at)
 text_fault (Err (fault.LeftOut at what)) = Some (left_out at what)
@@ -32,7 +49,11 @@ refusal_of (answer.BadToken at) = Some (bad_token at)
 refusal_of (answer.Syntax at) = Some (syntax at)
 refusal_of (answer.LeftOut at what) = Some (left_out at what)
 refusal_of (answer.Limit what) = Some (limit what)
+refusal_of (answer.GraphShape at) = Some (graph_shape at)
+refusal_of (answer.ExistsShape at) = Some (exists_shape at)
+refusal_of (answer.Scope variable) = Some (scope variable)
 refusal_of (answer.Late time next) = Some (late time next)
 refusal_of answer.Unbuilt = Some unbuilt
+refusal_of answer.StartOverfull = Some start_overfull
 refusal_of answer.Broken = None
 refusal_of answer.OutOfMemory = None

@@ -4,6 +4,7 @@ use Rattle.std.specs.List.{list_any}
 use Rattle.std.specs.Option.{option_map, option_map_or, ForSome}
 use Rattle.rsp_spec.specs.Windows.{Shape, closes_at, last_instant}
 use Rattle.rsp_terms.specs.declared.statement.Fact.{Fact}
+use Rattle.rsp_streams_out.specs.declared.operator.Operator.TheVariants.{Rstream}
 use Rattle.rsp_algebra.specs.Nodes.{node_of}
 use Rattle.rsp_algebra.specs.declared.tree.Translated.{Translated}
 use Rattle.rsp_engine.specs.declared.item.Item.{Item}
@@ -11,9 +12,10 @@ use Rattle.rsp_engine.specs.World.{World, Query, Reading, StreamWindow, at_closi
 use Rattle.rsp_engine.specs.Accept.{next_of}
 use Rattle.rsp_engine.specs.Moments.{Moment, moments_from}
 
--- what an engine keeps of a live query: it reports where its window over a stream closes
+-- what an engine keeps of a live query: it reports all its rows where its window over a stream closes
 pub record Live : Type 0 where
   pub name : List ℕ
+  pub output : List ℕ
   pub stream : List ℕ
   pub shape : Shape
   pub query : Translated
@@ -34,6 +36,8 @@ pub record State : Type 0 where
 abbrev pub reading_in : Live → Reading
 reading_in live =
     record {
+      operator = Rstream;
+      output = live.output;
       policy = at_closings;
       windows = record { stream = live.stream; shape = live.shape } ∷ [];
       node = node_of live.query.tree;

@@ -2,6 +2,7 @@
 use Rattle.std.specs.Prelude.{ℕ, Bool, false, Option, None, List, [], ◌∷◌, map}
 use Rattle.rsp_spec.specs.Windows.{Shape}
 use Rattle.rsp_terms.specs.declared.statement.Fact.{Fact}
+use Rattle.rsp_streams_out.specs.declared.operator.Operator.{Operator}
 use Rattle.rsp_algebra.specs.Nodes.{Node}
 use Rattle.rsp_engine.specs.declared.item.Item.{Item}
 
@@ -27,9 +28,11 @@ pub record StreamWindow : Type 0 where
   pub stream : List ℕ
   pub shape : Shape
 
--- what a query's text says: when it reports, over which windows, its tree over rows of this width, the places that it shows
--- and the names of their variables
+-- what a query's text says: its stream operator and output stream, when it reports, over which windows, its tree over rows of
+-- this width, the places that it shows and the names of their variables
 pub record Reading : Type 0 where
+  pub operator : Operator
+  pub output : List ℕ
   pub policy : Policy
   pub windows : List StreamWindow
   pub node : Node

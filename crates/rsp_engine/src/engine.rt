@@ -5,12 +5,13 @@ ghost use Rattle.rsp_engine.specs.Inside.{live_of};
 ghost use Rattle.rsp_engine.specs.Passing.{is_overfull_outcome};
 ghost use Rattle.rsp_engine.specs.Stands.{query_of, shapes_of};
 
-use crate::registering::{fault_of, registered};
+use crate::registering::{begun, built_window, parsed, translated};
 use crate::seeing::report_at;
 use crate::walking::first_moment;
 use crate::{EngineFault, Item, LiveQuery, Outcome, Refused, Report};
-use rsp_algebra::Answer;
+use rsp_algebra::{Answer, Translated};
 use rsp_events::Event;
+use rsp_query::Query;
 use rsp_steps::Steps;
 use rsp_terms::Text;
 use rsp_windows::Window;
@@ -56,13 +57,18 @@ impl<A: Answer> Model for Engine<A> {
 }
 
 impl<A: Answer> Engine<A> {
-    ghost use Rattle.std.specs.Prelude.{◌≡◌, ◌<◌, None, ◌↔◌, ◌==◌, ◌≤◌, ◌+◌, ◌++◌, ◌∷◌, List, [], true, false, IsTrue, OnOk, OnErr, Some, is_some, length, IfOk, unwrap_or, option_to_list};
+    ghost use Rattle.std.specs.Prelude.{◌≡◌, ℕ, ◌<◌, None, ◌↔◌, ◌==◌, ◌≤◌, ◌+◌, ◌++◌, ◌∷◌, List, [], true, false};
+    ghost use Rattle.std.specs.Prelude.{IsTrue, Ok, OnOk, OnErr, Some, is_some, length, IfOk, unwrap_or, option_to_list};
     ghost use Rattle.rsp_spec.specs.Windows.{last_instant};
     ghost use Rattle.rsp_engine.specs.Passing.{Passes, ReportsFirst};
     ghost use Rattle.rsp_engine.specs.Inside.{Answers, live_of};
     ghost use Rattle.std.specs.Option.{option_map, option_map_or};
     ghost use Rattle.rsp_syntax.specs.Parsing.{parse};
-    ghost use Rattle.rsp_engine.specs.Refusals.{text_fault};
+    ghost use Rattle.rsp_query.specs.Queries.{registered};
+    ghost use Rattle.rsp_algebra.specs.Nodes.{IsPlaced};
+    ghost use Rattle.rsp_shapes.specs.Sound.{IsSound};
+    ghost use Rattle.rsp_translation.specs.Translation.{IsTranslated};
+    ghost use Rattle.rsp_engine.specs.declared.refused.Refused.TheVariants.{OutOfMemory};
     ghost use Rattle.rsp_engine.specs.World.{World, empty_world};
     ghost use Rattle.rsp_engine.specs.Moments.{Moment};
     ghost use Rattle.rsp_engine.specs.Kept.{triples_of};
@@ -160,37 +166,65 @@ impl<A: Answer> Engine<A> {
         requires ready { self.old.broken ≡ false }
         ensures { Offers self.old (Event.Register name text) result self.new }
     {
-        match fault_of(self.alloc, &text) {
-            Ok(None) => self.register_good(name, text),
-            Ok(Some(fault)) => Err(fault),
-            Err(AllocError) => {
-                self.broken = true;
-                Err(Refused::OutOfMemory)
-            }
+        match parsed(self.alloc, &text) {
+            Ok(Ok(query)) => self.register_parsed(name, &query),
+            Ok(Err(fault)) => Err(fault),
+            Err(AllocError) => Err(self.break_off()),
         }
     }
 
-    // registers a text without fault
-    fn register_good(&mut self, name: Text, text: Text) -> Result<(), Refused>
+    // registers the query that a text is
+    fn register_parsed(&mut self, name: Text, query: &Query) -> Result<(), Refused>
         requires idle { IsTrue (is_idle self.old) }
         requires ready { self.old.broken ≡ false }
-        requires good { text_fault (parse text) ≡ None }
-        ensures { Offers self.old (Event.Register name text) result self.new }
+        requires sound { IsSound (registered query.now) }
+        ensures { (text : List ℕ) → parse text ≡ Ok (registered query.now)
+            → Offers self.old (Event.Register name text) result self.new }
+    {
+        match translated(self.alloc, query) {
+            Ok(Ok(made)) => self.register_translated(name, query, made),
+            Ok(Err(shape)) => Err(shape),
+            Err(AllocError) => Err(self.break_off()),
+        }
+    }
+
+    // registers a query without fault, with its tree
+    fn register_translated(
+        &mut self,
+        name: Text,
+        query: &Query,
+        made: Box<Translated>,
+    ) -> Result<(), Refused>
+        requires idle { IsTrue (is_idle self.old) }
+        requires ready { self.old.broken ≡ false }
+        requires translated { IsTranslated (registered query.now) made.value }
+        requires placed { IsPlaced made.value }
+        ensures { (text : List ℕ) → parse text ≡ Ok (registered query.now)
+            → Offers self.old (Event.Register name text) result self.new }
     {
         if self.has_query() {
             return Err(Refused::Unbuilt);
         }
-        match registered(self.alloc, name, &text, self.accepted()) {
+        let Some(window) = built_window(query) else {
+            return Err(Refused::Unbuilt);
+        };
+        match begun(self.alloc, name, query, window, made, self.accepted()) {
             Ok(Some(query)) => {
                 self.go_live(query);
                 Ok(())
             }
-            Ok(None) => Err(Refused::Unbuilt),
-            Err(AllocError) => {
-                self.broken = true;
-                Err(Refused::OutOfMemory)
-            }
+            Ok(None) => Err(Refused::StartOverfull),
+            Err(AllocError) => Err(self.break_off()),
         }
+    }
+
+    // Memory is refused.
+    fn break_off(&mut self) -> Refused
+        ensures state { self.new ≡ record self.old { broken = true } }
+        ensures value { result ≡ OutOfMemory }
+    {
+        self.broken = true;
+        Refused::OutOfMemory
     }
 
     fn take_item(&mut self, item: Item) -> Result<(), Refused>

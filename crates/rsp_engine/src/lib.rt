@@ -4,7 +4,7 @@
 //! aren't worked off. `offer` accepts an event exactly where the definition accepts it, and refuses it by name else;
 //! `next_report` gives exactly the reports of the moments, one at a time, for every kind of answer. By now one query can
 //! be live, and the engine walks over the instants one by one.
-//! Above: the program. Below: events, the query line, answers, windows, terms and the order of rows.
+//! Above: the program. Below: events, query texts and their trees, answers, windows, terms and the order of rows.
 #![tactic(auto)]
 
 mod contents;

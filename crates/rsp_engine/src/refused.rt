@@ -25,14 +25,27 @@ pub enum Refused {
     /// The query's text has too much of something.
     #[error("past a limit: {what:?}")]
     Limit { what: LimitName },
+    /// A window or a graph of the query is of no shape that can be translated: the place of its word.
+    #[error("no window or graph of this shape: byte {at}")]
+    GraphShape { at: usize },
+    /// The word EXISTS of an EXISTS of no shape that can be translated.
+    #[error("no EXISTS of this shape: byte {at}")]
+    ExistsShape { at: usize },
+    /// The first variable of the query, or `*`, that stands where its scope doesn't allow it.
+    #[error("out of scope: {variable}")]
+    Scope { variable: Text },
     /// The event's time lies in what is complete: an item's time is less than `next`, or a tick's time + 1 is.
     /// Both in ms since 1970.
     #[error("late: time {time}, next {next}")]
     Late { time: u64, next: u64 },
-    /// The event is of a kind that isn't built yet: a text without fault outside the query line, a second live query, a
-    /// cancellation, an insert, a delete, an item of more than a thousand triples, or an item after a thousand.
+    /// The event is of a kind that isn't built yet: a second live query, a query without fault whose operator isn't
+    /// RSTREAM, with more than one window, or with another policy than `REPORT CLOSE TICK TIME`, a cancellation, an
+    /// insert, a delete, an item of more than a thousand triples, or an item after a thousand.
     #[error("not built yet")]
     Unbuilt,
+    /// Some subtree of the query has more than 1,000,000 solutions over no facts at all.
+    #[error("too many rows at the start")]
+    StartOverfull,
 }
 
 /// Why no report was given.

@@ -1,15 +1,11 @@
 -- Groups by their keys.
-use Rattle.std.proofs.Common.{◌≡◌, ℕ, suc, Bool, false, true, true≢false, List, [], ◌∷◌, None, map, length, refl, sym, ap, ◌∙◌, arith}
+use Rattle.std.proofs.Common.{◌≡◌, ℕ, List, [], ◌∷◌, None, map, length, refl, arith}
 use Rattle.rsp_multiset.specs.RowLists.{each_once}
 use Rattle.rsp_multiset.specs.Rows.{Cells}
 use Rattle.rsp_terms.specs.declared.term.Term.{Term}
 use Rattle.rsp_expr.specs.Formulas.{Aggregation}
 use Rattle.rsp_algebra.specs.Patterns.{row_by}
-use Rattle.rsp_terms.specs.declared.statement.Fact.{Fact}
-use Rattle.rsp_expr.specs.declared.aggregate.Aggregate.{Aggregate}
-use Rattle.rsp_algebra.specs.Nodes as node
-use Rattle.rsp_algebra.specs.Nodes.{Node, aggregations_of}
-use Rattle.rsp_algebra.specs.Solutions.{same_row, projection, group_keys, group_of, with_aggregates, grouped, eval}
+use Rattle.rsp_algebra.specs.Solutions.{same_row, projection, group_keys, with_aggregates}
 
 pub keys_of_one_group : (width : ℕ) (keys : List ℕ) (rows : List (Cells Term)) → length keys ≡ 0 → row_by width (λ _. None) ∷ [] ≡ group_keys width keys rows
 keys_of_one_group width [] rows none = refl
@@ -24,9 +20,3 @@ pub same_groups : (width : ℕ) (aggregates : List (ℕ × Aggregation)) (bucket
 same_groups width aggregates bucket group is [] = refl
 same_groups width aggregates bucket group is (key ∷ keys) =
     (λ i. with_aggregates width aggregates (is key i) key ∷ same_groups width aggregates bucket group is keys i)
-
--- the rows of a group's node
-pub grouped_child : (width : ℕ) (child : Node) (facts : List Fact) (keys keys' : List ℕ) (aggregates aggregates' : List (ℕ × Aggregate)) (rows made : List (Cells Term)) → keys' ≡ keys → aggregates' ≡ aggregates → rows ≡ eval width child facts
-    → made ≡ grouped width keys' (aggregations_of aggregates') rows → made ≡ eval width (node.group child keys (aggregations_of aggregates)) facts
-grouped_child width child facts keys keys' aggregates aggregates' rows made keys_are aggregates_are rows_are is =
-    is ∙ (λ i. grouped width (keys_are i) (aggregations_of (aggregates_are i)) (rows_are i))

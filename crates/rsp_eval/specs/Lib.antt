@@ -3,3 +3,4 @@ pub mod Slots
 pub mod Keys
 pub mod Pairs
 pub mod Facts
+pub mod Trees

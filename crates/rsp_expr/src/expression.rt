@@ -7,7 +7,6 @@ use rsp_terms::Term;
 use std::alloc::{AllocError, Global};
 
 /// An expression (SPARQL 1.1 Query, section 17). Variables are places of a row.
-#[derive(Drop)]
 pub enum Expression {
     Variable(usize),
     Constant(Term),
@@ -44,6 +43,43 @@ pub enum Expression {
         function: Function,
         arguments: Vec<Expression>,
     },
+}
+
+// A row of signs is as deep on its left as it is long, so that goes by a loop; the others go by a recursion.
+impl Drop for Expression {
+    fn drop(mut self) {
+        'left: loop {
+            match self {
+                Expression::Variable(_) => return,
+                Expression::Constant(_) => return,
+                Expression::Or(_) => return,
+                Expression::And(_) => return,
+                Expression::Not(part) => self = Box::into_inner(part),
+                Expression::Compare {
+                    sign: _,
+                    left,
+                    right: _,
+                } => self = Box::into_inner(left),
+                Expression::Member {
+                    negated: _,
+                    item,
+                    list: _,
+                } => self = Box::into_inner(item),
+                Expression::Arithmetic {
+                    sign: _,
+                    left,
+                    right: _,
+                } => self = Box::into_inner(left),
+                Expression::Negate(part) => self = Box::into_inner(part),
+                Expression::Plus(part) => self = Box::into_inner(part),
+                Expression::Bound(_) => return,
+                Expression::Call {
+                    function: _,
+                    arguments: _,
+                } => return,
+            }
+        }
+    }
 }
 
 impl Expression {

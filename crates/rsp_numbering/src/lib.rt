@@ -12,7 +12,6 @@ mod counts;
 mod expressions;
 mod groups;
 mod items;
-mod letting_go;
 mod limit;
 mod operators;
 mod paths;

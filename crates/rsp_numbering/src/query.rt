@@ -8,7 +8,6 @@ ghost use Rattle.rsp_numbering.specs.Results.{IsNumbered, IsNumberedBehind};
 use crate::clauses::{has_periods, operator_of, policy_of, windows_of};
 use crate::counts::{Count, in_select};
 use crate::groups::select;
-use crate::letting_go::let_select_go;
 use crate::operators::{of_select, plus};
 use crate::{Before, LimitName};
 use rsp_query::{PolicyWords, Query, Select, WindowClause};
@@ -44,10 +43,7 @@ fn query_behind_windows(
     let mut before = Before::new(alloc);
     let select = select(alloc, &[], &mut before, &text.select)?;
     match passed_by_counts(before.len(), &select, signs)? {
-        Some(name) => {
-            let_select_go(select);
-            Ok(Err(name))
-        }
+        Some(name) => Ok(Err(name)),
         None => {
             let output = text.output.share()?;
             let variables = before.texts(alloc)?;

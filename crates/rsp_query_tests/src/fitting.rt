@@ -1,11 +1,12 @@
 // Whether trees fit a width, which evaluation asks for.
 ghost use Rattle.std.specs.Prelude.{◌≡◌, true, length, ◌++◌};
 ghost use Rattle.std.specs.List.{AllByRecursion};
-ghost use Rattle.rsp_expr.specs.Formulas.{formula_of};
+ghost use Rattle.rsp_expr.specs.Formulas.{formula_of, maybe_formula, aggregation_of};
 ghost use Rattle.rsp_algebra.specs.Nodes.{node_of, Fits, AreBelow, place_variables, slot_variables, formula_variables};
+ghost use Rattle.rsp_algebra.specs.Nodes.{argument_variables, has_form, AggregateFits, aggregations_of};
 
 use rsp_algebra::{Place, Tree};
-use rsp_expr::{Expression, Slot};
+use rsp_expr::{Aggregate, Expression, Kind, Slot};
 use rsp_multiset::Row;
 use rsp_terms::Term;
 
@@ -102,6 +103,53 @@ fn expression_fits(expression: &Expression, width: usize) -> bool
     }
 }
 
+fn argument_fits(argument: &Option<Expression>, width: usize) -> bool
+    ensures { result ≡ true → AreBelow width (argument_variables (maybe_formula argument.now)) }
+{
+    match argument {
+        Some(expression) => expression_fits(expression, width),
+        None => true,
+    }
+}
+
+// an aggregate without argument counts rows
+fn is_formed(aggregate: &Aggregate) -> bool
+    ensures { result ≡ true
+        → has_form aggregate.now.kind aggregate.now.distinct (maybe_formula aggregate.now.argument) ≡ true }
+{
+    if aggregate.argument.is_some() {
+        return true;
+    }
+    if aggregate.distinct {
+        return false;
+    }
+    matches!(aggregate.kind, Kind::Count)
+}
+
+fn aggregate_fits(variable: usize, aggregate: &Aggregate, width: usize) -> bool
+    ensures { result ≡ true → AggregateFits width (variable, aggregation_of aggregate.now) }
+{
+    if variable >= width {
+        return false;
+    }
+    if !argument_fits(&aggregate.argument, width) {
+        return false;
+    }
+    is_formed(aggregate)
+}
+
+fn aggregates_fit(aggregates: &[(usize, Aggregate)], width: usize) -> bool
+    ensures { result ≡ true → AllByRecursion (AggregateFits width) (aggregations_of aggregates.now) }
+{
+    for entry in aggregates {
+        let (variable, aggregate) = entry;
+        if !aggregate_fits(*variable, aggregate, width) {
+            return false;
+        }
+    }
+    true
+}
+
 /// Whether the tree fits the width.
 pub(crate) fn fits(tree: &Tree, width: usize) -> bool
     ensures { result ≡ true → Fits width (node_of tree.now) }
@@ -143,7 +191,10 @@ pub(crate) fn fits(tree: &Tree, width: usize) -> bool
         Tree::Values { rows } => have_width(rows, width),
         Tree::Project { child, variables } => are_below(variables, width) && fits(child, width),
         Tree::Distinct { child } => fits(child, width),
-        // no table has groups
-        Tree::Group { .. } => false,
+        Tree::Group {
+            child,
+            keys,
+            aggregates,
+        } => are_below(keys, width) && aggregates_fit(aggregates, width) && fits(child, width),
     }
 }

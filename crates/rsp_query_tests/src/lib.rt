@@ -17,6 +17,8 @@ mod expressions;
 #[cfg(test)]
 mod fitting;
 #[cfg(test)]
+mod graphs;
+#[cfg(test)]
 mod nodes;
 #[cfg(test)]
 mod notation;
@@ -24,5 +26,7 @@ mod notation;
 mod texts;
 #[cfg(test)]
 mod tokens;
+#[cfg(test)]
+mod translations;
 #[cfg(test)]
 mod written;

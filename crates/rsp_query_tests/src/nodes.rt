@@ -1,14 +1,16 @@
 // The rows of each node of the algebra (SPARQL 1.1 Query, section 18.5), worked out by hand.
 use crate::fitting::fits;
+use crate::notation::constant;
 use rsp_algebra::Tree;
 use rsp_eval::evaluate;
-use rsp_expr::{Expression, Sign};
+use rsp_expr::{Aggregate, Expression, Kind, Sign};
 use rsp_multiset::Row;
 use rsp_terms::{Term, Text};
 use std::alloc::{AllocError, Global};
 use std::test::Fail;
 
-// variables are numbered from 0 and rows have three; words are IRIs, which have no order, so `<` of two is an error
+// variables are numbered from 0 and rows have three; numbers are integers and other words IRIs, which have no order, so that
+// `<` of two is an error
 #[derive(Clone, Copy, Debug)]
 enum Node {
     Join,
@@ -38,10 +40,16 @@ enum Node {
     ExtendError,
     Project,
     Distinct,
+    /// by ?0, how many rows as ?1 and the sum of ?2 as ?2
+    Group,
+    /// the same without keys
+    GroupAll,
+    /// the same by ?0, where ?1 = ?2
+    Having,
 }
 
 // a node, the rows of its left child, or of its only one, those of its right child, and its rows
-const NODES: [(Node, &str, &str, &str); 47] = [
+const NODES: [(Node, &str, &str, &str); 56] = [
     (
         Node::Join,
         "a - -|b - -",
@@ -138,11 +146,26 @@ const NODES: [(Node, &str, &str, &str); 47] = [
     (Node::Distinct, "- - -|- - -", "", "- - -"),
     (Node::Distinct, "", "", ""),
     (Node::Project, "", "", ""),
+    (Node::Group, "a - 1|b - 2|a - 3", "", "a 2 4|b 1 2"),
+    // rows that don't bind the key are a group too
+    (Node::Group, "- - 1|a - 2|- - 3", "", "- 2 4|a 1 2"),
+    // an error leaves a sum unbound, and the rest of the row as it is
+    (Node::Group, "a - b|a - 1|b - 2", "", "a 2 -|b 1 2"),
+    (Node::Group, "", "", ""),
+    // without keys there is one group, also of no rows
+    (Node::GroupAll, "", "", "- 0 0"),
+    (Node::GroupAll, "a - 1|b - 2|- - 3", "", "- 3 6"),
+    (Node::Having, "a - 1|b - 3|a - 1", "", "a 2 2"),
+    (Node::Having, "b - 3", "", ""),
+    (Node::Having, "", "", ""),
 ];
 
 fn cell(alloc: Global, word: &str) -> Result<Option<Term>, AllocError> {
     if word == "-" {
         return Ok(None);
+    }
+    if word.bytes().all(|byte| byte.is_ascii_digit()) {
+        return constant(alloc, word);
     }
     Ok(Some(Term::Iri(Text::new(alloc, word)?)))
 }
@@ -203,6 +226,39 @@ fn project(alloc: Global, text: &str) -> Result<Tree, AllocError> {
     let variables = Vec::from_slice(alloc, &[0])?;
     let child = child(alloc, text)?;
     Ok(Tree::Project { child, variables })
+}
+
+fn aggregate(kind: Kind, argument: Option<Expression>) -> Aggregate {
+    Aggregate {
+        kind,
+        distinct: false,
+        argument,
+    }
+}
+
+// how many rows there are as ?1, and the sum of ?2 as ?2
+fn aggregates(alloc: Global) -> Result<Vec<(usize, Aggregate)>, AllocError> {
+    let mut aggregates = Vec::new(alloc);
+    aggregates.push((1, aggregate(Kind::Count, None)))?;
+    aggregates.push((2, aggregate(Kind::Sum, Some(Expression::Variable(2)))))?;
+    Ok(aggregates)
+}
+
+fn group(alloc: Global, keys: &[usize], text: &str) -> Result<Tree, AllocError> {
+    let aggregates = aggregates(alloc)?;
+    let keys = Vec::from_slice(alloc, keys)?;
+    let child = child(alloc, text)?;
+    Ok(Tree::Group {
+        child,
+        keys,
+        aggregates,
+    })
+}
+
+fn having(alloc: Global, text: &str) -> Result<Tree, AllocError> {
+    let condition = compare(alloc, Sign::Equal, 1, 2)?;
+    let child = Box::new(alloc, group(alloc, &[0], text)?)?;
+    Ok(Tree::Filter { child, condition })
 }
 
 fn join(alloc: Global, left: &str, right: &str) -> Result<Tree, AllocError> {
@@ -289,6 +345,9 @@ fn tree(alloc: Global, node: Node, left: &str, right: &str) -> Result<Tree, Allo
         Node::Distinct => Ok(Tree::Distinct {
             child: child(alloc, left)?,
         }),
+        Node::Group => group(alloc, &[0], left),
+        Node::GroupAll => group(alloc, &[], left),
+        Node::Having => having(alloc, left),
         _ => binary(alloc, node, left, right),
     }
 }
@@ -296,6 +355,7 @@ fn tree(alloc: Global, node: Node, left: &str, right: &str) -> Result<Tree, Allo
 fn write_cell(out: &mut String, cell: &Option<Term>) -> Result<(), AllocError> {
     match cell {
         Some(Term::Iri(text)) => out.push_str(text.as_str()),
+        Some(Term::Literal { lexical, .. }) => out.push_str(lexical.as_str()),
         Some(_) => out.push_str("?"),
         None => out.push_str("-"),
     }
@@ -311,7 +371,8 @@ fn write_row(out: &mut String, row: &Row<Term>) -> Result<(), AllocError> {
     Ok(())
 }
 
-fn written(alloc: Global, rows: &[Row<Term>]) -> Result<String, AllocError> {
+/// The rows, with `|` between two.
+pub(crate) fn written(alloc: Global, rows: &[Row<Term>]) -> Result<String, AllocError> {
     let mut out = String::new(alloc);
     for (place, row) in rows.iter().enumerate() {
         if place > 0 {

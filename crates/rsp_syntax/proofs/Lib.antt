@@ -1,1 +1,6 @@
 pub mod Tied
+mod Numbers
+mod SoundExpressions
+mod SoundTriples
+mod SoundGroups
+mod Soundness

@@ -1,5 +1,5 @@
 -- A text is what the function `parse` says of it, by the grammar, and nothing else.
-use Rattle.std.proofs.Common.{◌≡◌, ◌↔◌, ℕ, ◌-◌, ◌≤◌, ◌<◌, inl, inr, Bool, true, false, cond, nat_lt, List, [], ◌∷◌, ◌++◌, length, drop, map, Option, None, Some, Result, Ok, Err, refl, sym, ap, ◌∙◌, subst, arith, append-nil}
+use Rattle.std.proofs.Common.{◌≡◌, ◌↔◌, ℕ, ◌-◌, ◌≤◌, inl, inr, Bool, true, false, cond, nat_lt, List, [], ◌∷◌, ◌++◌, length, drop, Option, None, Some, Result, Ok, Err, refl, sym, ap, ◌∙◌, subst, arith, append-nil}
 use Rattle.std.proofs.lemmas.Bool.Decides.{nat_tests}
 use Rattle.rsp_lex.specs.declared.token.Token.{Token}
 use Rattle.rsp_lex.specs.Tokens.{tokens}
@@ -16,7 +16,7 @@ use Rattle.rsp_numbering.specs.declared.limit.LimitName.{LimitName}
 use Rattle.rsp_numbering.specs.declared.limit.LimitName.TheVariants as limit
 use Rattle.rsp_syntax.specs.LeftOut.{is_left_out}
 use Rattle.rsp_syntax.specs.Parsing.{first_wrong, is_too_deep, numbered, parse, parse_tokens, parse_written, registration_of, text_of, whole, within, wrong, wrong_token}
-use Rattle.rsp_syntax.specs.Texts.{HasTokens, IsFirstWrong, IsNoQuery, IsPast, IsQuery, IsText, IsTooDeep, PassesLimit, all_said}
+use Rattle.rsp_syntax.specs.Texts.{HasTokens, IsFirstWrong, IsNoQuery, IsPast, IsText, all_said}
 use Rattle.rsp_syntax.specs.declared.fault.SyntaxFault.{SyntaxFault}
 use Rattle.rsp_syntax.specs.declared.fault.SyntaxFault.TheVariants.{BadToken, Syntax, LeftOut, Limit, OutOfMemory}
 

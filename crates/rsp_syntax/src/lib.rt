@@ -1,8 +1,9 @@
 //! What a query's text is: the query that the algebra takes, or the named reason why it is none.
 //!
 //! [`parse`] is exactly the defined function on the text alone: its tokens, what they say, the tree that the grammar has of
-//! them, and that tree with numbers in place of names, within the limits. Above: the engine. Below: `rsp_lex`, `rsp_said`,
-//! `rsp_read_queries` and `rsp_numbering`.
+//! them, and that tree with numbers in place of names, within the limits. Each variable of such a query is one that it has,
+//! which its translation needs. Above: the engine. Below: `rsp_lex`, `rsp_said`, `rsp_read_queries`, `rsp_numbering`, and
+//! of `rsp_shapes` the word for that.
 #![tactic(auto)]
 
 mod fault;

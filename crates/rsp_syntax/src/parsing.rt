@@ -1,8 +1,9 @@
 // The query that a text is.
-ghost use Rattle.std.specs.Prelude.{◌≡◌, ◌↔◌, ℕ, List, Result, Ok, map};
+ghost use Rattle.std.specs.Prelude.{◌≡◌, ◌↔◌, ℕ, List, Result, Ok, IfOk, map};
 ghost use Rattle.rsp_written.specs.GroupMeanings.{written_of};
 ghost use Rattle.rsp_syntax.specs.Parsing as parsing;
-ghost use Rattle.rsp_query.specs.Queries.{Registered};
+ghost use Rattle.rsp_query.specs.Queries.{Registered, registered};
+ghost use Rattle.rsp_shapes.specs.Sound.{IsSound};
 ghost use Rattle.rsp_syntax.specs.Answers.{IsParsed, IsFault, IsRegistered};
 ghost use Rattle.rsp_syntax.specs.Texts.{IsText};
 ghost use Rattle.rsp_syntax.specs.declared.fault.SyntaxFault as fault;
@@ -30,6 +31,7 @@ pub fn parse(alloc: Global, text: &str) -> Result<Query, SyntaxFault>
     ensures value { IsParsed result (parsing.parse text.now) }
     ensures grammar { (text : List ℕ) (answer : Result Registered fault.SyntaxFault)
         → (parsing.parse text ≡ answer) ↔ IsText text answer }
+    ensures sound { IfOk result (λ query. IsSound (registered query)) }
 {
     parsed(alloc, text)
 }

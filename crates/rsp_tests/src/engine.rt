@@ -31,6 +31,23 @@ const ASK: &str = "@register r\nask { }\n@end";
 
 const DEEP: &str = "@register r\n{{{{{{{{{{{{{{{{{{{{{{{{{{{{{{{{{\n@end";
 
+// a query that is built but for a fault of its shape, or that has too many rows over no facts
+const NO_WINDOW: &str = "@register r\nREGISTER RSTREAM <q:o> REPORT CLOSE TICK TIME AS SELECT ?s \
+     FROM NAMED WINDOW <w:1> ON <s:a> [RANGE PT10S] WHERE { WINDOW <w:2> { ?s ?p ?o } }\n@end";
+
+const TESTED_BIND: &str = "@register r\nREGISTER RSTREAM <q:o> REPORT CLOSE TICK TIME AS SELECT ?s \
+     FROM NAMED WINDOW <w:1> ON <s:a> [RANGE PT10S] WHERE { FILTER EXISTS { BIND(1 AS ?s) } }\n@end";
+
+const NAME_TAKEN: &str =
+    "@register r\nREGISTER RSTREAM <q:o> REPORT CLOSE TICK TIME AS SELECT (1 AS ?s) \
+     FROM NAMED WINDOW <w:1> ON <s:a> [RANGE PT10S] WHERE { WINDOW <w:1> { ?s ?p ?o } }\n@end";
+
+// 2^20 rows
+const DOUBLED: &str = "@register r\nREGISTER RSTREAM <q:o> REPORT CLOSE TICK TIME AS SELECT ?s \
+     FROM NAMED WINDOW <w:1> ON <s:a> [RANGE PT10S] WHERE { {} UNION {} {} UNION {} {} UNION {} {} UNION {} {} UNION {} \
+     {} UNION {} {} UNION {} {} UNION {} {} UNION {} {} UNION {} {} UNION {} {} UNION {} {} UNION {} {} UNION {} \
+     {} UNION {} {} UNION {} {} UNION {} {} UNION {} {} UNION {} {} UNION {} }\n@end";
+
 // the event that a text says, whose last line has no line feed
 fn event_of(alloc: Global, text: &str) -> Result<Event, Fail>
     ensures { IfOk result IsInstant }
@@ -221,6 +238,19 @@ BadToken { at: 7 }; held 0
 Syntax { at: 0 }; held 0
 LeftOut { at: 0, what: \"ask\" }; held 0
 Limit { what: Nesting }; held 0
+";
+    assert_eq!(rt; said(rt.alloc(), &events)?.as_slice(), answers.as_bytes());
+    Ok(())
+}
+
+#[test]
+fn a_query_is_refused_for_its_shape(rt: HostRuntime) -> Result<(), Fail> {
+    let events = [NO_WINDOW, TESTED_BIND, NAME_TAKEN, DOUBLED, SUBJECTS];
+    let answers = "GraphShape { at: 114 }; held 0
+ExistsShape { at: 121 }; held 0
+Scope { variable: \"s\" }; held 0
+StartOverfull; held 0
+taken; held 0
 ";
     assert_eq!(rt; said(rt.alloc(), &events)?.as_slice(), answers.as_bytes());
     Ok(())

@@ -22,8 +22,6 @@ mod numbers;
 #[cfg(test)]
 mod objects;
 #[cfg(test)]
-mod query_lines;
-#[cfg(test)]
 mod reports;
 #[cfg(test)]
 mod steps;

@@ -17,14 +17,14 @@ use Rattle.rsp_algebra.specs.Nodes as node
 use Rattle.rsp_algebra.specs.Nodes.{Node, AreBelow, AggregateFits, Fits, argument_variables, formula_variables, place_variables, slot_variables, variables_of_all}
 use Rattle.rsp_translation.specs.Paths.{choices, end_of, from_left, path_node, slashes, slashes_among as way_slashes_among, slashes_following, steps}
 use Rattle.rsp_translation.specs.Selects.{every_variable, projected, selected, with_distinct, with_groups, with_having, with_item, with_items}
-use Rattle.rsp_translation.specs.Sound.{GroupsAreSound, ItemIsBelow, PartIsSound, PartsAreSound, SelectionIsSound, WayIsBelow, WaysAreBelow}
+use Rattle.rsp_shapes.specs.Sound.{GroupsAreSound, ItemIsBelow, PartIsSound, PartsAreSound, SelectionIsSound, WayIsBelow, WaysAreBelow}
 use Rattle.rsp_query.specs.Queries.{Registered}
 use Rattle.rsp_algebra.specs.declared.tree.Translated.{Translated}
 use Rattle.rsp_algebra.specs.Nodes.{IsPlaced}
-use Rattle.rsp_translation.specs.Sound.{IsSound}
+use Rattle.rsp_shapes.specs.Sound.{IsSound}
 use Rattle.rsp_translation.specs.Translation.{IsTranslated, setting_of, width_of}
 use Rattle.rsp_translation.specs.Trees.{Begun, Setting, Test, closed, condition_of, filter_of, filtered, filters, finished, graph_place, group_node, group_nodes, joined, longer, nothing, select_node, slashes_among, slashes_in, slashes_of, slashes_within, tested, value_for, values_row, window_place, with_part, with_parts, with_run, with_test, with_tree, with_triple}
-use Rattle.rsp_translation.specs.Visible.{is_given, is_visible_in, name_of, variables_of}
+use Rattle.rsp_shapes.specs.Visible.{is_given, is_visible_in, name_of, variables_of}
 
 -- ---- lists of variables
 

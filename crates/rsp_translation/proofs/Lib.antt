@@ -1,5 +1,4 @@
-pub mod FirstIn
 pub mod Rows
+pub mod Building
 pub mod Fitting
 mod TranslationRows
-mod FaultRows

@@ -5,7 +5,7 @@ use Rattle.rsp_expr.specs.Formulas.{Formula, Aggregation}
 use Rattle.rsp_query.specs.Groups.{Item, Parts, Selection, selection}
 use Rattle.rsp_algebra.specs.Nodes as node
 use Rattle.rsp_algebra.specs.Nodes.{Node}
-use Rattle.rsp_translation.specs.Visible.{is_given, is_visible_in, name_of, variables_of}
+use Rattle.rsp_shapes.specs.Visible.{is_given, is_visible_in, name_of, variables_of}
 
 -- the variables that `*` projects, in the order of the text: that of their numbers
 abbrev pub every_variable : List (List ℕ) → Parts → List ℕ

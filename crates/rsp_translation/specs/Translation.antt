@@ -7,11 +7,11 @@ use Rattle.rsp_algebra.specs.declared.tree.Translated.{Translated}
 use Rattle.rsp_algebra.specs.Nodes.{Node, node_of}
 use Rattle.rsp_translation.specs.declared.shape.Shape.{Shape}
 use Rattle.rsp_translation.specs.declared.shape.Shape.TheVariants.{GraphShape, ExistsShape, Scope, OutOfMemory}
-use Rattle.rsp_translation.specs.declared.unscoped.Unscoped.{Unscoped}
-use Rattle.rsp_translation.specs.declared.unscoped.Unscoped.TheVariants.{Star, Variable}
-use Rattle.rsp_translation.specs.Visible.{name_of}
-use Rattle.rsp_translation.specs.Shapes.{declared, graph_shape, exists_shape}
-use Rattle.rsp_translation.specs.Scopes.{scope}
+use Rattle.rsp_shapes.specs.declared.unscoped.Unscoped.{Unscoped}
+use Rattle.rsp_shapes.specs.declared.unscoped.Unscoped.TheVariants.{Star, Variable}
+use Rattle.rsp_shapes.specs.Visible.{name_of}
+use Rattle.rsp_shapes.specs.Shapes.{declared, graph_shape, exists_shape}
+use Rattle.rsp_shapes.specs.Scopes.{scope}
 use Rattle.rsp_translation.specs.Selects.{projected}
 use Rattle.rsp_translation.specs.Trees.{Setting, select_node, slashes_within}
 

@@ -1,16 +1,22 @@
 //! From a query to its algebra tree (SPARQL 1.1 Query, section 18.2).
 //!
-//! So far this crate has the definitions, and the calls that find the first reason why a query has no tree. Above: the engine.
-//! Below: the types of queries and the algebra.
+//! Above: the engine. Below: the types of queries, their shapes and scopes, and the algebra.
 #![tactic(auto)]
 
-mod exists;
-mod graphs;
-mod known;
-mod scopes;
+mod begun;
+mod faults;
+mod filters;
+mod folding;
+mod groups;
+mod paths;
+mod places;
+mod selects;
+mod setting;
 mod shape;
-mod unscoped;
-mod visible;
+mod slashes;
+mod sums;
+mod translation;
+mod values;
 
 pub use shape::Shape;
-pub(crate) use unscoped::Unscoped;
+pub use translation::translate;

@@ -1,6 +1,6 @@
 use Rattle.rsp_multiset.specs.RowSame.{row_decides}
 use Rattle.rsp_terms.specs.Same.{term_same}
-use Rattle.rsp_eval.proofs.Once.{once_at_start, one_more_once}
+use Rattle.rsp_values.proofs.Once.{once_at_start, one_more_once}
 use Rattle.rsp_eval.proofs.filtering.set_of_rows.Goals as goal
 
 pub loop-row-init : goal.loop-row-init

@@ -1,5 +1,9 @@
+use Rattle.rsp_syntax.proofs.Soundness.{answer_sound}
 use Rattle.rsp_syntax.proofs.Tied.{tied}
 use Rattle.rsp_syntax.proofs.parsing.parse.Goals as goal
 
 pub returns-clause-grammar : goal.returns-clause-grammar
 returns-clause-grammar c = λ text r. tied text r
+
+pub returns-clause-sound : goal.returns-clause-sound
+returns-clause-sound c = answer_sound c.args.text.now c.parsed.result c.parsed.ensures

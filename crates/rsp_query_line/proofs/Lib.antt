@@ -1,3 +1,0 @@
-mod Characters
-mod Placed
-mod QueryLineRows

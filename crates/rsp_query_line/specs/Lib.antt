@@ -1,3 +1,0 @@
--- Definitions: what a reader must believe
-pub mod QueryLine
-pub mod Meaning

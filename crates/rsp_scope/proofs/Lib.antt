@@ -1,0 +1,4 @@
+pub mod Puts
+pub mod ScopeRows
+pub mod Turns
+pub mod Weights

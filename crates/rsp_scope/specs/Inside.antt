@@ -1,0 +1,10 @@
+-- Words of the way: what the fields of the kept items say of each other.
+use Rattle.std.specs.Prelude.{◌≡◌}
+use Rattle.rsp_scope.specs.Kept.{Kept, triples_of}
+use Rattle.rsp_scope.specs.declared.streams.Streams.TheInside.{Inside}
+
+abbrev pub kept_of : Inside → Kept
+kept_of s = record { accepted = s.accepted; items = s.items.items }
+
+abbrev pub IsStreams : Inside → Type 0
+IsStreams s = s.held ≡ triples_of s.items.items

@@ -1,0 +1,7 @@
+-- Definitions: what a reader must believe
+pub mod Kept
+pub mod Quads
+pub mod Faults
+-- Words of the way
+pub mod Inside
+pub mod Weighing

@@ -1,0 +1,170 @@
+// Stored quads.
+ghost use Rattle.std.specs.Prelude.{◌≡◌, ◌<◌, ◌≤◌, ◌+ℤ◌, ℕ, [], take, drop, length, map, IfOk, IfErr, OnOk, OnErr};
+ghost use Rattle.rsp_multiset.specs.Weights.{times, weight, IsChanged};
+ghost use Rattle.rsp_terms.specs.declared.statement.Fact.{Fact};
+ghost use Rattle.rsp_terms.specs.Same.{fact_eq};
+ghost use Rattle.rsp_scope.specs.Quads.{fact_of, stored_with};
+ghost use Rattle.rsp_scope.specs.Faults.{IsStoredFault};
+
+use indexmap::IndexSet;
+use rsp_multiset::Changes;
+use rsp_terms::{Fact, Quad, Spot};
+use std::alloc::{AllocError, Global};
+use std::marker::Model;
+
+/// At most so many quads are stored.
+pub(crate) const MOST_QUADS: u64 = 1_000_000;
+
+/// Why quads weren't stored.
+#[derive(Drop)]
+pub enum StoredFault {
+    /// So many quads would be stored, more than can be.
+    StoreFull { quads: u64 },
+    /// Memory was refused.
+    OutOfMemory,
+}
+
+impl From<AllocError> for StoredFault {
+    ghost use Rattle.std.specs.Prelude.{◌≡◌};
+    ghost use Rattle.rsp_scope.specs.declared.stored.StoredFault.TheVariants.{OutOfMemory};
+
+    ghost from_gives = { λ _ fault. fault ≡ OutOfMemory };
+
+    fn from(_refused: AllocError) -> StoredFault {
+        StoredFault::OutOfMemory
+    }
+}
+
+/// The stored quads, as distinct facts in the order in which they came.
+#[derive(Drop)]
+pub struct Stored {
+    alloc: Global,
+    facts: IndexSet<Fact>,
+}
+
+impl Model for Stored {
+    ghost use Rattle.std.specs.Prelude.{List};
+    ghost use Rattle.rsp_terms.specs.declared.statement.Fact.{Fact};
+
+    ghost Value = { List Fact };
+
+    ghost view = { λ s. s.facts.keys };
+}
+
+impl Stored {
+    ghost use Rattle.std.specs.Prelude.{◌≡◌, ◌<◌, ◌≤◌, ◌+ℤ◌, ℕ, [], take, drop, length, map, IfOk, OnOk, OnErr, IfErr};
+    ghost use Rattle.rsp_multiset.specs.Weights.{times, weight, IsChanged};
+    ghost use Rattle.rsp_terms.specs.declared.statement.Fact.{Fact};
+    ghost use Rattle.rsp_terms.specs.Same.{fact_eq};
+    ghost use Rattle.rsp_scope.specs.Quads.{fact_of, stored_with};
+    ghost use Rattle.rsp_scope.specs.Faults.{IsStoredFault};
+
+    /// No quads. Takes no memory.
+    pub fn new(alloc: Global) -> Stored
+        ensures { result ≡ [] }
+    {
+        Stored {
+            alloc,
+            facts: IndexSet::new(alloc),
+        }
+    }
+
+    /// How many quads are stored.
+    pub fn count(&self) -> u64
+        ensures { result ≡ length self.now }
+    {
+        self.facts.len() as u64
+    }
+
+    /// Stores the quads that aren't stored. Gives what came in. A refusal, want of memory too, leaves all as it was.
+    pub fn insert(&mut self, quads: &[Quad]) -> Result<Changes<Fact>, StoredFault>
+        ensures stored { OnOk result (self.new ≡ stored_with self.old quads.now) }
+        ensures change { IfOk result (λ change. IsChanged fact_eq self.old change self.new) }
+        ensures within { OnOk result (length self.new ≤ 1000000) }
+        ensures fault { IfErr result (λ fault. IsStoredFault (length (stored_with self.old quads.now)) fault) }
+        ensures err { OnErr result (self.new ≡ self.old) }
+    {
+        let before = self.facts.len();
+        let change = put_within(self.alloc, &mut self.facts, quads);
+        if change.is_err() {
+            self.facts.truncate(before);
+        }
+        change
+    }
+
+    /// Every stored quad as a fact, once.
+    pub fn facts(&self) -> Result<Changes<Fact>, AllocError>
+        ensures { IfOk result (λ change. (q : Fact) → weight fact_eq change q ≡ times fact_eq self.now q) }
+    {
+        changes_of(self.alloc, self.facts.as_slice())
+    }
+}
+
+// what was there stays in front, also on a refusal
+fn put_within(
+    alloc: Global,
+    facts: &mut IndexSet<Fact>,
+    quads: &[Quad],
+) -> Result<Changes<Fact>, StoredFault>
+    ensures stored { OnOk result (facts.new.keys ≡ stored_with facts.old.keys quads.now) }
+    ensures change { IfOk result (λ change. IsChanged fact_eq facts.old.keys change facts.new.keys) }
+    ensures within { OnOk result (length facts.new.keys ≤ 1000000) }
+    ensures fault { IfErr result (λ fault. IsStoredFault (length (stored_with facts.old.keys quads.now)) fault) }
+    ensures kept { take (length facts.old.keys) facts.new.keys ≡ facts.old.keys }
+{
+    let before = facts.len();
+    put_all(facts, quads)?;
+    let stored = facts.len() as u64;
+    if stored > MOST_QUADS {
+        return Err(StoredFault::StoreFull { quads: stored });
+    }
+    let change = changes_of(alloc, &facts.as_slice()[before..])?;
+    Ok(change)
+}
+
+fn changes_of(alloc: Global, facts: &[Fact]) -> Result<Changes<Fact>, AllocError>
+    ensures { IfOk result (λ change. (q : Fact) → weight fact_eq change q ≡ times fact_eq facts.now q) }
+{
+    let mut changes = Changes::new(alloc);
+    add_each(&mut changes, facts)?;
+    Ok(changes)
+}
+
+fn add_each(changes: &mut Changes<Fact>, facts: &[Fact]) -> Result<(), AllocError>
+    ensures { OnOk result ((q : Fact) → weight fact_eq changes.new q ≡ weight fact_eq changes.old q +ℤ times fact_eq facts.now q) }
+{
+    for fact in facts {
+        changes.alter(fact.share()?, 1)?;
+    }
+    Ok(())
+}
+
+// puts the quads that aren't there at the end; what was there stays in front, also on a failure
+fn put_all(facts: &mut IndexSet<Fact>, quads: &[Quad]) -> Result<(), AllocError>
+    ensures stored { OnOk result (facts.new.keys ≡ stored_with facts.old.keys quads.now) }
+    ensures kept { take (length facts.old.keys) facts.new.keys ≡ facts.old.keys }
+{
+    for quad in quads {
+        let fact = fact_of(quad)?;
+        facts.insert(fact)?;
+    }
+    Ok(())
+}
+
+// the quad as a fact of its graph
+fn fact_of(quad: &Quad) -> Result<Fact, AllocError>
+    ensures { IfOk result (λ fact. fact ≡ fact_of quad.now) }
+{
+    let triple = quad.triple.share()?;
+    let spot = spot_of(quad)?;
+    Ok(Fact { spot, triple })
+}
+
+fn spot_of(quad: &Quad) -> Result<Spot, AllocError>
+    ensures { IfOk result (λ spot. spot ≡ (fact_of quad.now).spot) }
+{
+    match &quad.graph {
+        None => Ok(Spot::Default),
+        Some(name) => Ok(Spot::Named(name.share()?)),
+    }
+}

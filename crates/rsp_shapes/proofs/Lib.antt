@@ -1,0 +1,2 @@
+pub mod FirstIn
+mod FaultRows

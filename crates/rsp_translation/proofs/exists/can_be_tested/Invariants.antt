@@ -1,9 +1,0 @@
-use Rattle.std.proofs.Common.{◌≡◌, map, drop}
-use Rattle.rsp_query.specs.Groups.{part_of, parts_in}
-use Rattle.rsp_translation.specs.Shapes as shapes
-use Rattle.rsp_translation.proofs.exists.can_be_tested.Given as goal
-
-abbrev pub invariant-loop-element : goal.invariant-loop-element
-invariant-loop-element l =
-    shapes.can_be_tested (parts_in (map part_of (drop l.element-index l.elements)))
-    ≡ shapes.can_be_tested (parts_in (map part_of l.elements))

@@ -1,8 +1,0 @@
-use Rattle.std.proofs.Common.{◌≡◌, map, drop}
-use Rattle.rsp_query.specs.Paths.{way_of, ways_in}
-use Rattle.rsp_translation.specs.Visible.{is_in_ways}
-use Rattle.rsp_translation.proofs.visible.+ways.Given as goal
-
-abbrev pub invariant-is_in_paths-loop-path : goal.invariant-is_in_paths-loop-path
-invariant-is_in_paths-loop-path l =
-    is_in_ways (ways_in (map way_of (drop l.path-index l.paths))) l.variable ≡ is_in_ways (ways_in (map way_of l.paths)) l.variable
