@@ -20,7 +20,8 @@ pub(crate) fn shorten_all(items: &mut VecDeque<Item, Global>, untils: &[Option<u
 
 // the first item goes to the end of the queue, with its new end, or leaves
 fn turn(items: &mut VecDeque<Item, Global>, until: Option<u64>)
-    ensures { (d : Item) → 0 < length items.old.items → items.new.items ≡ drop 1 items.old.items ++ ended (slice_index_or items.old.items 0 d) until }
+    ensures { (d : Item) → 0 < length items.old.items
+        → items.new.items ≡ drop 1 items.old.items ++ ended (slice_index_or items.old.items 0 d) until }
 {
     let Some(mut item) = items.pop_front() else {
         return;

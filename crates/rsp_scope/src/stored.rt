@@ -11,16 +11,19 @@ use rsp_multiset::Changes;
 use rsp_terms::{Fact, Quad, Spot};
 use std::alloc::{AllocError, Global};
 use std::marker::Model;
+use thiserror::Error;
 
 /// At most so many quads are stored.
 pub(crate) const MOST_QUADS: u64 = 1_000_000;
 
 /// Why quads weren't stored.
-#[derive(Drop)]
+#[derive(Debug, Drop, Error)]
 pub enum StoredFault {
     /// So many quads would be stored, more than can be.
+    #[error("the store is full: {quads} quads")]
     StoreFull { quads: u64 },
     /// Memory was refused.
+    #[error("out of memory")]
     OutOfMemory,
 }
 
@@ -131,7 +134,8 @@ fn changes_of(alloc: Global, facts: &[Fact]) -> Result<Changes<Fact>, AllocError
 }
 
 fn add_each(changes: &mut Changes<Fact>, facts: &[Fact]) -> Result<(), AllocError>
-    ensures { OnOk result ((q : Fact) → weight fact_eq changes.new q ≡ weight fact_eq changes.old q +ℤ times fact_eq facts.now q) }
+    ensures { OnOk result ((q : Fact)
+        → weight fact_eq changes.new q ≡ weight fact_eq changes.old q +ℤ times fact_eq facts.now q) }
 {
     for fact in facts {
         changes.alter(fact.share()?, 1)?;
