@@ -1,5 +1,6 @@
 -- Definitions: which events are accepted, and what an accepted event makes of the world.
-use Rattle.std.specs.Prelude.{ℕ, ◌+◌, Bool, not, nat_lt, nat_le, ◌||◌, if◌then◌else◌, Some, Result, Ok, Err, List, [], ◌∷◌, ◌++◌, length}
+use Rattle.std.specs.Prelude.{ℕ, ◌+◌, Bool, not, nat_lt, nat_le, ◌||◌, if◌then◌else◌, Some, Result, Ok, Err, List, [], ◌∷◌, ◌++◌, length, filter, bytes_eq}
+use Rattle.std.specs.List.{list_any}
 use Rattle.std.specs.Option.{unwrap_or, option_map_or}
 use Rattle.rsp_events.specs.declared.event.Event.{Event}
 use Rattle.rsp_events.specs.declared.event.Event.TheVariants.{Register, Cancel, Item, Tick, Insert, Delete}
@@ -8,9 +9,9 @@ use Rattle.rsp_query.specs.Queries.{Registered}
 use Rattle.rsp_algebra.specs.Overfull.{overfull}
 use Rattle.rsp_syntax.specs.Parsing.{parse}
 use Rattle.rsp_syntax.specs.declared.fault.SyntaxFault.{SyntaxFault}
-use Rattle.rsp_engine.specs.Refusals.{Refusal, late, start_overfull, unbuilt, text_fault}
-use Rattle.rsp_engine.specs.Readings.{is_built, reading_of}
-use Rattle.rsp_engine.specs.World.{World, Query, Reading}
+use Rattle.rsp_engine.specs.Refusals.{Refusal, late, name_taken, no_query, queries_full, start_overfull, unbuilt, text_fault}
+use Rattle.rsp_engine.specs.Readings.{is_rstream, reading_of}
+use Rattle.rsp_engine.specs.World.{World, Query, Reading, Registration, registrations}
 
 -- the first instant that isn't complete, or 0 where none is set
 abbrev pub next_of : World → ℕ
@@ -22,6 +23,21 @@ most_items = 1000
 
 abbrev pub most_triples : ℕ
 most_triples = 1000
+
+-- the most queries that are live at once
+abbrev pub most_queries : ℕ
+most_queries = 256
+
+abbrev pub has_name : List ℕ → Registration → Bool
+has_name name query = bytes_eq query.name name
+
+-- a live query has the name
+abbrev pub is_live : World → List ℕ → Bool
+is_live world name = list_any (has_name name) (registrations world)
+
+-- the queries without the one of this name
+abbrev pub without : List ℕ → List Query → List Query
+without name queries = filter (λ (query : Query). not (has_name name query.registration)) queries
 
 -- a query that has not reported
 abbrev pub new_query : List ℕ → Reading → ℕ → Query
@@ -38,10 +54,15 @@ accept_reading world name reading =
     then Err start_overfull
     else Ok (record world { queries = world.queries ++ new_query name reading (length world.items) ∷ [] })
 
--- by now one query alone can be live
+-- by now a query is built that reports all its rows
 abbrev pub accept_query : World → List ℕ → Registered → Result World Refusal
 accept_query world name q =
-    if nat_lt 0 (length world.queries) || not (is_built q) then Err unbuilt else accept_reading world name (reading_of q)
+    if not (is_rstream q.operator)
+    then Err unbuilt
+    else
+    (if nat_le most_queries (length world.queries)
+    then Err queries_full
+    else accept_reading world name (reading_of q))
 
 -- what the text is, where it has no fault
 abbrev pub accept_parsed : World → List ℕ → Result Registered SyntaxFault → Result World Refusal
@@ -49,8 +70,17 @@ accept_parsed world name (Ok q) = accept_query world name q
 accept_parsed world name (Err fault) = Err unbuilt
 
 -- a text with a fault is refused for it
+abbrev pub accept_text : World → List ℕ → List ℕ → Result World Refusal
+accept_text world name text = option_map_or Err (text_fault (parse text)) (accept_parsed world name (parse text))
+
+-- a name is looked up before the text is read
 abbrev pub accept_register : World → List ℕ → List ℕ → Result World Refusal
-accept_register world name text = option_map_or Err (text_fault (parse text)) (accept_parsed world name (parse text))
+accept_register world name text = if is_live world name then Err name_taken else accept_text world name text
+
+-- the query of the name is no longer live
+abbrev pub accept_cancel : World → List ℕ → Result World Refusal
+accept_cancel world name =
+    if is_live world name then Ok (record world { queries = without name world.queries }) else Err no_query
 
 -- an item is appended, and every instant before its time is complete
 abbrev pub accept_item : World → item.Item → Result World Refusal
@@ -72,7 +102,7 @@ accept_tick world time =
 -- the first refusal that holds, or the new world
 abbrev pub accept : World → Event → Result World Refusal
 accept world (Register name text) = accept_register world name text
-accept world (Cancel name) = Err unbuilt
+accept world (Cancel name) = accept_cancel world name
 accept world (Item stream time graph) = accept_item world (record { stream = stream; time = time; graph = graph })
 accept world (Tick time) = accept_tick world time
 accept world (Insert quads) = Err unbuilt

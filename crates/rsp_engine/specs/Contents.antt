@@ -1,4 +1,5 @@
--- Definitions: what a query sees of its windows at an instant (SECRET, content; RSP-QL, active window).
+-- Definitions: what a query sees of its windows at an instant (SECRET, content; RSP-QL, active window). They speak of the items
+-- that the query may see, in the order of acceptance.
 use Rattle.std.specs.Prelude.{ℕ, ◌+◌, Bool, false, ◌&&◌, nat_lt, nat_le, if◌then◌else◌, List, [], ◌∷◌, ◌++◌, drop, filter, fold, map, bytes_eq}
 use Rattle.std.specs.List.{list_any, flat_map}
 use Rattle.std.specs.Option.{option_map_or}
@@ -8,7 +9,8 @@ use Rattle.rsp_terms.specs.declared.statement.Fact.{Fact}
 use Rattle.rsp_terms.specs.declared.statement.Spot.TheVariants as spot
 use Rattle.rsp_terms.specs.contracts.statement.TriplePartialEq.TheImpl.{ghosts as triple}
 use Rattle.rsp_engine.specs.declared.item.Item.{Item}
-use Rattle.rsp_engine.specs.World.{World, Registration, StreamWindow}
+use Rattle.rsp_engine.specs.declared.live_query.StreamWindow.{StreamWindow}
+use Rattle.rsp_engine.specs.World.{World, Registration}
 
 -- the item is in the window's content at t: its stream is the window's, and its time lies in the active window, up to t
 abbrev pub in_content : StreamWindow → ℕ → Item → Bool
@@ -18,13 +20,9 @@ in_content w t item =
     (active_window w.shape t)
     false
 
--- the items that the query may see: those accepted since it was registered
-abbrev pub visible_items : World → Registration → List Item
-visible_items world query = drop query.first world.items
-
--- the content of one of the query's windows at t, in the order of acceptance
-abbrev pub content : World → Registration → StreamWindow → ℕ → List Item
-content world query w t = filter (in_content w t) (visible_items world query)
+-- the content of a window at t
+abbrev pub content : List Item → StreamWindow → ℕ → List Item
+content items w t = filter (in_content w t) items
 
 -- a triple at the end, unless it is there
 abbrev pub add_once : List Triple → Triple → List Triple
@@ -35,17 +33,26 @@ abbrev pub distinct_triples : List Triple → List Triple
 distinct_triples triples = fold add_once [] triples
 
 -- the window's graph: the distinct triples of its content
-abbrev pub graph : World → Registration → StreamWindow → ℕ → List Triple
-graph world query w t = distinct_triples (flat_map (λ (item : Item). item.graph) (content world query w t))
+abbrev pub graph : List Item → StreamWindow → ℕ → List Triple
+graph items w t = distinct_triples (flat_map (λ (item : Item). item.graph) (content items w t))
 
 -- the triples of the graph of window k as facts
 abbrev pub facts_of : ℕ → List Triple → List Fact
 facts_of k triples = map (λ t. record { spot = spot.Window k; triple = t }) triples
 
-abbrev pub facts_from : World → Registration → ℕ → ℕ → List StreamWindow → List Fact
-facts_from world query t k [] = []
-facts_from world query t k (w ∷ ws) = facts_of k (graph world query w t) ++ facts_from world query t (k + 1) ws
+-- the graphs of windows that are numbered from k on
+abbrev pub facts_from : List Item → ℕ → ℕ → List StreamWindow → List Fact
+facts_from items t k [] = []
+facts_from items t k (w ∷ ws) = facts_of k (graph items w t) ++ facts_from items t (k + 1) ws
 
--- the facts that a query sees at t: the graphs of all its windows
+-- the items that a query may see: those accepted since it was registered
+abbrev pub visible_items : List Item → Registration → List Item
+visible_items items query = drop query.first items
+
+-- the facts that a query sees at t, of these accepted items: the graphs of all its windows
+abbrev pub facts_over : List Item → Registration → ℕ → List Fact
+facts_over items query t = facts_from (visible_items items query) t 0 query.reading.windows
+
+-- the facts that it sees in the world
 abbrev pub facts : World → Registration → ℕ → List Fact
-facts world query t = facts_from world query t 0 query.reading.windows
+facts world query t = facts_over world.items query t

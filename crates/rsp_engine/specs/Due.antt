@@ -1,49 +1,43 @@
--- Definitions: when a query reports (SECRET, report and tick).
-use Rattle.std.specs.Prelude.{ℕ, ◌-◌, ◌%◌, Bool, true, false, ◌&&◌, ◌||◌, not, ◌==◌, bytes_eq}
-use Rattle.std.specs.List.{list_any, list_all}
-use Rattle.rsp_spec.specs.Windows.{closes_at}
+-- Definitions: when a query reports (SECRET, report and tick): what `rsp_report` says of its windows, each with the times of
+-- the items over its stream that the query may see.
+use Rattle.std.specs.Prelude.{ℕ, ◌-◌, Bool, false, ◌&&◌, not, bytes_eq, Option, List, filter, length, map, slice_get}
+use Rattle.std.specs.List.{list_any}
+use Rattle.std.specs.Option.{option_map_or}
+use Rattle.rsp_report.specs.declared.contents.Watched.{Watched}
+use Rattle.rsp_report.specs.Due as windows
 use Rattle.rsp_engine.specs.declared.item.Item.{Item}
-use Rattle.rsp_engine.specs.World.{World, Registration, Strategy, close, change, nonempty, every}
-use Rattle.rsp_engine.specs.Contents.{in_content, visible_items}
+use Rattle.rsp_engine.specs.declared.live_query.StreamWindow.{StreamWindow}
+use Rattle.rsp_engine.specs.World.{Registration}
+use Rattle.rsp_engine.specs.Contents.{visible_items}
 
--- some content of the query at t passes the test on its items
-abbrev pub some_content : World → Registration → ℕ → (Item → Bool) → Bool
-some_content world query t test =
-    list_any (λ w. list_any (λ item. in_content w t item && test item) (visible_items world query)) query.reading.windows
+abbrev pub is_over : StreamWindow → Item → Bool
+is_over w item = bytes_eq item.stream w.stream
 
--- some item is in a content at t and not in it at the instant before, or the other way round
-abbrev pub content_changes : World → Registration → ℕ → Bool
-content_changes world query t =
-    list_any
-    (λ w.
-    list_any
-    (λ item.
-    (in_content w t item && not (in_content w (t - 1) item))
-    || (not (in_content w t item) && in_content w (t - 1) item))
-    (visible_items world query))
-    query.reading.windows
+-- the item that was accepted last
+abbrev pub newest : List Item → Option Item
+newest items = slice_get items (length items - 1)
 
--- the strategy holds at a complete instant
-abbrev pub holds : World → Registration → ℕ → Strategy → Bool
-holds world query t close = list_any (λ w. closes_at w.shape t) query.reading.windows
-holds world query t change = content_changes world query t
-holds world query t nonempty = some_content world query t (λ _. true)
-holds world query t (every period) = t % period == 0
+-- a window with the times of the items over its stream, and whether the newest item is one of them
+abbrev pub watched_window : List Item → StreamWindow → Watched
+watched_window items w =
+    record {
+      window = w.shape;
+      times = map (λ (item : Item). item.time) (filter (is_over w) items);
+      fresh = option_map_or (is_over w) (newest items) false;
+    }
+
+-- a query's windows, of these accepted items
+abbrev pub watched_of : List Item → Registration → List Watched
+watched_of items query = map (watched_window (visible_items items query)) query.reading.windows
 
 -- a query that looks at instants is due at t
-abbrev pub is_due : World → Registration → ℕ → Bool
-is_due world query t = not query.reading.policy.on_items && list_all (holds world query t) query.reading.policy.strategies
+abbrev pub is_due : List Item → Registration → ℕ → Bool
+is_due items query t =
+    not query.reading.policy.tuple && windows.is_due query.reading.policy (watched_of items query) t
 
--- the strategy holds on an accepted item
-abbrev pub holds_on : World → Registration → Item → Strategy → Bool
-holds_on world query item close = false
-holds_on world query item change = list_any (λ w. in_content w item.time item) query.reading.windows
-holds_on world query item nonempty = some_content world query item.time (λ _. true)
-holds_on world query item (every period) = false
-
--- a query that looks at items is due on an item of one of its streams
-abbrev pub is_due_on : World → Registration → Item → Bool
-is_due_on world query item =
-    query.reading.policy.on_items
-    && (list_any (λ w. bytes_eq item.stream w.stream) query.reading.windows
-    && list_all (holds_on world query item) query.reading.policy.strategies)
+-- a query that looks at items is due on the newest item, over one of its streams
+abbrev pub is_due_on : List Item → Registration → Item → Bool
+is_due_on items query item =
+    query.reading.policy.tuple
+    && (list_any (λ w. is_over w item) query.reading.windows
+    && windows.is_due_on_item query.reading.policy (watched_of items query) item.time)

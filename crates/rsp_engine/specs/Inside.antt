@@ -1,32 +1,64 @@
 -- Words of the way: the engine's fields as its state, and what holds of them, for every kind of answer.
-use Rattle.std.specs.Prelude.{◌≡◌, ℕ, Bool, false, List}
-use Rattle.std.specs.Option.{ForSome, option_map}
+use Rattle.std.specs.Prelude.{◌≡◌, ℕ, ◌<◌, Bool, true, false, None, List, map}
+use Rattle.std.specs.List.{All}
+use Rattle.std.specs.Option.{ForSome}
 use Rattle.rsp_terms.specs.declared.statement.Fact.{Fact}
 use Rattle.rsp_terms.specs.Same.{fact_eq}
 use Rattle.rsp_multiset.specs.Weights.{times}
+use Rattle.rsp_report.specs.declared.chosen.Chosen.{Chosen}
 use Rattle.rsp_algebra.specs.Nodes.{Node, node_of}
 use Rattle.rsp_algebra.specs.Changing.{IsSet}
 use Rattle.rsp_engine.specs.declared.engine.Engine.TheInside.{Inside}
+use Rattle.rsp_engine.specs.declared.item.Item.{Item}
 use Rattle.rsp_engine.specs.declared.live_query.LiveQuery.{LiveQuery}
+use Rattle.rsp_engine.specs.Due.{watched_of}
 use Rattle.rsp_engine.specs.Kept.{triples_of}
-use Rattle.rsp_engine.specs.Stands.{State, Live, IsState}
+use Rattle.rsp_engine.specs.World.{Registration}
+use Rattle.rsp_engine.specs.Stands.{State, Live, IsState, registration_of}
 
 abbrev pub live_of : {A : Type 0} → LiveQuery A → Live
 live_of live =
     record {
       name = live.name;
+      operator = live.operator;
       output = live.output;
-      stream = live.stream;
-      shape = live.shape;
+      policy = live.policy;
+      windows = live.windows;
       query = live.query.value;
       variables = live.variables;
       first = live.first;
       seen = live.seen;
     }
 
+-- what registration fixed of a live query
+abbrev pub fixed : {A : Type 0} → LiveQuery A → Registration
+fixed live = registration_of (live_of live)
+
 abbrev pub state_of : {A : Type 0} → Inside A → State
 state_of e =
-    record { next = e.next; query = option_map live_of e.query; items = e.items.items; at = e.at; broken = e.broken }
+    record {
+      next = e.next;
+      queries = map live_of e.queries.items;
+      items = e.items.items;
+      arrived = e.arrived;
+      first = e.first;
+      broken = e.broken;
+    }
+
+-- all of a live query but the times that it watches
+abbrev pub parts_of : {A : Type 0} → LiveQuery A → Live × A
+parts_of live = (live_of live, live.answer)
+
+-- a period is at least 1 ms, and a policy that looks at items asks for no closing and no period
+pub record IsPolicy (policy : Chosen) : Type 0 where
+  pub period : ForSome policy.period (λ period. 0 < period)
+  pub close_on_items : policy.tuple ≡ true → policy.close ≡ false
+  pub period_on_items : policy.tuple ≡ true → policy.period ≡ None
+
+-- a live query has, for each of its windows, the times of the items that it may see
+pub record IsWatching {A : Type 0} (items : List Item) (live : LiveQuery A) : Type 0 where
+  pub policy : IsPolicy live.policy
+  pub watched : live.watched.items ≡ watched_of items (fixed live)
 
 -- the answer of a live query is one of its tree, and stands for the facts of its last report
 pub record Answers {A : Type 0} (node : A → Node) (width : A → ℕ) (facts : A → List Fact) (spent : A → Bool)
@@ -37,8 +69,13 @@ pub record Answers {A : Type 0} (node : A → Node) (width : A → ℕ) (facts :
   pub same : (q : Fact) → times fact_eq (facts live.answer) q ≡ times fact_eq live.seen q
   pub set : IsSet live.seen
 
-pub record IsEngine {A : Type 0} (node : A → Node) (width : A → ℕ) (facts : A → List Fact) (spent : A → Bool)
+pub record IsReady {A : Type 0} (node : A → Node) (width : A → ℕ) (facts : A → List Fact) (spent : A → Bool)
     (e : Inside A) : Type 0 where
   pub state : IsState (state_of e)
   pub held : e.held ≡ triples_of e.items.items
-  pub answers : ForSome e.query (Answers node width facts spent)
+  pub answers : All (Answers node width facts spent) e.queries.items
+  pub watching : All (IsWatching e.items.items) e.queries.items
+
+-- an engine to which memory was refused owes nothing
+abbrev pub IsEngine : {A : Type 0} → (A → Node) → (A → ℕ) → (A → List Fact) → (A → Bool) → Inside A → Type 0
+IsEngine node width facts spent e = e.broken ≡ false → IsReady node width facts spent e

@@ -4,7 +4,8 @@ use Rattle.std.specs.List.{list_any, range_with_len, enumerate_from}
 use Rattle.std.specs.Option.{option_map_or}
 use Rattle.rsp_spec.specs.Windows.{closing, contains}
 use Rattle.rsp_engine.specs.declared.item.Item.{Item}
-use Rattle.rsp_engine.specs.World.{World, Registration, StreamWindow, registrations}
+use Rattle.rsp_engine.specs.declared.live_query.StreamWindow.{StreamWindow}
+use Rattle.rsp_engine.specs.World.{World, Registration, registrations}
 
 -- some window over the item's stream contains it and closes at `next` or later; none opens at the item's time or later
 abbrev pub is_needed_by : ℕ → Item → StreamWindow → Bool

@@ -10,6 +10,7 @@ pub mod Reports
 pub mod Kept
 pub mod Offers
 -- Words of the way
+pub mod Left
 pub mod Stands
 pub mod Inside
 pub mod Passing

@@ -12,14 +12,14 @@ pub record Moment : Type 0 where
   pub at : ℕ
   pub query : List ℕ
 
--- those of the live queries that pass the test report at t, in order of registration
-abbrev pub moments_at : World → ℕ → (Registration → Bool) → List Moment
-moments_at world t test =
-    map (λ (query : Registration). record { at = t; query = query.name }) (filter test (registrations world))
+-- those of the queries that pass the test report at t, in order of registration
+abbrev pub moments_at : (Registration → Bool) → List Registration → ℕ → List Moment
+moments_at test queries t =
+    map (λ (query : Registration). record { at = t; query = query.name }) (filter test queries)
 
 -- at a complete instant the queries that are due
 abbrev pub due_moments : World → ℕ → List Moment
-due_moments world t = moments_at world t (λ query. is_due world query t)
+due_moments world t = moments_at (λ query. is_due world.items query t) (registrations world) t
 
 -- the moments of the complete instants from `from` on
 abbrev pub moments_from : World → ℕ → List Moment
@@ -30,9 +30,9 @@ moments_from world from =
 abbrev pub moments_on : World → Event → List Moment
 moments_on world (Item stream time graph) =
     moments_at
-    world
+    (λ query. is_due_on world.items query (record { stream = stream; time = time; graph = graph }))
+    (registrations world)
     time
-    (λ query. is_due_on world query (record { stream = stream; time = time; graph = graph }))
 moments_on world (Register name text) = []
 moments_on world (Cancel name) = []
 moments_on world (Tick time) = []

@@ -9,12 +9,12 @@ use Rattle.rsp_engine.specs.declared.refused.EngineFault.TheVariants as fault
 use Rattle.rsp_engine.specs.declared.report.Report.{Report}
 use Rattle.rsp_engine.specs.Refusals.{Refusal, refusal_of}
 use Rattle.rsp_engine.specs.World.{World}
-use Rattle.rsp_engine.specs.Accept.{accept}
+use Rattle.rsp_engine.specs.Accept.{accept, is_live}
 use Rattle.rsp_engine.specs.Moments.{Moment, moments}
 use Rattle.rsp_engine.specs.Reports.{IsReport, ReportStep, next_step}
-use Rattle.rsp_engine.specs.Stands.{State, Stands, is_idle, instants_left}
+use Rattle.rsp_engine.specs.Stands.{State, Stands, is_idle, places_left}
 
--- which events take memory at all: no tick does
+-- which events take memory at all: no tick does, and no cancellation
 abbrev pub TakesMemory : Event → Type 0
 TakesMemory (Register name text) = ⊤
 TakesMemory (Cancel name) = ⊥
@@ -41,9 +41,9 @@ pub record WasBroken (old new : State) : Type 0 where
   pub was_broken : old.broken ≡ true
   pub unchanged : new ≡ old
 
--- want of memory comes for no item that is refused
+-- want of memory comes for no item that is refused, and for no registration under the name of a live query
 abbrev pub MayTakeMemory : World → Event → Type 0
-MayTakeMemory world (Register name text) = ⊤
+MayTakeMemory world (Register name text) = is_live world name ≡ false
 MayTakeMemory world (Cancel name) = ⊥
 MayTakeMemory world (Item stream time graph) = IsOk (accept world (Item stream time graph))
 MayTakeMemory world (Tick time) = ⊥
@@ -93,7 +93,7 @@ pub record GivesFirst (old : State) (report : Report) (new : State) : Type 0 whe
   pub was_ready : old.broken ≡ false
   pub ready : new.broken ≡ false
   pub was_busy : is_idle old ≡ false
-  pub nearer : instants_left new < instants_left old
+  pub nearer : places_left new < places_left old
   pub gives : (world : World) (left : List Moment) → Stands old world left → GivesOf world left report new
 
 abbrev pub Gives : State → Option Report → State → Type 0

@@ -1,14 +1,13 @@
--- Words of the way: what passing time does to an idle engine's state.
-use Rattle.std.specs.Prelude.{◌≡◌, ◌⊎◌, ℕ, Option, Bool, if◌then◌else◌, ◌+◌, ◌<◌, true, false, None, Some, List, [], map, filter, drop, option_to_list}
-use Rattle.std.specs.List.{flat_map}
-use Rattle.std.specs.Option.{is_some, option_map, option_map_or}
-use Rattle.rsp_spec.specs.Windows.{Shape}
+-- Words of the way: what the engine's calls do to its state.
+use Rattle.std.specs.Prelude.{◌≡◌, ◌⊎◌, ℕ, ◌+◌, Option, Bool, if◌then◌else◌, true, false, None, Some, List, map, remove, slice_get, slice_set, unwrap_or}
+use Rattle.std.specs.Option.{is_some}
 use Rattle.rsp_terms.specs.declared.statement.Fact.{Fact}
 use Rattle.rsp_query.specs.Queries.{Registered}
 use Rattle.rsp_algebra.specs.Nodes.{Node}
 use Rattle.rsp_algebra.specs.Solutions.{eval}
 use Rattle.rsp_algebra.specs.Overfull.{overfull}
 use Rattle.rsp_streams_out.specs.Rows.{in_order}
+use Rattle.rsp_engine.specs.declared.finding.Pending.{Pending}
 use Rattle.rsp_engine.specs.declared.item.Item.{Item}
 use Rattle.rsp_engine.specs.declared.live_query.LiveQuery.{LiveQuery}
 use Rattle.rsp_engine.specs.declared.refused.Refused.{Refused}
@@ -16,67 +15,28 @@ use Rattle.rsp_engine.specs.declared.report.Outcome.{Outcome}
 use Rattle.rsp_engine.specs.declared.report.Outcome.TheVariants as outcomes
 use Rattle.rsp_engine.specs.declared.report.Report.{Report}
 use Rattle.rsp_engine.specs.Accept.{new_query, starts_overfull}
-use Rattle.rsp_engine.specs.Contents.{distinct_triples, facts, facts_of, in_content}
+use Rattle.rsp_engine.specs.Contents.{facts_over}
 use Rattle.rsp_engine.specs.Inside.{Answers}
-use Rattle.rsp_engine.specs.Moments.{moments_from}
+use Rattle.rsp_engine.specs.Left.{IsFirstLeft, reports_at}
 use Rattle.rsp_engine.specs.Readings.{reading_of}
 use Rattle.rsp_engine.specs.Refusals.{Refusal, refusal_of}
 use Rattle.rsp_engine.specs.Reports.{IsOutcome, cells_at}
-use Rattle.rsp_engine.specs.Stands.{State, Live, closes_for, first_instant, instants_left, query_in, query_of, reading_in}
-use Rattle.rsp_engine.specs.World.{World, Query, Reading, Registration}
+use Rattle.rsp_engine.specs.Stands.{State, Live, next_in, query_of, reading_in, registration_of, registrations_in, test_in}
+use Rattle.rsp_engine.specs.World.{Reading}
 
--- the world has this live query, if there is one, and no other, and `next`
-pub record Has (world : World) (query : Option Query) (first : Option ℕ) : Type 0 where
-  pub queries : world.queries ≡ option_to_list query
-  pub next : world.next ≡ first
-
--- every instant before `to` is complete; the moments left are those of the instants that became complete, and nothing
--- else has changed
-pub record Passes (old : State) (to : ℕ) (new : State) : Type 0 where
+-- every instant before `to` is complete; the moments left are those of the instants that became complete, and of the newest item
+-- where it just arrived; nothing else has changed
+pub record Passes (old : State) (items : List Item) (arrived : Bool) (to : ℕ) (new : State) : Type 0 where
   pub next : new.next ≡ Some to
-  pub query : new.query ≡ old.query
-  pub items : new.items ≡ old.items
-  pub broken : new.broken ≡ old.broken
-  pub moments : (world : World) → Has world (query_in old) (Some to)
-      → option_map_or (moments_from world) old.next [] ≡ moments_from world new.at
-  pub at : (world : World) → Has world (query_in old) (Some to) → new.at ≡ first_instant world (moments_from world new.at)
+  pub queries : new.queries ≡ old.queries
+  pub items : new.items ≡ items
+  pub arrived : new.arrived ≡ arrived
+  pub broken : new.broken ≡ false
+  pub first : IsFirstLeft (reports_at items to arrived) (registrations_in old) to (unwrap_or old.next to) 0 new.first
 
--- the moment at the first instant left is worked off, by a report that leaves this query live, if one; those behind it
--- are left, and nothing else has changed
-pub record WorksOff (old : State) (kept : Option Live) (new : State) : Type 0 where
-  pub next : new.next ≡ old.next
-  pub query : new.query ≡ kept
-  pub items : new.items ≡ old.items
-  pub broken : new.broken ≡ old.broken
-  pub nearer : instants_left new < instants_left old
-  pub moments : (world : World) → Has world (option_map query_of kept) old.next
-      → moments_from world (old.at + 1) ≡ moments_from world new.at
-  pub at : (world : World) → Has world (option_map query_of kept) old.next
-      → new.at ≡ first_instant world (moments_from world new.at)
-
--- a live query reports at the first instant left, which is complete
-pub record IsDue (engine : State) (live : Live) : Type 0 where
-  pub query : engine.query ≡ Some live
-  pub closes : closes_for (Some (query_of live)) engine.at ≡ true
-  pub complete : (next : ℕ) × (engine.next ≡ Some next) × (engine.at < next)
-
--- the facts of a window on a stream at t, of the items from a number on
-abbrev pub window_facts : List ℕ → Shape → ℕ → List Item → ℕ → List Fact
-window_facts stream shape first items t =
-    facts_of
-    0
-    (distinct_triples
-    (flat_map
-    (λ (i : Item). i.graph)
-    (filter (in_content (record { stream = stream; shape = shape }) t) (drop first items))))
-
--- the facts that a query sees at t, by the items alone
-abbrev pub facts_over : List Item → Registration → ℕ → List Fact
-facts_over items query t = facts (record { next = None; items = items; queries = [] }) query t
-
--- the live query once it has seen them
+-- the live query once it has seen the facts of t
 abbrev pub seeing : Live → List Item → ℕ → Live
-seeing live items t = record live { seen = facts_over items (query_of live).registration t }
+seeing live items t = record live { seen = facts_over items (registration_of live) t }
 
 -- that a report is overfull
 abbrev pub is_overfull_outcome : Outcome → Bool
@@ -93,19 +53,37 @@ outcome_over reading facts =
 -- a live query reported at t, and stands for the facts of t where it is still live
 pub record IsReported {A : Type 0} (node : A → Node) (width : A → ℕ) (facts : A → List Fact) (spent : A → Bool)
     (live : Live) (items : List Item) (t : ℕ) (new : LiveQuery A) (given : Outcome) : Type 0 where
-  pub outcome : IsOutcome given (outcome_over (reading_in live) (facts_over items (query_of live).registration t))
+  pub outcome : IsOutcome given (outcome_over (reading_in live) (facts_over items (registration_of live) t))
   pub answers : (given ≡ outcomes.Overfull) ⊎ Answers node width facts spent new
 
--- the report at the first instant left was given; the query is live where it isn't overfull, and those behind are left
+-- the live queries behind a report of the one at this place: it has seen the facts, or is no longer live
+abbrev pub queries_behind : State → Pending → Live → Bool → List Live
+queries_behind old place live true = remove old.queries place.query
+queries_behind old place live false = slice_set old.queries place.query (seeing live old.items place.at)
+
+-- the query's place behind the report
+abbrev pub place_behind : Pending → Bool → ℕ
+place_behind place true = place.query
+place_behind place false = place.query + 1
+
+-- the report at the first place left was given; the query is live where it isn't overfull, and those behind are left
 pub record ReportsFirst (old : State) (report : Report) (new : State) : Type 0 where
+  pub place : Pending
   pub live : Live
-  pub due : IsDue old live
+  pub first : old.first ≡ Some place
+  pub listed : slice_get old.queries place.query ≡ Some live
   pub query : report.query ≡ live.name
-  pub at : report.at ≡ old.at
+  pub at : report.at ≡ place.at
   pub variables : report.variables ≡ live.variables
   pub outcome : IsOutcome report.outcome
-      (outcome_over (reading_in live) (facts_over old.items (query_of live).registration old.at))
-  pub works : WorksOff old (if is_overfull_outcome report.outcome then None else Some (seeing live old.items old.at)) new
+      (outcome_over (reading_in live) (facts_over old.items (registration_of live) place.at))
+  pub next : new.next ≡ old.next
+  pub items : new.items ≡ old.items
+  pub arrived : new.arrived ≡ old.arrived
+  pub broken : new.broken ≡ old.broken
+  pub queries : new.queries ≡ queries_behind old place live (is_overfull_outcome report.outcome)
+  pub left : IsFirstLeft (test_in old) (registrations_in new) (next_in old) place.at
+      (place_behind place (is_overfull_outcome report.outcome)) new.first
 
 -- the answer names this refusal
 abbrev pub IsFaultOf : Refused → Option Refusal → Type 0

@@ -1,5 +1,8 @@
 -- Definitions: why an event is refused.
-use Rattle.std.specs.Prelude.{ℕ, List, Option, None, Some, Result, Ok, Err}
+use Rattle.std.specs.Prelude.{ℕ, if◌then◌else◌, List, Option, None, Some, Result, Ok, Err}
+use Rattle.std.specs.Option.{option_map_or}
+use Rattle.rsp_report.specs.Policies.{is_mixed}
+use Rattle.rsp_report.specs.declared.words.PolicyWords.{PolicyWords}
 use Rattle.rsp_query.specs.Queries.{Registered}
 use Rattle.rsp_numbering.specs.declared.limit.LimitName.{LimitName}
 use Rattle.rsp_syntax.specs.declared.fault.SyntaxFault.{SyntaxFault}
@@ -12,8 +15,9 @@ use Rattle.rsp_engine.specs.declared.refused.Refused.TheVariants as answer
 
 -- its query's text has a fault: the place at which no token begins, or of the first token that can't stand, with what it is
 -- where it is left out, or the limit that is passed; or the place of a window, a graph or an EXISTS of no shape that can be
--- translated, or the variable that is out of scope; its time lies in what is complete: the time, and the first instant that
--- isn't complete; it is of a kind that isn't built; or its query has too many rows before it sees a fact
+-- translated, or the variable that is out of scope, or strategies that don't go together; its time lies in what is complete:
+-- the time, and the first instant that isn't complete; a live query has its name, or none has; as many queries are live as can
+-- be; it is of a kind that isn't built; or its query has too many rows before it sees a fact
 pub data Refusal : Type 0 where
   bad_token : ℕ → Refusal
   syntax : ℕ → Refusal
@@ -22,7 +26,11 @@ pub data Refusal : Type 0 where
   graph_shape : ℕ → Refusal
   exists_shape : ℕ → Refusal
   scope : List ℕ → Refusal
+  policy_mix : Refusal
   late : ℕ → ℕ → Refusal
+  name_taken : Refusal
+  no_query : Refusal
+  queries_full : Refusal
   unbuilt : Refusal
   start_overfull : Refusal
 
@@ -34,9 +42,14 @@ shape_fault (Some (shape.ExistsShape at)) = Some (exists_shape at)
 shape_fault (Some (shape.Scope variable)) = Some (scope variable)
 shape_fault (Some shape.OutOfMemory) = None
 
--- the first fault of a text, by what the text is: that of the grammar, or of the query's shape; want of memory is none
+-- the fault of a policy whose strategies don't go together
+abbrev pub policy_fault : PolicyWords → Option Refusal
+policy_fault words = if is_mixed words then Some policy_mix else None
+
+-- the first fault of a text, by what the text is: that of the grammar, or of the query's shape, or of its policy; want of
+-- memory is none
 abbrev pub text_fault : Result Registered SyntaxFault → Option Refusal
-text_fault (Ok q) = shape_fault (first_fault q)
+text_fault (Ok q) = option_map_or Some (shape_fault (first_fault q)) (policy_fault q.policy)
 text_fault (Err (fault.BadToken at)) = Some (bad_token at)
 text_fault (Err (fault.Syntax at)) = Some (syntax at)
 text_fault (Err (fault.LeftOut at what)) = Some (left_out at what)
@@ -52,7 +65,11 @@ refusal_of (answer.Limit what) = Some (limit what)
 refusal_of (answer.GraphShape at) = Some (graph_shape at)
 refusal_of (answer.ExistsShape at) = Some (exists_shape at)
 refusal_of (answer.Scope variable) = Some (scope variable)
+refusal_of answer.PolicyMix = Some policy_mix
 refusal_of (answer.Late time next) = Some (late time next)
+refusal_of answer.NameTaken = Some name_taken
+refusal_of answer.NoQuery = Some no_query
+refusal_of answer.QueriesFull = Some queries_full
 refusal_of answer.Unbuilt = Some unbuilt
 refusal_of answer.StartOverfull = Some start_overfull
 refusal_of answer.Broken = None

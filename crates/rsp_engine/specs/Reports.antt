@@ -15,6 +15,7 @@ use Rattle.rsp_engine.specs.declared.report.Outcome.TheVariants as outcome
 use Rattle.rsp_engine.specs.World.{World, Registration, Query, registrations}
 use Rattle.rsp_engine.specs.Contents.{facts}
 use Rattle.rsp_engine.specs.Moments.{Moment}
+use Rattle.rsp_engine.specs.Accept.{has_name, without}
 
 -- the cells of a row at these places, in their order
 abbrev pub cells_at : List ℕ → Cells Term → Cells Term
@@ -60,18 +61,18 @@ pub record IsReport (report wanted : Report) : Type 0 where
 
 -- the live query of a name, as it was registered
 abbrev pub live_query : World → List ℕ → Option Registration
-live_query world name = find (λ (query : Registration). bytes_eq query.name name) (registrations world)
+live_query world name = find (has_name name) (registrations world)
 
 -- the query of this name with the facts of its report at t as those of its last report
 abbrev pub query_after_report : World → ℕ → List ℕ → Query → Query
 query_after_report world t name query =
-    if bytes_eq query.registration.name name then record query { seen = facts world query.registration t } else query
+    if has_name name query.registration then record query { seen = facts world query.registration t } else query
 
 -- the world after a query's report: an overfull one ends the query
 abbrev pub after_report : World → Registration → ℕ → World
 after_report world query t =
     if is_overfull world query t
-    then record world { queries = filter (λ other. not (bytes_eq other.registration.name query.name)) world.queries }
+    then record world { queries = without query.name world.queries }
     else record world { queries = map (query_after_report world t query.name) world.queries }
 
 -- the moments that are left behind a query's report at t: an overfull one strikes those of its query

@@ -1,39 +1,18 @@
 -- Definitions: the world: what every event that was accepted has made, kept for ever. All times are in milliseconds since 1970.
-use Rattle.std.specs.Prelude.{ℕ, Bool, false, Option, None, List, [], ◌∷◌, map}
-use Rattle.rsp_spec.specs.Windows.{Shape}
+use Rattle.std.specs.Prelude.{ℕ, Option, None, List, [], map}
 use Rattle.rsp_terms.specs.declared.statement.Fact.{Fact}
+use Rattle.rsp_report.specs.declared.chosen.Chosen.{Chosen}
 use Rattle.rsp_streams_out.specs.declared.operator.Operator.{Operator}
 use Rattle.rsp_algebra.specs.Nodes.{Node}
 use Rattle.rsp_engine.specs.declared.item.Item.{Item}
-
--- when a query reports (SECRET, report): a window closes, a content has changed, a content isn't empty, a period divides
--- the instant
-pub data Strategy : Type 0 where
-  close : Strategy
-  change : Strategy
-  nonempty : Strategy
-  every : ℕ → Strategy
-
--- all strategies have to hold (SECRET, tick): at each complete instant, or on each accepted item
-pub record Policy : Type 0 where
-  pub strategies : List Strategy
-  pub on_items : Bool
-
--- at each complete instant at which a window closes
-abbrev pub at_closings : Policy
-at_closings = record { strategies = close ∷ []; on_items = false }
-
--- a window over a stream
-pub record StreamWindow : Type 0 where
-  pub stream : List ℕ
-  pub shape : Shape
+use Rattle.rsp_engine.specs.declared.live_query.StreamWindow.{StreamWindow}
 
 -- what a query's text says: its stream operator and output stream, when it reports, over which windows, its tree over rows of
 -- this width, the places that it shows and the names of their variables
 pub record Reading : Type 0 where
   pub operator : Operator
   pub output : List ℕ
-  pub policy : Policy
+  pub policy : Chosen
   pub windows : List StreamWindow
   pub node : Node
   pub width : ℕ

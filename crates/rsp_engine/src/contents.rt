@@ -1,34 +1,38 @@
-// What a query sees of its window at an instant.
-ghost use Rattle.std.specs.Prelude.{◌≡◌, ◌≤◌, ◌&&◌, nat_lt, nat_le, IfOk, OnOk, fold, filter, drop, length, bytes_eq};
+// What a query sees of its windows at an instant.
+ghost use Rattle.std.specs.Prelude.{◌≡◌, ◌≤◌, ◌+◌, ◌++◌, ◌&&◌, nat_lt, nat_le, IfOk, OnOk, fold, filter, drop, length, bytes_eq};
 ghost use Rattle.std.specs.List.{flat_map};
 ghost use Rattle.rsp_spec.specs.Windows.{last_instant};
 ghost use Rattle.rsp_terms.specs.declared.statement.Spot.TheVariants as spot;
 ghost use Rattle.rsp_engine.specs.declared.item.Item as item;
-ghost use Rattle.rsp_engine.specs.Contents.{add_once, distinct_triples, facts_of, in_content};
-ghost use Rattle.rsp_engine.specs.Passing.{window_facts};
+ghost use Rattle.rsp_engine.specs.Contents.{add_once, distinct_triples, facts_from, facts_of, graph, in_content};
 
+use crate::live_query::StreamWindow;
 use crate::Item;
 use indexmap::IndexSet;
 use rsp_terms::{Fact, Listed, Spot, Text, Triple};
 use rsp_windows::Window;
 use std::alloc::{AllocError, Global};
 
-/// The facts of a window on a stream at `at`, in ms since 1970, of the items from number `first` on. Fails only where
-/// memory is refused.
+/// The facts of some windows at `at`, in ms since 1970, of the items from number `first` on. Fails only where memory is refused.
 pub(crate) fn facts(
     alloc: Global,
-    stream: &Text,
-    window: &Window,
+    windows: &[StreamWindow],
     first: usize,
     items: &[Item],
     at: u64,
 ) -> Result<Listed<Fact>, AllocError>
-    requires instant { at ≤ last_instant }
+    requires instant { at ≤ last_instant + 1 }
     requires first { first ≤ length items.now }
-    ensures { IfOk result (λ facts. facts ≡ window_facts stream.now window.now first items.now at) }
+    ensures { IfOk result (λ facts. facts ≡ facts_from (drop first items.now) at 0 windows.now) }
 {
-    let triples = graph(alloc, stream, window, items_from(items, first), at)?;
-    facts_of(alloc, &triples)
+    let visible = items_from(items, first);
+    let mut facts = Listed::new(alloc);
+    let mut number: u32 = 0;
+    for window in windows {
+        add_window(alloc, &mut facts, number, window, visible, at)?;
+        number = number.checked_add(1).ok_or(AllocError)?;
+    }
+    Ok(facts)
 }
 
 fn items_from(items: &[Item], first: usize) -> &[Item]
@@ -38,22 +42,40 @@ fn items_from(items: &[Item], first: usize) -> &[Item]
     items.split_at(first).1
 }
 
-// the facts of the first window
-fn facts_of(alloc: Global, triples: &IndexSet<Triple>) -> Result<Listed<Fact>, AllocError>
-    ensures { IfOk result (λ facts. facts ≡ facts_of 0 triples.now.keys) }
+// adds the facts of the window of this number
+fn add_window(
+    alloc: Global,
+    facts: &mut Listed<Fact>,
+    number: u32,
+    window: &StreamWindow,
+    visible: &[Item],
+    at: u64,
+) -> Result<(), AllocError>
+    requires { at ≤ last_instant + 1 }
+    ensures { OnOk result (facts.new ≡ facts.old ++ facts_of number (graph visible.now window.now at)) }
 {
-    let mut facts = Listed::new(alloc);
-    for triple in triples.as_slice() {
-        facts.push(fact_of(triple)?)?;
-    }
-    Ok(facts)
+    let triples = graph(alloc, &window.stream, &window.shape, visible, at)?;
+    add_facts(facts, number, &triples)
 }
 
-fn fact_of(triple: &Triple) -> Result<Fact, AllocError>
-    ensures { IfOk result (λ fact. fact ≡ record { spot = spot.Window 0; triple = triple.now }) }
+fn add_facts(
+    facts: &mut Listed<Fact>,
+    number: u32,
+    triples: &IndexSet<Triple>,
+) -> Result<(), AllocError>
+    ensures { OnOk result (facts.new ≡ facts.old ++ facts_of number triples.now.keys) }
+{
+    for triple in triples.as_slice() {
+        facts.push(fact_of(number, triple)?)?;
+    }
+    Ok(())
+}
+
+fn fact_of(number: u32, triple: &Triple) -> Result<Fact, AllocError>
+    ensures { IfOk result (λ fact. fact ≡ record { spot = spot.Window number; triple = triple.now }) }
 {
     Ok(Fact {
-        spot: Spot::Window(0),
+        spot: Spot::Window(number),
         triple: triple.share()?,
     })
 }
@@ -66,7 +88,7 @@ fn graph(
     visible: &[Item],
     at: u64,
 ) -> Result<IndexSet<Triple>, AllocError>
-    requires { at ≤ last_instant }
+    requires { at ≤ last_instant + 1 }
     ensures { IfOk result (λ set. set.keys ≡ distinct_triples (flat_map (λ (i : item.Item). i.graph)
         (filter (in_content (record { stream = stream.now; shape = window.now }) at) visible.now))) }
 {

@@ -1,23 +1,32 @@
 // The engine's calls.
-ghost use Rattle.std.specs.Prelude.{◌≡◌, Some, None, if◌then◌else◌, option_to_list};
-ghost use Rattle.std.specs.Option.{option_map};
-ghost use Rattle.rsp_engine.specs.Inside.{live_of};
+ghost use Rattle.std.specs.Prelude.{◌≡◌, ◌≤◌, ◌<◌, ◌+◌, MatchOption, Some, false, if◌then◌else◌, length, map, remove, slice_get, unwrap_or};
+ghost use Rattle.std.specs.List.{All, list_any};
+ghost use Rattle.rsp_spec.specs.Windows.{last_instant};
+ghost use Rattle.rsp_engine.specs.Accept.{has_name};
+ghost use Rattle.rsp_engine.specs.Inside.{IsWatching, fixed, live_of};
+ghost use Rattle.rsp_engine.specs.Left.{IsFirstLeft, reports_at};
 ghost use Rattle.rsp_engine.specs.Passing.{is_overfull_outcome};
-ghost use Rattle.rsp_engine.specs.Stands.{query_of, shapes_of};
+ghost use Rattle.rsp_engine.specs.declared.live_query.LiveQuery.{LiveQuery};
+ghost use Rattle.rsp_engine.specs.Stands.{IsTimed};
 
-use crate::registering::{begun, built_window, parsed, translated};
+use crate::finding::{Pending, first_left};
+use crate::live_query::LiveQuery;
+use crate::registering::{begun, chosen, is_rstream, parsed, translated};
 use crate::seeing::report_at;
-use crate::walking::first_moment;
-use crate::{EngineFault, Item, LiveQuery, Outcome, Refused, Report};
+use crate::watching::keep;
+use crate::{EngineFault, Item, Outcome, Refused, Report};
 use rsp_algebra::{Answer, Translated};
 use rsp_events::Event;
 use rsp_query::Query;
+use rsp_report::Chosen;
 use rsp_steps::Steps;
 use rsp_terms::Text;
-use rsp_windows::Window;
 use std::alloc::{AllocError, Global};
 use std::marker::Model;
 use std::sync::ledger::Ledger;
+
+// The most queries that are live at once.
+const MOST_QUERIES: usize = 256;
 
 // The most items that are accepted by now.
 const MOST_ITEMS: usize = 1000;
@@ -30,12 +39,15 @@ const MOST_TRIPLES: usize = 1000;
 pub struct Engine<A: Answer> {
     alloc: Global,
     next: Option<u64>,
-    query: Option<LiveQuery<A>>,
+    // in order of registration
+    queries: Vec<LiveQuery<A>>,
     items: Vec<Item>,
     // the triples of the items, as listed
     held: u64,
-    // the first instant that isn't worked off: one at which the query reports, or `next`
-    at: u64,
+    // whether the last event that moved `next` was an item, which is then the newest
+    arrived: bool,
+    // the place of the first moment left
+    first: Option<Pending>,
     broken: bool,
 }
 
@@ -57,22 +69,27 @@ impl<A: Answer> Model for Engine<A> {
 }
 
 impl<A: Answer> Engine<A> {
-    ghost use Rattle.std.specs.Prelude.{◌≡◌, ℕ, ◌<◌, None, ◌↔◌, ◌==◌, ◌≤◌, ◌+◌, ◌++◌, ◌∷◌, List, [], true, false};
-    ghost use Rattle.std.specs.Prelude.{IsTrue, Ok, OnOk, OnErr, Some, is_some, length, IfOk, unwrap_or, option_to_list};
+    ghost use Rattle.std.specs.Prelude.{◌≡◌, ℕ, ◌<◌, ◌↔◌, ◌≤◌, ◌+◌, ◌++◌, ◌∷◌, List, [], true, false};
+    ghost use Rattle.std.specs.Prelude.{IsTrue, MatchOption, Ok, OnOk, OnErr, Some, IfErr, IfOk, length, slice_get};
+    ghost use Rattle.std.specs.List.{list_any};
+    ghost use Rattle.std.specs.Option.{is_some};
     ghost use Rattle.rsp_spec.specs.Windows.{last_instant};
-    ghost use Rattle.rsp_engine.specs.Passing.{Passes, ReportsFirst};
-    ghost use Rattle.rsp_engine.specs.Inside.{Answers, live_of};
-    ghost use Rattle.std.specs.Option.{option_map, option_map_or};
     ghost use Rattle.rsp_syntax.specs.Parsing.{parse};
+    ghost use Rattle.rsp_syntax.specs.Periods.{HasPeriods};
     ghost use Rattle.rsp_query.specs.Queries.{registered};
+    ghost use Rattle.rsp_report.specs.Policies.{choice_of, is_mixed};
     ghost use Rattle.rsp_algebra.specs.Nodes.{IsPlaced};
     ghost use Rattle.rsp_shapes.specs.Sound.{IsSound};
     ghost use Rattle.rsp_translation.specs.Translation.{IsTranslated};
     ghost use Rattle.rsp_engine.specs.declared.refused.Refused.TheVariants.{OutOfMemory};
+    ghost use Rattle.rsp_engine.specs.Accept.{has_name};
+    ghost use Rattle.rsp_engine.specs.Inside.{Answers, IsPolicy, IsWatching, live_of};
+    ghost use Rattle.rsp_engine.specs.Passing.{Passes, ReportsFirst};
+    ghost use Rattle.rsp_engine.specs.Readings as readings;
     ghost use Rattle.rsp_engine.specs.World.{World, empty_world};
     ghost use Rattle.rsp_engine.specs.Moments.{Moment};
     ghost use Rattle.rsp_engine.specs.Kept.{triples_of};
-    ghost use Rattle.rsp_engine.specs.Stands.{Stands, is_idle, query_in, shapes_of};
+    ghost use Rattle.rsp_engine.specs.Stands.{Live, Stands, is_idle, next_in, registrations_in};
     ghost use Rattle.rsp_engine.specs.Offers.{Offers, NextReport};
     ghost use Rattle.rsp_events.specs.Instants.{IsInstant};
 
@@ -83,10 +100,11 @@ impl<A: Answer> Engine<A> {
         Engine {
             alloc,
             next: None,
-            query: None,
+            queries: Vec::new(alloc),
             items: Vec::new(alloc),
             held: 0,
-            at: 0,
+            arrived: false,
+            first: None,
             broken: false,
         }
     }
@@ -96,16 +114,7 @@ impl<A: Answer> Engine<A> {
         ensures value { result ≡ is_idle self.now }
         ensures left { (world : World) (left : List Moment) → Stands self.now world left → IsTrue result ↔ (left ≡ []) }
     {
-        self.broken || self.is_worked_off()
-    }
-
-    fn is_worked_off(&self) -> bool
-        ensures { result ≡ option_map_or (λ next. self.now.at == next) self.now.next true }
-    {
-        match self.next {
-            None => true,
-            Some(next) => self.at == next,
-        }
+        self.broken || self.first.is_none()
     }
 
     /// The first instant that isn't complete, in ms since 1970. None until an item or a tick was accepted.
@@ -115,9 +124,10 @@ impl<A: Answer> Engine<A> {
         self.next
     }
 
-    /// The number of triples of the items that are kept, as listed. By now every accepted item is kept.
+    /// The number of triples of the items that are kept, as listed; nothing is said of it where memory was refused. By now every
+    /// accepted item is kept.
     pub fn held(&self) -> u64
-        ensures { result ≡ triples_of self.now.items }
+        ensures { (world : World) (left : List Moment) → Stands self.now world left → result ≡ triples_of world.items }
     {
         self.held
     }
@@ -133,8 +143,8 @@ impl<A: Answer> Engine<A> {
     ///
     /// Refused as `Broken` exactly where memory was refused before; with the definition's refusal, which changes nothing,
     /// only where the definition refuses the event so; as `OutOfMemory` where memory is refused, which breaks the engine:
-    /// never for a tick, never for an item that the definition refuses. A registration that the definition refuses may be
-    /// answered so.
+    /// never for a tick or a cancellation, never for an item that the definition refuses, never for a registration under
+    /// a name that is taken. Any other registration that the definition refuses may be answered so.
     pub fn offer(&mut self, event: Event) -> Result<(), Refused>
         requires idle { IsTrue (is_idle self.old) }
         requires instant { IsInstant event }
@@ -145,6 +155,7 @@ impl<A: Answer> Engine<A> {
         }
         match event {
             Event::Register { name, text } => self.register(name, text),
+            Event::Cancel { name } => self.cancel(&name),
             Event::Item {
                 stream,
                 time,
@@ -155,17 +166,20 @@ impl<A: Answer> Engine<A> {
                 graph,
             }),
             Event::Tick { time } => self.tick(time),
-            Event::Cancel { .. } | Event::Insert { .. } | Event::Delete { .. } => {
-                Err(Refused::Unbuilt)
-            }
+            Event::Insert { .. } | Event::Delete { .. } => Err(Refused::Unbuilt),
         }
     }
+
+    // ---- registrations and cancellations
 
     fn register(&mut self, name: Text, text: Text) -> Result<(), Refused>
         requires idle { IsTrue (is_idle self.old) }
         requires ready { self.old.broken ≡ false }
         ensures { Offers self.old (Event.Register name text) result self.new }
     {
+        if self.place_of(&name).is_some() {
+            return Err(Refused::NameTaken);
+        }
         match parsed(self.alloc, &text) {
             Ok(Ok(query)) => self.register_parsed(name, &query),
             Ok(Err(fault)) => Err(fault),
@@ -177,7 +191,9 @@ impl<A: Answer> Engine<A> {
     fn register_parsed(&mut self, name: Text, query: &Query) -> Result<(), Refused>
         requires idle { IsTrue (is_idle self.old) }
         requires ready { self.old.broken ≡ false }
+        requires free { list_any (has_name name) (registrations_in self.old) ≡ false }
         requires sound { IsSound (registered query.now) }
+        requires periods { HasPeriods (registered query.now).policy }
         ensures { (text : List ℕ) → parse text ≡ Ok (registered query.now)
             → Offers self.old (Event.Register name text) result self.new }
     {
@@ -188,7 +204,7 @@ impl<A: Answer> Engine<A> {
         }
     }
 
-    // registers a query without fault, with its tree
+    // registers a query whose tree this is
     fn register_translated(
         &mut self,
         name: Text,
@@ -197,25 +213,89 @@ impl<A: Answer> Engine<A> {
     ) -> Result<(), Refused>
         requires idle { IsTrue (is_idle self.old) }
         requires ready { self.old.broken ≡ false }
+        requires free { list_any (has_name name) (registrations_in self.old) ≡ false }
+        requires periods { HasPeriods (registered query.now).policy }
         requires translated { IsTranslated (registered query.now) made.value }
         requires placed { IsPlaced made.value }
         ensures { (text : List ℕ) → parse text ≡ Ok (registered query.now)
             → Offers self.old (Event.Register name text) result self.new }
     {
-        if self.has_query() {
+        let policy = chosen(&query.policy)?;
+        if !is_rstream(&query.operator) {
             return Err(Refused::Unbuilt);
         }
-        let Some(window) = built_window(query) else {
-            return Err(Refused::Unbuilt);
-        };
-        match begun(self.alloc, name, query, window, made, self.accepted()) {
-            Ok(Some(query)) => {
-                self.go_live(query);
-                Ok(())
-            }
+        if self.queries.len() >= MOST_QUERIES {
+            return Err(Refused::QueriesFull);
+        }
+        self.begin(name, query, policy, made)
+    }
+
+    // registers a query without fault, under a policy, if it has not too many rows over no facts
+    fn begin(
+        &mut self,
+        name: Text,
+        query: &Query,
+        policy: Chosen,
+        made: Box<Translated>,
+    ) -> Result<(), Refused>
+        requires idle { IsTrue (is_idle self.old) }
+        requires ready { self.old.broken ≡ false }
+        requires free { list_any (has_name name) (registrations_in self.old) ≡ false }
+        requires few { length self.old.queries < 256 }
+        requires policy { policy ≡ choice_of (registered query.now).policy }
+        requires unmixed { is_mixed (registered query.now).policy ≡ false }
+        requires asked { IsPolicy policy }
+        requires rstream { readings.is_rstream (registered query.now).operator ≡ true }
+        requires translated { IsTranslated (registered query.now) made.value }
+        requires placed { IsPlaced made.value }
+        ensures { (text : List ℕ) → parse text ≡ Ok (registered query.now)
+            → Offers self.old (Event.Register name text) result self.new }
+    {
+        match begun(self.alloc, name, query, policy, made, self.items.len()) {
+            Ok(Some(query)) => self.go_live(query),
             Ok(None) => Err(Refused::StartOverfull),
             Err(AllocError) => Err(self.break_off()),
         }
+    }
+
+    // Nothing is left of the last event, so no moment is added by a query that goes live.
+    fn go_live(&mut self, query: LiveQuery<A>) -> Result<(), Refused>
+        requires idle { IsTrue (is_idle self.old) }
+        requires ready { self.old.broken ≡ false }
+        requires free { list_any (has_name query.name) (registrations_in self.old) ≡ false }
+        requires first { query.first ≡ length self.old.items }
+        requires watching { IsWatching self.old.items query }
+        requires answers { Answers A.node A.width A.facts A.spent query }
+        ensures ok { OnOk result (self.new ≡ record self.old { queries = self.old.queries ++ live_of query ∷ [] }) }
+        ensures err { IfErr result (λ why. (why ≡ OutOfMemory) × (self.new.broken ≡ true)) }
+    {
+        match self.queries.push(query) {
+            Ok(()) => Ok(()),
+            Err(_) => Err(self.break_off()),
+        }
+    }
+
+    fn cancel(&mut self, name: &Text) -> Result<(), Refused>
+        requires idle { IsTrue (is_idle self.old) }
+        requires ready { self.old.broken ≡ false }
+        ensures { Offers self.old (Event.Cancel name.now) result self.new }
+    {
+        match self.place_of(name) {
+            Some(place) => {
+                self.queries.remove(place);
+                Ok(())
+            }
+            None => Err(Refused::NoQuery),
+        }
+    }
+
+    // the place of the live query of this name
+    fn place_of(&self, name: &Text) -> Option<usize>
+        ensures { MatchOption result
+            (list_any (has_name name.now) (registrations_in self.now) ≡ false)
+            (λ place. (live : Live) × (slice_get self.now.queries place ≡ Some live) × (live.name ≡ name.now)) }
+    {
+        place_of(self.queries.as_slice(), name)
     }
 
     // Memory is refused.
@@ -227,6 +307,8 @@ impl<A: Answer> Engine<A> {
         Refused::OutOfMemory
     }
 
+    // ---- time
+
     fn take_item(&mut self, item: Item) -> Result<(), Refused>
         requires idle { IsTrue (is_idle self.old) }
         requires ready { self.old.broken ≡ false }
@@ -236,7 +318,7 @@ impl<A: Answer> Engine<A> {
         if MOST_TRIPLES < item.graph.as_slice().len() {
             return Err(Refused::Unbuilt);
         }
-        if self.accepted() >= MOST_ITEMS {
+        if self.items.len() >= MOST_ITEMS {
             return Err(Refused::Unbuilt);
         }
         let time = item.time;
@@ -245,14 +327,8 @@ impl<A: Answer> Engine<A> {
             return Err(Refused::Late { time, next });
         }
         match self.store(item) {
-            Ok(()) => {
-                self.pass_to(time);
-                Ok(())
-            }
-            Err(AllocError) => {
-                self.broken = true;
-                Err(Refused::OutOfMemory)
-            }
+            Ok(()) => Ok(()),
+            Err(AllocError) => Err(Refused::OutOfMemory),
         }
     }
 
@@ -270,67 +346,52 @@ impl<A: Answer> Engine<A> {
         Ok(())
     }
 
-    fn has_query(&self) -> bool
-        ensures { result ≡ is_some self.now.query }
-    {
-        self.query.is_some()
-    }
-
-    // the live query's window
-    fn window(&self) -> Option<Window>
-        ensures { shapes_of (query_in self.now) ≡ option_to_list result }
-    {
-        window_of(&self.query)
-    }
-
-    // how many items were accepted
-    fn accepted(&self) -> usize
-        ensures { result ≡ length self.now.items }
-    {
-        self.items.len()
-    }
-
     // the first instant that isn't complete, or 0
     fn first_incomplete(&self) -> u64
-        ensures { result ≡ unwrap_or self.now.next 0 }
+        ensures { result ≡ next_in self.now }
     {
         self.next.unwrap_or(0)
     }
 
-    // Nothing is left of the last event, so no moment is added by a query that goes live.
-    fn go_live(&mut self, query: LiveQuery<A>)
+    // Keeps an item, and passes to its time.
+    fn store(&mut self, item: Item) -> Result<(), AllocError>
         requires idle { IsTrue (is_idle self.old) }
         requires ready { self.old.broken ≡ false }
-        requires first { query.first ≤ length self.old.items }
-        requires answers { Answers A.node A.width A.facts A.spent query }
-        ensures { self.new ≡ record self.old { query = Some (live_of query) } }
+        requires later { next_in self.old ≤ item.time }
+        requires instant { item.time ≤ last_instant }
+        ensures ok { OnOk result (Passes self.old (self.old.items ++ item ∷ []) true item.time self.new) }
+        ensures err { OnErr result (self.new.broken ≡ true) }
     {
-        self.query = Some(query);
-    }
-
-    // Keeps an item. Where memory is refused, the engine is as it was.
-    fn store(&mut self, item: Item) -> Result<(), AllocError>
-        ensures ok { OnOk result (self.new ≡ record self.old { items = self.old.items ++ item ∷ [] }) }
-        ensures err { OnErr result (self.new ≡ self.old) }
-    {
-        let triples = item.graph.as_slice().len() as u64;
-        let held = self.held.checked_add(triples).ok_or(AllocError)?;
-        self.items.push(item)?;
-        self.held = held;
-        Ok(())
+        let time = item.time;
+        match keep(&mut self.queries, &mut self.items, item, self.held) {
+            Ok(held) => {
+                self.held = held;
+                self.first = first_moment(&self.queries, self.items.as_slice(), true, self.next, time);
+                self.arrived = true;
+                self.next = Some(time);
+                Ok(())
+            }
+            Err(AllocError) => {
+                self.broken = true;
+                Err(AllocError)
+            }
+        }
     }
 
     // Every instant before `to` becomes complete.
     fn pass_to(&mut self, to: u64)
         requires idle { IsTrue (is_idle self.old) }
         requires ready { self.old.broken ≡ false }
-        requires later { unwrap_or self.old.next 0 ≤ to }
+        requires later { next_in self.old ≤ to }
         requires instant { to ≤ last_instant + 1 }
-        ensures { Passes self.old to self.new }
+        ensures { Passes self.old self.old.items false to self.new }
     {
-        self.at = first_moment(self.next, self.window(), to);
+        self.first = first_moment(&self.queries, self.items.as_slice(), false, self.next, to);
+        self.arrived = false;
         self.next = Some(to);
     }
+
+    // ---- reports
 
     /// The next report of the last event, in order; None exactly where none is left. An overfull report ends its query.
     ///
@@ -345,59 +406,90 @@ impl<A: Answer> Engine<A> {
         if self.broken {
             return Err(EngineFault::Broken);
         }
-        if self.is_idle() {
-            return Ok(None);
-        }
-        match self.first_report(steps) {
-            Ok(report) => Ok(Some(report)),
-            Err(AllocError) => {
-                self.broken = true;
-                Err(EngineFault::OutOfMemory)
-            }
+        match self.first {
+            None => Ok(None),
+            Some(place) => match self.report_first(place, steps) {
+                Ok(report) => Ok(Some(report)),
+                Err(AllocError) => Err(EngineFault::OutOfMemory),
+            },
         }
     }
 
-    // The report at the first instant left, which is worked off. Where memory is refused, no query is live and no report
-    // is left.
-    fn first_report<L: Ledger>(&mut self, steps: &mut Steps<L>) -> Result<Report, AllocError>
-        requires { is_idle self.old ≡ false }
-        ensures { IfOk result (λ report. ReportsFirst self.old report self.new) }
+    // The report at the place of the first moment left, which is worked off. Where memory is refused, the engine is broken.
+    fn report_first<L: Ledger>(
+        &mut self,
+        place: Pending,
+        steps: &mut Steps<L>,
+    ) -> Result<Report, AllocError>
+        requires ready { self.old.broken ≡ false }
+        requires first { self.old.first ≡ Some place }
+        ensures ok { IfOk result (λ report. ReportsFirst self.old report self.new) }
+        ensures err { OnErr result (self.new.broken ≡ true) }
     {
-        let (Some(next), Some(mut live)) = (self.next, self.query.take()) else {
-            unreachable!()
-        };
-        let at = self.at;
-        match report_at(self.alloc, &mut live, self.items.as_slice(), at, steps) {
-            Err(AllocError) => {
-                self.at = next;
-                Err(AllocError)
-            }
+        let next = self.next.unwrap_or(0);
+        let items = self.items.as_slice();
+        match report_at(self.alloc, &mut self.queries[place.query], items, place.at, steps) {
             Ok(report) => {
-                let kept = kept(live, &report.outcome);
-                self.at = first_moment(Some(at + 1), window_of(&kept), next);
-                self.query = kept;
+                let query = place_behind(&mut self.queries, place.query, &report.outcome);
+                let from = Pending { at: place.at, query };
+                self.first = first_left(&self.queries, items, self.arrived, next, from);
                 Ok(report)
             }
+            Err(AllocError) => {
+                self.broken = true;
+                Err(AllocError)
+            }
         }
     }
 }
 
-// the query's window, if there is one
-fn window_of<A>(query: &Option<LiveQuery<A>>) -> Option<Window>
-    ensures { shapes_of (option_map query_of (option_map live_of query.now)) ≡ option_to_list result }
+// the place of the first moment once every instant before `to` is complete, where those before `next` are worked off
+fn first_moment<A>(
+    queries: &[LiveQuery<A>],
+    items: &[Item],
+    arrived: bool,
+    next: Option<u64>,
+    to: u64,
+) -> Option<Pending>
+    requires watching { All (IsWatching items.now) queries.now }
+    requires timed { IsTimed items.now to }
+    requires later { unwrap_or next to ≤ to }
+    requires instant { to ≤ last_instant + 1 }
+    ensures { IsFirstLeft (reports_at items.now to arrived) (map fixed queries.now) to (unwrap_or next to) 0 result }
 {
-    match query {
-        None => None,
-        Some(live) => Some(live.shape),
+    let from = Pending {
+        at: next.unwrap_or(to),
+        query: 0,
+    };
+    first_left(queries, items, arrived, to, from)
+}
+
+// takes out a query whose report is overfull; gives the place of the query behind it
+fn place_behind<A: Drop>(queries: &mut Vec<LiveQuery<A>>, query: usize, outcome: &Outcome) -> usize
+    requires { query < length queries.old.items }
+    ensures place { result ≡ (if is_overfull_outcome outcome.now then query else query + 1) }
+    ensures queries { queries.new.items ≡
+        (if is_overfull_outcome outcome.now then remove queries.old.items query else queries.old.items) }
+{
+    match outcome {
+        Outcome::Overfull => {
+            queries.remove(query);
+            query
+        }
+        Outcome::Rows(_) => query + 1,
     }
 }
 
-// the query, unless its report is overfull
-fn kept<A: Drop>(live: LiveQuery<A>, outcome: &Outcome) -> Option<LiveQuery<A>>
-    ensures { result ≡ (if is_overfull_outcome outcome.now then None else Some live) }
+// the place of the query of this name
+fn place_of<A>(queries: &[LiveQuery<A>], name: &Text) -> Option<usize>
+    ensures { MatchOption result
+        (list_any (has_name name.now) (map fixed queries.now) ≡ false)
+        (λ place. (live : LiveQuery A) × (slice_get queries.now place ≡ Some live) × (live.name ≡ name.now)) }
 {
-    match outcome {
-        Outcome::Overfull => None,
-        Outcome::Rows(_) => Some(live),
+    for place in 0..queries.len() {
+        if queries[place].name == *name {
+            return Some(place);
+        }
     }
+    None
 }

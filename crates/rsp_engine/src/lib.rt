@@ -2,13 +2,14 @@
 //!
 //! An [`Engine`] *stands for* a world, in which every accepted event is kept, and for the moments of the last event that
 //! aren't worked off. `offer` accepts an event exactly where the definition accepts it, and refuses it by name else;
-//! `next_report` gives exactly the reports of the moments, one at a time, for every kind of answer. By now one query can
-//! be live, and the engine walks over the instants one by one.
+//! `next_report` gives exactly the reports of the moments, one at a time, for every kind of answer. The engine goes from due
+//! instant to due instant; by now it keeps every item.
 //! Above: the program. Below: events, query texts and their trees, answers, windows, terms and the order of rows.
 #![tactic(auto)]
 
 mod contents;
 mod engine;
+mod finding;
 mod item;
 mod live_query;
 mod refused;
@@ -16,7 +17,7 @@ mod registering;
 mod report;
 mod rows;
 mod seeing;
-mod walking;
+mod watching;
 
 pub use engine::Engine;
 use item::Item;

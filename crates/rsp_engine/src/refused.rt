@@ -34,13 +34,24 @@ pub enum Refused {
     /// The first variable of the query, or `*`, that stands where its scope doesn't allow it.
     #[error("out of scope: {variable}")]
     Scope { variable: Text },
+    /// The strategies of the query's policy don't go together: one is named twice, or the tick is TUPLE beside CLOSE or EVERY.
+    #[error("strategies that don't go together")]
+    PolicyMix,
     /// The event's time lies in what is complete: an item's time is less than `next`, or a tick's time + 1 is.
     /// Both in ms since 1970.
     #[error("late: time {time}, next {next}")]
     Late { time: u64, next: u64 },
-    /// The event is of a kind that isn't built yet: a second live query, a query without fault whose operator isn't
-    /// RSTREAM, with more than one window, or with another policy than `REPORT CLOSE TICK TIME`, a cancellation, an
-    /// insert, a delete, an item of more than a thousand triples, or an item after a thousand.
+    /// A live query has the name.
+    #[error("the name is taken")]
+    NameTaken,
+    /// No live query has the name.
+    #[error("no query has the name")]
+    NoQuery,
+    /// 256 queries are live.
+    #[error("as many queries are live as can be")]
+    QueriesFull,
+    /// The event is of a kind that isn't built yet: a query without fault whose operator isn't RSTREAM, an insert, a delete, an
+    /// item of more than a thousand triples, or an item after a thousand.
     #[error("not built yet")]
     Unbuilt,
     /// Some subtree of the query has more than 1,000,000 solutions over no facts at all.

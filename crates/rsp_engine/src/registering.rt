@@ -1,23 +1,30 @@
 // What a text asks for, and queries that become live.
-ghost use Rattle.std.specs.Prelude.{◌≡◌, ◌∷◌, [], IfOk, IfSome, MatchOption, MatchResult, Err, Ok, Result, false, map, option_map, true};
+ghost use Rattle.std.specs.Prelude.{◌≡◌, [], List, IfErr, IfOk, IfSome, MatchResult, Err, Ok, Result, false, length, map, option_map, true};
+ghost use Rattle.rsp_report.specs.Policies.{choice_of, is_mixed};
 ghost use Rattle.rsp_query.specs.Queries.{Registered, registered};
 ghost use Rattle.rsp_algebra.specs.Nodes.{IsPlaced, node_of};
 ghost use Rattle.rsp_shapes.specs.Sound.{IsSound};
 ghost use Rattle.rsp_shapes.specs.Visible.{name_of};
 ghost use Rattle.rsp_syntax.specs.Answers.{IsParsed};
 ghost use Rattle.rsp_syntax.specs.Parsing.{parse};
+ghost use Rattle.rsp_syntax.specs.Periods.{HasPeriods};
 ghost use Rattle.rsp_syntax.specs.declared.fault.SyntaxFault as fault;
 ghost use Rattle.rsp_translation.specs.Translation.{IsTranslated, first_fault};
 ghost use Rattle.rsp_engine.specs.Accept.{new_query};
-ghost use Rattle.rsp_engine.specs.Inside.{Answers, live_of};
+ghost use Rattle.rsp_engine.specs.Due.{watched_window};
+ghost use Rattle.rsp_engine.specs.Inside.{Answers, IsPolicy, IsWatching, live_of};
+ghost use Rattle.rsp_engine.specs.declared.item.Item.{Item};
 ghost use Rattle.rsp_engine.specs.Passing.{IsBegun, IsFaultOf};
 ghost use Rattle.rsp_engine.specs.Readings as readings;
 ghost use Rattle.rsp_engine.specs.Refusals.{shape_fault, text_fault};
 ghost use Rattle.rsp_engine.specs.Stands.{query_of};
+ghost use Rattle.rsp_engine.specs.declared.refused.Refused.TheVariants.{PolicyMix};
 
-use crate::{LiveQuery, Refused};
+use crate::live_query::{LiveQuery, StreamWindow};
+use crate::Refused;
 use rsp_algebra::{Answer, Translated};
-use rsp_query::{Operator, PolicyWords, Query, Strategy, WindowClause};
+use rsp_query::{Operator, PolicyWords, Query, WindowClause};
+use rsp_report::{Chosen, PolicyMix, Watched, policy};
 use rsp_syntax::{SyntaxFault, parse};
 use rsp_terms::{Listed, Text};
 use rsp_translation::{Shape, translate};
@@ -26,7 +33,8 @@ use std::alloc::{AllocError, Global};
 /// The query that a text is, or its first fault by the grammar and its limits. Fails only where memory is refused.
 pub(crate) fn parsed(alloc: Global, text: &Text) -> Result<Result<Box<Query>, Refused>, AllocError>
     ensures { IfOk result (λ read. MatchResult read
-        (λ query. (parse text.now ≡ Ok (registered query.value)) × IsSound (registered query.value))
+        (λ query. (parse text.now ≡ Ok (registered query.value)) × IsSound (registered query.value)
+        × HasPeriods (registered query.value).policy)
         (λ why. IsFaultOf why (text_fault (parse text.now)))) }
 {
     match parse(alloc, text.as_str()) {
@@ -68,52 +76,26 @@ pub(crate) fn translated(
     }
 }
 
-fn is_rstream(operator: &Operator) -> bool
+/// What the words of a policy ask of a query, whose periods are at least 1 ms.
+pub(crate) fn chosen(words: &PolicyWords) -> Result<Chosen, Refused>
+    requires { HasPeriods words.now }
+    ensures choice { IfOk result (λ chosen. (chosen ≡ choice_of words.now) × (is_mixed words.now ≡ false) × IsPolicy chosen) }
+    ensures mix { IfErr result (λ why. (why ≡ PolicyMix) × (is_mixed words.now ≡ true)) }
+{
+    match policy(words) {
+        Ok(chosen) => Ok(chosen),
+        Err(PolicyMix) => Err(Refused::PolicyMix),
+    }
+}
+
+/// Whether a query is built by now: it reports all its rows.
+pub(crate) fn is_rstream(operator: &Operator) -> bool
     ensures { result ≡ readings.is_rstream operator.now }
 {
     match operator {
         Operator::Rstream => true,
         _ => false,
     }
-}
-
-fn reports_at_closings(policy: &PolicyWords) -> bool
-    ensures { result ≡ readings.reports_at_closings policy.now }
-{
-    match policy {
-        PolicyWords::Listed {
-            strategies,
-            tuple: false,
-        } => match strategies.as_slice() {
-            [Strategy::Close] => true,
-            _ => false,
-        },
-        _ => false,
-    }
-}
-
-fn only_window(windows: &[WindowClause]) -> Option<&WindowClause>
-    ensures { MatchOption result (readings.is_one windows.now ≡ false) (λ clause. windows.now ≡ clause.now ∷ []) }
-{
-    match windows {
-        [clause] => Some(clause),
-        _ => None,
-    }
-}
-
-/// The window of a query that is built; None where it isn't.
-pub(crate) fn built_window(query: &Query) -> Option<&WindowClause>
-    ensures { MatchOption result
-        (readings.is_built (registered query.now) ≡ false)
-        (λ clause. (readings.is_built (registered query.now) ≡ true) × ((registered query.now).windows ≡ clause.now ∷ [])) }
-{
-    if !is_rstream(&query.operator) {
-        return None;
-    }
-    if !reports_at_closings(&query.policy) {
-        return None;
-    }
-    only_window(&query.windows)
 }
 
 fn name(names: &[Text], variable: usize, alloc: Global) -> Result<Text, AllocError>
@@ -136,27 +118,68 @@ fn names_of(alloc: Global, names: &[Text], shown: &[usize]) -> Result<Listed<Tex
     Ok(those)
 }
 
-/// The live query of a query that is built, over no facts; None exactly where it has too many rows over none. It sees the
-/// items from number `first` on. Fails only where memory is refused.
+// the windows of a query, over their streams
+fn stream_windows(alloc: Global, clauses: &[WindowClause]) -> Result<Listed<StreamWindow>, AllocError>
+    ensures { IfOk result (λ windows. windows ≡ map readings.window_of clauses.now) }
+{
+    let mut windows = Listed::new(alloc);
+    for clause in clauses {
+        windows.push(stream_window(clause)?)?;
+    }
+    Ok(windows)
+}
+
+fn stream_window(clause: &WindowClause) -> Result<StreamWindow, AllocError>
+    ensures { IfOk result (λ window. window ≡ readings.window_of clause.now) }
+{
+    Ok(StreamWindow {
+        stream: clause.stream.share()?,
+        shape: clause.window,
+    })
+}
+
+// the windows of a query that has seen no item
+fn unwatched(alloc: Global, clauses: &[WindowClause]) -> Result<Vec<Watched>, AllocError>
+    ensures { IfOk result (λ watched. watched.items ≡ map (watched_window []) (map readings.window_of clauses.now)) }
+{
+    let mut watched = Vec::new(alloc);
+    for clause in clauses {
+        watched.push(unwatched_window(alloc, clause))?;
+    }
+    Ok(watched)
+}
+
+fn unwatched_window(alloc: Global, clause: &WindowClause) -> Watched
+    ensures { result ≡ watched_window [] (readings.window_of clause.now) }
+{
+    Watched {
+        window: clause.window,
+        times: Listed::new(alloc),
+        fresh: false,
+    }
+}
+
+/// The live query of a query whose words choose this policy, over no facts; None exactly where it has too many rows over none.
+/// It sees the items from number `first` on. Fails only where memory is refused.
 pub(crate) fn begun<A: Answer>(
     alloc: Global,
     name: Text,
     query: &Query,
-    window: &WindowClause,
+    policy: Chosen,
     made: Box<Translated>,
     first: usize,
 ) -> Result<Option<LiveQuery<A>>, AllocError>
-    requires built { readings.is_built (registered query.now) ≡ true }
-    requires window { (registered query.now).windows ≡ window.now ∷ [] }
+    requires policy { policy ≡ choice_of (registered query.now).policy }
+    requires asked { IsPolicy policy }
     requires translated { IsTranslated (registered query.now) made.value }
     requires placed { IsPlaced made.value }
     ensures query { IfOk result (λ live. IsBegun name (registered query.now) first (option_map live_of live)) }
-    ensures first { IfOk result (λ live. IfSome live (λ live. live.first ≡ first)) }
+    ensures watching { IfOk result (λ live. IfSome live (λ live. (items : List Item) → length items ≡ first → IsWatching items live)) }
     ensures answers { IfOk result (λ live. IfSome live (Answers A.node A.width A.facts A.spent)) }
 {
     match A::start(alloc, &made)? {
         None => Ok(None),
-        Some(answer) => Ok(Some(live_query(alloc, name, query, window, made, first, answer)?)),
+        Some(answer) => Ok(Some(live_query(alloc, name, query, policy, made, first, answer)?)),
     }
 }
 
@@ -164,13 +187,13 @@ fn live_query<A: Answer>(
     alloc: Global,
     name: Text,
     query: &Query,
-    window: &WindowClause,
+    policy: Chosen,
     made: Box<Translated>,
     first: usize,
     answer: A,
 ) -> Result<LiveQuery<A>, AllocError>
-    requires built { readings.is_built (registered query.now) ≡ true }
-    requires window { (registered query.now).windows ≡ window.now ∷ [] }
+    requires policy { policy ≡ choice_of (registered query.now).policy }
+    requires asked { IsPolicy policy }
     requires translated { IsTranslated (registered query.now) made.value }
     requires node { A.node answer ≡ node_of made.value.tree }
     requires width { A.width answer ≡ made.value.width }
@@ -178,19 +201,23 @@ fn live_query<A: Answer>(
     requires ready { A.spent answer ≡ false }
     ensures query { IfOk result (λ live.
         query_of (live_of live) ≡ new_query name (readings.reading_of (registered query.now)) first) }
-    ensures first { IfOk result (λ live. live.first ≡ first) }
+    ensures watching { IfOk result (λ live. (items : List Item) → length items ≡ first → IsWatching items live) }
     ensures answers { IfOk result (Answers A.node A.width A.facts A.spent) }
 {
     let variables = names_of(alloc, &query.variables, made.shown.as_slice())?;
+    let windows = stream_windows(alloc, &query.windows)?;
+    let watched = unwatched(alloc, &query.windows)?;
     Ok(LiveQuery {
         name,
+        operator: query.operator,
         output: query.output.share()?,
-        stream: window.stream.share()?,
-        shape: window.window,
+        policy,
+        windows,
         query: made,
         variables,
         first,
         seen: Listed::new(alloc),
+        watched,
         answer,
     })
 }

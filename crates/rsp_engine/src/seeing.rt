@@ -30,13 +30,14 @@ fn outcome_at<A: Answer, L: Ledger>(
     at: u64,
     steps: &mut Steps<L>,
 ) -> Result<Outcome, AllocError>
-    requires instant { at ≤ last_instant }
+    requires instant { at ≤ last_instant + 1 }
     requires first { live.old.first ≤ length items.now }
     requires answers { Answers A.node A.width A.facts A.spent live.old }
     ensures seen { OnOk result (live_of live.new ≡ seeing (live_of live.old) items.now at) }
+    ensures watched { OnOk result (live.new.watched.items ≡ live.old.watched.items) }
     ensures reported { IfOk result (IsReported A.node A.width A.facts A.spent (live_of live.old) items.now at live.new) }
 {
-    let now = facts(alloc, &live.stream, &live.shape, live.first, items, at)?;
+    let now = facts(alloc, live.windows.as_slice(), live.first, items, at)?;
     let changes = changes(alloc, live.seen.as_slice(), now.as_slice())?;
     let turn = live.answer.change(&changes, steps)?;
     live.seen = now;
@@ -54,10 +55,11 @@ pub(crate) fn report_at<A: Answer, L: Ledger>(
     at: u64,
     steps: &mut Steps<L>,
 ) -> Result<Report, AllocError>
-    requires instant { at ≤ last_instant }
+    requires instant { at ≤ last_instant + 1 }
     requires first { live.old.first ≤ length items.now }
     requires answers { Answers A.node A.width A.facts A.spent live.old }
     ensures seen { OnOk result (live_of live.new ≡ seeing (live_of live.old) items.now at) }
+    ensures watched { OnOk result (live.new.watched.items ≡ live.old.watched.items) }
     ensures query { IfOk result (λ report. report.query ≡ live.old.name) }
     ensures at { IfOk result (λ report. report.at ≡ at) }
     ensures variables { IfOk result (λ report. report.variables ≡ live.old.variables) }

@@ -1,0 +1,78 @@
+// What an accepted item adds: its time to the windows over its stream, and itself to the items.
+ghost use Rattle.std.specs.Prelude.{◌≡◌, ◌≤◌, ◌++◌, ◌∷◌, [], map, IfOk, OnOk, length, nat_eq};
+ghost use Rattle.std.specs.List.{All};
+ghost use Rattle.rsp_engine.specs.Due.{is_over, watched_window};
+ghost use Rattle.rsp_engine.specs.Inside.{IsWatching, parts_of};
+ghost use Rattle.rsp_engine.specs.Kept.{triples_of};
+ghost use Rattle.rsp_engine.specs.Stands.{IsTimed};
+
+use crate::live_query::{LiveQuery, StreamWindow};
+use crate::Item;
+use rsp_report::Watched;
+use rsp_terms::Text;
+use std::alloc::{AllocError, Global};
+
+/// Keeps an item as the newest, and adds its time to what each query watches. Gives the number of triples of all items, of which
+/// there were `held`. Fails only where memory is refused; some queries may then watch it and others not.
+pub(crate) fn keep<A>(
+    queries: &mut [LiveQuery<A>],
+    items: &mut Vec<Item>,
+    item: Item,
+    held: u64,
+) -> Result<u64, AllocError>
+    requires watching { All (IsWatching items.old.items) queries.old }
+    requires firsts { All (λ live. live.first ≤ length items.old.items) queries.old }
+    requires held { held ≡ triples_of items.old.items }
+    ensures items { OnOk result (items.new.items ≡ items.old.items ++ item ∷ []) }
+    ensures held { IfOk result (λ held. held ≡ triples_of items.new.items) }
+    ensures parts { OnOk result (map parts_of queries.new ≡ map parts_of queries.old) }
+    ensures watching { OnOk result (All (IsWatching items.new.items) queries.new) }
+{
+    let triples = item.graph.as_slice().len() as u64;
+    let held = held.checked_add(triples).ok_or(AllocError)?;
+    watch(queries, items.as_slice(), &item)?;
+    items.push(item)?;
+    Ok(held)
+}
+
+// each query watches the items with this one as the newest
+fn watch<A>(
+    queries: &mut [LiveQuery<A>],
+    items: &[Item],
+    item: &Item,
+) -> Result<(), AllocError>
+    requires watching { All (IsWatching items.now) queries.old }
+    requires firsts { All (λ live. live.first ≤ length items.now) queries.old }
+    ensures parts { OnOk result (map parts_of queries.new ≡ map parts_of queries.old) }
+    ensures watching { OnOk result (All (IsWatching (items.now ++ item.now ∷ [])) queries.new) }
+{
+    for query in 0..queries.len() {
+        watch_query(&mut queries[query], items, item)?;
+    }
+    Ok(())
+}
+
+fn watch_query<A>(
+    live: &mut LiveQuery<A>,
+    items: &[Item],
+    item: &Item,
+) -> Result<(), AllocError>
+    requires watching { IsWatching items.now live.old }
+    requires first { live.old.first ≤ length items.now }
+    ensures parts { OnOk result (parts_of live.new ≡ parts_of live.old) }
+    ensures watching { OnOk result (IsWatching (items.now ++ item.now ∷ []) live.new) }
+{
+    for window in 0..live.watched.len() {
+        let over = is_over(live.windows.as_slice(), window, &item.stream);
+        watch_window(&mut live.watched[window], over, item.time)?;
+    }
+    Ok(())
+}
+
+fn watch_window(watched: &mut Watched, over: bool, time: u64) -> Result<(), AllocError> {
+    watched.fresh = over;
+    if over {
+        watched.times.push(time)?;
+    }
+    Ok(())
+}
