@@ -1,28 +1,33 @@
 -- An accepted event leads from an idle engine that stands for a world to one that stands for the next.
-use Rattle.std.proofs.Common.{◌≡◌, ℕ, ◌+◌, ◌-◌, ◌<◌, ◌≤◌, Bool, true, false, ◌||◌, not, option_to_list, List, [], ◌∷◌, ◌++◌, length, Option, None, Some, Ok, refl, sym, ◌∙◌, subst, arith, nat_lt, nat_le, unwrap_or, bytes_eq}
-use Rattle.std.proofs.lemmas.List.{append-nil}
-use Rattle.std.proofs.lemmas.Bool.{le-ltb, lt-leb}
-use Rattle.std.specs.List.{flat_map, range_with_len}
-use Rattle.std.specs.Option.{is_some, option_map, option_map_or}
+use Rattle.std.proofs.Common.{◌≡◌, ℕ, ◌+◌, ◌-◌, ◌<◌, ◌≤◌, Bool, true, false, ◌&&◌, not, List, [], ◌∷◌, ◌++◌, length, map, filter, remove, slice_get, Option, None, Some, Ok, refl, sym, ◌∙◌, ap, subst, arith, nat_lt, nat_le, unwrap_or, bytes_eq}
+use Rattle.std.proofs.lemmas.List.{append-nil, length-map}
+use Rattle.std.proofs.lemmas.Bool.{le-leb, le-ltb, lt-leb}
+use Rattle.std.proofs.lemmas.Simd.{map-map}
+use Rattle.std.specs.List.{IsDistinct, flat_map, list_any, range_with_len}
+use Rattle.std.specs.Option.{is_some, option_map_or}
 use Rattle.std.specs.Cmp.Lexicographic.{bytes_decides}
 use Rattle.rsp_events.specs.declared.event.Event.{Event}
-use Rattle.rsp_events.specs.declared.event.Event.TheVariants.{Register, Item, Tick}
+use Rattle.rsp_events.specs.declared.event.Event.TheVariants.{Cancel, Item, Register, Tick}
 use Rattle.rsp_terms.specs.declared.statement.Triple.{Triple}
 use Rattle.rsp_engine.specs.declared.item.Item as item
 use Rattle.rsp_query.specs.Queries.{Registered}
+use Rattle.rsp_report.specs.Policies.{is_mixed}
 use Rattle.rsp_syntax.specs.Parsing.{parse}
 use Rattle.rsp_translation.specs.Translation.{first_fault}
-use Rattle.rsp_engine.specs.declared.refused.Refused.TheVariants.{StartOverfull, Unbuilt}
+use Rattle.rsp_engine.specs.declared.refused.Refused.TheVariants as answer
 use Rattle.rsp_engine.specs.declared.refused.Refused.{Refused}
 use Rattle.rsp_engine.specs.Offers.{Answers, Refuses}
-use Rattle.rsp_engine.specs.Refusals.{Refusal, refusal_of, text_fault}
-use Rattle.rsp_engine.specs.World.{World}
-use Rattle.rsp_engine.specs.Readings.{is_built, reading_of}
-use Rattle.rsp_engine.specs.Accept.{accept, next_of, most_items, most_triples, new_query, starts_overfull}
-use Rattle.rsp_engine.specs.Moments.{moments, moments_from, moments_on, due_moments}
-use Rattle.rsp_engine.specs.Stands.{Live, State, Stands, query_in, query_of}
-use Rattle.rsp_engine.specs.Passing.{Has, Passes}
-use Rattle.rsp_engine.proofs.Walks.{kept_at_closings, none_on_items}
+use Rattle.rsp_engine.specs.Refusals.{Refusal, no_query, policy_fault, refusal_of, text_fault}
+use Rattle.rsp_engine.specs.World.{Query, Registration, World, registrations}
+use Rattle.rsp_engine.specs.Readings.{is_rstream, reading_of}
+use Rattle.rsp_engine.specs.Accept.{accept, has_name, is_live, most_items, most_queries, most_triples, new_query, next_of, starts_overfull, without}
+use Rattle.rsp_engine.specs.Due.{is_due, is_due_on, newest}
+use Rattle.rsp_engine.specs.Moments.{due_moments, moments, moments_at, moments_from, moments_on}
+use Rattle.rsp_engine.specs.Passing.{Passes}
+use Rattle.rsp_engine.specs.Stands.{Live, Stands, State, moments_left, next_in, query_of, registrations_in}
+use Rattle.rsp_engine.proofs.Left.{first_left_is, instants, newest_of}
+use Rattle.rsp_engine.proofs.Named.{remove_named, remove_map, get_map}
+use Rattle.rsp_engine.proofs.Standing.{same_live, same_registrations}
 
 pub same_bytes : (name : List ℕ) → bytes_eq name name ≡ true
 same_bytes name = (bytes_decides name name).1 refl
@@ -31,119 +36,184 @@ same_bytes name = (bytes_decides name name).1 refl
 abbrev pub Leads : World → Event → State → Type 0
 Leads world event new = (after : World) × (accept world event ≡ Ok after) × Stands new after (moments world event after)
 
--- the item part of the moments of a tick and of a registration is empty
-pub tick_leads : (old new : State) (time : ℕ) (world : World) → old.broken ≡ false → unwrap_or old.next 0 ≤ time + 1 → Passes old (time + 1) new → Stands old world [] → Leads world (Tick time) new
-tick_leads old new time world ready late passes stands =
+-- ---- time that passes
+
+-- the moments on what arrived, if something did
+abbrev arrivals : World → Bool → ℕ → List _
+arrivals world arrived to =
+    moments_at (λ query. arrived && option_map_or (is_due_on world.items query) (newest world.items) false) (registrations world) to
+
+-- the instants that became complete
+complete : (world : World) (to : ℕ) (before : Option ℕ) → world.next ≡ Some to → unwrap_or before to ≤ to
+    → flat_map (due_moments world) (range_with_len (unwrap_or before to) (to - unwrap_or before to)) ≡ option_map_or (λ from. moments_from world from) before []
+complete world to None is low = let none : to - to ≡ 0 = omega arith in rw none refl
+complete world to (Some from) is low = rw is refl
+
+-- nothing arrived
+none_pass : {X : Type 0} (xs : List X) → filter (λ _. false) xs ≡ []
+none_pass [] = refl
+none_pass (x ∷ xs) = none_pass xs
+
+-- an engine that passed to an instant stands for the world with these items, and for the moments of what became complete and arrived
+pub passed : (old new : State) (items : List item.Item) (arrived : Bool) (to : ℕ) (world : World) → Passes old items arrived to new → Stands old world [] → unwrap_or old.next to ≤ to
+    → let after : World = record { next = Some to; items = items; queries = world.queries } in
+    Stands new after (option_map_or (λ from. moments_from after from) world.next [] ++ arrivals after arrived to)
+passed old new items arrived to world passes stands low =
+    let after : World = record { next = Some to; items = items; queries = world.queries } in
+    let regs = same_registrations old.queries world stands.queries in
+    let before : unwrap_or old.next to ≡ unwrap_or world.next to = ap (λ n. unwrap_or n to) stands.next in
+    let low_world : unwrap_or world.next to ≤ to = subst (λ n. n ≤ to) before low in
+    let whole = first_left_is _ _ _ _ _ _ passes.first in
+    let split = instants items to arrived (registrations after) (unwrap_or world.next to) low_world in
+    let done = complete after to world.next refl low_world in
+    let all : moments_left after arrived new.first ≡ option_map_or (λ from. moments_from after from) world.next [] ++ arrivals after arrived to =
+    rw regs whole ∙ rw (before, ← regs) (split ∙ ap (λ ms. ms ++ arrivals after arrived to) done) in
+    record {
+      ready = passes.broken;
+      next = passes.next;
+      items = passes.items;
+      queries = ap (map query_of) passes.queries ∙ stands.queries;
+      moments = rw passes.arrived (sym all);
+    }
+
+pub tick_leads : (old new : State) (time : ℕ) (world : World) → next_in old ≤ time + 1 → unwrap_or old.next (time + 1) ≤ time + 1 → Passes old old.items false (time + 1) new → Stands old world [] → Leads world (Tick time) new
+tick_leads old new time world late low passes stands =
     let after : World = record world { next = Some (time + 1) } in
-    let has : Has after (query_in old) (Some (time + 1)) = record { queries = stands.queries; next = refl } in
     let in_time : nat_lt (time + 1) (next_of world) ≡ false = le-ltb _ _ (rw stands.next at late) in
-    let left : moments world (Tick time) after ≡ moments_from after new.at =
-    append-nil _ ∙ rw (← stands.next) (passes.moments after has) in (
+    let there = passed old new old.items false (time + 1) world passes stands low in
+    let nothing : arrivals after false (time + 1) ≡ [] = ap (map _) (none_pass (registrations after)) in (
       after,
       rw in_time refl,
-      record {
-        ready = passes.broken ∙ ready;
-        next = passes.next;
-        items = passes.items ∙ stands.items;
-        queries = rw passes.query stands.queries;
-        moments = left;
-        at = rw left (passes.at after has);
-      },
+      rw (stands.items, nothing) at there,
     )
 
 -- an item that was kept, and time that passed up to it
-pub item_leads : (old kept new : State) (stream : List ℕ) (time : ℕ) (graph : List Triple) (world : World) → old.broken ≡ false → length graph ≤ most_triples → length old.items < most_items → unwrap_or old.next 0 ≤ time → kept ≡ record old { items = old.items ++ record { stream = stream; time = time; graph = graph } ∷ [] } → Passes kept time new → Stands old world [] → Leads world (Item stream time graph) new
-item_leads old kept new stream time graph world ready small few late is passes stands =
+pub item_leads : (old new : State) (stream : List ℕ) (time : ℕ) (graph : List Triple) (world : World) → length graph ≤ most_triples → length old.items < most_items → next_in old ≤ time → unwrap_or old.next time ≤ time
+    → Passes old (old.items ++ record { stream = stream; time = time; graph = graph } ∷ []) true time new → Stands old world [] → Leads world (Item stream time graph) new
+item_leads old new stream time graph world small few late low passes stands =
     let arrived : item.Item = record { stream = stream; time = time; graph = graph } in
     let after : World = record world { next = Some time; items = world.items ++ arrived ∷ [] } in
-    let has : Has after (query_in old) (Some time) = record { queries = stands.queries; next = refl } in
     let few_items : nat_le most_items (length world.items) ≡ false = lt-leb _ _ (rw stands.items at few) in
     let few_triples : nat_lt most_triples (length graph) ≡ false = le-ltb _ _ small in
     let in_time : nat_lt time (next_of world) ≡ false = le-ltb _ _ (rw stands.next at late) in
-    let then : Passes (record old { items = old.items ++ arrived ∷ [] }) time new =
-    let P : State → Type 0 = λ s. Passes s time new in subst P is passes in
-    let on_item : moments_on after (Item stream time graph) ≡ [] = none_on_items after (query_in old) stands.queries (kept_at_closings old.query) time arrived in
-    let left : moments world (Item stream time graph) after ≡ moments_from after new.at =
-    rw on_item (append-nil _ ∙ rw (← stands.next) (then.moments after has)) in (
+    let there = passed old new (old.items ++ arrived ∷ []) true time world passes stands low in
+    let on_item : arrivals after true time ≡ moments_on after (Item stream time graph) = rw (newest_of world.items arrived) refl in (
       after,
       rw (few_triples, few_items, in_time) refl,
-      record {
-        ready = then.broken ∙ ready;
-        next = then.next;
-        items = rw (← stands.items) then.items;
-        queries = rw then.query stands.queries;
-        moments = left;
-        at = rw left (then.at after has);
-      },
+      rw (stands.items, on_item) at there,
     )
+
+-- ---- registrations and cancellations: no moment
 
 -- from the first instant that isn't complete on no moment is left
 none_behind : (world : World) (next : Option ℕ) → option_map_or (λ from. option_map_or (λ to. flat_map (due_moments world) (range_with_len from (to - from))) next []) next [] ≡ []
 none_behind world None = refl
 none_behind world (Some next) = let none : next - next ≡ 0 = omega arith in rw none refl
 
-none_from : (world : World) (next : Option ℕ) → option_map_or (λ to. flat_map (due_moments world) (range_with_len (unwrap_or next 0) (to - unwrap_or next 0))) next [] ≡ []
-none_from world None = refl
-none_from world (Some next) = let none : next - next ≡ 0 = omega arith in rw none refl
+-- an engine that is idle, with other queries, stands for the world with these
+other_queries : (old : State) (lives : List Live) (world after : World) → old.first ≡ None → Stands old world [] → after ≡ record world { queries = map query_of lives }
+    → Stands (record old { queries = lives }) after (option_map_or (λ from. moments_from after from) world.next [] ++ [])
+other_queries old lives world after idle stands is = rw is
+    (record {
+      ready = stands.ready;
+      next = stands.next;
+      items = stands.items;
+      queries = refl;
+      moments = append-nil _ ∙ (none_behind (record world { queries = map query_of lives }) world.next ∙ rw idle refl);
+    })
 
--- a query that became live where none was
-pub register_leads : (old : State) (name text : List ℕ) (q : Registered) (kept : Live) (world : World) → query_of kept ≡ new_query name (reading_of q) (length old.items) → old.broken ≡ false → old.query ≡ None → parse text ≡ Ok q → first_fault q ≡ None → is_built q ≡ true → starts_overfull (reading_of q) ≡ false → Stands old world []
-    → Leads world (Register name text) (record old { query = Some kept })
-register_leads old name text q kept world made ready none is good built starts stands =
-    let no_query : world.queries ≡ [] = rw none at stands.queries in
+-- a query that became live
+pub register_leads : (old : State) (name text : List ℕ) (q : Registered) (kept : Live) (world : World) → query_of kept ≡ new_query name (reading_of q) (length old.items) → old.first ≡ None
+    → list_any (has_name name) (registrations_in old) ≡ false → parse text ≡ Ok q → first_fault q ≡ None → is_mixed q.policy ≡ false → is_rstream q.operator ≡ true → length old.queries < most_queries → starts_overfull (reading_of q) ≡ false → Stands old world []
+    → Leads world (Register name text) (record old { queries = old.queries ++ kept ∷ [] })
+register_leads old name text q kept world made idle free is good unmixed rstream few starts stands =
     let after : World = record world { queries = world.queries ++ new_query name (reading_of q) (length world.items) ∷ [] } in
-    let left : moments world (Register name text) after ≡ [] = append-nil _ ∙ none_behind after world.next in
-    let nothing : moments_from after (next_of world) ≡ [] = none_from after world.next in (
+    let none_live : is_live world name ≡ false = same_live old world name stands.queries ∙ free in
+    let count : length world.queries ≡ length old.queries = ap length (sym stands.queries) ∙ length-map old.queries query_of in
+    let room : nat_le most_queries (length world.queries) ≡ false = lt-leb _ _ (rw (← count) at few) in
+    let as_kept : after ≡ record world { queries = map query_of (old.queries ++ kept ∷ []) } = rw (map_more old.queries kept, stands.queries, made, stands.items) refl in (
       after,
-      rw (is, good, no_query, built, starts) refl,
-      record {
-        ready = ready;
-        next = stands.next;
-        items = stands.items;
-        queries = rw (no_query, made, stands.items) refl;
-        moments = left ∙ sym (rw stands.at nothing);
-        at = rw left stands.at;
-      },
+      rw (none_live, is, good, unmixed, rstream, room, starts) refl,
+      other_queries old (old.queries ++ kept ∷ []) world after idle stands as_kept,
     )
+  where
+    map_more : (lives : List Live) (live : Live) → map query_of (lives ++ live ∷ []) ≡ map query_of lives ++ query_of live ∷ []
+    map_more [] live = refl
+    map_more (x ∷ xs) live = ap (λ rest. query_of x ∷ rest) (map_more xs live)
 
--- a live query is among the world's
-some_live : (query : Option Live) (b : Bool) → is_some query ≡ true → (nat_lt 0 (length (option_to_list (option_map query_of query))) || b) ≡ true
-some_live (Some live) b is = refl
-some_live None b is = cc
+-- the named query goes
+pub cancel_leads : (old : State) (name : List ℕ) (place : ℕ) (live : Live) (world : World) → old.first ≡ None → IsDistinct bytes_eq (map (λ (l : Live). l.name) old.queries)
+    → slice_get old.queries place ≡ Some live → live.name ≡ name → list_any (has_name name) (registrations_in old) ≡ true → Stands old world []
+    → Leads world (Cancel name) (record old { queries = remove old.queries place })
+cancel_leads old name place live world idle names listed is some stands =
+    let after : World = record world { queries = without name world.queries } in
+    let is_named : is_live world name ≡ true = same_live old world name stands.queries ∙ some in
+    let gone : without name world.queries ≡ map query_of (remove old.queries place) = gone_is old name place live world names listed is stands in (
+      after,
+      rw is_named refl,
+      other_queries old (remove old.queries place) world after idle stands (rw gone refl),
+    )
+  where
+    gone_is : (old : State) (name : List ℕ) (place : ℕ) (live : Live) (world : World) → IsDistinct bytes_eq (map (λ (l : Live). l.name) old.queries)
+        → slice_get old.queries place ≡ Some live → live.name ≡ name → Stands old world [] → without name world.queries ≡ map query_of (remove old.queries place)
+    gone_is old name place live world names listed is stands =
+        rw (← stands.queries, ← is)
+        (remove_named (map query_of old.queries) (λ (q : Query). q.registration.name) place (query_of live) (rw (map-map (λ (q : Query). q.registration.name) query_of old.queries) names) (get_map query_of old.queries place live listed)
+        ∙ sym (remove_map query_of old.queries place))
 
-unbuilt_as : (old : State) (name text : List ℕ) (q : Registered) → old.broken ≡ false → parse text ≡ Ok q → first_fault q ≡ None → ((world : World) → Stands old world [] → (nat_lt 0 (length world.queries) || not (is_built q)) ≡ true) → Refuses old (Register name text) Unbuilt old
-unbuilt_as old name text q ready is good unbuilt =
-    record { was_ready = ready; unchanged = refl; refused = λ world stands. rw (is, good, unbuilt world stands) refl }
+-- ---- refusals
 
--- where a query is live
-pub second_refuses : (old : State) (name text : List ℕ) (q : Registered) → old.broken ≡ false → is_some old.query ≡ true → parse text ≡ Ok q → first_fault q ≡ None → Refuses old (Register name text) Unbuilt old
-second_refuses old name text q ready live is good =
-    unbuilt_as old name text q ready is good (λ world stands. rw stands.queries (some_live old.query (not (is_built q)) live))
+-- what the definition answers to a registration under a name that is free, by the text
+refused_as : (old : State) (name text : List ℕ) (why : Refused) (refusal : Refusal) → old.broken ≡ false
+    → refusal_of why ≡ Some refusal → ((world : World) → Stands old world [] → accept world (Register name text) ≡ Err refusal) → Refuses old (Register name text) why old
+refused_as old name text why refusal ready is refused = rw is (record { was_ready = ready; unchanged = refl; refused = refused })
 
-or_true : (b : Bool) → (b || true) ≡ true
-or_true true = refl
-or_true false = refl
+-- the name is looked up first
+pub taken_refuses : (old : State) (name text : List ℕ) → old.broken ≡ false → list_any (has_name name) (registrations_in old) ≡ true → Refuses old (Register name text) answer.NameTaken old
+taken_refuses old name text ready taken =
+    record { was_ready = ready; unchanged = refl; refused = λ world stands. let live : is_live world name ≡ true = same_live old world name stands.queries ∙ taken in rw live refl }
 
--- a query that isn't built
-pub other_refuses : (old : State) (name text : List ℕ) (q : Registered) → old.broken ≡ false → is_built q ≡ false → parse text ≡ Ok q → first_fault q ≡ None → Refuses old (Register name text) Unbuilt old
-other_refuses old name text q ready other is good =
-    unbuilt_as old name text q ready is good (λ world stands. rw other (or_true _))
-
--- one that has too many rows over no facts
-pub overfull_refuses : (old : State) (name text : List ℕ) (q : Registered) → old.broken ≡ false → old.query ≡ None → parse text ≡ Ok q → first_fault q ≡ None → is_built q ≡ true → starts_overfull (reading_of q) ≡ true → Refuses old (Register name text) StartOverfull old
-overfull_refuses old name text q ready none is good built starts =
-    record {
-      was_ready = ready;
-      unchanged = refl;
-      refused =
-          λ world stands.
-          let no_query : world.queries ≡ [] = rw none at stands.queries in rw (is, good, no_query, built, starts) refl;
-    }
+pub no_query_refuses : (old : State) (name : List ℕ) → old.broken ≡ false → list_any (has_name name) (registrations_in old) ≡ false → Refuses old (Cancel name) answer.NoQuery old
+no_query_refuses old name ready none =
+    record { was_ready = ready; unchanged = refl; refused = λ world stands. let live : is_live world name ≡ false = same_live old world name stands.queries ∙ none in rw live refl }
 
 -- a text with a fault is refused for it
-pub faulty_refuses : (old : State) (name text : List ℕ) (why : Refused) → old.broken ≡ false → text_fault (parse text) ≡ refusal_of why → is_some (refusal_of why) ≡ true → Refuses old (Register name text) why old
-faulty_refuses old name text why ready is some = by (refusal_of why) is some
+pub faulty_refuses : (old : State) (name text : List ℕ) (why : Refused) → old.broken ≡ false → list_any (has_name name) (registrations_in old) ≡ false → text_fault (parse text) ≡ refusal_of why → is_some (refusal_of why) ≡ true → Refuses old (Register name text) why old
+faulty_refuses old name text why ready free is some = by (refusal_of why) is some
   where
     by : (o : Option Refusal) → text_fault (parse text) ≡ o → is_some o ≡ true → Answers old (Register name text) why o old
     by None is some = cc
-    by (Some refusal) is some = record { was_ready = ready; unchanged = refl; refused = λ world stands. rw is refl }
+    by (Some refusal) is some = record { was_ready = ready; unchanged = refl; refused = λ world stands. let live : is_live world name ≡ false = same_live old world name stands.queries ∙ free in rw (live, is) refl }
+
+module _ (old : State) (name text : List ℕ) (q : Registered) (ready : old.broken ≡ false) (free : list_any (has_name name) (registrations_in old) ≡ false) (is : parse text ≡ Ok q) (good : first_fault q ≡ None) where
+  none_live : (world : World) → Stands old world [] → is_live world name ≡ false
+  none_live world stands = same_live old world name stands.queries ∙ free
+
+  pub mixed_refuses : is_mixed q.policy ≡ true → Refuses old (Register name text) answer.PolicyMix old
+  mixed_refuses mixed = record { was_ready = ready; unchanged = refl; refused = λ world stands. rw (none_live world stands, is, good, mixed) refl }
+
+  module _ (unmixed : is_mixed q.policy ≡ false) where
+    pub unbuilt_refuses : is_rstream q.operator ≡ false → Refuses old (Register name text) answer.Unbuilt old
+    unbuilt_refuses other = record { was_ready = ready; unchanged = refl; refused = λ world stands. rw (none_live world stands, is, good, unmixed, other) refl }
+
+    module _ (rstream : is_rstream q.operator ≡ true) where
+      count : (world : World) → Stands old world [] → length world.queries ≡ length old.queries
+      count world stands = ap length (sym stands.queries) ∙ length-map old.queries query_of
+
+      pub full_refuses : most_queries ≤ length old.queries → Refuses old (Register name text) answer.QueriesFull old
+      full_refuses many = record {
+        was_ready = ready;
+        unchanged = refl;
+        refused = λ world stands.
+            let full : nat_le most_queries (length world.queries) ≡ true = rw (count world stands) (le-leb _ _ many) in
+            rw (none_live world stands, is, good, unmixed, rstream, full) refl;
+      }
+
+      pub overfull_refuses : length old.queries < most_queries → starts_overfull (reading_of q) ≡ true → Refuses old (Register name text) answer.StartOverfull old
+      overfull_refuses few starts = record {
+        was_ready = ready;
+        unchanged = refl;
+        refused = λ world stands.
+            let room : nat_le most_queries (length world.queries) ≡ false = rw (count world stands) (lt-leb _ _ few) in
+            rw (none_live world stands, is, good, unmixed, rstream, room, starts) refl;
+      }

@@ -1,4 +1,4 @@
-use Rattle.rsp_engine.specs.Stands.{instants_left}
+use Rattle.rsp_engine.specs.Stands.{places_left}
 use Rattle.rsp_call.specs.Sinks.{sink_seen}
 use Rattle.rsp_call.proofs.Tellings.{Telling}
 use Rattle.rsp_call.proofs.telling.tell_reports.Given as goal
@@ -12,4 +12,4 @@ invariant-reports g l =
     (sink_seen (g.K.Sink.taken l.out) (g.K.Sink.room l.out) (g.K.Sink.faults l.out))
 
 abbrev pub decreases-reports : goal.decreases-reports
-decreases-reports g l = instants_left l.engine
+decreases-reports g l = places_left l.engine

@@ -1,0 +1,38 @@
+-- What an engine's state says of the world for which it stands.
+use Rattle.std.proofs.Common.{◌≡◌, ℕ, Bool, true, false, List, [], ◌∷◌, Option, None, Some, refl, sym, ◌∙◌, ap, subst, map}
+use Rattle.std.specs.Option.{option_map_or}
+use Rattle.std.proofs.lemmas.Simd.{map-map}
+use Rattle.std.specs.List.{list_any}
+use Rattle.rsp_engine.specs.declared.finding.Pending.{Pending}
+use Rattle.rsp_engine.specs.World.{Query, Registration, World, registrations}
+use Rattle.rsp_engine.specs.Accept.{has_name, is_live, next_of}
+use Rattle.rsp_engine.specs.Left.{IsWaiting, left_from, reports_at}
+use Rattle.rsp_engine.specs.Moments.{Moment}
+use Rattle.rsp_engine.specs.Stands.{IsState, Live, Stands, State, moments_left, next_in, query_of, registration_of, registrations_in, test_in}
+use Rattle.rsp_engine.proofs.Left.{waiting_head}
+
+-- the queries as registration fixed them
+pub fixed_of : (lives : List Live) → map (λ (query : Query). query.registration) (map query_of lives) ≡ map registration_of lives
+fixed_of lives = map-map (λ (query : Query). query.registration) query_of lives
+
+pub same_registrations : (lives : List Live) (world : World) → map query_of lives ≡ world.queries → registrations world ≡ map registration_of lives
+same_registrations lives world is = ap (map (λ (query : Query). query.registration)) (sym is) ∙ fixed_of lives
+
+pub same_live : (e : State) (world : World) (name : List ℕ) → map query_of e.queries ≡ world.queries → is_live world name ≡ list_any (has_name name) (registrations_in e)
+same_live e world name is = ap (list_any (has_name name)) (same_registrations e.queries world is)
+
+-- the moments that are left, by the engine's own fields
+pub left_here : (e : State) (world : World) (left : List Moment) → Stands e world left → (place : Pending) → e.first ≡ Some place
+    → left ≡ left_from (test_in e) (registrations_in e) (next_in e) place.at place.query
+left_here e world left stands place is =
+    let regs = same_registrations e.queries world stands.queries in
+    let here : moments_left world e.arrived e.first ≡ left_from (test_in e) (registrations_in e) (next_in e) place.at place.query =
+    rw (is, regs, ← stands.items, ← stands.next) refl in
+    stands.moments ∙ here
+
+-- where a place is set, its moment is the first
+pub record Busy (e : State) (left : List Moment) (place : Pending) : Type 0 where
+  pub query : Registration
+  pub rest : List Moment
+  pub is_rest : rest ≡ left_from (test_in e) (registrations_in e) (next_in e) place.at (place.query + 1)
+  pub is : left ≡ record { at = place.at; query = query.name } ∷ rest
