@@ -76,3 +76,11 @@ fn watch_window(watched: &mut Watched, over: bool, time: u64) -> Result<(), Allo
     }
     Ok(())
 }
+
+// whether the stream is that of the window of this number
+fn is_over(windows: &[StreamWindow], number: usize, stream: &Text) -> bool {
+    match windows.get(number) {
+        Some(window) => *stream == window.stream,
+        None => false,
+    }
+}
