@@ -1,3 +1,6 @@
+pub mod Left
+pub mod Named
+pub mod Places
 pub mod Walks
 pub mod Offering
 pub mod Graphs

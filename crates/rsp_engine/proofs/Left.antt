@@ -1,0 +1,206 @@
+-- The moments that are left from a place on, and how they go.
+use Rattle.std.proofs.Common.{◌≡◌, ℕ, zero, suc, ◌+◌, ◌-◌, ◌<◌, ◌≤◌, Bool, true, false, true≢false, not, ◌&&◌, ◌||◌, cond, List, [], ◌∷◌, ◌++◌, filter, drop, length, Option, None, Some, slice_get, refl, sym, ap, subst, ◌∙◌, arith, nat_lt, bytes_eq, if◌then◌else◌}
+use Rattle.std.specs.List.{flat_map, list_any, range_with_len}
+use Rattle.std.specs.Option.{option_map_or}
+use Rattle.std.proofs.lemmas.Bool.{lt-ltb, le-ltb}
+use Rattle.std.proofs.lemmas.List.{append-nil, append_assoc, drop_more, length_push}
+use Rattle.std.proofs.lemmas.List.Elements.{filter-append}
+use Rattle.std.proofs.lemmas.Option.{get_or_from_slice_get, same_Some, slice_get_within}
+use Rattle.rsp_engine.specs.declared.item.Item.{Item}
+use Rattle.rsp_engine.specs.declared.finding.Pending.{Pending}
+use Rattle.rsp_engine.specs.World.{Registration}
+use Rattle.rsp_engine.specs.Due.{is_due, is_due_on, newest}
+use Rattle.rsp_engine.specs.Moments.{Moment, moments_at}
+use Rattle.rsp_engine.specs.Left.{IsFirstLeft, IsWaiting, left_from, reports_at}
+use Rattle.rsp_engine.specs.Accept.{has_name}
+
+-- ---- one step
+
+drop_is : {X : Type 0} (xs : List X) (i : ℕ) (x : X) → slice_get xs i ≡ Some x → drop i xs ≡ x ∷ drop (i + 1) xs
+drop_is xs i x listed =
+    drop_more xs i x (slice_get_within xs i x listed) ∙ ap (λ y. y ∷ drop (i + 1) xs) (get_or_from_slice_get xs i x x listed)
+
+none_pass : {X : Type 0} (test : X → Bool) (xs : List X) → list_any test xs ≡ false → filter test xs ≡ []
+none_pass test [] none = refl
+none_pass test (x ∷ xs) none =
+    elim (test x) as (λ v. (v || list_any test xs) ≡ false → cond v (x ∷ filter test xs) (filter test xs) ≡ []) [
+      | true ↦ λ is. absurd (true≢false is)
+      | false ↦ λ is. none_pass test xs is
+    ] none
+
+module _ (test : ℕ → Registration → Bool) (queries : List Registration) (last : ℕ) where
+  -- a query that passes is the first
+  pub head : (t i : ℕ) (query : Registration) → slice_get queries i ≡ Some query → test t query ≡ true
+      → left_from test queries last t i ≡ record { at = t; query = query.name } ∷ left_from test queries last t (i + 1)
+  head t i query listed passes = rw (drop_is queries i query listed, passes) refl
+
+  -- queries that don't pass are passed over
+  pub quiet : (t i k : ℕ) → filter (test t) (drop i queries) ≡ filter (test t) (drop k queries)
+      → left_from test queries last t i ≡ left_from test queries last t k
+  quiet t i k same = rw same refl
+
+  -- the end of an instant leads to the next
+  pub over : (t i : ℕ) → filter (test t) (drop i queries) ≡ [] → t < last
+      → left_from test queries last t i ≡ left_from test queries last (t + 1) 0
+  over t i none below =
+      let more : last - t ≡ suc (last - (t + 1)) = omega arith in
+      rw (none, more) refl
+
+  -- behind the last is nothing
+  pub ended : (t i : ℕ) → filter (test t) (drop i queries) ≡ [] → last ≤ t → left_from test queries last t i ≡ []
+  ended t i none beyond =
+      let less : last - t ≡ 0 = omega arith in
+      rw (none, less) refl
+
+  -- ---- instants that are passed over
+
+  jump_by : (gap t u : ℕ) → t + gap ≡ u → u ≤ last → ((s : ℕ) → t ≤ s → s < u → list_any (test s) queries ≡ false)
+      → left_from test queries last t 0 ≡ left_from test queries last u 0
+  jump_by zero t u is high none = let same : t ≡ u = omega arith in ap (λ s. left_from test queries last s 0) same
+  jump_by (suc gap) t u is high none =
+      let here = none_pass (test t) queries (none t (omega arith) (omega arith)) in
+      over t 0 here (omega arith) ∙ jump_by gap (t + 1) u (omega arith) high (λ s late early. none s (omega arith) early)
+
+  pub jump : (t u : ℕ) → t ≤ u → u ≤ last → ((s : ℕ) → t ≤ s → s < u → list_any (test s) queries ≡ false)
+      → left_from test queries last t 0 ≡ left_from test queries last u 0
+  jump t u low high none = jump_by (u - t) t u (omega arith) high none
+
+  pub none : (t : ℕ) → t ≤ last → ((s : ℕ) → t ≤ s → s ≤ last → list_any (test s) queries ≡ false)
+      → left_from test queries last t 0 ≡ []
+  none t low nowhere =
+      jump t last low (omega arith) (λ s late early. nowhere s late (omega arith))
+      ∙ ended last 0 (none_pass (test last) queries (nowhere last low (omega arith))) (omega arith)
+
+  -- ---- the first place
+
+  pub waiting_head : (place : Pending) (query : Registration) → IsWaiting test queries last place
+      → slice_get queries place.query ≡ Some query
+      → left_from test queries last place.at place.query
+      ≡ record { at = place.at; query = query.name } ∷ left_from test queries last place.at (place.query + 1)
+  waiting_head place query waiting listed =
+      let same : waiting.query ≡ query = same_Some _ _ (sym waiting.listed ∙ listed) in
+      head place.at place.query query listed (subst (λ q. test place.at q ≡ true) same waiting.reports)
+
+  pub first_left_is : (t i : ℕ) (r : Option Pending) → IsFirstLeft test queries last t i r
+      → option_map_or (λ (place : Pending). left_from test queries last place.at place.query) r []
+      ≡ left_from test queries last t i
+  first_left_is t i None is = sym is
+  first_left_is t i (Some place) is = sym is.3
+
+  -- where a query waits, a moment is left
+  pub waiting_some : (place : Pending) → IsWaiting test queries last place
+      → left_from test queries last place.at place.query ≡ [] → ⊥
+  waiting_some place waiting is = let first = waiting_head place waiting.query waiting waiting.listed in cc
+
+  -- ---- all from an instant on
+
+  more_at : (f : ℕ → List Moment) (from n : ℕ)
+      → flat_map f (range_with_len from (suc n)) ≡ flat_map f (range_with_len from n) ++ f (from + n)
+  more_at f from zero = let same : from + 0 ≡ from = omega arith in rw same (append-nil (f from))
+  more_at f from (suc n) =
+      let same : from + suc n ≡ (from + 1) + n = omega arith in
+      rw same
+      (ap (λ rest. f from ++ rest) (more_at f (from + 1) n)
+      ∙ sym (append_assoc (f from) (flat_map f (range_with_len (from + 1) n)) (f (from + 1 + n))))
+
+  pub event : (from : ℕ) → from ≤ last
+      → left_from test queries last from 0
+      ≡ flat_map (λ t. moments_at (test t) queries t) (range_with_len from (last - from)) ++ moments_at (test last) queries last
+  event from low =
+      let same : from + (last - from) ≡ last = omega arith in
+      more_at (λ t. moments_at (test t) queries t) from (last - from)
+      ∙ ap (λ end. flat_map (λ t. moments_at (test t) queries t) (range_with_len from (last - from))
+      ++ moments_at (test end) queries end) same
+
+-- an event's moments: those of the instants that became complete, then those on the item that arrived
+module _ (items : List Item) (to : ℕ) (arrived : Bool) (queries : List Registration) where
+  -- what is tested at an instant, by whether it is complete
+  abbrev tested : ℕ → Bool → Registration → Bool
+  tested t complete query =
+      if complete then is_due items query t else (arrived && option_map_or (is_due_on items query) (newest items) false)
+
+  complete : (n from : ℕ) → from + n ≤ to
+      → flat_map (λ t. moments_at (reports_at items to arrived t) queries t) (range_with_len from n)
+      ≡ flat_map (λ t. moments_at (λ query. is_due items query t) queries t) (range_with_len from n)
+  complete zero from high = refl
+  complete (suc n) from high =
+      let below : nat_lt from to ≡ true = lt-ltb from to (omega arith) in
+      ap (λ b. moments_at (tested from b) queries from
+      ++ flat_map (λ t. moments_at (reports_at items to arrived t) queries t) (range_with_len (from + 1) n)) below
+      ∙ ap (λ rest. moments_at (λ query. is_due items query from) queries from ++ rest) (complete n (from + 1) (omega arith))
+
+  pub instants : (from : ℕ) → from ≤ to
+      → left_from (reports_at items to arrived) queries to from 0
+      ≡ flat_map (λ t. moments_at (λ query. is_due items query t) queries t) (range_with_len from (to - from))
+      ++ moments_at (λ query. arrived && option_map_or (is_due_on items query) (newest items) false) queries to
+  instants from low =
+      let beyond : nat_lt to to ≡ false = le-ltb to to (omega arith) in
+      event (reports_at items to arrived) queries to from low
+      ∙ (ap (λ early. early ++ moments_at (reports_at items to arrived to) queries to) (complete (to - from) from (omega arith))
+      ∙ ap (λ b. flat_map (λ t. moments_at (λ query. is_due items query t) queries t) (range_with_len from (to - from))
+      ++ moments_at (tested to b) queries to) beyond)
+
+-- the item that was accepted last
+pub newest_of : (items : List Item) (item : Item) → newest (items ++ item ∷ []) ≡ Some item
+newest_of items item =
+    let last : length (items ++ item ∷ []) - 1 ≡ length items = omega (arith, length_push items item) in
+    rw last (slice_get_last items item)
+  where
+    slice_get_last : (items : List Item) (item : Item) → slice_get (items ++ item ∷ []) (length items) ≡ Some item
+    slice_get_last [] item = refl
+    slice_get_last (x ∷ items) item = slice_get_last items item
+
+-- ---- where a query goes
+
+module _ (test : ℕ → Registration → Bool) (name : List ℕ) where
+  abbrev others : List Registration → List Registration
+  others queries = filter (λ query. not (has_name name query)) queries
+
+  abbrev struck : List Moment → List Moment
+  struck moments = filter (λ (moment : Moment). not (bytes_eq moment.query name)) moments
+
+  abbrev Struck : ℕ → List Registration → Type 0
+  Struck t queries = moments_at (test t) (others queries) t ≡ struck (moments_at (test t) queries t)
+
+  -- its moments at an instant are struck
+  struck_at : (t : ℕ) (queries : List Registration) → Struck t queries
+  struck_at t [] = refl
+  struck_at t (query ∷ queries) =
+      elim (test t query) as (λ passes. test t query ≡ passes → Struck t (query ∷ queries)) [
+        | true ↦ λ passes.
+            elim (bytes_eq query.name name) as (λ same. bytes_eq query.name name ≡ same → Struck t (query ∷ queries)) [
+              | true ↦ λ same. rw (passes, same) (struck_at t queries)
+              | false ↦ λ same. rw (same, passes, same)
+                  (ap (λ ms. record { at = t; query = query.name } ∷ ms) (struck_at t queries))
+            ] refl
+        | false ↦ λ passes.
+            elim (bytes_eq query.name name) as (λ same. bytes_eq query.name name ≡ same → Struck t (query ∷ queries)) [
+              | true ↦ λ same. rw (passes, same) (struck_at t queries)
+              | false ↦ λ same. rw (same, passes) (struck_at t queries)
+            ] refl
+      ] refl
+
+  -- at some instants
+  abbrev moments_of : List Registration → List ℕ → List Moment
+  moments_of queries ts = flat_map (λ t. moments_at (test t) queries t) ts
+
+  struck_of : (queries : List Registration) (ts : List ℕ) → moments_of (others queries) ts ≡ struck (moments_of queries ts)
+  struck_of queries [] = refl
+  struck_of queries (t ∷ ts) =
+      ap (λ ms. ms ++ moments_of (others queries) ts) (struck_at t queries)
+      ∙ (ap (λ ms. struck (moments_at (test t) queries t) ++ ms) (struck_of queries ts)
+      ∙ sym (filter-append (λ (moment : Moment). not (bytes_eq moment.query name)) (moments_at (test t) queries t)
+      (moments_of queries ts)))
+
+  -- those left without it are those left with its name struck
+  pub gone : (queries rest : List Registration) (last t i j : ℕ) → rest ≡ filter (λ query. not (has_name name query)) queries
+      → drop i rest ≡ filter (λ query. not (has_name name query)) (drop j queries)
+      → left_from test rest last t i
+      ≡ filter (λ (moment : Moment). not (bytes_eq moment.query name)) (left_from test queries last t j)
+  gone queries rest last t i j all is =
+      let later = range_with_len (t + 1) (last - t) in
+      rw (is, all)
+      (ap (λ ms. ms ++ moments_of (others queries) later) (struck_at t (drop j queries))
+      ∙ (ap (λ ms. struck (moments_at (test t) (drop j queries) t) ++ ms) (struck_of queries later)
+      ∙ sym (filter-append (λ (moment : Moment). not (bytes_eq moment.query name)) (moments_at (test t) (drop j queries) t)
+      (moments_of queries later))))
