@@ -1,7 +1,7 @@
 pub mod Left
 pub mod Named
 pub mod Places
-pub mod Walks
+pub mod Standing
 pub mod Offering
 pub mod Graphs
 pub mod FactSets
@@ -9,5 +9,3 @@ pub mod OrderedRows
 pub mod FirstReport
 pub mod ReportSteps
 pub mod Reported
-pub mod Behind
-mod WorldRows

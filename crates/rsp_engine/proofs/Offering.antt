@@ -26,7 +26,7 @@ use Rattle.rsp_engine.specs.Moments.{due_moments, moments, moments_at, moments_f
 use Rattle.rsp_engine.specs.Passing.{Passes}
 use Rattle.rsp_engine.specs.Stands.{Live, Stands, State, moments_left, next_in, query_of, registrations_in}
 use Rattle.rsp_engine.proofs.Left.{first_left_is, instants, newest_of}
-use Rattle.rsp_engine.proofs.Named.{remove_named, remove_map, get_map}
+use Rattle.rsp_engine.proofs.Named.{get_map, remove_map, remove_named}
 use Rattle.rsp_engine.proofs.Standing.{same_live, same_registrations}
 
 pub same_bytes : (name : List ℕ) → bytes_eq name name ≡ true
@@ -76,11 +76,16 @@ passed old new items arrived to world passes stands low =
       moments = rw passes.arrived (sym all);
     }
 
-pub tick_leads : (old new : State) (time : ℕ) (world : World) → next_in old ≤ time + 1 → unwrap_or old.next (time + 1) ≤ time + 1 → Passes old old.items false (time + 1) new → Stands old world [] → Leads world (Tick time) new
-tick_leads old new time world late low passes stands =
+-- what is due is not before `next`
+pub low_of : (next : Option ℕ) (to : ℕ) → unwrap_or next 0 ≤ to → unwrap_or next to ≤ to
+low_of None to low = omega arith
+low_of (Some n) to low = low
+
+pub tick_leads : (old new : State) (time : ℕ) (world : World) → next_in old ≤ time + 1 → Passes old old.items false (time + 1) new → Stands old world [] → Leads world (Tick time) new
+tick_leads old new time world late passes stands =
     let after : World = record world { next = Some (time + 1) } in
     let in_time : nat_lt (time + 1) (next_of world) ≡ false = le-ltb _ _ (rw stands.next at late) in
-    let there = passed old new old.items false (time + 1) world passes stands low in
+    let there = passed old new old.items false (time + 1) world passes stands (low_of old.next (time + 1) late) in
     let nothing : arrivals after false (time + 1) ≡ [] = ap (map _) (none_pass (registrations after)) in (
       after,
       rw in_time refl,
@@ -88,15 +93,15 @@ tick_leads old new time world late low passes stands =
     )
 
 -- an item that was kept, and time that passed up to it
-pub item_leads : (old new : State) (stream : List ℕ) (time : ℕ) (graph : List Triple) (world : World) → length graph ≤ most_triples → length old.items < most_items → next_in old ≤ time → unwrap_or old.next time ≤ time
+pub item_leads : (old new : State) (stream : List ℕ) (time : ℕ) (graph : List Triple) (world : World) → length graph ≤ most_triples → length old.items < most_items → next_in old ≤ time
     → Passes old (old.items ++ record { stream = stream; time = time; graph = graph } ∷ []) true time new → Stands old world [] → Leads world (Item stream time graph) new
-item_leads old new stream time graph world small few late low passes stands =
+item_leads old new stream time graph world small few late passes stands =
     let arrived : item.Item = record { stream = stream; time = time; graph = graph } in
     let after : World = record world { next = Some time; items = world.items ++ arrived ∷ [] } in
     let few_items : nat_le most_items (length world.items) ≡ false = lt-leb _ _ (rw stands.items at few) in
     let few_triples : nat_lt most_triples (length graph) ≡ false = le-ltb _ _ small in
     let in_time : nat_lt time (next_of world) ≡ false = le-ltb _ _ (rw stands.next at late) in
-    let there = passed old new (old.items ++ arrived ∷ []) true time world passes stands low in
+    let there = passed old new (old.items ++ arrived ∷ []) true time world passes stands (low_of old.next time late) in
     let on_item : arrivals after true time ≡ moments_on after (Item stream time graph) = rw (newest_of world.items arrived) refl in (
       after,
       rw (few_triples, few_items, in_time) refl,

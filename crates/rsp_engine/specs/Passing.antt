@@ -24,15 +24,15 @@ use Rattle.rsp_engine.specs.Reports.{IsOutcome, cells_at}
 use Rattle.rsp_engine.specs.Stands.{State, Live, next_in, query_of, reading_in, registration_of, registrations_in, test_in}
 use Rattle.rsp_engine.specs.World.{Reading}
 
--- every instant before `to` is complete; the moments left are those of the instants that became complete, and of the newest item
--- where it just arrived; nothing else has changed
-pub record Passes (old : State) (items : List Item) (arrived : Bool) (to : ℕ) (new : State) : Type 0 where
+-- every instant before `to` is complete, and these items are kept, of which the newest just came, or not; the moments left are
+-- those of the instants that became complete, and of what came; nothing else has changed
+pub record Passes (old : State) (kept : List Item) (came : Bool) (to : ℕ) (new : State) : Type 0 where
   pub next : new.next ≡ Some to
   pub queries : new.queries ≡ old.queries
-  pub items : new.items ≡ items
-  pub arrived : new.arrived ≡ arrived
+  pub items : new.items ≡ kept
+  pub arrived : new.arrived ≡ came
   pub broken : new.broken ≡ false
-  pub first : IsFirstLeft (reports_at items to arrived) (registrations_in old) to (unwrap_or old.next to) 0 new.first
+  pub first : IsFirstLeft (reports_at kept to came) (registrations_in old) to (unwrap_or old.next to) 0 new.first
 
 -- the live query once it has seen the facts of t
 abbrev pub seeing : Live → List Item → ℕ → Live

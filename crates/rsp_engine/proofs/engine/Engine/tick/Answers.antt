@@ -7,6 +7,6 @@ returns g c =
     let late = rw c.first_incomplete-next.ensures at c.if-time-next.false in
     record {
       was_ready = c.requires.ready;
-      ready = c.pass_to.ensures.broken ∙ c.requires.ready;
-      stands = λ world stands. tick_leads _ _ _ world c.requires.ready late c.pass_to.ensures stands;
+      ready = c.pass_to.ensures.broken;
+      stands = λ world stands. tick_leads _ _ _ world late c.pass_to.ensures stands;
     }
