@@ -380,7 +380,8 @@ impl<A: Answer> Engine<A> {
         match keep(&mut self.queries, &mut self.items, item, self.held) {
             Ok(held) => {
                 self.held = held;
-                self.first = first_moment(&self.queries, self.items.as_slice(), true, self.next, time);
+                let queries = self.queries.as_slice();
+                self.first = first_moment(queries, self.items.as_slice(), true, self.next, time);
                 self.arrived = true;
                 self.next = Some(time);
                 Ok(())
@@ -400,7 +401,8 @@ impl<A: Answer> Engine<A> {
         requires instant { to ≤ last_instant + 1 }
         ensures { Passes self.old self.old.items false to self.new }
     {
-        self.first = first_moment(&self.queries, self.items.as_slice(), false, self.next, to);
+        let queries = self.queries.as_slice();
+        self.first = first_moment(queries, self.items.as_slice(), false, self.next, to);
         self.arrived = false;
         self.next = Some(to);
     }
@@ -446,7 +448,8 @@ impl<A: Answer> Engine<A> {
             Ok(report) => {
                 let query = place_behind(&mut self.queries, place.query, &report.outcome);
                 let from = Pending { at: place.at, query };
-                self.first = first_left(&self.queries, items, self.arrived, next, from);
+                let queries = self.queries.as_slice();
+                self.first = first_left(queries, items, self.arrived, next, from);
                 Ok(report)
             }
             Err(AllocError) => {
