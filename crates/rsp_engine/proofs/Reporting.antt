@@ -138,7 +138,8 @@ module _ {A : Type 0} (node : A → Node) (width : A → ℕ) (facts : A → Lis
                 timed = rw (next, items) ready.state.timed;
                 firsts = rw (lives, items) (firsts_behind (is_overfull_outcome given));
                 names = rw lives (names_behind (is_overfull_outcome given));
-                waits = rw (next, items, arrived) (waits_at _ _ _ _ _ _ (fixed_left new.queries.items _ _ _ _ _ left));
+                waits = rw (next, items, arrived) (waits_at (test_in (state_of e)) (registrations_in (state_of new)) (next_in (state_of e)) place.at (place_behind place (is_overfull_outcome given)) new.first
+                    (fixed_left new.queries.items (test_in (state_of e)) (next_in (state_of e)) place.at (place_behind place (is_overfull_outcome given)) new.first left));
               };
               held = rw (held, items) ready.held;
               answers = rw queries (answers_behind given reported);
