@@ -2,6 +2,7 @@ pub mod Left
 pub mod Named
 pub mod Places
 pub mod Standing
+pub mod Reporting
 pub mod Offering
 pub mod Graphs
 pub mod FactSets

@@ -224,7 +224,7 @@ impl<A: Answer> Engine<A> {
         if !is_rstream(&query.operator) {
             return Err(Refused::Unbuilt);
         }
-        if self.queries.len() >= MOST_QUERIES {
+        if self.live() >= MOST_QUERIES {
             return Err(Refused::QueriesFull);
         }
         self.begin(name, query, policy, made)
@@ -251,7 +251,7 @@ impl<A: Answer> Engine<A> {
         ensures { (text : List ℕ) → parse text ≡ Ok (registered query.now)
             → Offers self.old (Event.Register name text) result self.new }
     {
-        match begun(self.alloc, name, query, policy, made, self.items.len()) {
+        match begun(self.alloc, name, query, policy, made, self.accepted()) {
             Ok(Some(query)) => self.go_live(query),
             Ok(None) => Err(Refused::StartOverfull),
             Err(AllocError) => Err(self.break_off()),
@@ -318,7 +318,7 @@ impl<A: Answer> Engine<A> {
         if MOST_TRIPLES < item.graph.as_slice().len() {
             return Err(Refused::Unbuilt);
         }
-        if self.items.len() >= MOST_ITEMS {
+        if self.accepted() >= MOST_ITEMS {
             return Err(Refused::Unbuilt);
         }
         let time = item.time;
@@ -346,6 +346,20 @@ impl<A: Answer> Engine<A> {
         Ok(())
     }
 
+    // how many queries are live
+    fn live(&self) -> usize
+        ensures { result ≡ length self.now.queries }
+    {
+        self.queries.len()
+    }
+
+    // how many items were accepted
+    fn accepted(&self) -> usize
+        ensures { result ≡ length self.now.items }
+    {
+        self.items.len()
+    }
+
     // the first instant that isn't complete, or 0
     fn first_incomplete(&self) -> u64
         ensures { result ≡ next_in self.now }
@@ -366,7 +380,8 @@ impl<A: Answer> Engine<A> {
         match keep(&mut self.queries, &mut self.items, item, self.held) {
             Ok(held) => {
                 self.held = held;
-                self.first = first_moment(&self.queries, self.items.as_slice(), true, self.next, time);
+                let queries = self.queries.as_slice();
+                self.first = first_moment(queries, self.items.as_slice(), true, self.next, time);
                 self.arrived = true;
                 self.next = Some(time);
                 Ok(())
@@ -386,7 +401,8 @@ impl<A: Answer> Engine<A> {
         requires instant { to ≤ last_instant + 1 }
         ensures { Passes self.old self.old.items false to self.new }
     {
-        self.first = first_moment(&self.queries, self.items.as_slice(), false, self.next, to);
+        let queries = self.queries.as_slice();
+        self.first = first_moment(queries, self.items.as_slice(), false, self.next, to);
         self.arrived = false;
         self.next = Some(to);
     }
@@ -432,7 +448,8 @@ impl<A: Answer> Engine<A> {
             Ok(report) => {
                 let query = place_behind(&mut self.queries, place.query, &report.outcome);
                 let from = Pending { at: place.at, query };
-                self.first = first_left(&self.queries, items, self.arrived, next, from);
+                let queries = self.queries.as_slice();
+                self.first = first_left(queries, items, self.arrived, next, from);
                 Ok(report)
             }
             Err(AllocError) => {
