@@ -10,3 +10,5 @@ pub mod OrderedRows
 pub mod FirstReport
 pub mod ReportSteps
 pub mod Reported
+pub mod Watches
+pub mod FirstPlaces
