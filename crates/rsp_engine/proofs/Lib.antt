@@ -9,3 +9,4 @@ pub mod OrderedRows
 pub mod FirstReport
 pub mod ReportSteps
 pub mod Reported
+pub mod NewTimes
