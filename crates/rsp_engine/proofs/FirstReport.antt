@@ -1,6 +1,8 @@
 -- The first report of the moments that are left leads to a world for which the engine stands.
-use Rattle.std.proofs.Common.{◌≡◌, ◌⊎◌, inl, inr, ℕ, ◌+◌, ◌<◌, ◌≤◌, Bool, true, false, List, [], ◌∷◌, filter, length, map, remove, slice_get, slice_set, drop, Option, None, Some, refl, sym, ◌∙◌, ap, subst, arith}
+use Rattle.std.proofs.Common.{◌≡◌, ◌⊎◌, inl, inr, ℕ, zero, suc, ◌+◌, ◌<◌, ◌≤◌, Bool, true, false, List, [], ◌∷◌, filter, length, map, remove, slice_get, slice_set, drop, Option, None, Some, refl, sym, ◌∙◌, ap, subst, arith}
 use Rattle.std.specs.Prelude.{if◌then◌else◌, not, bytes_eq, option_map}
+use Rattle.std.proofs.lemmas.List.{length-map, length-set}
+use Rattle.std.proofs.lemmas.Option.{slice_get_within}
 use Rattle.std.proofs.lemmas.Simd.{map-map}
 use Rattle.std.specs.List.{IsDistinct, find}
 use Rattle.rsp_multiset.specs.Rows.{Cells}
@@ -17,12 +19,13 @@ use Rattle.rsp_engine.specs.Contents.{facts_over}
 use Rattle.rsp_engine.specs.Left.{IsFirstLeft, left_from, reports_at}
 use Rattle.rsp_engine.specs.Moments.{Moment}
 use Rattle.rsp_engine.specs.Reports.{IsOutcome, after_report, is_overfull, live_query, moments_behind, next_step, query_after_report, report_of}
-use Rattle.rsp_engine.specs.Stands.{IsState, Live, Stands, State, moments_left, next_in, query_of, reading_in, registration_of, registrations_in, test_in}
+use Rattle.rsp_engine.specs.Stands.{IsState, Live, Stands, State, moments_left, next_in, places_left, query_of, reading_in, registration_of, registrations_in, test_in}
 use Rattle.rsp_engine.specs.Offers.{GivesOf}
 use Rattle.rsp_engine.specs.Passing.{ReportsFirst, is_overfull_outcome, outcome_over, place_behind, queries_behind, seeing}
 use Rattle.rsp_engine.proofs.Left.{first_left_is, gone, waiting_head}
+use Rattle.rsp_engine.proofs.Places.{nearer, nearer_gone}
 use Rattle.rsp_engine.proofs.Named.{drop_named, find_named, get_map, remove_map, remove_named, set_map, set_named, set_same}
-use Rattle.rsp_engine.proofs.Standing.{fixed_of, left_here, same_registrations}
+use Rattle.rsp_engine.proofs.Standing.{left_as, left_here, same_registrations}
 
 -- by what was reported
 full_or_rows : (full : Bool) (given : Outcome) (rows : List (Cells Term)) → IsOutcome given (if full then outcomes.Overfull else outcomes.Rows rows) → is_overfull_outcome given ≡ full
@@ -30,6 +33,12 @@ full_or_rows true outcomes.Overfull rows is = refl
 full_or_rows true (outcomes.Rows _) rows is = absurd is
 full_or_rows false outcomes.Overfull rows is = cc
 full_or_rows false (outcomes.Rows _) rows is = refl
+
+-- one is taken out
+shorter : {X : Type 0} (xs : List X) (i : ℕ) → i < length xs → length (remove xs i) + 1 ≡ length xs
+shorter [] i below = absurd (omega (arith, below))
+shorter (x ∷ xs) zero below = omega arith
+shorter (x ∷ xs) (suc i) below = let rest = shorter xs i (omega (arith, below)) in omega (arith, rest)
 
 -- the name under which a query is looked up
 abbrev name_of : Query → List ℕ
@@ -92,7 +101,7 @@ module _ (old new : State) (report : Report) (world : World) (left : List Moment
       let found = first_left_is _ _ _ _ _ _ first in
       let regs_after : registrations after ≡ registrations_in new = same_registrations new.queries after lives in
       let moments : moments_left after new.arrived new.first ≡ filter (λ (m : Moment). not (bytes_eq m.query live.name)) rest =
-      rw (given.arrived, regs_after, ← stands.items, ← stands.next) (found ∙ struck) in
+      ap (λ came. moments_left after came new.first) given.arrived ∙ (left_as old after (registrations_in new) new.first stands.next stands.items regs_after ∙ (found ∙ struck)) in
       rw ends
       (record {
         ready = given.broken ∙ stands.ready;
@@ -112,7 +121,7 @@ module _ (old new : State) (report : Report) (world : World) (left : List Moment
       let found = first_left_is _ _ _ _ _ _ first in
       let regs_after : registrations after ≡ registrations_in new = same_registrations new.queries after lives in
       let moments : moments_left after new.arrived new.first ≡ rest =
-      rw (given.arrived, regs_after, ← stands.items, ← stands.next) (found ∙ ap (λ qs. left_from (test_in old) qs (next_in old) place.at (place.query + 1)) regs) in
+      ap (λ came. moments_left after came new.first) given.arrived ∙ (left_as old after (registrations_in new) new.first stands.next stands.items regs_after ∙ (found ∙ ap (λ qs. left_from (test_in old) qs (next_in old) place.at (place.query + 1)) regs)) in
       rw ends
       (record {
         ready = given.broken ∙ stands.ready;
@@ -137,3 +146,30 @@ module _ (old new : State) (report : Report) (world : World) (left : List Moment
         };
         stands = behind (is_overfull_outcome report.outcome) (sym full) given.queries given.left;
       }
+
+  -- ---- fewer places are left
+
+  less : (ends : Bool) → new.queries ≡ queries_behind old place live ends
+      → IsFirstLeft (test_in old) (registrations_in new) (next_in old) place.at (place_behind place ends) new.first → places_left new < places_left old
+  less true queries first = by new.first refl first
+    where
+      by : (r : Option Pending) → new.first ≡ r → IsFirstLeft (test_in old) (registrations_in new) (next_in old) place.at place.query r → places_left new < places_left old
+      by None is h = rw (is, given.first) (omega arith)
+      by (Some later) is h =
+          let few = slice_get_within (registrations_in new) later.query h.0.query h.0.listed in
+          let within_old = slice_get_within old.queries place.query live given.listed in
+          let counts : length new.queries + 1 ≡ length old.queries = ap (λ qs. length qs + 1) queries ∙ shorter old.queries place.query within_old in
+          let below : later.query < length new.queries = rw (length-map new.queries registration_of) at few in
+          rw (is, given.first, given.next) (nearer_gone (next_in old) place.at place.query later.at later.query (length old.queries) (length new.queries) counts h.1 h.2 below h.0.within)
+  less false queries first = by new.first refl first
+    where
+      by : (r : Option Pending) → new.first ≡ r → IsFirstLeft (test_in old) (registrations_in new) (next_in old) place.at (place.query + 1) r → places_left new < places_left old
+      by None is h = rw (is, given.first) (omega arith)
+      by (Some later) is h =
+          let few = slice_get_within (registrations_in new) later.query h.0.query h.0.listed in
+          let counts : length new.queries ≡ length old.queries = ap length queries ∙ length-set old.queries place.query (seeing live old.items place.at) in
+          let below : later.query < length old.queries = rw (length-map new.queries registration_of, counts) at few in
+          rw (is, given.first, given.next, counts) (nearer (next_in old) place.at place.query later.at later.query (length old.queries) h.1 h.2 below h.0.within)
+
+  pub first_nearer : places_left new < places_left old
+  first_nearer = less (is_overfull_outcome report.outcome) given.queries given.left

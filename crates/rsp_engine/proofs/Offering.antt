@@ -1,5 +1,5 @@
 -- An accepted event leads from an idle engine that stands for a world to one that stands for the next.
-use Rattle.std.proofs.Common.{◌≡◌, ℕ, ◌+◌, ◌-◌, ◌<◌, ◌≤◌, Bool, true, false, ◌&&◌, not, List, [], ◌∷◌, ◌++◌, length, map, filter, remove, slice_get, Option, None, Some, Ok, refl, sym, ◌∙◌, ap, subst, arith, nat_lt, nat_le, unwrap_or, bytes_eq}
+use Rattle.std.proofs.Common.{◌≡◌, ℕ, ◌+◌, ◌-◌, ◌<◌, ◌≤◌, Bool, true, false, ◌&&◌, not, List, [], ◌∷◌, ◌++◌, length, map, filter, remove, slice_get, Option, None, Some, Ok, Err, refl, sym, ◌∙◌, ap, subst, arith, nat_lt, nat_le, unwrap_or, bytes_eq}
 use Rattle.std.proofs.lemmas.List.{append-nil, length-map}
 use Rattle.std.proofs.lemmas.Bool.{le-leb, le-ltb, lt-leb}
 use Rattle.std.proofs.lemmas.Simd.{map-map}
@@ -22,7 +22,8 @@ use Rattle.rsp_engine.specs.World.{Query, Registration, World, registrations}
 use Rattle.rsp_engine.specs.Readings.{is_rstream, reading_of}
 use Rattle.rsp_engine.specs.Accept.{accept, has_name, is_live, most_items, most_queries, most_triples, new_query, next_of, starts_overfull, without}
 use Rattle.rsp_engine.specs.Due.{is_due, is_due_on, newest}
-use Rattle.rsp_engine.specs.Moments.{due_moments, moments, moments_at, moments_from, moments_on}
+use Rattle.rsp_engine.specs.Left.{IsFirstLeft, reports_at}
+use Rattle.rsp_engine.specs.Moments.{Moment, due_moments, moments, moments_at, moments_from, moments_on}
 use Rattle.rsp_engine.specs.Passing.{Passes}
 use Rattle.rsp_engine.specs.Stands.{Live, Stands, State, moments_left, next_in, query_of, registrations_in}
 use Rattle.rsp_engine.proofs.Left.{first_left_is, instants, newest_of}
@@ -39,7 +40,7 @@ Leads world event new = (after : World) × (accept world event ≡ Ok after) × 
 -- ---- time that passes
 
 -- the moments on what arrived, if something did
-abbrev arrivals : World → Bool → ℕ → List _
+abbrev arrivals : World → Bool → ℕ → List Moment
 arrivals world arrived to =
     moments_at (λ query. arrived && option_map_or (is_due_on world.items query) (newest world.items) false) (registrations world) to
 
@@ -63,17 +64,19 @@ passed old new items arrived to world passes stands low =
     let regs = same_registrations old.queries world stands.queries in
     let before : unwrap_or old.next to ≡ unwrap_or world.next to = ap (λ n. unwrap_or n to) stands.next in
     let low_world : unwrap_or world.next to ≤ to = subst (λ n. n ≤ to) before low in
-    let whole = first_left_is _ _ _ _ _ _ passes.first in
+    let first = subst (λ qs. IsFirstLeft (reports_at items to arrived) qs to (unwrap_or old.next to) 0 new.first) (sym regs) passes.first in
+    let there = subst (λ from. IsFirstLeft (reports_at items to arrived) (registrations after) to from 0 new.first) before first in
+    let whole = first_left_is (reports_at items to arrived) (registrations after) to (unwrap_or world.next to) 0 new.first there in
     let split = instants items to arrived (registrations after) (unwrap_or world.next to) low_world in
     let done = complete after to world.next refl low_world in
     let all : moments_left after arrived new.first ≡ option_map_or (λ from. moments_from after from) world.next [] ++ arrivals after arrived to =
-    rw regs whole ∙ rw (before, ← regs) (split ∙ ap (λ ms. ms ++ arrivals after arrived to) done) in
+    whole ∙ (split ∙ ap (λ ms. ms ++ arrivals after arrived to) done) in
     record {
       ready = passes.broken;
       next = passes.next;
       items = passes.items;
       queries = ap (map query_of) passes.queries ∙ stands.queries;
-      moments = rw passes.arrived (sym all);
+      moments = sym (ap (λ came. moments_left after came new.first) passes.arrived ∙ all);
     }
 
 -- what is due is not before `next`
@@ -167,11 +170,6 @@ cancel_leads old name place live world idle names listed is some stands =
         ∙ sym (remove_map query_of old.queries place))
 
 -- ---- refusals
-
--- what the definition answers to a registration under a name that is free, by the text
-refused_as : (old : State) (name text : List ℕ) (why : Refused) (refusal : Refusal) → old.broken ≡ false
-    → refusal_of why ≡ Some refusal → ((world : World) → Stands old world [] → accept world (Register name text) ≡ Err refusal) → Refuses old (Register name text) why old
-refused_as old name text why refusal ready is refused = rw is (record { was_ready = ready; unchanged = refl; refused = refused })
 
 -- the name is looked up first
 pub taken_refuses : (old : State) (name text : List ℕ) → old.broken ≡ false → list_any (has_name name) (registrations_in old) ≡ true → Refuses old (Register name text) answer.NameTaken old

@@ -6,10 +6,9 @@ use Rattle.std.specs.List.{list_any}
 use Rattle.rsp_engine.specs.declared.finding.Pending.{Pending}
 use Rattle.rsp_engine.specs.World.{Query, Registration, World, registrations}
 use Rattle.rsp_engine.specs.Accept.{has_name, is_live, next_of}
-use Rattle.rsp_engine.specs.Left.{IsWaiting, left_from, reports_at}
+use Rattle.rsp_engine.specs.Left.{left_from, reports_at}
 use Rattle.rsp_engine.specs.Moments.{Moment}
-use Rattle.rsp_engine.specs.Stands.{IsState, Live, Stands, State, moments_left, next_in, query_of, registration_of, registrations_in, test_in}
-use Rattle.rsp_engine.proofs.Left.{waiting_head}
+use Rattle.rsp_engine.specs.Stands.{Live, Stands, State, moments_left, next_in, query_of, registration_of, registrations_in, test_in}
 
 -- the queries as registration fixed them
 pub fixed_of : (lives : List Live) → map (λ (query : Query). query.registration) (map query_of lives) ≡ map registration_of lives
@@ -30,9 +29,7 @@ left_here e world left stands place is =
     rw (is, regs, ← stands.items, ← stands.next) refl in
     stands.moments ∙ here
 
--- where a place is set, its moment is the first
-pub record Busy (e : State) (left : List Moment) (place : Pending) : Type 0 where
-  pub query : Registration
-  pub rest : List Moment
-  pub is_rest : rest ≡ left_from (test_in e) (registrations_in e) (next_in e) place.at (place.query + 1)
-  pub is : left ≡ record { at = place.at; query = query.name } ∷ rest
+-- the moments that are left from a place on, by the engine's fields
+pub left_as : (e : State) (after : World) (queries : List Registration) (first : Option Pending) → e.next ≡ after.next → e.items ≡ after.items → registrations after ≡ queries
+    → moments_left after e.arrived first ≡ option_map_or (λ (place : Pending). left_from (test_in e) queries (next_in e) place.at place.query) first []
+left_as e after queries first next items regs = rw (regs, ← items, ← next) refl

@@ -224,7 +224,7 @@ impl<A: Answer> Engine<A> {
         if !is_rstream(&query.operator) {
             return Err(Refused::Unbuilt);
         }
-        if self.queries.len() >= MOST_QUERIES {
+        if self.live() >= MOST_QUERIES {
             return Err(Refused::QueriesFull);
         }
         self.begin(name, query, policy, made)
@@ -251,7 +251,7 @@ impl<A: Answer> Engine<A> {
         ensures { (text : List ℕ) → parse text ≡ Ok (registered query.now)
             → Offers self.old (Event.Register name text) result self.new }
     {
-        match begun(self.alloc, name, query, policy, made, self.items.len()) {
+        match begun(self.alloc, name, query, policy, made, self.accepted()) {
             Ok(Some(query)) => self.go_live(query),
             Ok(None) => Err(Refused::StartOverfull),
             Err(AllocError) => Err(self.break_off()),
@@ -318,7 +318,7 @@ impl<A: Answer> Engine<A> {
         if MOST_TRIPLES < item.graph.as_slice().len() {
             return Err(Refused::Unbuilt);
         }
-        if self.items.len() >= MOST_ITEMS {
+        if self.accepted() >= MOST_ITEMS {
             return Err(Refused::Unbuilt);
         }
         let time = item.time;
@@ -344,6 +344,20 @@ impl<A: Answer> Engine<A> {
         }
         self.pass_to(time + 1);
         Ok(())
+    }
+
+    // how many queries are live
+    fn live(&self) -> usize
+        ensures { result ≡ length self.now.queries }
+    {
+        self.queries.len()
+    }
+
+    // how many items were accepted
+    fn accepted(&self) -> usize
+        ensures { result ≡ length self.now.items }
+    {
+        self.items.len()
     }
 
     // the first instant that isn't complete, or 0

@@ -1,4 +1,3 @@
-use Rattle.std.proofs.Common.{◌∙◌}
 use Rattle.rsp_engine.proofs.Offering.{tick_leads}
 use Rattle.rsp_engine.proofs.engine.Engine.tick.Goals as goal
 
