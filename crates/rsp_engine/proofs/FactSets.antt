@@ -1,10 +1,11 @@
 -- How a live query comes to stand for the facts of an instant.
-use Rattle.std.proofs.Common.{◌≡◌, ◌⊎◌, inl, inr, ℕ, Bool, true, false, true≢false, ◌&&◌, ◌||◌, cond, List, [], ◌∷◌, ◌++◌, ℤ, pos, negsuc, ◌+ℤ◌, drop, fold, refl, sym, ap, ◌∙◌, arith}
+use Rattle.std.proofs.Common.{◌≡◌, ◌⊎◌, inl, inr, ℕ, Bool, true, false, true≢false, ◌&&◌, ◌||◌, cond, List, [], ◌∷◌, ◌++◌, ℤ, pos, negsuc, ◌+ℤ◌, ◌+◌, ◌<◌, fold, refl, sym, ap, ◌∙◌, arith}
 use Rattle.std.specs.List.{AllByRecursion, IsDistinct, flat_map, list_any}
-use Rattle.rsp_spec.specs.Windows.{Shape}
 use Rattle.rsp_engine.specs.declared.item.Item.{Item}
-use Rattle.rsp_engine.specs.Passing.{window_facts}
-use Rattle.std.specs.Prelude.{filter, nat_eq}
+use Rattle.rsp_engine.specs.declared.live_query.StreamWindow.{StreamWindow}
+use Rattle.rsp_engine.specs.World.{Registration}
+use Rattle.std.specs.Prelude.{nat_eq}
+use Rattle.std.proofs.lemmas.Bool.{ne_eqb}
 use Rattle.std.proofs.lemmas.Int.{ints}
 use Rattle.rsp_multiset.specs.Weights.{IsChanged, only, times, weight}
 use Rattle.rsp_multiset.proofs.Linear.{turned}
@@ -14,7 +15,8 @@ use Rattle.rsp_terms.specs.declared.statement.Spot.TheVariants as spot
 use Rattle.rsp_terms.specs.Same.{fact_eq, fact_same, triple_eq, triple_same}
 use Rattle.rsp_algebra.specs.Changing.{IsSet, MayChange}
 use Rattle.rsp_algebra.proofs.Sets.{times-set}
-use Rattle.rsp_engine.specs.Contents.{add_once, distinct_triples, facts_of, in_content}
+use Rattle.rsp_algebra.proofs.Widths.{all-append}
+use Rattle.rsp_engine.specs.Contents.{add_once, content, distinct_triples, facts_from, facts_of, facts_over, graph, visible_items}
 
 -- ---- a window's graph is a set
 
@@ -46,13 +48,13 @@ folded_distinct : (seen more : List Triple) → IsDistinct triple_eq seen → Is
 folded_distinct seen [] distinct = distinct
 folded_distinct seen (t ∷ ts) distinct = folded_distinct (add_once seen t) ts (once_distinct seen t distinct)
 
+and_second : (a b : Bool) → b ≡ false → (a && b) ≡ false
+and_second true b h = h
+and_second false b h = refl
+
 facts_apart : (k : ℕ) (t : Triple) (ts : List Triple) → AllByRecursion (λ y. triple_eq t y ≡ false) ts → AllByRecursion (λ (f : Fact). fact_eq (record { spot = spot.Window k; triple = t }) f ≡ false) (facts_of k ts)
 facts_apart k t [] apart = tt
-facts_apart k t (y ∷ ys) apart = (and_false (nat_eq k k) (triple_eq t y) apart.0, facts_apart k t ys apart.1)
-  where
-    and_false : (a b : Bool) → b ≡ false → (a && b) ≡ false
-    and_false true b h = h
-    and_false false b h = refl
+facts_apart k t (y ∷ ys) apart = (and_second (nat_eq k k) (triple_eq t y) apart.0, facts_apart k t ys apart.1)
 
 facts_distinct : (k : ℕ) (ts : List Triple) → IsDistinct triple_eq ts → IsSet (facts_of k ts)
 unfolding IsDistinct
@@ -63,10 +65,50 @@ pub graph_is_set : (k : ℕ) (triples : List Triple) → IsSet (facts_of k (dist
 unfolding IsDistinct
 graph_is_set k triples = facts_distinct k (distinct_triples triples) (folded_distinct [] triples tt)
 
-pub window_is_set : (stream : List ℕ) (shape : Shape) (first : ℕ) (items : List Item) (t : ℕ) → IsSet (window_facts stream shape first items t)
-window_is_set stream shape first items t =
-    graph_is_set 0
-    (flat_map (λ (i : Item). i.graph) (filter (in_content (record { stream = stream; shape = shape }) t) (drop first items)))
+-- ---- windows of different numbers have no fact in common
+
+-- a fact of window j is none of those
+abbrev AreOthers : ℕ → Triple → List Fact → Type 0
+AreOthers j t facts = AllByRecursion (λ (f : Fact). fact_eq (record { spot = spot.Window j; triple = t }) f ≡ false) facts
+
+others_of : (j : ℕ) (t : Triple) (k : ℕ) (ts : List Triple) → j < k → AreOthers j t (facts_of k ts)
+others_of j t k [] less = tt
+others_of j t k (y ∷ ys) less =
+    let apart : nat_eq j k ≡ false = ne_eqb j k (omega arith) in
+    (rw apart refl, others_of j t k ys less)
+
+others_from : (j : ℕ) (t : Triple) (items : List Item) (at k : ℕ) (windows : List StreamWindow) → j < k → AreOthers j t (facts_from items at k windows)
+others_from j t items at k [] less = tt
+others_from j t items at k (w ∷ ws) less =
+    all-append
+    (λ (f : Fact). fact_eq (record { spot = spot.Window j; triple = t }) f ≡ false)
+    (facts_of k (graph items w at))
+    (facts_from items at (k + 1) ws)
+    (others_of j t k (graph items w at) less)
+    (others_from j t items at (k + 1) ws (omega arith))
+
+set_then : (k : ℕ) (ts : List Triple) (more : List Fact) → IsSet (facts_of k ts) → IsSet more → ((t : Triple) → AreOthers k t more) → IsSet (facts_of k ts ++ more)
+unfolding IsDistinct
+set_then k [] more set set_more others = set_more
+set_then k (t ∷ ts) more set set_more others = (
+      all-append (λ (f : Fact). fact_eq (record { spot = spot.Window k; triple = t }) f ≡ false) (facts_of k ts) more set.0 (others t),
+      set_then k ts more set.1 set_more others,
+    )
+
+windows_are_set : (items : List Item) (at k : ℕ) (windows : List StreamWindow) → IsSet (facts_from items at k windows)
+unfolding IsDistinct
+windows_are_set items at k [] = tt
+windows_are_set items at k (w ∷ ws) =
+    set_then
+    k
+    (graph items w at)
+    (facts_from items at (k + 1) ws)
+    (graph_is_set k (flat_map (λ (i : Item). i.graph) (content items w at)))
+    (windows_are_set items at (k + 1) ws)
+    (λ t. others_from k t items at (k + 1) ws (omega arith))
+
+pub facts_are_set : (items : List Item) (query : Registration) (t : ℕ) → IsSet (facts_over items query t)
+facts_are_set items query t = windows_are_set (visible_items items query) t 0 query.reading.windows
 
 -- ---- the change from one set of facts to another
 

@@ -12,3 +12,4 @@ pub mod ReportSteps
 pub mod Reported
 pub mod Watches
 pub mod FirstPlaces
+pub mod NewTimes

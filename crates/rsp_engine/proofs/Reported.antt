@@ -10,15 +10,15 @@ use Rattle.rsp_engine.specs.declared.item.Item.{Item}
 use Rattle.rsp_engine.specs.declared.live_query.LiveQuery.{LiveQuery}
 use Rattle.rsp_engine.specs.declared.report.Outcome.{Outcome}
 use Rattle.rsp_engine.specs.declared.report.Outcome.TheVariants as outcomes
-use Rattle.rsp_engine.specs.Inside.{Answers, live_of}
+use Rattle.rsp_engine.specs.Inside.{Answers, fixed, live_of}
 use Rattle.rsp_engine.specs.Reports.{IsOutcome, cells_at}
-use Rattle.rsp_engine.specs.Passing.{IsReported, facts_over}
-use Rattle.rsp_engine.specs.Stands.{query_of}
+use Rattle.rsp_engine.specs.Passing.{IsReported}
+use Rattle.rsp_engine.specs.Contents.{facts_over}
 
 module _ {A : Type 0} (node : A → Node) (width : A → ℕ) (facts : A → List Fact) (spent : A → Bool) (live : LiveQuery A)
     (answers : Answers node width facts spent live) where
   abbrev seen_at : List Item → ℕ → List Fact
-  seen_at items t = facts_over items (query_of (live_of live)).registration t
+  seen_at items t = facts_over items (fixed live) t
 
   -- whether the query is overfull over the facts that its answer stands for
   now_full : (items : List Item) (t : ℕ) (held now : List Fact) (b : Bool) → now ≡ seen_at items t → SameFacts held now

@@ -14,3 +14,4 @@ pub mod Left
 pub mod Stands
 pub mod Inside
 pub mod Passing
+pub mod Watching

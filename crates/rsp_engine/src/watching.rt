@@ -1,10 +1,10 @@
 // What an accepted item adds: its time to the windows over its stream, and itself to the items.
-ghost use Rattle.std.specs.Prelude.{◌≡◌, ◌≤◌, ◌++◌, ◌∷◌, [], map, IfOk, OnOk, length, nat_eq};
+ghost use Rattle.std.specs.Prelude.{◌≡◌, ◌≤◌, ◌++◌, ◌∷◌, [], false, map, IfOk, OnOk, bytes_eq, length, slice_get};
 ghost use Rattle.std.specs.List.{All};
-ghost use Rattle.rsp_engine.specs.Due.{is_over, watched_window};
+ghost use Rattle.std.specs.Option.{option_map_or};
 ghost use Rattle.rsp_engine.specs.Inside.{IsWatching, parts_of};
 ghost use Rattle.rsp_engine.specs.Kept.{triples_of};
-ghost use Rattle.rsp_engine.specs.Stands.{IsTimed};
+ghost use Rattle.rsp_engine.specs.Watching.{with_time};
 
 use crate::live_query::{LiveQuery, StreamWindow};
 use crate::Item;
@@ -69,18 +69,22 @@ fn watch_query<A>(
     Ok(())
 }
 
-fn watch_window(watched: &mut Watched, over: bool, time: u64) -> Result<(), AllocError> {
+// whether the window of this number is over a stream
+fn is_over(windows: &[StreamWindow], number: usize, stream: &Text) -> bool
+    ensures { result ≡ option_map_or (λ w. bytes_eq stream.now w.stream) (slice_get windows.now number) false }
+{
+    match windows.get(number) {
+        Some(window) => *stream == window.stream,
+        None => false,
+    }
+}
+
+fn watch_window(watched: &mut Watched, over: bool, time: u64) -> Result<(), AllocError>
+    ensures { OnOk result (watched.new ≡ with_time over time watched.old) }
+{
     watched.fresh = over;
     if over {
         watched.times.push(time)?;
     }
     Ok(())
-}
-
-// whether the stream is that of the window of this number
-fn is_over(windows: &[StreamWindow], number: usize, stream: &Text) -> bool {
-    match windows.get(number) {
-        Some(window) => *stream == window.stream,
-        None => false,
-    }
 }

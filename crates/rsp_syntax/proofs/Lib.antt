@@ -4,3 +4,5 @@ mod SoundExpressions
 mod SoundTriples
 mod SoundGroups
 mod Soundness
+mod Values
+mod Periods

@@ -3,3 +3,4 @@ pub mod LeftOut
 pub mod Parsing
 pub mod Texts
 pub mod Answers
+pub mod Periods

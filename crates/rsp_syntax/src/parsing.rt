@@ -6,6 +6,7 @@ ghost use Rattle.rsp_query.specs.Queries.{Registered, registered};
 ghost use Rattle.rsp_shapes.specs.Sound.{IsSound};
 ghost use Rattle.rsp_syntax.specs.Answers.{IsParsed, IsFault, IsRegistered};
 ghost use Rattle.rsp_syntax.specs.Texts.{IsText};
+ghost use Rattle.rsp_syntax.specs.Periods.{HasPeriods};
 ghost use Rattle.rsp_syntax.specs.declared.fault.SyntaxFault as fault;
 
 use crate::SyntaxFault;
@@ -32,6 +33,7 @@ pub fn parse(alloc: Global, text: &str) -> Result<Query, SyntaxFault>
     ensures grammar { (text : List ℕ) (answer : Result Registered fault.SyntaxFault)
         → (parsing.parse text ≡ answer) ↔ IsText text answer }
     ensures sound { IfOk result (λ query. IsSound (registered query)) }
+    ensures periods { IfOk result (λ query. HasPeriods (registered query).policy) }
 {
     parsed(alloc, text)
 }

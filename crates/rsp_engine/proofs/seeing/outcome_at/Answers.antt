@@ -1,23 +1,26 @@
-use Rattle.std.proofs.Common.{◌∙◌, append-nil, sym, ap, subst}
+use Rattle.std.proofs.Common.{◌∙◌, sym, ap, subst}
 use Rattle.std.specs.Prelude.{not, Ok}
 use Rattle.std.proofs.lemmas.Result.{IfOk-weaker}
 use Rattle.rsp_algebra.specs.Changing.{IsSet, is_overfull, goes_on}
-use Rattle.rsp_engine.proofs.FactSets.{window_is_set, may_change, now_same}
+use Rattle.rsp_engine.specs.Contents.{facts_from, visible_items}
+use Rattle.rsp_engine.specs.Inside.{fixed}
+use Rattle.rsp_engine.proofs.FactSets.{facts_are_set, may_change, now_same}
 use Rattle.rsp_engine.proofs.Reported.{overfull_reported, rows_reported}
 use Rattle.rsp_engine.proofs.seeing.outcome_at.Goals as goal
 
 pub change-requires-clause-allowed : goal.change-requires-clause-allowed
 change-requires-clause-allowed g c q =
-    let set : IsSet c.in_ok-now.now = subst (λ facts. IsSet facts) (sym c.in_ok-now.ensures) (window_is_set c.args.live.now.stream c.args.live.now.shape c.args.live.now.first c.args.items.now c.args.at) in
-    let changed = rw (c.as_slice.ensures, c.as_slice-2.ensures) at c.in_ok-changes.ensures in
+    let now = c.in_ok-now.ensures ∙ ap (facts_from (visible_items c.args.items.now (fixed c.args.live.now)) c.args.at 0) c.as_slice.ensures in
+    let set : IsSet c.in_ok-now.now = subst (λ facts. IsSet facts) (sym now) (facts_are_set c.args.items.now (fixed c.args.live.now) c.args.at) in
+    let changed = rw (c.as_slice-2.ensures, c.as_slice-3.ensures) at c.in_ok-changes.ensures in
     may_change (g.A.Answer.facts c.args.live.now.answer) c.args.live.now.seen c.in_ok-now.now c.in_ok-changes.changes
     c.requires.answers.same c.requires.answers.set set changed q
 
 pub returns-in-Overfull-clause-reported : goal.returns-in-Overfull-clause-reported
 returns-in-Overfull-clause-reported g c =
     let live = c.args.live.now in
-    let now = c.in_ok-now.ensures ∙ sym (append-nil _) in
-    let changed = rw (c.as_slice.ensures, c.as_slice-2.ensures) at c.in_ok-changes.ensures in
+    let now = c.in_ok-now.ensures ∙ ap (facts_from (visible_items c.args.items.now (fixed live)) c.args.at 0) c.as_slice.ensures in
+    let changed = rw (c.as_slice-2.ensures, c.as_slice-3.ensures) at c.in_ok-changes.ensures in
     let same = now_same (g.A.Answer.facts live.answer) live.seen c.in_ok-now.now (g.A.Answer.facts c.change.new.self) c.in_ok-changes.changes
     c.requires.answers.same changed c.in_ok-turn.ensures.facts in
     let full = sym (ap is_overfull (sym c.in-Overfull.is) ∙ c.in_ok-turn.ensures.overfull) in
@@ -28,9 +31,9 @@ pub returns-clause-reported : goal.returns-clause-reported
 returns-clause-reported g c =
     let live = c.args.live.now in
     let ans = c.requires.answers in
-    let now = c.in_ok-now.ensures ∙ sym (append-nil _) in
-    let set : IsSet c.in_ok-now.now = subst (λ facts. IsSet facts) (sym c.in_ok-now.ensures) (window_is_set live.stream live.shape live.first c.args.items.now c.args.at) in
-    let changed = rw (c.as_slice.ensures, c.as_slice-2.ensures) at c.in_ok-changes.ensures in
+    let now = c.in_ok-now.ensures ∙ ap (facts_from (visible_items c.args.items.now (fixed live)) c.args.at 0) c.as_slice.ensures in
+    let set : IsSet c.in_ok-now.now = subst (λ facts. IsSet facts) (sym now) (facts_are_set c.args.items.now (fixed live) c.args.at) in
+    let changed = rw (c.as_slice-2.ensures, c.as_slice-3.ensures) at c.in_ok-changes.ensures in
     let same = now_same (g.A.Answer.facts live.answer) live.seen c.in_ok-now.now (g.A.Answer.facts c.change.new.self) c.in_ok-changes.changes
     ans.same changed c.in_ok-turn.ensures.facts in
     let full = sym (ap is_overfull (sym c.in-Net.is) ∙ c.in_ok-turn.ensures.overfull) in

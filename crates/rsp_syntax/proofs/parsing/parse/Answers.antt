@@ -1,3 +1,4 @@
+use Rattle.rsp_syntax.proofs.Periods.{answer_periods}
 use Rattle.rsp_syntax.proofs.Soundness.{answer_sound}
 use Rattle.rsp_syntax.proofs.Tied.{tied}
 use Rattle.rsp_syntax.proofs.parsing.parse.Goals as goal
@@ -7,3 +8,6 @@ returns-clause-grammar c = λ text r. tied text r
 
 pub returns-clause-sound : goal.returns-clause-sound
 returns-clause-sound c = answer_sound c.args.text.now c.parsed.result c.parsed.ensures
+
+pub returns-clause-periods : goal.returns-clause-periods
+returns-clause-periods c = answer_periods c.args.text.now c.parsed.result c.parsed.ensures
