@@ -1,7 +1,8 @@
 use Rattle.std.proofs.Common.{rules, ◌≡◌, ◌∙◌, ◌<◌, length, ap, map, refl, slice_get, Some}
 use Rattle.std.proofs.lemmas.List.{length-set}
-use Rattle.rsp_engine.specs.Inside.{IsReady, live_of}
-use Rattle.rsp_engine.specs.Passing.{is_overfull_outcome}
+use Rattle.rsp_engine.specs.Inside.{IsReady, live_of, state_of}
+use Rattle.rsp_engine.specs.Stands.{next_in, test_in}
+use Rattle.rsp_engine.specs.Passing.{is_overfull_outcome, place_behind}
 use Rattle.rsp_engine.proofs.Named.{get_map}
 use Rattle.rsp_engine.proofs.Reporting.{answers, first_seen, fixed_left, get_index, high, listed, place_is, ready_behind, states_behind, watching_behind, within}
 use Rattle.rsp_engine.proofs.engine.Engine.report_first.Goals as goal
@@ -100,5 +101,5 @@ returns-in-Ok-clause-ok g c =
       arrived = refl;
       broken = refl;
       queries = ap (map live_of) behind ∙ states_behind _ _ _ _ _ sound c.args.place first live is now seen c.in-Ok.ensures.watched full;
-      left = fixed_left c.place_behind-query.new.queries.items _ _ _ _ _ left;
+      left = fixed_left c.place_behind-query.new.queries.items (test_in (state_of c.self.inside)) (next_in (state_of c.self.inside)) c.args.place.at (place_behind c.args.place full) c.first_left-self-inside.result left;
     })
