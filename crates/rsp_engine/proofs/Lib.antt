@@ -3,6 +3,7 @@ pub mod Named
 pub mod Places
 pub mod Standing
 pub mod Reporting
+pub mod Readiness
 pub mod Offering
 pub mod Graphs
 pub mod FactSets

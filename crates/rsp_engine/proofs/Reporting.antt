@@ -12,7 +12,6 @@ use Rattle.rsp_terms.specs.declared.statement.Fact.{Fact}
 use Rattle.rsp_algebra.specs.Nodes.{Node}
 use Rattle.rsp_engine.specs.declared.engine.Engine.TheInside.{Inside}
 use Rattle.rsp_engine.specs.declared.finding.Pending.{Pending}
-use Rattle.rsp_engine.specs.declared.item.Item.{Item}
 use Rattle.rsp_engine.specs.declared.live_query.LiveQuery.{LiveQuery}
 use Rattle.rsp_engine.specs.declared.report.Outcome.{Outcome}
 use Rattle.rsp_engine.specs.declared.report.Outcome.TheVariants as outcomes
@@ -20,7 +19,7 @@ use Rattle.rsp_engine.specs.Due.{watched_of}
 use Rattle.rsp_engine.specs.Inside.{Answers, IsPolicy, IsReady, IsWatching, fixed, live_of, state_of}
 use Rattle.rsp_engine.specs.Left.{IsFirstLeft, IsWaiting}
 use Rattle.rsp_engine.specs.Passing.{IsReported, is_overfull_outcome, place_behind, queries_behind, seeing}
-use Rattle.rsp_engine.specs.Stands.{IsState, Live, State, next_in, registration_of, registrations_in, test_in}
+use Rattle.rsp_engine.specs.Stands.{Live, next_in, registration_of, registrations_in, test_in}
 use Rattle.rsp_engine.specs.World.{Registration}
 use Rattle.rsp_engine.proofs.Named.{All-remove, distinct_removed, get_map, remove_map, set_map, set_same}
 
