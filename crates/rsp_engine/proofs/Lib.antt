@@ -10,3 +10,4 @@ pub mod FirstReport
 pub mod ReportSteps
 pub mod Reported
 pub mod NewTimes
+pub mod Policies
