@@ -14,3 +14,4 @@ pub mod Reported
 pub mod Watches
 pub mod FirstPlaces
 pub mod NewTimes
+pub mod Policies

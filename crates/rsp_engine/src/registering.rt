@@ -18,7 +18,7 @@ ghost use Rattle.rsp_engine.specs.Passing.{IsBegun, IsFaultOf};
 ghost use Rattle.rsp_engine.specs.Readings as readings;
 ghost use Rattle.rsp_engine.specs.Refusals.{shape_fault, text_fault};
 ghost use Rattle.rsp_engine.specs.Stands.{query_of};
-ghost use Rattle.rsp_engine.specs.declared.refused.Refused.TheVariants.{PolicyMix};
+ghost use Rattle.rsp_engine.specs.declared.refused.Refused.TheVariants as refusals;
 
 use crate::live_query::{LiveQuery, StreamWindow};
 use crate::Refused;
@@ -80,7 +80,7 @@ pub(crate) fn translated(
 pub(crate) fn chosen(words: &PolicyWords) -> Result<Chosen, Refused>
     requires { HasPeriods words.now }
     ensures choice { IfOk result (λ chosen. (chosen ≡ choice_of words.now) × (is_mixed words.now ≡ false) × IsPolicy chosen) }
-    ensures mix { IfErr result (λ why. (why ≡ PolicyMix) × (is_mixed words.now ≡ true)) }
+    ensures mix { IfErr result (λ why. (why ≡ refusals.PolicyMix) × (is_mixed words.now ≡ true)) }
 {
     match policy(words) {
         Ok(chosen) => Ok(chosen),
