@@ -1,8 +1,9 @@
 -- An accepted event leads from an idle engine that stands for a world to one that stands for the next.
-use Rattle.std.proofs.Common.{◌≡◌, ℕ, ◌+◌, ◌-◌, ◌<◌, ◌≤◌, Bool, true, false, ◌&&◌, not, List, [], ◌∷◌, ◌++◌, length, map, filter, remove, slice_get, Option, None, Some, Ok, Err, refl, sym, ◌∙◌, ap, subst, arith, nat_lt, nat_le, unwrap_or, bytes_eq}
+use Rattle.std.proofs.Common.{◌≡◌, ℕ, ◌+◌, ◌-◌, ◌<◌, ◌≤◌, Bool, true, false, ◌&&◌, not, List, [], ◌∷◌, ◌++◌, length, map, filter, remove, slice_get, Option, None, Some, Result, Ok, Err, refl, sym, ◌∙◌, ap, subst, arith, nat_lt, nat_le, unwrap_or, bytes_eq}
 use Rattle.std.proofs.lemmas.List.{append-nil, length-map}
 use Rattle.std.proofs.lemmas.Bool.{le-leb, le-ltb, lt-leb}
 use Rattle.std.proofs.lemmas.Simd.{map-map}
+use Rattle.std.specs.Prelude.{IfErr, OnOk}
 use Rattle.std.specs.List.{IsDistinct, flat_map, list_any, range_with_len}
 use Rattle.std.specs.Option.{is_some, option_map_or}
 use Rattle.std.specs.Cmp.Lexicographic.{bytes_decides}
@@ -16,8 +17,8 @@ use Rattle.rsp_syntax.specs.Parsing.{parse}
 use Rattle.rsp_translation.specs.Translation.{first_fault}
 use Rattle.rsp_engine.specs.declared.refused.Refused.TheVariants as answer
 use Rattle.rsp_engine.specs.declared.refused.Refused.{Refused}
-use Rattle.rsp_engine.specs.Offers.{Answers, Refuses}
-use Rattle.rsp_engine.specs.Refusals.{Refusal, no_query, policy_fault, refusal_of, text_fault}
+use Rattle.rsp_engine.specs.Offers.{Answers, Offers, Refuses}
+use Rattle.rsp_engine.specs.Refusals.{Refusal, no_query, policy_fault, refusal_of, shape_fault, text_fault}
 use Rattle.rsp_engine.specs.World.{Query, Registration, World, registrations}
 use Rattle.rsp_engine.specs.Readings.{is_rstream, reading_of}
 use Rattle.rsp_engine.specs.Accept.{accept, has_name, is_live, most_items, most_queries, most_triples, new_query, next_of, starts_overfull, without}
@@ -28,7 +29,7 @@ use Rattle.rsp_engine.specs.Passing.{Passes}
 use Rattle.rsp_engine.specs.Stands.{Live, Stands, State, moments_left, next_in, query_of, registrations_in}
 use Rattle.rsp_engine.proofs.Left.{first_left_is, instants, newest_of}
 use Rattle.rsp_engine.proofs.Named.{get_map, remove_map, remove_named}
-use Rattle.rsp_engine.proofs.Standing.{same_live, same_registrations}
+use Rattle.rsp_engine.proofs.Standing.{any_named, same_live, same_registrations}
 
 pub same_bytes : (name : List ℕ) → bytes_eq name name ≡ true
 same_bytes name = (bytes_decides name name).1 refl
@@ -151,11 +152,11 @@ register_leads old name text q kept world made idle free is good unmixed rstream
 
 -- the named query goes
 pub cancel_leads : (old : State) (name : List ℕ) (place : ℕ) (live : Live) (world : World) → old.first ≡ None → IsDistinct bytes_eq (map (λ (l : Live). l.name) old.queries)
-    → slice_get old.queries place ≡ Some live → live.name ≡ name → list_any (has_name name) (registrations_in old) ≡ true → Stands old world []
+    → slice_get old.queries place ≡ Some live → live.name ≡ name → Stands old world []
     → Leads world (Cancel name) (record old { queries = remove old.queries place })
-cancel_leads old name place live world idle names listed is some stands =
+cancel_leads old name place live world idle names listed is stands =
     let after : World = record world { queries = without name world.queries } in
-    let is_named : is_live world name ≡ true = same_live old world name stands.queries ∙ some in
+    let is_named : is_live world name ≡ true = same_live old world name stands.queries ∙ any_named old.queries place live name listed is in
     let gone : without name world.queries ≡ map query_of (remove old.queries place) = gone_is old name place live world names listed is stands in (
       after,
       rw is_named refl,
@@ -172,13 +173,18 @@ cancel_leads old name place live world idle names listed is some stands =
 -- ---- refusals
 
 -- the name is looked up first
-pub taken_refuses : (old : State) (name text : List ℕ) → old.broken ≡ false → list_any (has_name name) (registrations_in old) ≡ true → Refuses old (Register name text) answer.NameTaken old
-taken_refuses old name text ready taken =
-    record { was_ready = ready; unchanged = refl; refused = λ world stands. let live : is_live world name ≡ true = same_live old world name stands.queries ∙ taken in rw live refl }
+pub taken_refuses : (old : State) (name text : List ℕ) (place : ℕ) (live : Live) → old.broken ≡ false → slice_get old.queries place ≡ Some live → live.name ≡ name → Refuses old (Register name text) answer.NameTaken old
+taken_refuses old name text place live ready listed is =
+    record { was_ready = ready; unchanged = refl; refused = λ world stands. let there : is_live world name ≡ true = same_live old world name stands.queries ∙ any_named old.queries place live name listed is in rw there refl }
 
 pub no_query_refuses : (old : State) (name : List ℕ) → old.broken ≡ false → list_any (has_name name) (registrations_in old) ≡ false → Refuses old (Cancel name) answer.NoQuery old
 no_query_refuses old name ready none =
     record { was_ready = ready; unchanged = refl; refused = λ world stands. let live : is_live world name ≡ false = same_live old world name stands.queries ∙ none in rw live refl }
+
+-- want of memory
+pub breaks : (old : State) (name text : List ℕ) (why : Refused) (new : State) → old.broken ≡ false → list_any (has_name name) (registrations_in old) ≡ false → why ≡ answer.OutOfMemory → new.broken ≡ true → Refuses old (Register name text) why new
+breaks old name text why new ready free is broken =
+    rw is (record { was_ready = ready; broken = broken; memory = tt; may_take = λ world stands. same_live old world name stands.queries ∙ free })
 
 -- a text with a fault is refused for it
 pub faulty_refuses : (old : State) (name text : List ℕ) (why : Refused) → old.broken ≡ false → list_any (has_name name) (registrations_in old) ≡ false → text_fault (parse text) ≡ refusal_of why → is_some (refusal_of why) ≡ true → Refuses old (Register name text) why old
@@ -187,6 +193,14 @@ faulty_refuses old name text why ready free is some = by (refusal_of why) is som
     by : (o : Option Refusal) → text_fault (parse text) ≡ o → is_some o ≡ true → Answers old (Register name text) why o old
     by None is some = cc
     by (Some refusal) is some = record { was_ready = ready; unchanged = refl; refused = λ world stands. let live : is_live world name ≡ false = same_live old world name stands.queries ∙ free in rw (live, is) refl }
+
+-- a fault of the query's shape is one of the text
+pub shape_is : (q : Registered) (why : Refused) → shape_fault (first_fault q) ≡ refusal_of why → is_some (refusal_of why) ≡ true → text_fault (Ok q) ≡ refusal_of why
+shape_is q why is some = by (refusal_of why) is some
+  where
+    by : (o : Option Refusal) → shape_fault (first_fault q) ≡ o → is_some o ≡ true → text_fault (Ok q) ≡ o
+    by None is some = cc
+    by (Some refusal) is some = rw is refl
 
 module _ (old : State) (name text : List ℕ) (q : Registered) (ready : old.broken ≡ false) (free : list_any (has_name name) (registrations_in old) ≡ false) (is : parse text ≡ Ok q) (good : first_fault q ≡ None) where
   none_live : (world : World) → Stands old world [] → is_live world name ≡ false
@@ -220,3 +234,16 @@ module _ (old : State) (name text : List ℕ) (q : Registered) (ready : old.brok
             let room : nat_le most_queries (length world.queries) ≡ false = rw (count world stands) (lt-leb _ _ few) in
             rw (none_live world stands, is, good, unmixed, rstream, room, starts) refl;
       }
+
+-- a query that has begun becomes live, or memory is refused
+pub begun_offers : (old new : State) (name text : List ℕ) (q : Registered) (kept : Live) (result : Result (Unit {0}) Refused) → old.broken ≡ false → query_of kept ≡ new_query name (reading_of q) (length old.items) → old.first ≡ None
+    → list_any (has_name name) (registrations_in old) ≡ false → parse text ≡ Ok q → first_fault q ≡ None → is_mixed q.policy ≡ false → is_rstream q.operator ≡ true → length old.queries < most_queries → starts_overfull (reading_of q) ≡ false
+    → OnOk result (new ≡ record old { queries = old.queries ++ kept ∷ [] }) → IfErr result (λ why. (why ≡ answer.OutOfMemory) × (new.broken ≡ true)) → Offers old (Register name text) result new
+begun_offers old new name text q kept (Ok done) ready made idle free is good unmixed rstream few starts went failed =
+    let became : new ≡ record old { queries = old.queries ++ kept ∷ [] } = went in
+    rw became (record {
+      was_ready = ready;
+      ready = ready;
+      stands = λ world stands. register_leads old name text q kept world made idle free is good unmixed rstream few starts stands;
+    })
+begun_offers old new name text q kept (Err why) ready made idle free is good unmixed rstream few starts went failed = breaks old name text why new ready free failed.0 failed.1

@@ -177,9 +177,19 @@ impl<A: Answer> Engine<A> {
         requires ready { self.old.broken ≡ false }
         ensures { Offers self.old (Event.Register name text) result self.new }
     {
-        if self.place_of(&name).is_some() {
-            return Err(Refused::NameTaken);
+        match self.place_of(&name) {
+            Some(_) => Err(Refused::NameTaken),
+            None => self.register_text(name, text),
         }
+    }
+
+    // registers a text under a name that is free
+    fn register_text(&mut self, name: Text, text: Text) -> Result<(), Refused>
+        requires idle { IsTrue (is_idle self.old) }
+        requires ready { self.old.broken ≡ false }
+        requires free { list_any (has_name name) (registrations_in self.old) ≡ false }
+        ensures { Offers self.old (Event.Register name text) result self.new }
+    {
         match parsed(self.alloc, &text) {
             Ok(Ok(query)) => self.register_parsed(name, &query),
             Ok(Err(fault)) => Err(fault),
@@ -220,7 +230,31 @@ impl<A: Answer> Engine<A> {
         ensures { (text : List ℕ) → parse text ≡ Ok (registered query.now)
             → Offers self.old (Event.Register name text) result self.new }
     {
-        let policy = chosen(&query.policy)?;
+        match chosen(&query.policy) {
+            Ok(policy) => self.register_chosen(name, query, policy, made),
+            Err(mixed) => Err(mixed),
+        }
+    }
+
+    // registers a query without fault, under a policy
+    fn register_chosen(
+        &mut self,
+        name: Text,
+        query: &Query,
+        policy: Chosen,
+        made: Box<Translated>,
+    ) -> Result<(), Refused>
+        requires idle { IsTrue (is_idle self.old) }
+        requires ready { self.old.broken ≡ false }
+        requires free { list_any (has_name name) (registrations_in self.old) ≡ false }
+        requires policy { policy ≡ choice_of (registered query.now).policy }
+        requires unmixed { is_mixed (registered query.now).policy ≡ false }
+        requires asked { IsPolicy policy }
+        requires translated { IsTranslated (registered query.now) made.value }
+        requires placed { IsPlaced made.value }
+        ensures { (text : List ℕ) → parse text ≡ Ok (registered query.now)
+            → Offers self.old (Event.Register name text) result self.new }
+    {
         if !is_rstream(&query.operator) {
             return Err(Refused::Unbuilt);
         }
@@ -230,7 +264,7 @@ impl<A: Answer> Engine<A> {
         self.begin(name, query, policy, made)
     }
 
-    // registers a query without fault, under a policy, if it has not too many rows over no facts
+    // registers a query that is built, if it has not too many rows over no facts
     fn begin(
         &mut self,
         name: Text,

@@ -1,0 +1,27 @@
+use Rattle.std.proofs.Common.{◌∙◌, ap}
+use Rattle.rsp_query.specs.Queries.{registered}
+use Rattle.rsp_engine.specs.Accept.{new_query}
+use Rattle.rsp_engine.specs.Inside.{live_of}
+use Rattle.rsp_engine.specs.Readings.{reading_of}
+use Rattle.rsp_engine.specs.Stands.{State}
+use Rattle.rsp_engine.proofs.Offering.{begun_offers, breaks, overfull_refuses}
+use Rattle.rsp_engine.proofs.Readiness.{idle_first}
+use Rattle.rsp_engine.proofs.engine.Engine.begin.Goals as goal
+
+pub returns-in-Ok-Some : goal.returns-in-Ok-Some
+returns-in-Ok-Some g c = λ text is.
+    let old = c.args.self.now in
+    let q = registered c.args.query.now in
+    let begun = rw c.in-Ok-Some.field-0-is at c.in-Ok-Some.ensures.query in
+    let made = begun.1 ∙ ap (new_query c.args.name (reading_of q)) c.accepted.ensures in
+    let idle = idle_first old c.requires.ready c.requires.idle in
+    begun_offers old c.go_live.new.self c.args.name text q (live_of c.in-Ok-Some.query) c.go_live.result c.requires.ready made idle c.requires.free is c.requires.translated.sound c.requires.unmixed c.requires.rstream c.requires.few begun.0 c.go_live.ensures.ok c.go_live.ensures.err
+
+pub returns-in-Ok-None : goal.returns-in-Ok-None
+returns-in-Ok-None g c = λ text is.
+    let starts = rw c.in-Ok-None.field-0-is at c.in-Ok-None.ensures.query in
+    overfull_refuses c.args.self.now c.args.name text (registered c.args.query.now) c.requires.ready c.requires.free is c.requires.translated.sound c.requires.unmixed c.requires.rstream c.requires.few starts
+
+pub returns-in-Err : goal.returns-in-Err
+returns-in-Err g c = λ text is.
+    breaks c.args.self.now c.args.name text c.break_off.result c.break_off.new.self c.requires.ready c.requires.free c.break_off.ensures.value (ap (λ (s : State). s.broken) c.break_off.ensures.state)
