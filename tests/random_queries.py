@@ -346,8 +346,14 @@ class QueryWriter:
         start = "" if self.chance(0.7) else self.dice.choice(STARTS)
         return f"FROM NAMED WINDOW {name} ON {self.dice.choice(STREAMS)} [RANGE {width}{step}{start}]"
 
+    def whole(self):
+        """All triples of all windows, so that each difference of contents can be seen."""
+        parts = [f"{{ WINDOW {name} {{ ?s ?p ?o }} BIND({name} AS ?w) }}" for name in self.windows]
+        return "SELECT ?w ?s ?p ?o", f"{{ {' UNION '.join(parts)} }}"
+
     def text(self):
-        head, body, _ = self.parts_of_select(self.dice.choice([0, 1, 1, 1, 2, 2, 3]), False)
+        depth = self.dice.choice([0, 1, 1, 1, 2, 2, 3])
+        head, body = self.whole() if self.chance(0.3) else self.parts_of_select(depth, False)[:2]
         operator = self.dice.choice(["ISTREAM", "DSTREAM"]) if self.slips(2) else "RSTREAM"
         clauses = " ".join(map(self.clause, self.windows))
         if self.slips():
