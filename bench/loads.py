@@ -139,9 +139,9 @@ def queries(count):
 
 
 def windows(size):
-    """So many items under one query over 16 windows, of one to 16 seconds, that reports them side by side once a second."""
+    """So many items under one query over 16 windows, of one to 16 seconds, that reports them side by side each 100 ms."""
     widths = range(1, 17)
-    clauses = " ".join(f"FROM NAMED WINDOW <w:{width}> ON <s:a> [RANGE PT{width}S STEP PT1S]" for width in widths)
+    clauses = " ".join(f"FROM NAMED WINDOW <w:{width}> ON <s:a> [RANGE PT{width}S STEP PT0.1S]" for width in widths)
     body = " UNION ".join("{ %s }" % PATTERN.replace("<w:1>", f"<w:{width}>") for width in widths)
     return registration("q", "REPORT CLOSE TICK TIME", clauses, body) + stream(size)
 
