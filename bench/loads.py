@@ -108,8 +108,48 @@ GROUP BY ?room
 
 
 def registrations(size):
-    """So many registrations of a usual text. The engine refuses them, after their texts were read."""
-    return block("@register q", [USUAL]) * size
+    """So many registrations of a usual text, each of which is cancelled before the next one."""
+    return (block("@register q", [USUAL]) + b"@cancel q\n") * size
+
+
+# ---- many queries, many windows, arrivals: items of one triple, each ten milliseconds
+
+PATTERN = "WINDOW <w:1> { ?x <p:v> ?y }"
+
+
+def registration(name, policy, windows, body):
+    return block(f"@register {name}", [f"REGISTER RSTREAM <q:o> {policy} AS SELECT ?x {windows} WHERE {{ {body} }}\n"])
+
+
+def stream(size):
+    """So many items, and a tick at the time of the last one."""
+    graphs = [block(f"@item <s:a> {at}", [f"<a:{at}> <p:v> <b:{at}> .\n"]) for at in range(10, 10 * size + 1, 10)]
+    return b"".join(graphs) + b"@tick %d\n" % (10 * size)
+
+
+def queries(count):
+    """A load of so many items under this many queries, each of which reports the last second once a second."""
+    window = "FROM NAMED WINDOW <w:1> ON <s:a> [RANGE PT1S]"
+
+    def load(size):
+        live = [registration(f"q{number}", "REPORT CLOSE TICK TIME", window, PATTERN) for number in range(count)]
+        return b"".join(live) + stream(size)
+
+    return load
+
+
+def windows(size):
+    """So many items under one query over 16 windows, of one to 16 seconds, that reports them side by side each 100 ms."""
+    widths = range(1, 17)
+    clauses = " ".join(f"FROM NAMED WINDOW <w:{width}> ON <s:a> [RANGE PT{width}S STEP PT0.1S]" for width in widths)
+    body = " UNION ".join("{ %s }" % PATTERN.replace("<w:1>", f"<w:{width}>") for width in widths)
+    return registration("q", "REPORT CLOSE TICK TIME", clauses, body) + stream(size)
+
+
+def arrivals(size):
+    """So many items under one query that reports the last second on each of them."""
+    window = "FROM NAMED WINDOW <w:1> ON <s:a> [RANGE PT1S]"
+    return registration("q", "UNDER CQELS", window, PATTERN) + stream(size)
 
 
 # texts that are read slowly where a reader looks back, goes down or looks up in a list: the front, what is repeated, the end

@@ -9,13 +9,15 @@ from collections import namedtuple
 
 import query_model
 from algebra_model import Overfull, solutions, translated
-from query_model import LAST_INSTANT, instant, milliseconds
+from policy_model import content, instants, is_due, is_due_on_arrival, is_mixed, policy_of, window_of
+from query_model import LAST_INSTANT, instant
 from shape_model import fault
 from term_model import XSD_STRING, Blank, Iri, Literal, Tagged, is_absolute, printed
 
 USAGE = b"usage: rsp events [--json] | run [--json] [--store FILE] QUERY STREAM=FILE.. | check QUERY | gen COUNT\n"
 MOST_BYTES = 16_777_216
 MOST_ITEMS = MOST_TRIPLES = 1_000
+MOST_QUERIES = 256
 
 
 def is_utf8(text):
@@ -253,10 +255,11 @@ def event_of(group):
 
 # ---- queries
 
-NUMBERS = {"BadToken": 7, "Syntax": 8, "LeftOut": 9, "Limit": 10, "GraphShape": 11, "ExistsShape": 12, "Scope": 13}
+NUMBERS = {
+    "BadToken": 7, "Syntax": 8, "LeftOut": 9, "Limit": 10, "GraphShape": 11, "ExistsShape": 12, "Scope": 13, "PolicyMix": 14,
+}
 KEYS = {"Limit": ["what"], "Scope": ["variable"]}
-Window = namedtuple("Window", "stream width slide origin")
-Query = namedtuple("Query", "name translated window first")
+Query = namedtuple("Query", "name translated policy windows first")
 
 
 def text_refusal(name, *details):
@@ -265,23 +268,12 @@ def text_refusal(name, *details):
     return f"{NUMBERS[name]} {name}" + "".join(f" {key}={detail}" for key, detail in pairs)
 
 
-def is_built(query):
-    policy = ("report", [("CLOSE", None)], "TIME")
-    return query["operator"] == "RSTREAM" and len(query["windows"]) == 1 and query["policy"] == policy
-
-
-def window_of(clause):
-    width = milliseconds(clause["range"])
-    slide = milliseconds(clause["step"]) if clause["step"] else width
-    return Window(clause["stream"].encode(), width, slide, clause["start"] or 0)
-
-
 class Refused(Exception):
     """The event is refused; the text is that of its refusal line."""
 
 
-def query_of(name, text, items, has_query):
-    """The query of a registration behind so many items, or why it is refused."""
+def good_query(text):
+    """What a text says; Refused for the first of its faults."""
     try:
         query = query_model.parse(text.decode())
     except query_model.Refused as why:
@@ -289,84 +281,115 @@ def query_of(name, text, items, has_query):
     why = fault(query)
     if why:
         raise Refused(text_refusal(*why))
-    if has_query or not is_built(query):
-        raise Refused("22 Unbuilt")
-    made = translated(query)
+    if is_mixed(policy_of(query["policy"])):
+        raise Refused(text_refusal("PolicyMix"))
+    return query
+
+
+def has_start(made):
+    """Whether the query's tree has few enough rows over no facts at all."""
     try:
         solutions(made.tree, [])
+        return True
     except Overfull:
-        raise Refused("25 StartOverfull") from None
-    return Query(name, made, window_of(query["windows"][0]), items)
-
-
-# ---- windows
-
-
-def first_closing(window, time):
-    """The first closing that is at the time or behind it."""
-    first = window.origin + window.width
-    return first + max(0, -(-(time - first) // window.slide)) * window.slide
+        return False
 
 
 # ---- the world
 
 
 class World:
+    """The live queries, in the order of their registrations, all accepted items, and the first instant that isn't complete."""
+
     def __init__(self):
-        self.next, self.items, self.query = None, [], None
+        self.next, self.items, self.queries = None, [], []
 
-    def graph(self, at):
-        """The facts of the query's window at one of its closings."""
-        stream, width, *_ = self.query.window
-        items = [item for item in self.items[self.query.first:] if item[0] == stream and at - width < item[1] <= at]
-        triples = dict.fromkeys(triple for _, _, graph in items for triple in graph)
-        return [(("window", 0), *triple) for triple in triples]
+    def names(self):
+        return [query.name for query in self.queries]
 
-    def report(self, at):
-        name, (tree, shown, names), *_ = self.query
+    # ---- reports
+
+    def facts(self, query, at):
+        """The distinct triples of each window at the instant, with the window's number."""
+        held = [(place, n) for place, window in enumerate(query.windows) for n in content(query, window, self.items, at)]
+        return list(dict.fromkeys((("window", place), *triple) for place, n in held for triple in self.items[n][2]))
+
+    def report(self, query, at):
+        """The report of a query; one that is overfull ends it."""
+        tree, shown, names = query.translated
         try:
-            rows = solutions(tree, self.graph(at))
+            rows = solutions(tree, self.facts(query, at))
         except Overfull:
-            self.query = None
-            return b"# overfull %s %d\n" % (name, at)
+            self.queries.remove(query)
+            return b"# overfull %s %d\n" % (query.name, at)
         texts = sorted(b"\t".join(printed(row[v]) if v in row else b"" for v in shown) for row in rows)
-        lines = [b"# report %s %d %d" % (name, at, len(texts)), b"\t".join(b"?" + name for name in names), *texts]
+        lines = [b"# report %s %d %d" % (query.name, at, len(texts)), b"\t".join(b"?" + name for name in names), *texts]
         return b"".join(line + b"\n" for line in lines)
 
     def pass_to(self, to):
-        """The reports of the instants before `to` that weren't complete."""
+        """The reports of the instants before `to` that weren't complete: at each of them those of the queries that are due."""
         start, self.next = self.next, to
-        if start is None or self.query is None:
-            return b""
-        at, slide = first_closing(self.query.window, start), self.query.window.slide
-        written = []
-        while at < to and self.query:
-            written.append(self.report(at))
-            at += slide
-        return b"".join(written)
+        if start is None:
+            return
+        for at in sorted(set().union(*(instants(query, self.items, start, to) for query in self.queries))):
+            for query in list(self.queries):
+                if is_due(query, self.items, at):
+                    yield self.report(query, at)
 
-    def take(self, event):
-        """What the event gives; else Refused, and nothing is changed."""
-        head, *values = event
-        if head == b"@register":
-            self.query = query_of(*values, len(self.items), self.query is not None)
-            return b""
-        if head in (b"@cancel", b"@insert", b"@delete"):
+    def arrive(self):
+        """The reports on the last item."""
+        for query in list(self.queries):
+            if is_due_on_arrival(query, self.items):
+                yield self.report(query, self.items[-1][1])
+
+    # ---- events: what each gives; else Refused, and nothing is changed
+
+    def register(self, name, text):
+        if name in self.names():
+            raise Refused("16 NameTaken")
+        query = good_query(text)
+        if query["operator"] != "RSTREAM":
             raise Refused("22 Unbuilt")
-        if head == b"@item" and (len(values[2]) > MOST_TRIPLES or len(self.items) >= MOST_ITEMS):
-            raise Refused("22 Unbuilt")
-        time, least = (values[1], values[1]) if head == b"@item" else (values[0], values[0] + 1)
+        if len(self.queries) == MOST_QUERIES:
+            raise Refused("18 QueriesFull")
+        made, words = translated(query), query["policy"]
+        if not has_start(made):
+            raise Refused("25 StartOverfull")
+        windows = [window_of(clause, words) for clause in query["windows"]]
+        self.queries.append(Query(name, made, policy_of(words), windows, len(self.items)))
+
+    def cancel(self, name):
+        if name not in self.names():
+            raise Refused("17 NoQuery")
+        del self.queries[self.names().index(name)]
+
+    def check_time(self, time, least):
         if least < (self.next or 0):
             raise Refused(f"15 Late time={time} next={self.next}")
-        if head == b"@item":
-            self.items.append(values)
-        return self.pass_to(least)
+
+    def item(self, stream, time, graph):
+        if len(graph) > MOST_TRIPLES or len(self.items) >= MOST_ITEMS:
+            raise Refused("22 Unbuilt")
+        self.check_time(time, time)
+        self.items.append((stream, time, graph))
+        yield from self.pass_to(time)
+        yield from self.arrive()
+
+    def tick(self, time):
+        self.check_time(time, time + 1)
+        yield from self.pass_to(time + 1)
+
+    def take(self, head, *values):
+        events = {b"@register": self.register, b"@cancel": self.cancel, b"@item": self.item, b"@tick": self.tick}
+        if head not in events:
+            raise Refused("22 Unbuilt")
+        return b"".join(events[head](*values) or [])
 
 
 def answer(world, group):
     """What a block gives, and whether it is refused."""
     try:
-        return world.take(event_of(group)), None
+        return world.take(*event_of(group)), None
     except (BadBlock, Refused) as why:
         return b"", str(why)
 

@@ -1,7 +1,7 @@
-"""Random texts of registrations: queries of the whole grammar over one window, most of them without a fault.
+"""Random texts of registrations: queries of the whole grammar over some windows, most of them without a fault.
 
 What can be seen is kept beside each text, so that names are mostly ones that are bound. Each part is out of its rules
-with the chance `fault`.
+with the chance `fault`. Spans are of some seconds, or of some milliseconds where the log is `fine`.
 """
 XSD = "http://www.w3.org/2001/XMLSchema#"
 NAMES = ["s", "o", "x", "y", "z"]
@@ -21,19 +21,23 @@ AGGREGATES = ["COUNT", "SUM", "AVG", "MIN", "MAX", "count", "Sum"]
 SPANS = ["PT2S", "PT5S", "PT5S", "PT10S", "PT10S", "PT20S"]
 ODD_SPANS = ["PT1S", "PT2.5S", "PT0.5S", "PT0H1M", "P1D"]
 STEPS = ["PT1S", "PT2S", "PT0.5S", "PT5S"]
-STARTS = ["", "", "", " START 0", " START 250", ' START "1970-01-01T00:00:01Z"', " start 00007"]
-POLICIES = [
-    "UNDER CSPARQL", "", "REPORT CLOSE AND NONEMPTY TICK TIME", "REPORT CHANGE TICK TIME", "REPORT CLOSE TICK TUPLE",
-]
-BUILT = ["REPORT CLOSE TICK TIME"] * 9 + ["Report close tick time"]
-ELSEWHERE = ["<w:2>", "e:1", "<w:1>"]
+FINE_SPANS = ["PT0.002S", "PT0.005S", "PT0.005S", "PT0.010S", "PT0.02S"]
+FINE_STEPS = ["PT0.001S", "PT0.002S", "PT0.003S", "PT0.005S", "PT0.007S"]
+STARTS = ["", "", "", " START 0", " START 3", " START 250", ' START "1970-01-01T00:00:01Z"', " start 00007"]
+STREAMS = ["<s:a>", "<s:a>", "<s:a>", "<s:b>", "<s:b>", "<s:c>"]
+PROFILES = ["UNDER CSPARQL", "UNDER CQELS", "UNDER CQELS", "under cqels", ""]
+STRATEGIES = ["CLOSE", "CHANGE", "NONEMPTY", "EVERY"]
+MIXES = ["REPORT CLOSE TICK TUPLE", "REPORT CHANGE AND NONEMPTY AND CHANGE TICK TIME", "REPORT CLOSE AND CLOSE TICK TUPLE"]
 
 
 class QueryWriter:
     """Writes one query. `seen` is the list of names that are visible so far in the group at hand."""
 
-    def __init__(self, dice, fault):
+    def __init__(self, dice, fault, is_fine=False):
         self.dice, self.fault, self.made = dice, fault, 0
+        self.spans, self.steps = (FINE_SPANS, FINE_STEPS) if is_fine else (SPANS, STEPS)
+        self.is_fine = is_fine
+        self.windows = [f"<w:{place}>" for place in range(1, 1 + dice.choice([1, 1, 1, 1, 2, 2, 3, 5]))]
 
     def slips(self, times=1):
         return self.dice.random() < times * self.fault
@@ -154,8 +158,11 @@ class QueryWriter:
 
     # ---- elements of groups: each adds to what is seen
 
+    def elsewhere(self):
+        return ["<w:9>", "e:1", self.windows[0]]
+
     def window(self, seen, depth):
-        name = self.dice.choice(ELSEWHERE) if self.slips(2) else "<w:1>"
+        name = self.dice.choice(self.elsewhere()) if self.slips(2) else self.dice.choice(self.windows)
         return f"WINDOW {name} {{ {self.group(seen, depth - 1, True)} }}"
 
     def optional(self, seen, depth, is_inside):
@@ -312,15 +319,44 @@ class QueryWriter:
         head, body, shown = self.parts_of_select(depth, is_inside)
         return f"{head} {body}", shown
 
-    def text(self):
-        head, body, _ = self.parts_of_select(self.dice.choice([0, 1, 1, 1, 2, 2, 3]), False)
-        operator = self.dice.choice(["ISTREAM", "DSTREAM"]) if self.slips(2) else "RSTREAM"
-        policy = self.dice.choice(POLICIES if self.slips(3) else BUILT)
-        step = f" STEP {self.dice.choice(STEPS)}" if self.chance(0.7) else ""
-        width = self.dice.choice(ODD_SPANS if self.chance(0.15) else SPANS)
+    # ---- policies and windows
+
+    def strategy(self, name):
+        return f"{name} {self.dice.choice(self.steps)}" if name == "EVERY" else name
+
+    def policy(self):
+        """A profile, none, or a list of strategies; by a slip one that is refused."""
+        if self.slips(2):
+            return self.dice.choice(MIXES)
+        if self.chance(0.35):
+            return self.dice.choice(PROFILES)
+        tick = self.dice.choice(["TIME", "TIME", "TUPLE"])
+        allowed = STRATEGIES if tick == "TIME" or self.slips(2) else ["CHANGE", "NONEMPTY"]
+        names = self.dice.sample(allowed, min(len(allowed), self.dice.choice([1, 1, 2, 2, 3, 4])))
+        if names == ["NONEMPTY"] and tick == "TIME" and not self.is_fine:
+            names = ["NONEMPTY", "CLOSE"]
+        names += [self.dice.choice(names)] if self.slips(2) else []
+        text = f"REPORT {' AND '.join(map(self.strategy, names))} TICK {tick}"
+        return text.lower() if self.chance(0.05) else text
+
+    def clause(self, name):
+        step = f" STEP {self.dice.choice(self.steps)}" if self.chance(0.7) else ""
+        is_odd = not self.is_fine and self.chance(0.15)
+        width = self.dice.choice(ODD_SPANS if is_odd else self.spans)
         start = "" if self.chance(0.7) else self.dice.choice(STARTS)
-        window = f"FROM NAMED WINDOW <w:1> ON <s:a> [RANGE {width}{step}{start}]"
+        return f"FROM NAMED WINDOW {name} ON {self.dice.choice(STREAMS)} [RANGE {width}{step}{start}]"
+
+    def whole(self):
+        """All triples of all windows, so that each difference of contents can be seen."""
+        parts = [f"{{ WINDOW {name} {{ ?s ?p ?o }} BIND({name} AS ?w) }}" for name in self.windows]
+        return "SELECT ?w ?s ?p ?o", f"{{ {' UNION '.join(parts)} }}"
+
+    def text(self):
+        depth = self.dice.choice([0, 1, 1, 1, 2, 2, 3])
+        head, body = self.whole() if self.chance(0.3) else self.parts_of_select(depth, False)[:2]
+        operator = self.dice.choice(["ISTREAM", "DSTREAM"]) if self.slips(2) else "RSTREAM"
+        clauses = " ".join(map(self.clause, self.windows))
         if self.slips():
-            window += f" FROM NAMED WINDOW {self.dice.choice(ELSEWHERE)} ON <s:a> [RANGE PT1S]"
+            clauses += f" FROM NAMED WINDOW {self.dice.choice(self.elsewhere())} ON <s:a> [RANGE PT1S]"
         prefixes = "PREFIX e: <a:> PREFIX p: <p:> "
-        return f"{prefixes}REGISTER {operator} <q:o> {policy} AS {head} {window} {body}"
+        return f"{prefixes}REGISTER {operator} <q:o> {self.policy()} AS {head} {clauses} {body}"
