@@ -20,8 +20,8 @@ ghost use Rattle.rsp_engine.specs.Refusals.{shape_fault, text_fault};
 ghost use Rattle.rsp_engine.specs.Stands.{query_of};
 ghost use Rattle.rsp_engine.specs.declared.refused.Refused.TheVariants as refusals;
 
-use crate::live_query::{LiveQuery, StreamWindow};
 use crate::Refused;
+use crate::live_query::{LiveQuery, StreamWindow};
 use rsp_algebra::{Answer, Translated};
 use rsp_query::{Operator, PolicyWords, Query, WindowClause};
 use rsp_report::{Chosen, PolicyMix, Watched, policy};
@@ -119,7 +119,10 @@ fn names_of(alloc: Global, names: &[Text], shown: &[usize]) -> Result<Listed<Tex
 }
 
 // the windows of a query, over their streams
-fn stream_windows(alloc: Global, clauses: &[WindowClause]) -> Result<Listed<StreamWindow>, AllocError>
+fn stream_windows(
+    alloc: Global,
+    clauses: &[WindowClause],
+) -> Result<Listed<StreamWindow>, AllocError>
     ensures { IfOk result (λ windows. windows ≡ map readings.window_of clauses.now) }
 {
     let mut windows = Listed::new(alloc);
