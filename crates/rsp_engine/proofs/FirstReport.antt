@@ -1,25 +1,24 @@
 -- The first report of the moments that are left leads to a world for which the engine stands.
-use Rattle.std.proofs.Common.{◌≡◌, ◌⊎◌, inl, inr, ℕ, zero, suc, ◌+◌, ◌<◌, ◌≤◌, Bool, true, false, List, [], ◌∷◌, filter, length, map, remove, slice_get, slice_set, drop, Option, None, Some, refl, sym, ◌∙◌, ap, subst, arith}
-use Rattle.std.specs.Prelude.{if◌then◌else◌, not, bytes_eq, option_map}
+use Rattle.std.proofs.Common.{◌≡◌, ℕ, zero, suc, ◌+◌, ◌<◌, Bool, true, false, List, [], ◌∷◌, filter, length, map, remove, slice_get, slice_set, drop, Option, None, Some, refl, sym, ◌∙◌, ap, subst, arith}
+use Rattle.std.specs.Prelude.{if◌then◌else◌, not, bytes_eq}
 use Rattle.std.proofs.lemmas.List.{length-map, length-set}
 use Rattle.std.proofs.lemmas.Option.{slice_get_within}
 use Rattle.std.proofs.lemmas.Simd.{map-map}
-use Rattle.std.specs.List.{IsDistinct, find}
+use Rattle.std.specs.List.{IsDistinct}
 use Rattle.rsp_multiset.specs.Rows.{Cells}
 use Rattle.rsp_terms.specs.declared.term.Term.{Term}
 use Rattle.rsp_algebra.specs.Overfull.{overfull}
 use Rattle.rsp_engine.specs.declared.finding.Pending.{Pending}
-use Rattle.rsp_engine.specs.declared.item.Item.{Item}
 use Rattle.rsp_engine.specs.declared.report.Outcome.{Outcome}
 use Rattle.rsp_engine.specs.declared.report.Outcome.TheVariants as outcomes
 use Rattle.rsp_engine.specs.declared.report.Report.{Report}
 use Rattle.rsp_engine.specs.World.{Query, Registration, World, registrations}
-use Rattle.rsp_engine.specs.Accept.{has_name, next_of, without}
+use Rattle.rsp_engine.specs.Accept.{without}
 use Rattle.rsp_engine.specs.Contents.{facts_over}
-use Rattle.rsp_engine.specs.Left.{IsFirstLeft, left_from, reports_at}
+use Rattle.rsp_engine.specs.Left.{IsFirstLeft, left_from}
 use Rattle.rsp_engine.specs.Moments.{Moment}
 use Rattle.rsp_engine.specs.Reports.{IsOutcome, after_report, is_overfull, live_query, moments_behind, next_step, query_after_report, report_of}
-use Rattle.rsp_engine.specs.Stands.{IsState, Live, Stands, State, moments_left, next_in, places_left, query_of, reading_in, registration_of, registrations_in, test_in}
+use Rattle.rsp_engine.specs.Stands.{IsState, Live, Stands, State, moments_left, next_in, places_left, query_of, registration_of, registrations_in, test_in}
 use Rattle.rsp_engine.specs.Offers.{GivesOf}
 use Rattle.rsp_engine.specs.Passing.{ReportsFirst, is_overfull_outcome, outcome_over, place_behind, queries_behind, seeing}
 use Rattle.rsp_engine.proofs.Left.{first_left_is, gone, waiting_head}
@@ -147,29 +146,31 @@ module _ (old new : State) (report : Report) (world : World) (left : List Moment
         stands = behind (is_overfull_outcome report.outcome) (sym full) given.queries given.left;
       }
 
-  -- ---- fewer places are left
+-- ---- fewer places are left
 
-  less : (ends : Bool) → new.queries ≡ queries_behind old place live ends
-      → IsFirstLeft (test_in old) (registrations_in new) (next_in old) place.at (place_behind place ends) new.first → places_left new < places_left old
+module _ (old new : State) (report : Report) (given : ReportsFirst old report new) where
+
+  less : (ends : Bool) → new.queries ≡ queries_behind old given.place given.live ends
+      → IsFirstLeft (test_in old) (registrations_in new) (next_in old) given.place.at (place_behind given.place ends) new.first → places_left new < places_left old
   less true queries first = by new.first refl first
     where
-      by : (r : Option Pending) → new.first ≡ r → IsFirstLeft (test_in old) (registrations_in new) (next_in old) place.at place.query r → places_left new < places_left old
+      by : (r : Option Pending) → new.first ≡ r → IsFirstLeft (test_in old) (registrations_in new) (next_in old) given.place.at given.place.query r → places_left new < places_left old
       by None is h = rw (is, given.first) (omega arith)
       by (Some later) is h =
           let few = slice_get_within (registrations_in new) later.query h.0.query h.0.listed in
-          let within_old = slice_get_within old.queries place.query live given.listed in
-          let counts : length new.queries + 1 ≡ length old.queries = ap (λ qs. length qs + 1) queries ∙ shorter old.queries place.query within_old in
+          let within_old = slice_get_within old.queries given.place.query given.live given.listed in
+          let counts : length new.queries + 1 ≡ length old.queries = ap (λ qs. length qs + 1) queries ∙ shorter old.queries given.place.query within_old in
           let below : later.query < length new.queries = rw (length-map new.queries registration_of) at few in
-          rw (is, given.first, given.next) (nearer_gone (next_in old) place.at place.query later.at later.query (length old.queries) (length new.queries) counts h.1 h.2 below h.0.within)
+          rw (is, given.first, given.next) (nearer_gone (next_in old) given.place.at given.place.query later.at later.query (length old.queries) (length new.queries) counts h.1 h.2 below h.0.within)
   less false queries first = by new.first refl first
     where
-      by : (r : Option Pending) → new.first ≡ r → IsFirstLeft (test_in old) (registrations_in new) (next_in old) place.at (place.query + 1) r → places_left new < places_left old
+      by : (r : Option Pending) → new.first ≡ r → IsFirstLeft (test_in old) (registrations_in new) (next_in old) given.place.at (given.place.query + 1) r → places_left new < places_left old
       by None is h = rw (is, given.first) (omega arith)
       by (Some later) is h =
           let few = slice_get_within (registrations_in new) later.query h.0.query h.0.listed in
-          let counts : length new.queries ≡ length old.queries = ap length queries ∙ length-set old.queries place.query (seeing live old.items place.at) in
+          let counts : length new.queries ≡ length old.queries = ap length queries ∙ length-set old.queries given.place.query (seeing given.live old.items given.place.at) in
           let below : later.query < length old.queries = rw (length-map new.queries registration_of, counts) at few in
-          rw (is, given.first, given.next, counts) (nearer (next_in old) place.at place.query later.at later.query (length old.queries) h.1 h.2 below h.0.within)
+          rw (is, given.first, given.next, counts) (nearer (next_in old) given.place.at given.place.query later.at later.query (length old.queries) h.1 h.2 below h.0.within)
 
   pub first_nearer : places_left new < places_left old
   first_nearer = less (is_overfull_outcome report.outcome) given.queries given.left

@@ -1,9 +1,9 @@
 -- The moments that are left from a place on, and how they go.
-use Rattle.std.proofs.Common.{◌≡◌, ℕ, zero, suc, ◌+◌, ◌-◌, ◌<◌, ◌≤◌, Bool, true, false, true≢false, not, ◌&&◌, ◌||◌, cond, List, [], ◌∷◌, ◌++◌, filter, drop, length, Option, None, Some, slice_get, refl, sym, ap, subst, ◌∙◌, arith, nat_lt, bytes_eq, if◌then◌else◌}
+use Rattle.std.proofs.Common.{◌≡◌, ℕ, zero, suc, ◌+◌, ◌-◌, ◌<◌, ◌≤◌, Bool, true, false, true≢false, not, ◌&&◌, ◌||◌, cond, List, [], ◌∷◌, ◌++◌, filter, drop, Option, None, Some, slice_get, refl, sym, ap, subst, ◌∙◌, arith, nat_lt, bytes_eq, if◌then◌else◌}
 use Rattle.std.specs.List.{flat_map, list_any, range_with_len}
 use Rattle.std.specs.Option.{option_map_or}
 use Rattle.std.proofs.lemmas.Bool.{lt-ltb, le-ltb}
-use Rattle.std.proofs.lemmas.List.{append-nil, append_assoc, drop_more, length_push}
+use Rattle.std.proofs.lemmas.List.{append-nil, append_assoc, drop_more}
 use Rattle.std.proofs.lemmas.List.Elements.{filter-append}
 use Rattle.std.proofs.lemmas.Option.{get_or_from_slice_get, same_Some, slice_get_within}
 use Rattle.rsp_engine.specs.declared.item.Item.{Item}
@@ -13,6 +13,7 @@ use Rattle.rsp_engine.specs.Due.{is_due, is_due_on, newest}
 use Rattle.rsp_engine.specs.Moments.{Moment, moments_at}
 use Rattle.rsp_engine.specs.Left.{IsFirstLeft, IsWaiting, left_from, reports_at}
 use Rattle.rsp_engine.specs.Accept.{has_name}
+use Rattle.rsp_engine.proofs.Named.{last_of}
 
 -- ---- one step
 
@@ -142,13 +143,7 @@ module _ (items : List Item) (to : ℕ) (arrived : Bool) (queries : List Registr
 
 -- the item that was accepted last
 pub newest_of : (items : List Item) (item : Item) → newest (items ++ item ∷ []) ≡ Some item
-newest_of items item =
-    let last : length (items ++ item ∷ []) - 1 ≡ length items = omega (arith, length_push items item) in
-    rw last (slice_get_last items item)
-  where
-    slice_get_last : (items : List Item) (item : Item) → slice_get (items ++ item ∷ []) (length items) ≡ Some item
-    slice_get_last [] item = refl
-    slice_get_last (x ∷ items) item = slice_get_last items item
+newest_of items item = last_of items item
 
 -- ---- where a query goes
 

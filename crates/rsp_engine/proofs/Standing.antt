@@ -1,14 +1,15 @@
 -- What an engine's state says of the world for which it stands.
-use Rattle.std.proofs.Common.{◌≡◌, ℕ, Bool, true, false, List, [], ◌∷◌, Option, None, Some, refl, sym, ◌∙◌, ap, subst, map}
-use Rattle.std.specs.Option.{option_map_or}
+use Rattle.std.proofs.Common.{◌≡◌, ℕ, Bool, true, false, List, [], Option, None, Some, refl, sym, ◌∙◌, ap, map, not}
+use Rattle.std.specs.Option.{is_some, option_map_or}
 use Rattle.std.proofs.lemmas.Simd.{map-map}
 use Rattle.std.specs.List.{list_any}
 use Rattle.rsp_engine.specs.declared.finding.Pending.{Pending}
 use Rattle.rsp_engine.specs.World.{Query, Registration, World, registrations}
-use Rattle.rsp_engine.specs.Accept.{has_name, is_live, next_of}
-use Rattle.rsp_engine.specs.Left.{left_from, reports_at}
+use Rattle.rsp_engine.specs.Accept.{has_name, is_live}
+use Rattle.rsp_engine.specs.Left.{left_from}
 use Rattle.rsp_engine.specs.Moments.{Moment}
-use Rattle.rsp_engine.specs.Stands.{Live, Stands, State, moments_left, next_in, query_of, registration_of, registrations_in, test_in}
+use Rattle.rsp_engine.proofs.Left.{waiting_some}
+use Rattle.rsp_engine.specs.Stands.{IsState, Live, Stands, State, moments_left, next_in, query_of, registration_of, registrations_in, test_in}
 
 -- the queries as registration fixed them
 pub fixed_of : (lives : List Live) → map (λ (query : Query). query.registration) (map query_of lives) ≡ map registration_of lives
@@ -33,3 +34,15 @@ left_here e world left stands place is =
 pub left_as : (e : State) (after : World) (queries : List Registration) (first : Option Pending) → e.next ≡ after.next → e.items ≡ after.items → registrations after ≡ queries
     → moments_left after e.arrived first ≡ option_map_or (λ (place : Pending). left_from (test_in e) queries (next_in e) place.at place.query) first []
 left_as e after queries first next items regs = rw (regs, ← items, ← next) refl
+
+-- nothing is left exactly where no place is set
+pub idle_left : (e : State) (world : World) (left : List Moment) (is_none : Bool) → IsState e → is_some e.first ≡ not is_none → Stands e world left → (is_none ≡ true → left ≡ []) × (left ≡ [] → is_none ≡ true)
+idle_left e world left is_none state is stands = by e.first refl is_none is
+  where
+    by : (first : Option Pending) → e.first ≡ first → (b : Bool) → is_some first ≡ not b → (b ≡ true → left ≡ []) × (left ≡ [] → b ≡ true)
+    by None none true is = (λ _. stands.moments ∙ ap (moments_left world e.arrived) none, λ _. refl)
+    by None none false is = cc
+    by (Some place) some true is = cc
+    by (Some place) some false is =
+        (λ none. cc,
+        λ none. absurd (waiting_some (test_in e) (registrations_in e) (next_in e) place (state.waits place some) (sym (left_here e world left stands place some) ∙ none)))

@@ -1,5 +1,5 @@
 // The engine's calls.
-ghost use Rattle.std.specs.Prelude.{◌≡◌, ◌≤◌, ◌<◌, ◌+◌, MatchOption, Some, false, if◌then◌else◌, length, map, remove, slice_get, unwrap_or};
+ghost use Rattle.std.specs.Prelude.{◌≡◌, ◌≤◌, ◌<◌, ◌+◌, ◌++◌, ◌∷◌, [], MatchOption, OnOk, Some, false, if◌then◌else◌, length, map, remove, slice_get, unwrap_or};
 ghost use Rattle.std.specs.List.{All, list_any};
 ghost use Rattle.rsp_spec.specs.Windows.{last_instant};
 ghost use Rattle.rsp_engine.specs.Accept.{has_name};
@@ -269,9 +269,12 @@ impl<A: Answer> Engine<A> {
         ensures ok { OnOk result (self.new ≡ record self.old { queries = self.old.queries ++ live_of query ∷ [] }) }
         ensures err { IfErr result (λ why. (why ≡ OutOfMemory) × (self.new.broken ≡ true)) }
     {
-        match self.queries.push(query) {
+        match add(&mut self.queries, query) {
             Ok(()) => Ok(()),
-            Err(_) => Err(self.break_off()),
+            Err(AllocError) => {
+                self.broken = true;
+                Err(Refused::OutOfMemory)
+            }
         }
     }
 
@@ -380,7 +383,8 @@ impl<A: Answer> Engine<A> {
         match keep(&mut self.queries, &mut self.items, item, self.held) {
             Ok(held) => {
                 self.held = held;
-                self.first = first_moment(&self.queries, self.items.as_slice(), true, self.next, time);
+                let queries = self.queries.as_slice();
+                self.first = first_moment(queries, self.items.as_slice(), true, self.next, time);
                 self.arrived = true;
                 self.next = Some(time);
                 Ok(())
@@ -400,7 +404,8 @@ impl<A: Answer> Engine<A> {
         requires instant { to ≤ last_instant + 1 }
         ensures { Passes self.old self.old.items false to self.new }
     {
-        self.first = first_moment(&self.queries, self.items.as_slice(), false, self.next, to);
+        let queries = self.queries.as_slice();
+        self.first = first_moment(queries, self.items.as_slice(), false, self.next, to);
         self.arrived = false;
         self.next = Some(to);
     }
@@ -446,7 +451,8 @@ impl<A: Answer> Engine<A> {
             Ok(report) => {
                 let query = place_behind(&mut self.queries, place.query, &report.outcome);
                 let from = Pending { at: place.at, query };
-                self.first = first_left(&self.queries, items, self.arrived, next, from);
+                let queries = self.queries.as_slice();
+                self.first = first_left(queries, items, self.arrived, next, from);
                 Ok(report)
             }
             Err(AllocError) => {
@@ -455,6 +461,13 @@ impl<A: Answer> Engine<A> {
             }
         }
     }
+}
+
+fn add<A: Drop>(queries: &mut Vec<LiveQuery<A>>, query: LiveQuery<A>) -> Result<(), AllocError>
+    ensures { OnOk result (queries.new.items ≡ queries.old.items ++ query ∷ []) }
+{
+    queries.push(query)?;
+    Ok(())
 }
 
 // the place of the first moment once every instant before `to` is complete, where those before `next` are worked off

@@ -10,8 +10,8 @@ ghost use Rattle.rsp_engine.specs.Inside.{IsWatching, fixed};
 ghost use Rattle.rsp_engine.specs.Left.{IsFirstAt, IsFirstLeft, reports_at};
 ghost use Rattle.rsp_engine.specs.Stands.{IsTimed};
 
-use crate::live_query::{LiveQuery, StreamWindow};
 use crate::Item;
+use crate::live_query::{LiveQuery, StreamWindow};
 use rsp_report::{due, due_on_item, next_due};
 
 /// A place among the moments: an instant, in ms since 1970, and a query by its number among the live ones.
@@ -38,12 +38,13 @@ pub(crate) fn first_left<A>(
 {
     match first_at(queries, items, arrived, next, from) {
         Some(query) => Some(Pending { at: from.at, query }),
-        None => first_behind(queries, items, arrived, next, from.at),
+        None if from.at < next => first_from(queries, items, arrived, next, from.at + 1),
+        None => None,
     }
 }
 
-// the first place behind the instant `at`
-fn first_behind<A>(
+// the first place at the instant `at` or behind it
+fn first_from<A>(
     queries: &[LiveQuery<A>],
     items: &[Item],
     arrived: bool,
@@ -54,9 +55,9 @@ fn first_behind<A>(
     requires timed { IsTimed items.now next }
     requires next { next ≤ last_instant + 1 }
     requires from { at ≤ next }
-    ensures { IsFirstLeft (reports_at items.now next arrived) (map fixed queries.now) next (at + 1) 0 result }
+    ensures { IsFirstLeft (reports_at items.now next arrived) (map fixed queries.now) next at 0 result }
 {
-    let at = next_instant(queries, items, arrived, next, at + 1)?;
+    let at = next_instant(queries, items, arrived, next, at)?;
     let query = first_at(queries, items, arrived, next, Pending { at, query: 0 })?;
     Some(Pending { at, query })
 }
@@ -117,13 +118,7 @@ fn sooner(a: Option<u64>, b: Option<u64>) -> Option<u64>
 // ---- one query
 
 // whether a query reports at an instant
-fn reports_at<A>(
-    live: &LiveQuery<A>,
-    items: &[Item],
-    arrived: bool,
-    next: u64,
-    at: u64,
-) -> bool
+fn reports_at<A>(live: &LiveQuery<A>, items: &[Item], arrived: bool, next: u64, at: u64) -> bool
     requires watching { IsWatching items.now live.now }
     requires timed { IsTimed items.now next }
     requires next { next ≤ last_instant + 1 }

@@ -1,0 +1,105 @@
+use Rattle.std.proofs.Common.{rules, ◌≡◌, ◌∙◌, ◌<◌, length, ap, map, refl, slice_get, Some}
+use Rattle.std.proofs.lemmas.List.{length-set}
+use Rattle.rsp_engine.specs.Inside.{IsReady, live_of, state_of}
+use Rattle.rsp_engine.specs.Stands.{next_in, test_in}
+use Rattle.rsp_engine.specs.Passing.{is_overfull_outcome, place_behind}
+use Rattle.rsp_engine.proofs.Named.{get_map}
+use Rattle.rsp_engine.proofs.Reporting.{answers, first_seen, fixed_left, get_index, high, listed, place_is, ready_behind, states_behind, watching_behind, within}
+use Rattle.rsp_engine.proofs.engine.Engine.report_first.Goals as goal
+
+pub index_mut-requires : goal.index_mut-requires
+index_mut-requires g c =
+    let sound : IsReady g.A.Answer.node g.A.Answer.width g.A.Answer.facts g.A.Answer.spent c.self.inside = c.self.invariant (rw (← c.self.view_is) at c.requires.ready) in
+    let first : c.self.inside.first ≡ Some c.args.place = rw (← c.self.view_is) at c.requires.first in
+    let below : c.args.place.query < length c.self.inside.queries.items = listed _ _ _ _ _ sound c.args.place first in
+    search rules
+
+pub report_at-requires-clause-instant : goal.report_at-requires-clause-instant
+report_at-requires-clause-instant g c =
+    let sound : IsReady g.A.Answer.node g.A.Answer.width g.A.Answer.facts g.A.Answer.spent c.self.inside = c.self.invariant (rw (← c.self.view_is) at c.requires.ready) in
+    let first : c.self.inside.first ≡ Some c.args.place = rw (← c.self.view_is) at c.requires.first in
+    high _ _ _ _ _ sound c.args.place first
+
+pub report_at-requires-clause-first : goal.report_at-requires-clause-first
+report_at-requires-clause-first g c =
+    let sound : IsReady g.A.Answer.node g.A.Answer.width g.A.Answer.facts g.A.Answer.spent c.self.inside = c.self.invariant (rw (← c.self.view_is) at c.requires.ready) in
+    let first : c.self.inside.first ≡ Some c.args.place = rw (← c.self.view_is) at c.requires.first in
+    let live = c.index_mut.result.now in
+    let is : slice_get c.self.inside.queries.items c.args.place.query ≡ Some live = get_index c.self.inside.queries.items c.args.place.query live (listed _ _ _ _ _ sound c.args.place first) c.index_mut.ensures.value in
+    rw c.as_slice-items.ensures.value (first_seen _ _ _ _ _ sound c.args.place first live is)
+
+pub report_at-requires-clause-answers : goal.report_at-requires-clause-answers
+report_at-requires-clause-answers g c =
+    let sound : IsReady g.A.Answer.node g.A.Answer.width g.A.Answer.facts g.A.Answer.spent c.self.inside = c.self.invariant (rw (← c.self.view_is) at c.requires.ready) in
+    let first : c.self.inside.first ≡ Some c.args.place = rw (← c.self.view_is) at c.requires.first in
+    let live = c.index_mut.result.now in
+    let is : slice_get c.self.inside.queries.items c.args.place.query ≡ Some live = get_index c.self.inside.queries.items c.args.place.query live (listed _ _ _ _ _ sound c.args.place first) c.index_mut.ensures.value in
+    answers _ _ _ _ _ sound c.args.place first live is
+
+pub place_behind-query-requires : goal.place_behind-query-requires
+place_behind-query-requires g c =
+    let sound : IsReady g.A.Answer.node g.A.Answer.width g.A.Answer.facts g.A.Answer.spent c.self.inside = c.self.invariant (rw (← c.self.view_is) at c.requires.ready) in
+    let first : c.self.inside.first ≡ Some c.args.place = rw (← c.self.view_is) at c.requires.first in
+    rw (length-set c.self.inside.queries.items c.args.place.query c.report_at.new.live) (listed _ _ _ _ _ sound c.args.place first)
+
+pub first_left-self-inside-requires-clause-watching : goal.first_left-self-inside-requires-clause-watching
+first_left-self-inside-requires-clause-watching g c =
+    let sound : IsReady g.A.Answer.node g.A.Answer.width g.A.Answer.facts g.A.Answer.spent c.self.inside = c.self.invariant (rw (← c.self.view_is) at c.requires.ready) in
+    let first : c.self.inside.first ≡ Some c.args.place = rw (← c.self.view_is) at c.requires.first in
+    let live = c.index_mut.result.now in
+    let is : slice_get c.self.inside.queries.items c.args.place.query ≡ Some live = get_index c.self.inside.queries.items c.args.place.query live (listed _ _ _ _ _ sound c.args.place first) c.index_mut.ensures.value in
+    let now = c.report_at.new.live in
+    let full = is_overfull_outcome c.in-Ok.report.outcome in
+    let seen = rw c.as_slice-items.ensures.value at c.in-Ok.ensures.seen in
+    let behind = c.place_behind-query.ensures.queries in
+    rw (c.as_slice-queries.ensures.value, c.place_behind-query.ensures.queries, c.as_slice-items.ensures.value) (watching_behind _ _ _ _ _ sound c.args.place first live is now seen c.in-Ok.ensures.watched full)
+
+pub first_left-self-inside-requires-clause-from : goal.first_left-self-inside-requires-clause-from
+first_left-self-inside-requires-clause-from g c =
+    let sound : IsReady g.A.Answer.node g.A.Answer.width g.A.Answer.facts g.A.Answer.spent c.self.inside = c.self.invariant (rw (← c.self.view_is) at c.requires.ready) in
+    let first : c.self.inside.first ≡ Some c.args.place = rw (← c.self.view_is) at c.requires.first in
+    rw c.unwrap_or-next.ensures (within _ _ _ _ _ sound c.args.place first)
+
+pub invariant_of-self : goal.invariant_of-self
+invariant_of-self g c = λ _.
+    let sound : IsReady g.A.Answer.node g.A.Answer.width g.A.Answer.facts g.A.Answer.spent c.self.inside = c.self.invariant (rw (← c.self.view_is) at c.requires.ready) in
+    let first : c.self.inside.first ≡ Some c.args.place = rw (← c.self.view_is) at c.requires.first in
+    let live = c.index_mut.result.now in
+    let is : slice_get c.self.inside.queries.items c.args.place.query ≡ Some live = get_index c.self.inside.queries.items c.args.place.query live (listed _ _ _ _ _ sound c.args.place first) c.index_mut.ensures.value in
+    let now = c.report_at.new.live in
+    let full = is_overfull_outcome c.in-Ok.report.outcome in
+    let seen = rw c.as_slice-items.ensures.value at c.in-Ok.ensures.seen in
+    let reported = rw c.as_slice-items.ensures.value at c.in-Ok.ensures.reported in
+    let behind = c.place_behind-query.ensures.queries in
+    let left = rw (c.unwrap_or-next.ensures, c.as_slice-items.ensures.value, c.as_slice-queries.ensures.value, c.place_behind-query.ensures.place ∙ place_is c.args.place full) at c.first_left-self-inside.ensures in
+    ready_behind _ _ _ _ _ sound c.args.place first live is now seen c.in-Ok.ensures.watched c.in-Ok.report.outcome reported _ refl refl refl refl behind left
+
+pub returns-in-Ok-clause-ok : goal.returns-in-Ok-clause-ok
+returns-in-Ok-clause-ok g c =
+    let sound : IsReady g.A.Answer.node g.A.Answer.width g.A.Answer.facts g.A.Answer.spent c.self.inside = c.self.invariant (rw (← c.self.view_is) at c.requires.ready) in
+    let first : c.self.inside.first ≡ Some c.args.place = rw (← c.self.view_is) at c.requires.first in
+    let live = c.index_mut.result.now in
+    let is : slice_get c.self.inside.queries.items c.args.place.query ≡ Some live = get_index c.self.inside.queries.items c.args.place.query live (listed _ _ _ _ _ sound c.args.place first) c.index_mut.ensures.value in
+    let now = c.report_at.new.live in
+    let full = is_overfull_outcome c.in-Ok.report.outcome in
+    let seen = rw c.as_slice-items.ensures.value at c.in-Ok.ensures.seen in
+    let reported = rw c.as_slice-items.ensures.value at c.in-Ok.ensures.reported in
+    let behind = c.place_behind-query.ensures.queries in
+    let left = rw (c.unwrap_or-next.ensures, c.as_slice-items.ensures.value, c.as_slice-queries.ensures.value, c.place_behind-query.ensures.place ∙ place_is c.args.place full) at c.first_left-self-inside.ensures in
+    rw (← c.self.view_is)
+    (record {
+      place = c.args.place;
+      live = live_of live;
+      first = first;
+      listed = get_map live_of c.self.inside.queries.items c.args.place.query live is;
+      query = c.in-Ok.ensures.query;
+      at = c.in-Ok.ensures.at;
+      variables = c.in-Ok.ensures.variables;
+      outcome = reported.outcome;
+      next = refl;
+      items = refl;
+      arrived = refl;
+      broken = refl;
+      queries = ap (map live_of) behind ∙ states_behind _ _ _ _ _ sound c.args.place first live is now seen c.in-Ok.ensures.watched full;
+      left = fixed_left c.place_behind-query.new.queries.items (test_in (state_of c.self.inside)) (next_in (state_of c.self.inside)) c.args.place.at (place_behind c.args.place full) c.first_left-self-inside.result left;
+    })
