@@ -1,5 +1,6 @@
 // What a text asks for, and queries that become live.
-ghost use Rattle.std.specs.Prelude.{◌≡◌, [], List, IfErr, IfOk, IfSome, MatchResult, Err, Ok, Result, false, length, map, option_map, true};
+ghost use Rattle.std.specs.Prelude.{◌≡◌, [], List, IfErr, IfOk, IfSome, MatchResult, Err, Ok, Result};
+ghost use Rattle.std.specs.Prelude.{false, length, map, option_map, true};
 ghost use Rattle.rsp_report.specs.Policies.{choice_of, is_mixed};
 ghost use Rattle.rsp_query.specs.Queries.{Registered, registered};
 ghost use Rattle.rsp_algebra.specs.Nodes.{IsPlaced, node_of};
@@ -177,7 +178,8 @@ pub(crate) fn begun<A: Answer>(
     requires translated { IsTranslated (registered query.now) made.value }
     requires placed { IsPlaced made.value }
     ensures query { IfOk result (λ live. IsBegun name (registered query.now) first (option_map live_of live)) }
-    ensures watching { IfOk result (λ live. IfSome live (λ live. (items : List Item) → length items ≡ first → IsWatching items live)) }
+    ensures watching { IfOk result (λ live. IfSome live (λ live.
+        (items : List Item) → length items ≡ first → IsWatching items live)) }
     ensures answers { IfOk result (λ live. IfSome live (Answers A.node A.width A.facts A.spent)) }
 {
     match A::start(alloc, &made)? {
