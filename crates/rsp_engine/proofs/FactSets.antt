@@ -91,9 +91,9 @@ set_then : (k : ℕ) (ts : List Triple) (more : List Fact) → IsSet (facts_of k
 unfolding IsDistinct
 set_then k [] more set set_more others = set_more
 set_then k (t ∷ ts) more set set_more others = (
-      all-append (λ (f : Fact). fact_eq (record { spot = spot.Window k; triple = t }) f ≡ false) (facts_of k ts) more set.0 (others t),
-      set_then k ts more set.1 set_more others,
-    )
+  all-append (λ (f : Fact). fact_eq (record { spot = spot.Window k; triple = t }) f ≡ false) (facts_of k ts) more set.0 (others t),
+  set_then k ts more set.1 set_more others,
+)
 
 windows_are_set : (items : List Item) (at k : ℕ) (windows : List StreamWindow) → IsSet (facts_from items at k windows)
 unfolding IsDistinct

@@ -96,7 +96,7 @@ module _ (old new : State) (report : Report) (world : World) (left : List Moment
       let cut = remove_named (registrations_in old) (λ (q : Registration). q.name) place.query query names_old listed_old in
       let dropped = drop_named (registrations_in old) (λ (q : Registration). q.name) place.query query names_old listed_old in
       let struck = gone (test_in old) live.name (registrations_in old) (registrations_in new) (next_in old) place.at place.query (place.query + 1)
-          (regs ∙ sym cut) (ap (drop place.query) regs ∙ dropped) in
+      (regs ∙ sym cut) (ap (drop place.query) regs ∙ dropped) in
       let found = first_left_is _ _ _ _ _ _ first in
       let regs_after : registrations after ≡ registrations_in new = same_registrations new.queries after lives in
       let moments : moments_left after new.arrived new.first ≡ filter (λ (m : Moment). not (bytes_eq m.query live.name)) rest =
@@ -149,7 +149,6 @@ module _ (old new : State) (report : Report) (world : World) (left : List Moment
 -- ---- fewer places are left
 
 module _ (old new : State) (report : Report) (given : ReportsFirst old report new) where
-
   less : (ends : Bool) → new.queries ≡ queries_behind old given.place given.live ends
       → IsFirstLeft (test_in old) (registrations_in new) (next_in old) given.place.at (place_behind given.place ends) new.first → places_left new < places_left old
   less true queries first = by new.first refl first

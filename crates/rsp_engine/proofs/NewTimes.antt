@@ -24,11 +24,12 @@ newest_last items item =
 
 times_last : (w : StreamWindow) (items : List Item) (item : Item) → map (λ (i : Item). i.time) (filter (is_over w) (items ++ (item ∷ [])))
     ≡ cond (is_over w item) (map (λ (i : Item). i.time) (filter (is_over w) items) ++ (item.time ∷ [])) (map (λ (i : Item). i.time) (filter (is_over w) items))
-times_last w [] item = elim (is_over w item) as (λ b. map (λ (i : Item). i.time) (cond b (item ∷ []) []) ≡ cond b (item.time ∷ []) []) [ | true ↦ refl | false ↦ refl ]
+times_last w [] item = elim (is_over w item) as (λ b. map (λ (i : Item). i.time) (cond b (item ∷ []) []) ≡ cond b (item.time ∷ []) []) [ true ↦ refl | false ↦ refl ]
 times_last w (x ∷ items) item = by (is_over w x) (times_last w items item)
   where
     first : Bool → List Item → List ℕ
     first b rest = map (λ (i : Item). i.time) (cond b (x ∷ rest) rest)
+
     by : (b : Bool)
         → map (λ (i : Item). i.time) (filter (is_over w) (items ++ (item ∷ [])))
         ≡ cond (is_over w item) (map (λ (i : Item). i.time) (filter (is_over w) items) ++ (item.time ∷ [])) (map (λ (i : Item). i.time) (filter (is_over w) items))

@@ -1,5 +1,5 @@
 -- An accepted event leads from an idle engine that stands for a world to one that stands for the next.
-use Rattle.std.proofs.Common.{◌≡◌, ℕ, ◌+◌, ◌-◌, ◌<◌, ◌≤◌, Bool, true, false, ◌&&◌, not, List, [], ◌∷◌, ◌++◌, length, map, filter, remove, slice_get, Option, None, Some, Result, Ok, Err, refl, sym, ◌∙◌, ap, subst, arith, nat_lt, nat_le, unwrap_or, bytes_eq}
+use Rattle.std.proofs.Common.{◌≡◌, ℕ, ◌+◌, ◌-◌, ◌<◌, ◌≤◌, Bool, true, false, ◌&&◌, List, [], ◌∷◌, ◌++◌, length, map, filter, remove, slice_get, Option, None, Some, Result, Ok, Err, refl, sym, ◌∙◌, ap, subst, arith, nat_lt, nat_le, unwrap_or, bytes_eq}
 use Rattle.std.proofs.lemmas.List.{append-nil, length-map}
 use Rattle.std.proofs.lemmas.Bool.{le-leb, le-ltb, lt-leb}
 use Rattle.std.proofs.lemmas.Simd.{map-map}
@@ -18,11 +18,11 @@ use Rattle.rsp_translation.specs.Translation.{first_fault}
 use Rattle.rsp_engine.specs.declared.refused.Refused.TheVariants as answer
 use Rattle.rsp_engine.specs.declared.refused.Refused.{Refused}
 use Rattle.rsp_engine.specs.Offers.{Answers, Offers, Refuses}
-use Rattle.rsp_engine.specs.Refusals.{Refusal, no_query, policy_fault, refusal_of, shape_fault, text_fault}
-use Rattle.rsp_engine.specs.World.{Query, Registration, World, registrations}
+use Rattle.rsp_engine.specs.Refusals.{Refusal, refusal_of, shape_fault, text_fault}
+use Rattle.rsp_engine.specs.World.{Query, World, registrations}
 use Rattle.rsp_engine.specs.Readings.{is_rstream, reading_of}
 use Rattle.rsp_engine.specs.Accept.{accept, has_name, is_live, most_items, most_queries, most_triples, new_query, next_of, starts_overfull, without}
-use Rattle.rsp_engine.specs.Due.{is_due, is_due_on, newest}
+use Rattle.rsp_engine.specs.Due.{is_due_on, newest}
 use Rattle.rsp_engine.specs.Left.{IsFirstLeft, reports_at}
 use Rattle.rsp_engine.specs.Moments.{Moment, due_moments, moments, moments_at, moments_from, moments_on}
 use Rattle.rsp_engine.specs.Passing.{Passes}

@@ -47,9 +47,10 @@ idle_left e world left is_none state is stands = by e.first refl is_none is
     by None none true is = (λ _. stands.moments ∙ ap (moments_left world e.arrived) none, λ _. refl)
     by None none false is = cc
     by (Some place) some true is = cc
-    by (Some place) some false is =
-        (λ none. cc,
-        λ none. absurd (waiting_some (test_in e) (registrations_in e) (next_in e) place (state.waits place some) (sym (left_here e world left stands place some) ∙ none)))
+    by (Some place) some false is = (
+      λ none. cc,
+      λ none. absurd (waiting_some (test_in e) (registrations_in e) (next_in e) place (state.waits place some) (sym (left_here e world left stands place some) ∙ none)),
+    )
 
 -- ---- queries by name
 

@@ -6,8 +6,8 @@ ghost use Rattle.rsp_terms.specs.declared.statement.Spot.TheVariants as spot;
 ghost use Rattle.rsp_engine.specs.declared.item.Item as item;
 ghost use Rattle.rsp_engine.specs.Contents.{add_once, distinct_triples, facts_from, facts_of, graph, in_content};
 
-use crate::live_query::StreamWindow;
 use crate::Item;
+use crate::live_query::StreamWindow;
 use indexmap::IndexSet;
 use rsp_terms::{Fact, Listed, Spot, Text, Triple};
 use rsp_windows::Window;

@@ -481,10 +481,19 @@ impl<A: Answer> Engine<A> {
     {
         let next = self.next.unwrap_or(0);
         let items = self.items.as_slice();
-        match report_at(self.alloc, &mut self.queries[place.query], items, place.at, steps) {
+        match report_at(
+            self.alloc,
+            &mut self.queries[place.query],
+            items,
+            place.at,
+            steps,
+        ) {
             Ok(report) => {
                 let query = place_behind(&mut self.queries, place.query, &report.outcome);
-                let from = Pending { at: place.at, query };
+                let from = Pending {
+                    at: place.at,
+                    query,
+                };
                 let queries = self.queries.as_slice();
                 self.first = first_left(queries, items, self.arrived, next, from);
                 Ok(report)

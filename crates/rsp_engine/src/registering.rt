@@ -1,5 +1,6 @@
 // What a text asks for, and queries that become live.
-ghost use Rattle.std.specs.Prelude.{◌≡◌, [], List, IfErr, IfOk, IfSome, MatchResult, Err, Ok, Result, false, length, map, option_map, true};
+ghost use Rattle.std.specs.Prelude.{◌≡◌, [], List, IfErr, IfOk, IfSome, MatchResult, Err, Ok, Result};
+ghost use Rattle.std.specs.Prelude.{false, length, map, option_map, true};
 ghost use Rattle.rsp_report.specs.Policies.{choice_of, is_mixed};
 ghost use Rattle.rsp_query.specs.Queries.{Registered, registered};
 ghost use Rattle.rsp_algebra.specs.Nodes.{IsPlaced, node_of};
@@ -20,8 +21,8 @@ ghost use Rattle.rsp_engine.specs.Refusals.{shape_fault, text_fault};
 ghost use Rattle.rsp_engine.specs.Stands.{query_of};
 ghost use Rattle.rsp_engine.specs.declared.refused.Refused.TheVariants as refusals;
 
-use crate::live_query::{LiveQuery, StreamWindow};
 use crate::Refused;
+use crate::live_query::{LiveQuery, StreamWindow};
 use rsp_algebra::{Answer, Translated};
 use rsp_query::{Operator, PolicyWords, Query, WindowClause};
 use rsp_report::{Chosen, PolicyMix, Watched, policy};
@@ -119,7 +120,10 @@ fn names_of(alloc: Global, names: &[Text], shown: &[usize]) -> Result<Listed<Tex
 }
 
 // the windows of a query, over their streams
-fn stream_windows(alloc: Global, clauses: &[WindowClause]) -> Result<Listed<StreamWindow>, AllocError>
+fn stream_windows(
+    alloc: Global,
+    clauses: &[WindowClause],
+) -> Result<Listed<StreamWindow>, AllocError>
     ensures { IfOk result (λ windows. windows ≡ map readings.window_of clauses.now) }
 {
     let mut windows = Listed::new(alloc);
@@ -174,7 +178,8 @@ pub(crate) fn begun<A: Answer>(
     requires translated { IsTranslated (registered query.now) made.value }
     requires placed { IsPlaced made.value }
     ensures query { IfOk result (λ live. IsBegun name (registered query.now) first (option_map live_of live)) }
-    ensures watching { IfOk result (λ live. IfSome live (λ live. (items : List Item) → length items ≡ first → IsWatching items live)) }
+    ensures watching { IfOk result (λ live. IfSome live (λ live.
+        (items : List Item) → length items ≡ first → IsWatching items live)) }
     ensures answers { IfOk result (λ live. IfSome live (Answers A.node A.width A.facts A.spent)) }
 {
     match A::start(alloc, &made)? {

@@ -6,8 +6,8 @@ ghost use Rattle.rsp_engine.specs.Inside.{IsWatching, parts_of};
 ghost use Rattle.rsp_engine.specs.Kept.{triples_of};
 ghost use Rattle.rsp_engine.specs.Watching.{with_time};
 
-use crate::live_query::{LiveQuery, StreamWindow};
 use crate::Item;
+use crate::live_query::{LiveQuery, StreamWindow};
 use rsp_report::Watched;
 use rsp_terms::Text;
 use std::alloc::{AllocError, Global};
@@ -36,11 +36,7 @@ pub(crate) fn keep<A>(
 }
 
 // each query watches the items with this one as the newest
-fn watch<A>(
-    queries: &mut [LiveQuery<A>],
-    items: &[Item],
-    item: &Item,
-) -> Result<(), AllocError>
+fn watch<A>(queries: &mut [LiveQuery<A>], items: &[Item], item: &Item) -> Result<(), AllocError>
     requires watching { All (IsWatching items.now) queries.old }
     requires firsts { All (λ live. live.first ≤ length items.now) queries.old }
     ensures parts { OnOk result (map parts_of queries.new ≡ map parts_of queries.old) }
@@ -52,11 +48,7 @@ fn watch<A>(
     Ok(())
 }
 
-fn watch_query<A>(
-    live: &mut LiveQuery<A>,
-    items: &[Item],
-    item: &Item,
-) -> Result<(), AllocError>
+fn watch_query<A>(live: &mut LiveQuery<A>, items: &[Item], item: &Item) -> Result<(), AllocError>
     requires watching { IsWatching items.now live.old }
     requires first { live.old.first ≤ length items.now }
     ensures parts { OnOk result (parts_of live.new ≡ parts_of live.old) }
