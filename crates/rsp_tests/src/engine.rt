@@ -17,10 +17,14 @@ const SUBJECTS: &str = "@register q\nREGISTER RSTREAM <q:o> REPORT CLOSE TICK TI
      FROM NAMED WINDOW <w:1> ON <s:a> [RANGE PT10S STEP PT5S] \
      WHERE { WINDOW <w:1> { ?s <p:v> ?o } }\n@end";
 
-// a query of another form than the one that is run
-const OTHER_TEXT: &str =
-    "@register q\nREGISTER RSTREAM <q:o> AS SELECT ?s FROM NAMED WINDOW <w:1> ON <s:a> [RANGE PT10S] \
+// a query that is to report what is new, and one whose strategies don't go together
+const NEW_ROWS: &str =
+    "@register r\nREGISTER ISTREAM <q:o> AS SELECT ?s FROM NAMED WINDOW <w:1> ON <s:a> [RANGE PT10S] \
      WHERE { WINDOW <w:1> { ?s <p:v> ?o } }\n@end";
+
+const MIXED: &str =
+    "@register r\nREGISTER RSTREAM <q:o> REPORT CLOSE TICK TUPLE AS SELECT ?s FROM NAMED WINDOW <w:1> ON <s:a> \
+     [RANGE PT10S] WHERE { WINDOW <w:1> { ?s <p:v> ?o } }\n@end";
 
 // texts with a fault of each kind
 const UNCLOSED: &str = "@register r\nSELECT \"\n@end";
@@ -205,12 +209,24 @@ Late { time: 3, next: 5 }; held 1
 
 #[test]
 fn what_is_not_built_is_refused(rt: HostRuntime) -> Result<(), Fail> {
-    let events = [OTHER_TEXT, SUBJECTS, SUBJECTS, "@cancel q", "@insert\n@end"];
+    let events = [NEW_ROWS, "@insert\n@end", "@delete\n@end"];
     let answers = "Unbuilt; held 0
+Unbuilt; held 0
+Unbuilt; held 0
+";
+    assert_eq!(rt; said(rt.alloc(), &events)?.as_slice(), answers.as_bytes());
+    Ok(())
+}
+
+#[test]
+fn a_name_is_of_one_live_query(rt: HostRuntime) -> Result<(), Fail> {
+    let events = [MIXED, "@cancel q", SUBJECTS, SUBJECTS, "@cancel q", SUBJECTS];
+    let answers = "PolicyMix; held 0
+NoQuery; held 0
 taken; held 0
-Unbuilt; held 0
-Unbuilt; held 0
-Unbuilt; held 0
+NameTaken; held 0
+taken; held 0
+taken; held 0
 ";
     assert_eq!(rt; said(rt.alloc(), &events)?.as_slice(), answers.as_bytes());
     Ok(())
