@@ -15,3 +15,4 @@ pub mod Watches
 pub mod FirstPlaces
 pub mod NewTimes
 pub mod Policies
+mod WorldRows

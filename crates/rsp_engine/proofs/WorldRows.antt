@@ -1,0 +1,392 @@
+-- Worked rows: small worlds with short windows, whose instants can be walked over by hand.
+use Rattle.std.specs.Prelude.{◌≡◌, refl, ℕ, ◌+◌, true, false, Option, None, Some, Ok, Err, List, [], ◌∷◌, ◌++◌, map, codes}
+use Rattle.std.specs.List.{range_with_len}
+use Rattle.std.specs.Option.{option_map, option_map_or}
+use Rattle.std.specs.Result.{result_ok}
+use Rattle.rsp_terms.specs.declared.term.Term.{Term}
+use Rattle.rsp_terms.specs.declared.term.Term.TheVariants.{Iri}
+use Rattle.rsp_terms.specs.declared.statement.Triple.{Triple}
+use Rattle.rsp_terms.specs.declared.statement.Fact.{Fact}
+use Rattle.rsp_terms.specs.declared.statement.Spot.TheVariants as spot
+use Rattle.rsp_events.specs.declared.event.Event.{Event}
+use Rattle.rsp_events.specs.declared.event.Event.TheVariants.{Register, Cancel, Item, Tick, Insert, Delete}
+use Rattle.rsp_expr.specs.declared.slot.Slot.TheVariants.{Variable, Constant}
+use Rattle.rsp_report.specs.Policies.{choice_of, is_mixed}
+use Rattle.rsp_report.specs.declared.words.Strategy.{Strategy}
+use Rattle.rsp_report.specs.declared.words.Strategy.TheVariants.{Close, Change, NonEmpty, Every}
+use Rattle.rsp_report.specs.declared.words.PolicyWords.TheVariants.{Listed}
+use Rattle.rsp_report.specs.declared.chosen.Chosen.{Chosen}
+use Rattle.rsp_streams_out.specs.declared.operator.Operator.TheVariants.{Rstream}
+use Rattle.rsp_query.specs.Queries.{Registered}
+use Rattle.rsp_algebra.specs.declared.tree.Place.TheVariants.{Window}
+use Rattle.rsp_algebra.specs.Nodes.{Node, join, pattern, project}
+use Rattle.rsp_translation.specs.declared.shape.Shape.TheVariants as shape
+use Rattle.rsp_translation.specs.Translation.{first_fault}
+use Rattle.rsp_syntax.specs.Parsing.{parse}
+use Rattle.rsp_syntax.specs.declared.fault.SyntaxFault.TheVariants as fault
+use Rattle.rsp_engine.specs.declared.item.Item as item
+use Rattle.rsp_engine.specs.declared.live_query.StreamWindow.{StreamWindow}
+use Rattle.rsp_engine.specs.declared.report.Report.{Report}
+use Rattle.rsp_engine.specs.declared.report.Outcome.TheVariants.{Rows, Overfull}
+use Rattle.rsp_engine.specs.Refusals.{Refusal, left_out, late, scope, policy_mix, name_taken, no_query, queries_full, start_overfull, unbuilt, text_fault}
+use Rattle.rsp_engine.specs.World.{World, Query, Reading, Registration}
+use Rattle.rsp_engine.specs.Readings.{is_rstream, reading_of}
+use Rattle.rsp_engine.specs.Accept.{accept, accept_reading, is_live, new_query, starts_overfull}
+use Rattle.rsp_engine.specs.Contents.{content, facts}
+use Rattle.rsp_engine.specs.Moments.{Moment, moments}
+use Rattle.rsp_engine.specs.Reports.{reports, world_behind, is_overfull, after_report, moments_behind}
+use Rattle.rsp_engine.specs.Kept.{kept_items, triples_of}
+
+-- ---- what the rows speak of
+
+-- windows of a width and a slide: of 10 and 5 they are (0, 10], (5, 15], .., of 2 and 5 (0, 2], (5, 7], ..
+abbrev over : List ℕ → ℕ → ℕ → StreamWindow
+over stream width slide = record { stream = stream; shape = record { width = width; slide = slide; origin = 0 } }
+
+abbrev on_a : ℕ → ℕ → List StreamWindow
+on_a width slide = over (codes "s:a") width slide ∷ []
+
+-- <a:n>, for a digit n
+abbrev iri : ℕ → Term
+iri n = Iri (codes "a:" ++ ((48 + n) ∷ []))
+
+abbrev triple : ℕ → Triple
+triple n = record { subject = iri n; predicate = Iri (codes "p:v"); object = Iri (codes "a:0") }
+
+-- items of one triple, and their arrival
+abbrev item_at : ℕ → ℕ → item.Item
+item_at time n = record { stream = codes "s:a"; time = time; graph = triple n ∷ [] }
+
+abbrev arrives_on : List ℕ → ℕ → ℕ → Event
+arrives_on stream time n = Item stream time (triple n ∷ [])
+
+abbrev arrives : ℕ → ℕ → Event
+arrives = arrives_on (codes "s:a")
+
+-- the policies that ask for these strategies
+abbrev at_instants : List Strategy → Chosen
+at_instants strategies = choice_of (Listed strategies false)
+
+abbrev on_items : List Strategy → Chosen
+on_items strategies = choice_of (Listed strategies true)
+
+-- the triples `?s p:v ?o` of a window
+abbrev triples_in : ℕ → Node
+triples_in k =
+    pattern (Window k) (record { subject = Variable 0; predicate = Constant (Iri (codes "p:v")); object = Variable 1 })
+
+-- the values of ?s
+abbrev subjects : Chosen → List StreamWindow → Node → Reading
+subjects policy windows body =
+    record {
+      operator = Rstream;
+      output = codes "o:a";
+      policy = policy;
+      windows = windows;
+      node = project body (0 ∷ []);
+      width = 2;
+      shown = 0 ∷ [];
+      variables = codes "s" ∷ [];
+    }
+
+-- queries for the subjects of their first window; `q` where no name is said
+abbrev named : List ℕ → Chosen → List StreamWindow → Query
+named name policy windows = new_query name (subjects policy windows (triples_in 0)) 0
+
+abbrev query : Chosen → List StreamWindow → Query
+query = named (codes "q")
+
+-- at the closings of (0, 10], (10, 20], ..
+abbrev at_tens : List ℕ → Query
+at_tens name = named name (at_instants (Close ∷ [])) (on_a 10 10)
+
+-- which sees the items from a number on
+abbrev from : ℕ → Query → Query
+from first query = record query { registration = record query.registration { first = first } }
+
+abbrev world : Option ℕ → List item.Item → List Query → World
+world next items queries = record { next = next; items = items; queries = queries }
+
+abbrev at_of : List ℕ → ℕ → Moment
+at_of name t = record { at = t; query = name }
+
+abbrev at : ℕ → Moment
+at = at_of (codes "q")
+
+abbrev report_of : List ℕ → ℕ → List ℕ → Report
+report_of name t subjects =
+    record { query = name; at = t; variables = codes "s" ∷ []; outcome = Rows (map (λ n. Some (iri n) ∷ []) subjects) }
+
+abbrev report : ℕ → List ℕ → Report
+report = report_of (codes "q")
+
+-- the moments of an event, where it is accepted
+abbrev moments_of : World → Event → Option (List Moment)
+moments_of old event = option_map (moments old event) (result_ok (accept old event))
+
+-- the reports of events, up to one that is refused
+abbrev said : World → List Event → List Report
+said old [] = []
+said old (event ∷ events) =
+    option_map_or
+    (λ new. reports new (moments old event new) ++ said (world_behind new (moments old event new)) events)
+    (result_ok (accept old event))
+    []
+
+abbrev said_of : Query → List Event → List Report
+said_of query events = said (world None [] (query ∷ [])) events
+
+-- when a query of this policy and these windows reports
+abbrev instants : Chosen → List StreamWindow → List Event → List ℕ
+instants policy windows events = map (λ (r : Report). r.at) (said_of (query policy windows) events)
+
+-- ---- which queries are accepted
+
+-- the later item's text stands first
+abbrev two_items : List item.Item
+two_items = item_at 1 3 ∷ item_at 4 1 ∷ []
+
+abbrev waiting : World
+waiting = world (Some 4) two_items (at_tens (codes "q") ∷ [])
+
+abbrev ticked : World
+ticked = record waiting { next = Some 11 }
+
+-- a number of queries, each with a name of one byte
+abbrev so_many : ℕ → World
+so_many n = world (Some 4) [] (map (λ byte. at_tens (byte ∷ [])) (range_with_len 0 n))
+
+-- whatever the text is, and however many are live
+name_is_looked_up_first : (text : List ℕ)
+    → map (λ w. accept w (Register (codes "q") text)) (ticked ∷ so_many 256 ∷ []) ≡ Err name_taken ∷ Err name_taken ∷ []
+name_is_looked_up_first text = refl
+
+faulty_text_is_refused_for_it : (text : List ℕ) (why : Refusal) → text_fault (parse text) ≡ Some why
+    → accept (so_many 256) (Register (codes "r2") text) ≡ Err why
+faulty_text_is_refused_for_it text why is = rw is refl
+
+fault_keeps_its_details : text_fault (Err (fault.LeftOut 113 (codes "*"))) ≡ Some (left_out 113 (codes "*"))
+fault_keeps_its_details = refl
+
+shape_is_looked_at_before_the_policy : (q : Registered) → first_fault q ≡ Some (shape.Scope (codes "x"))
+    → is_mixed q.policy ≡ true → text_fault (Ok q) ≡ Some (scope (codes "x"))
+shape_is_looked_at_before_the_policy q is mixed = rw is refl
+
+policy_is_looked_at_before_the_operator : (text : List ℕ) (q : Registered) → parse text ≡ Ok q
+    → first_fault q ≡ None → is_mixed q.policy ≡ true → is_rstream q.operator ≡ false
+    → accept ticked (Register (codes "r") text) ≡ Err policy_mix
+policy_is_looked_at_before_the_operator text q is sound mixed other = rw (is, sound, mixed) refl
+
+overfull_start_is_refused : (w : World) (reading : Reading) → starts_overfull reading ≡ true
+    → accept_reading w (codes "q") reading ≡ Err start_overfull
+overfull_start_is_refused w reading starts = rw starts refl
+
+-- a text without fault
+module _ (text : List ℕ) (q : Registered) (is : parse text ≡ Ok q) (sound : first_fault q ≡ None)
+    (pure : is_mixed q.policy ≡ false) where
+  operator_is_looked_at_before_the_number : is_rstream q.operator ≡ false
+      → accept (so_many 256) (Register (codes "r2") text) ≡ Err unbuilt
+  operator_is_looked_at_before_the_number other = rw (is, sound, pure, other) refl
+
+  number_is_looked_at_before_the_start : is_rstream q.operator ≡ true → starts_overfull (reading_of q) ≡ true
+      → accept (so_many 256) (Register (codes "r2") text) ≡ Err queries_full
+  number_is_looked_at_before_the_start built starts = rw (is, sound, pure, built) refl
+
+  last_place_is_given : is_rstream q.operator ≡ true → accept (so_many 255) (Register (codes "r2") text)
+      ≡ accept_reading (so_many 255) (codes "r2") (reading_of q)
+  last_place_is_given built = rw (is, sound, pure, built) refl
+
+  -- last in order, beside one that is live; it sees the items from the third on
+  query_is_registered : is_rstream q.operator ≡ true → starts_overfull (reading_of q) ≡ false
+      → accept ticked (Register (codes "r") text)
+      ≡ Ok (world (Some 11) two_items (at_tens (codes "q") ∷ new_query (codes "r") (reading_of q) 2 ∷ []))
+  query_is_registered built starts = rw (is, sound, pure, built, starts) refl
+
+-- ---- which other events are accepted
+
+-- the last tick's instant is complete already
+refusals : map (accept ticked) (Insert [] ∷ Delete [] ∷ Cancel (codes "r") ∷ arrives 10 5 ∷ Tick 9 ∷ Tick 10 ∷ [])
+    ≡ Err unbuilt ∷ Err unbuilt ∷ Err no_query ∷ Err (late 10 11) ∷ Err (late 9 11) ∷ Ok ticked ∷ []
+refusals = refl
+
+cancelled_query_is_gone : accept (world (Some 4) [] (at_tens (codes "q") ∷ at_tens (codes "r") ∷ [])) (Cancel (codes "q"))
+    ≡ Ok (world (Some 4) [] (at_tens (codes "r") ∷ []))
+cancelled_query_is_gone = refl
+
+-- an item leaves its own instant open, so a second item may have the same time
+item_leaves_its_instant_open : accept (world (Some 10) two_items []) (arrives 10 5)
+    ≡ Ok (world (Some 10) (two_items ++ item_at 10 5 ∷ []) [])
+item_leaves_its_instant_open = refl
+
+-- of two refusals that hold, the first is given: behind 1,000 items, and of more than 1,000 triples
+late_items_may_be_unbuilt : map (λ n. accept (world (Some 4) (map (λ _. item_at 4 1) (range_with_len 0 n)) []) (arrives 3 1))
+    (999 ∷ 1000 ∷ []) ≡ Err (late 3 4) ∷ Err unbuilt ∷ []
+late_items_may_be_unbuilt = refl
+
+late_graphs_may_be_unbuilt : map (λ n. accept waiting (Item (codes "s:a") 3 (map (λ _. triple 1) (range_with_len 0 n))))
+    (1000 ∷ 1001 ∷ []) ≡ Err (late 3 4) ∷ Err unbuilt ∷ []
+late_graphs_may_be_unbuilt = refl
+
+-- ---- which instants an event makes complete, and who reports at them
+
+-- windows close at 10 and 20; an item leaves its instant open
+instants_come_in_order : map (moments_of waiting) (Tick 9 ∷ arrives 10 5 ∷ Tick 25 ∷ Cancel (codes "q") ∷ [])
+    ≡ Some [] ∷ Some [] ∷ Some (at 10 ∷ at 20 ∷ []) ∷ Some [] ∷ []
+instants_come_in_order = refl
+
+-- and never by the first event to tell a time
+instants_come_once : map (λ next. moments_of (record waiting { next = next }) (Tick 10)) (Some 10 ∷ Some 11 ∷ None ∷ [])
+    ≡ Some (at 10 ∷ []) ∷ Some [] ∷ Some [] ∷ []
+instants_come_once = refl
+
+-- a query at the closings of (0, 4], (4, 8], .., and one on items
+abbrev r : Query
+r = named (codes "r") (at_instants (Close ∷ [])) (on_a 4 4)
+
+abbrev on_each : Query
+on_each = named (codes "e") (on_items (Change ∷ [])) (on_a 10 10)
+
+-- instants go before the order of registration
+queries_report_in_order : map (λ queries. moments_of (world (Some 13) [] queries) (Tick 20))
+    ((at_tens (codes "q") ∷ r ∷ []) ∷ (r ∷ at_tens (codes "q") ∷ []) ∷ [])
+    ≡ Some (at_of (codes "r") 16 ∷ at 20 ∷ at_of (codes "r") 20 ∷ [])
+    ∷ Some (at_of (codes "r") 16 ∷ at_of (codes "r") 20 ∷ at 20 ∷ []) ∷ []
+queries_report_in_order = refl
+
+closings_go_before_the_item : moments_of (world (Some 4) [] (on_each ∷ at_tens (codes "q") ∷ [])) (arrives 11 5)
+    ≡ Some (at 10 ∷ at_of (codes "e") 11 ∷ [])
+closings_go_before_the_item = refl
+
+-- ---- when strategies hold at instants
+
+-- no window contains 0, 3, 4 and 5, and 0 is a multiple
+each_strategy : map (λ asked. instants (at_instants asked) (on_a 2 5) (arrives 0 1 ∷ arrives 1 1 ∷ Tick 8 ∷ []))
+    ((Close ∷ []) ∷ (Change ∷ []) ∷ (NonEmpty ∷ []) ∷ (Every 4 ∷ []) ∷ [] ∷ [])
+    ≡ (2 ∷ 7 ∷ []) ∷ (1 ∷ 3 ∷ []) ∷ (1 ∷ 2 ∷ []) ∷ (0 ∷ 4 ∷ 8 ∷ []) ∷ range_with_len 0 9 ∷ []
+each_strategy = refl
+
+-- an item leaves (0, 10] at 11, as another of the same graph enters, and (5, 15] at 16
+items_leave_and_enter : map
+    (λ slide. instants (at_instants (Change ∷ [])) (on_a 10 slide) (arrives 6 1 ∷ arrives 11 1 ∷ Tick 22 ∷ []))
+    (10 ∷ 5 ∷ []) ≡ (6 ∷ 11 ∷ 21 ∷ []) ∷ (6 ∷ 11 ∷ 16 ∷ 21 ∷ []) ∷ []
+items_leave_and_enter = refl
+
+-- over a stream of content up to 10, and one that closes at 4, 8 and 12
+abbrev over_both : List StreamWindow
+over_both = over (codes "s:a") 10 10 ∷ over (codes "s:b") 4 4 ∷ []
+
+strategies_hold_by_different_windows : map (λ asked. instants (at_instants asked) over_both (arrives 1 1 ∷ Tick 12 ∷ []))
+    ((Close ∷ NonEmpty ∷ []) ∷ (NonEmpty ∷ Every 4 ∷ Close ∷ []) ∷ []) ≡ (4 ∷ 8 ∷ 10 ∷ []) ∷ (4 ∷ 8 ∷ []) ∷ []
+strategies_hold_by_different_windows = refl
+
+-- ---- when they hold at items
+
+-- 3 and 13 lie in gaps of the second window, and the first has content up to 10; no window is over `s:c`
+each_strategy_on_items : map
+    (λ asked. instants (on_items asked) (over (codes "s:a") 10 10 ∷ over (codes "s:b") 2 5 ∷ [])
+    (arrives 1 1 ∷ arrives_on (codes "s:b") 3 1 ∷ arrives_on (codes "s:c") 6 1 ∷ arrives_on (codes "s:b") 13 1 ∷ Tick 20 ∷ []))
+    ([] ∷ (Change ∷ []) ∷ (NonEmpty ∷ []) ∷ (NonEmpty ∷ Change ∷ []) ∷ [])
+    ≡ (1 ∷ 3 ∷ 13 ∷ []) ∷ (1 ∷ []) ∷ (1 ∷ 3 ∷ []) ∷ (1 ∷ []) ∷ []
+each_strategy_on_items = refl
+
+-- of one time, each with what came before
+each_item_is_reported : said_of on_each (arrives 5 1 ∷ arrives 5 2 ∷ [])
+    ≡ report_of (codes "e") 5 (1 ∷ []) ∷ report_of (codes "e") 5 (1 ∷ 2 ∷ []) ∷ []
+each_item_is_reported = refl
+
+-- ---- what a query sees
+
+-- closings are inside, openings and gaps outside: the times in the content at 0, 1, .., of items of the times 0, 1, ..
+contents : map (λ t. map (λ (i : item.Item). i.time)
+    (content (map (λ time. item_at time 1) (range_with_len 0 12)) (over (codes "s:a") 2 5) t)) (range_with_len 0 9)
+    ≡ [] ∷ (1 ∷ []) ∷ (1 ∷ 2 ∷ []) ∷ [] ∷ [] ∷ [] ∷ (6 ∷ []) ∷ (6 ∷ 7 ∷ []) ∷ [] ∷ []
+contents = refl
+
+-- what came before is no change, no content and no row
+later_items_alone_are_seen : map
+    (λ asked. said_of (from 1 (query (at_instants (asked ∷ [])) (on_a 10 10))) (arrives 4 3 ∷ arrives 9 1 ∷ Tick 10 ∷ []))
+    (Change ∷ NonEmpty ∷ Close ∷ [])
+    ≡ (report 9 (1 ∷ []) ∷ []) ∷ (report 9 (1 ∷ []) ∷ report 10 (1 ∷ []) ∷ []) ∷ (report 10 (1 ∷ []) ∷ []) ∷ []
+later_items_alone_are_seen = refl
+
+abbrev fact : ℕ → ℕ → Fact
+fact k n = record { spot = spot.Window k; triple = triple n }
+
+-- by the numbers of their windows, of which the second has closed at 8
+facts_of_two_windows : map (facts (world (Some 9) (item_at 1 1 ∷ record (item_at 3 1) { stream = codes "s:b" } ∷ []) [])
+    (query (at_instants []) over_both).registration)
+    (4 ∷ 8 ∷ []) ≡ (fact 0 1 ∷ fact 1 1 ∷ []) ∷ (fact 0 1 ∷ []) ∷ []
+facts_of_two_windows = refl
+
+-- ---- what is reported
+
+query_joins_two_streams : said_of
+    (new_query (codes "q") (subjects (at_instants (Close ∷ NonEmpty ∷ [])) over_both (join (triples_in 0) (triples_in 1))) 0)
+    (arrives 1 1 ∷ arrives_on (codes "s:b") 3 1 ∷ Tick 8 ∷ [])
+    ≡ report 4 (1 ∷ []) ∷ report 8 [] ∷ []
+query_joins_two_streams = refl
+
+-- equal triples are one row
+rows_stand_in_byte_order : said_of (at_tens (codes "q")) (arrives 1 3 ∷ arrives 4 1 ∷ arrives 6 3 ∷ Tick 10 ∷ [])
+    ≡ report 10 (1 ∷ 3 ∷ []) ∷ []
+rows_stand_in_byte_order = refl
+
+-- in (0, 10] and in (5, 15]; the rows of 15 were reported at 10 too
+item_is_reported_by_both_windows : said_of (query (at_instants (Close ∷ [])) (on_a 10 5)) (arrives 6 1 ∷ Tick 20 ∷ [])
+    ≡ report 10 (1 ∷ []) ∷ report 15 (1 ∷ []) ∷ report 20 [] ∷ []
+item_is_reported_by_both_windows = refl
+
+report_leaves_its_facts : world_behind ticked (at 10 ∷ [])
+    ≡ record ticked { queries = record (at_tens (codes "q")) { seen = fact 0 3 ∷ fact 0 1 ∷ [] } ∷ [] }
+report_leaves_its_facts = refl
+
+no_report_of_an_ended_query : reports (record ticked { queries = [] }) (at 10 ∷ []) ≡ []
+no_report_of_an_ended_query = refl
+
+-- ---- a query that ends at the first of two closings, between two that go on
+
+abbrev ending : Reading → Registration
+ending reading = record { name = codes "q"; reading = reading; first = 0 }
+
+abbrev between : Reading → World
+between reading =
+    world (Some 21) two_items
+    (at_tens (codes "p") ∷ record { registration = ending reading; seen = [] } ∷ at_tens (codes "r") ∷ [])
+
+-- the moments of all at t
+abbrev all_at : ℕ → List Moment
+all_at t = at_of (codes "p") t ∷ at t ∷ at_of (codes "r") t ∷ []
+
+module _ (reading : Reading) (over : is_overfull (between reading) (ending reading) 10 ≡ true) where
+  overfull_report_ends_the_query : after_report (between reading) (ending reading) 10
+      ≡ world (Some 21) two_items (at_tens (codes "p") ∷ at_tens (codes "r") ∷ [])
+  overfull_report_ends_the_query = rw over refl
+
+  overfull_report_strikes_its_moments : moments_behind (between reading) (ending reading) 10 (all_at 20)
+      ≡ at_of (codes "p") 20 ∷ at_of (codes "r") 20 ∷ []
+  overfull_report_strikes_its_moments = rw over refl
+
+  others_report_on : reports (between reading) (all_at 10 ++ all_at 20)
+      ≡ report_of (codes "p") 10 (1 ∷ 3 ∷ [])
+      ∷ record { query = codes "q"; at = 10; variables = reading.variables; outcome = Overfull }
+      ∷ report_of (codes "r") 10 (1 ∷ 3 ∷ []) ∷ report_of (codes "p") 20 [] ∷ report_of (codes "r") 20 [] ∷ []
+  others_report_on = rw over refl
+
+  ended_name_is_free : is_live (world_behind (between reading) (all_at 10)) (codes "q") ≡ false
+  ended_name_is_free = rw over refl
+
+-- ---- which items are still needed
+
+-- until (0, 10] and (5, 15] have closed
+items_are_kept_to_the_closing : map
+    (λ next. kept_items (world (Some next) (item_at 4 1 ∷ item_at 6 2 ∷ []) (query (at_instants []) (on_a 10 5) ∷ [])))
+    (10 ∷ 11 ∷ 15 ∷ 16 ∷ []) ≡ (item_at 4 1 ∷ item_at 6 2 ∷ []) ∷ (item_at 6 2 ∷ []) ∷ (item_at 6 2 ∷ []) ∷ [] ∷ []
+items_are_kept_to_the_closing = refl
+
+-- `q` doesn't see the first item, and `r` none
+seen_items_are_kept : kept_items (world (Some 4) two_items (from 1 (at_tens (codes "q")) ∷ from 2 (at_tens (codes "r")) ∷ []))
+    ≡ item_at 4 1 ∷ []
+seen_items_are_kept = refl
+
+triples_are_counted_as_listed : triples_of (record (item_at 1 1) { graph = triple 1 ∷ triple 1 ∷ [] } ∷ two_items) ≡ 4
+triples_are_counted_as_listed = refl
