@@ -29,8 +29,8 @@ pub record Live : Type 0 where
   pub first : ℕ
   pub seen : List Fact
 
--- what an engine keeps: `next`; its live queries, in order of registration; its items; whether the last event was an item; the
--- place of the first moment left, if one is; and whether memory was refused to it
+-- what an engine keeps: `next`; its live queries, in order of registration; its items; whether the event that set `next` was an
+-- item; the place of the first moment left, if one is; and whether memory was refused to it
 pub record State : Type 0 where
   pub next : Option ℕ
   pub queries : List Live

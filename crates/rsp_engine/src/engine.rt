@@ -44,7 +44,7 @@ pub struct Engine<A: Answer> {
     items: Vec<Item>,
     // the triples of the items, as listed
     held: u64,
-    // whether the last event that moved `next` was an item, which is then the newest
+    // whether the event that set `next` was an item, which is then the newest
     arrived: bool,
     // the place of the first moment left
     first: Option<Pending>,

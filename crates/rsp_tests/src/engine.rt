@@ -220,7 +220,14 @@ Unbuilt; held 0
 
 #[test]
 fn a_name_is_of_one_live_query(rt: HostRuntime) -> Result<(), Fail> {
-    let events = [MIXED, "@cancel q", SUBJECTS, SUBJECTS, "@cancel q", SUBJECTS];
+    let events = [
+        MIXED,
+        "@cancel q",
+        SUBJECTS,
+        SUBJECTS,
+        "@cancel q",
+        SUBJECTS,
+    ];
     let answers = "PolicyMix; held 0
 NoQuery; held 0
 taken; held 0
