@@ -4,6 +4,7 @@ A query has a policy, windows, and the number of the first item that it sees. An
 number is its place in the list of all accepted ones. A content is a list of such numbers.
 """
 from collections import namedtuple
+from math import lcm
 
 from query_model import milliseconds
 
@@ -100,26 +101,65 @@ def is_due_on_arrival(query, items):
     return is_asked and all(holds_on_arrival(strategy, query, items) for strategy in query.policy.strategies)
 
 
-# ---- the instants that are worth a look: those at which one strategy of the policy can hold. `is_due` then decides.
+# ---- the instants that are worth a look: those at which the policy can hold, however long the time between. `is_due` then decides.
 
 
 def closings(query, start, to):
     return {at for window in query.windows for at in range(first_closing(window, start), to, window.slide)}
 
 
+def multiples(period, start, to):
+    return range(-(-start // period) * period, to, period)
+
+
+def meetings(window, period, start, to):
+    """The closings that are multiples of the period.
+
+    One step through the rarer of the two is enough: whether it meets the other goes by the remainder, and the remainders
+    come again behind the least common multiple. So what isn't met within one such round is never met, and what is met is
+    met once in each round from there on.
+    """
+    first, both = first_closing(window, start), lcm(window.slide, period)
+    round_end = min(to, first + both)
+    if window.slide < period:
+        met = (at for at in multiples(period, first, round_end) if closes(window, at))
+    else:
+        met = (at for at in range(first, round_end, window.slide) if at % period == 0)
+    at = next(met, None)
+    return [] if at is None else range(at, to, both)
+
+
+def held_spans(query, items, start, to):
+    """Where some content can hold an item or has just lost one, as disjoint spans: an item is in no content before its time,
+    nor a width or more behind it, since a window that holds it opens before it. So nothing is due between two spans where
+    the policy has NONEMPTY or CHANGE."""
+    widest = max((window.width for window in query.windows), default=0)
+    for _, time, _ in items[query.first:]:
+        start, end = max(start, time), min(to, time + widest + 1)
+        if start < end:
+            yield start, end
+            start = end
+
+
 def instants(query, items, start, to):
     """Some instants from `start` on and before `to`, among them each at which the query is due."""
     periods = dict(query.policy.strategies)
-    times = [item[1] for item in items[query.first:]]
     if query.policy.is_by_tuple:
         return set()
+    is_of_contents = "CHANGE" in periods or "NONEMPTY" in periods
+    spans = held_spans(query, items, start, to) if is_of_contents else [(start, to)]
+    return {at for span in spans for at in instants_of_span(query, periods, items, *span)}
+
+
+def instants_of_span(query, periods, items, start, to):
+    if "CLOSE" in periods and "EVERY" in periods:
+        return {at for window in query.windows for at in meetings(window, periods["EVERY"], start, to)}
     if "CLOSE" in periods:
         return closings(query, start, to)
     if "EVERY" in periods:
-        first = -(-start // periods["EVERY"]) * periods["EVERY"]
-        return set(range(first, to, periods["EVERY"]))
+        return multiples(periods["EVERY"], start, to)
     if "CHANGE" in periods:
         # a content changes where an item comes, and directly behind a closing
+        times = {item[1] for item in items[query.first:]}
         return {at for at in times if start <= at < to} | {at + 1 for at in closings(query, start - 1, to - 1)}
-    spans = [(max(start, time), min(to, time + window.width)) for window in query.windows for time in times]
-    return {at for span in spans for at in range(*span)}
+    return range(start, to)
