@@ -101,7 +101,7 @@ def is_due_on_arrival(query, items):
     return is_asked and all(holds_on_arrival(strategy, query, items) for strategy in query.policy.strategies)
 
 
-# ---- the instants that are worth a look: those at which the policy can hold, however long the time between. `is_due` then decides.
+# ---- the instants that are worth a look, however much time there is: those at which the policy can hold. `is_due` then decides.
 
 
 def closings(query, start, to):
@@ -122,7 +122,7 @@ def meetings(window, period, start, to):
     first, both = first_closing(window, start), lcm(window.slide, period)
     round_end = min(to, first + both)
     if window.slide < period:
-        met = (at for at in multiples(period, first, round_end) if closes(window, at))
+        met = (at for at in multiples(period, first, round_end) if (at - first) % window.slide == 0)
     else:
         met = (at for at in range(first, round_end, window.slide) if at % period == 0)
     at = next(met, None)

@@ -1,7 +1,7 @@
 """Random texts of registrations: queries of the whole grammar over some windows, most of them without a fault.
 
 What can be seen is kept beside each text, so that names are mostly ones that are bound. Each part is out of its rules
-with the chance `fault`. Spans are of some seconds, or of some milliseconds where the log is `fine`.
+with the chance `fault`. Spans are of some seconds, of some milliseconds in a `fine` log, and of hours to years in a `far` one.
 """
 XSD = "http://www.w3.org/2001/XMLSchema#"
 NAMES = ["s", "o", "x", "y", "z"]
@@ -18,11 +18,17 @@ ONE_ARGUMENT = (
 ).split()
 TWO_ARGUMENTS = "sameTerm STRDT STRLANG CONTAINS STRSTARTS STRENDS STRBEFORE STRAFTER LANGMATCHES".split()
 AGGREGATES = ["COUNT", "SUM", "AVG", "MIN", "MAX", "count", "Sum"]
-SPANS = ["PT2S", "PT5S", "PT5S", "PT10S", "PT10S", "PT20S"]
+SPANS = {
+    "fine": ["PT0.002S", "PT0.005S", "PT0.005S", "PT0.010S", "PT0.02S"],
+    "seconds": ["PT2S", "PT5S", "PT5S", "PT10S", "PT10S", "PT20S"],
+    "far": ["PT1H", "P1D", "P2D", "P97D", "P365D", "P1461D"],
+}
 ODD_SPANS = ["PT1S", "PT2.5S", "PT0.5S", "PT0H1M", "P1D"]
-STEPS = ["PT1S", "PT2S", "PT0.5S", "PT5S"]
-FINE_SPANS = ["PT0.002S", "PT0.005S", "PT0.005S", "PT0.010S", "PT0.02S"]
-FINE_STEPS = ["PT0.001S", "PT0.002S", "PT0.003S", "PT0.005S", "PT0.007S"]
+STEPS = {
+    "fine": ["PT0.001S", "PT0.002S", "PT0.003S", "PT0.005S", "PT0.007S"],
+    "seconds": ["PT1S", "PT2S", "PT0.5S", "PT5S"],
+    "far": ["P97D", "P194D", "P365D", "P365DT1H", "PT8765H0.001S", "P1461D"],
+}
 STARTS = ["", "", "", " START 0", " START 3", " START 250", ' START "1970-01-01T00:00:01Z"', " start 00007"]
 STREAMS = ["<s:a>", "<s:a>", "<s:a>", "<s:b>", "<s:b>", "<s:c>"]
 PROFILES = ["UNDER CSPARQL", "UNDER CQELS", "UNDER CQELS", "under cqels", ""]
@@ -33,10 +39,9 @@ MIXES = ["REPORT CLOSE TICK TUPLE", "REPORT CHANGE AND NONEMPTY AND CHANGE TICK 
 class QueryWriter:
     """Writes one query. `seen` is the list of names that are visible so far in the group at hand."""
 
-    def __init__(self, dice, fault, is_fine=False):
+    def __init__(self, dice, fault, scale="seconds"):
         self.dice, self.fault, self.made = dice, fault, 0
-        self.spans, self.steps = (FINE_SPANS, FINE_STEPS) if is_fine else (SPANS, STEPS)
-        self.is_fine = is_fine
+        self.spans, self.steps, self.scale = SPANS[scale], STEPS[scale], scale
         self.windows = [f"<w:{place}>" for place in range(1, 1 + dice.choice([1, 1, 1, 1, 2, 2, 3, 5]))]
 
     def slips(self, times=1):
@@ -333,15 +338,16 @@ class QueryWriter:
         tick = self.dice.choice(["TIME", "TIME", "TUPLE"])
         allowed = STRATEGIES if tick == "TIME" or self.slips(2) else ["CHANGE", "NONEMPTY"]
         names = self.dice.sample(allowed, min(len(allowed), self.dice.choice([1, 1, 2, 2, 3, 4])))
-        if names == ["NONEMPTY"] and tick == "TIME" and not self.is_fine:
+        if names == ["NONEMPTY"] and tick == "TIME" and self.scale != "fine":
             names = ["NONEMPTY", "CLOSE"]
         names += [self.dice.choice(names)] if self.slips(2) else []
         text = f"REPORT {' AND '.join(map(self.strategy, names))} TICK {tick}"
         return text.lower() if self.chance(0.05) else text
 
     def clause(self, name):
-        step = f" STEP {self.dice.choice(self.steps)}" if self.chance(0.7) else ""
-        is_odd = not self.is_fine and self.chance(0.15)
+        # years of windows end to end would have too many closings
+        step = f" STEP {self.dice.choice(self.steps)}" if self.scale == "far" or self.chance(0.7) else ""
+        is_odd = self.scale == "seconds" and self.chance(0.15)
         width = self.dice.choice(ODD_SPANS if is_odd else self.spans)
         start = "" if self.chance(0.7) else self.dice.choice(STARTS)
         return f"FROM NAMED WINDOW {name} ON {self.dice.choice(STREAMS)} [RANGE {width}{step}{start}]"
@@ -357,6 +363,6 @@ class QueryWriter:
         operator = self.dice.choice(["ISTREAM", "DSTREAM"]) if self.slips(2) else "RSTREAM"
         clauses = " ".join(map(self.clause, self.windows))
         if self.slips():
-            clauses += f" FROM NAMED WINDOW {self.dice.choice(self.elsewhere())} ON <s:a> [RANGE PT1S]"
+            clauses += f" FROM NAMED WINDOW {self.dice.choice(self.elsewhere())} ON <s:a> [RANGE {self.steps[0]}]"
         prefixes = "PREFIX e: <a:> PREFIX p: <p:> "
         return f"{prefixes}REGISTER {operator} <q:o> {self.policy()} AS {head} {clauses} {body}"
