@@ -152,6 +152,36 @@ def arrivals(size):
     return registration("q", "UNDER CQELS", window, PATTERN) + stream(size)
 
 
+# ---- ticks far apart
+
+GAPS = {"1 ms": 1, "1 h": 3_600_000, "1 y": 31_536_000_000}
+MOST_YEARS = 8_000
+
+
+def ticks(gap, count, policy, span):
+    """A load of so many ticks, each a gap behind the last, behind 500 items from before the start of all windows.
+
+    This many queries are asked at each tick, and hardly ever one is due.
+    """
+    window = f"FROM NAMED WINDOW <w:1> ON <s:a> [RANGE {span} START 1000]"
+
+    def load(size):
+        live = [registration(f"q{number}", policy, window, PATTERN) for number in range(count)]
+        graphs = [block(f"@item <s:a> {at}", [f"<a:{at}> <p:v> <b:{at}> .\n"]) for at in range(500)]
+        return b"".join(live + graphs) + b"".join(b"@tick %d\n" % (1000 + gap * number) for number in range(size))
+
+    return load
+
+
+def gaps(gap, count):
+    return ticks(gap, count, "REPORT CLOSE AND NONEMPTY TICK TIME", "PT1S")
+
+
+def coprime(gap):
+    """Closings and days meet each 1,150 years."""
+    return ticks(gap, 16, "REPORT CLOSE AND EVERY P1D TICK TIME", "PT1H STEP PT7M0.001S")
+
+
 # texts that are read slowly where a reader looks back, goes down or looks up in a list: the front, what is repeated, the end
 HOSTILE = {
     "points in a name": ("", "a.", ""),
