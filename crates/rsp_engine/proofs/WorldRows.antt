@@ -14,10 +14,13 @@ use Rattle.rsp_expr.specs.declared.slot.Slot.TheVariants.{Variable, Constant}
 use Rattle.rsp_report.specs.Policies.{choice_of, is_mixed}
 use Rattle.rsp_report.specs.declared.words.Strategy.{Strategy}
 use Rattle.rsp_report.specs.declared.words.Strategy.TheVariants.{Close, Change, NonEmpty, Every}
-use Rattle.rsp_report.specs.declared.words.PolicyWords.TheVariants.{Listed}
+use Rattle.rsp_report.specs.declared.words.PolicyWords.TheVariants.{Absent, Listed}
 use Rattle.rsp_report.specs.declared.chosen.Chosen.{Chosen}
 use Rattle.rsp_streams_out.specs.declared.operator.Operator.TheVariants.{Rstream}
+use Rattle.rsp_query.specs.declared.query.WindowClause.{WindowClause}
 use Rattle.rsp_query.specs.Queries.{Registered}
+use Rattle.rsp_query.specs.Groups as words
+use Rattle.rsp_query.specs.Paths.{step}
 use Rattle.rsp_algebra.specs.declared.tree.Place.TheVariants.{Window}
 use Rattle.rsp_algebra.specs.Nodes.{Node, join, pattern, project}
 use Rattle.rsp_translation.specs.declared.shape.Shape.TheVariants as shape
@@ -183,24 +186,24 @@ overfull_start_is_refused w reading starts = rw starts refl
 
 -- a text without fault
 module _ (text : List ℕ) (q : Registered) (is : parse text ≡ Ok q) (sound : first_fault q ≡ None)
-    (pure : is_mixed q.policy ≡ false) where
+    (unmixed : is_mixed q.policy ≡ false) where
   operator_is_looked_at_before_the_number : is_rstream q.operator ≡ false
       → accept (so_many 256) (Register (codes "r2") text) ≡ Err unbuilt
-  operator_is_looked_at_before_the_number other = rw (is, sound, pure, other) refl
+  operator_is_looked_at_before_the_number other = rw (is, sound, unmixed, other) refl
 
   number_is_looked_at_before_the_start : is_rstream q.operator ≡ true → starts_overfull (reading_of q) ≡ true
       → accept (so_many 256) (Register (codes "r2") text) ≡ Err queries_full
-  number_is_looked_at_before_the_start built starts = rw (is, sound, pure, built) refl
+  number_is_looked_at_before_the_start built starts = rw (is, sound, unmixed, built) refl
 
   last_place_is_given : is_rstream q.operator ≡ true → accept (so_many 255) (Register (codes "r2") text)
       ≡ accept_reading (so_many 255) (codes "r2") (reading_of q)
-  last_place_is_given built = rw (is, sound, pure, built) refl
+  last_place_is_given built = rw (is, sound, unmixed, built) refl
 
   -- last in order, beside one that is live; it sees the items from the third on
   query_is_registered : is_rstream q.operator ≡ true → starts_overfull (reading_of q) ≡ false
       → accept ticked (Register (codes "r") text)
       ≡ Ok (world (Some 11) two_items (at_tens (codes "q") ∷ new_query (codes "r") (reading_of q) 2 ∷ []))
-  query_is_registered built starts = rw (is, sound, pure, built, starts) refl
+  query_is_registered built starts = rw (is, sound, unmixed, built, starts) refl
 
 -- ---- which other events are accepted
 
@@ -313,17 +316,42 @@ abbrev fact : ℕ → ℕ → Fact
 fact k n = record { spot = spot.Window k; triple = triple n }
 
 -- by the numbers of their windows, of which the second has closed at 8
-facts_of_two_windows : map (facts (world (Some 9) (item_at 1 1 ∷ record (item_at 3 1) { stream = codes "s:b" } ∷ []) [])
+facts_of_two_windows : map (facts (world (Some 9) (item_at 1 1 ∷ record (item_at 3 2) { stream = codes "s:b" } ∷ []) [])
     (query (at_instants []) over_both).registration)
-    (4 ∷ 8 ∷ []) ≡ (fact 0 1 ∷ fact 1 1 ∷ []) ∷ (fact 0 1 ∷ []) ∷ []
+    (4 ∷ 8 ∷ []) ≡ (fact 0 1 ∷ fact 1 2 ∷ []) ∷ (fact 0 1 ∷ []) ∷ []
 facts_of_two_windows = refl
 
 -- ---- what is reported
 
-query_joins_two_streams : said_of
-    (new_query (codes "q") (subjects (at_instants (Close ∷ NonEmpty ∷ [])) over_both (join (triples_in 0) (triples_in 1))) 0)
-    (arrives 1 1 ∷ arrives_on (codes "s:b") 3 1 ∷ Tick 8 ∷ [])
-    ≡ report 4 (1 ∷ []) ∷ report 8 [] ∷ []
+-- the subjects of the triples that both windows have
+abbrev joining : Reading
+joining = subjects (at_instants (Close ∷ NonEmpty ∷ [])) over_both (join (triples_in 0) (triples_in 1))
+
+abbrev clause : List ℕ → StreamWindow → WindowClause
+clause name w = record { name = name; stream = w.stream; window = w.shape; at = 0 }
+
+-- WINDOW name { ?s <p:v> ?o }
+abbrev of_window : List ℕ → words.Part
+of_window name =
+    words.window name 0
+    (words.parts_in (words.triple (Variable 0) (step (Constant (Iri (codes "p:v")))) (Variable 1) ∷ []))
+
+-- SELECT ?s .. WHERE { WINDOW <w:1> { .. } WINDOW <w:2> { .. } }, without a policy
+joining_is_read : reading_of
+    (record {
+      operator = Rstream;
+      output = codes "o:a";
+      policy = Absent;
+      windows = clause (codes "w:1") (over (codes "s:a") 10 10) ∷ clause (codes "w:2") (over (codes "s:b") 4 4) ∷ [];
+      selection = words.selection false false (record { variable = 0; formula = None } ∷ [])
+          (words.parts_in (of_window (codes "w:1") ∷ of_window (codes "w:2") ∷ [])) false [] None [];
+      variables = codes "s" ∷ codes "o" ∷ [];
+    })
+    ≡ joining
+joining_is_read = refl
+
+query_joins_two_streams : said_of (new_query (codes "q") joining 0)
+    (arrives 1 1 ∷ arrives_on (codes "s:b") 3 1 ∷ Tick 8 ∷ []) ≡ report 4 (1 ∷ []) ∷ report 8 [] ∷ []
 query_joins_two_streams = refl
 
 -- equal triples are one row
@@ -340,7 +368,8 @@ report_leaves_its_facts : world_behind ticked (at 10 ∷ [])
     ≡ record ticked { queries = record (at_tens (codes "q")) { seen = fact 0 3 ∷ fact 0 1 ∷ [] } ∷ [] }
 report_leaves_its_facts = refl
 
-no_report_of_an_ended_query : reports (record ticked { queries = [] }) (at 10 ∷ []) ≡ []
+no_report_of_an_ended_query : reports (record ticked { queries = at_tens (codes "r") ∷ [] }) (at 10 ∷ at_of (codes "r") 10 ∷ [])
+    ≡ report_of (codes "r") 10 (1 ∷ 3 ∷ []) ∷ []
 no_report_of_an_ended_query = refl
 
 -- ---- a query that ends at the first of two closings, between two that go on
@@ -357,23 +386,23 @@ between reading =
 abbrev all_at : ℕ → List Moment
 all_at t = at_of (codes "p") t ∷ at t ∷ at_of (codes "r") t ∷ []
 
-module _ (reading : Reading) (over : is_overfull (between reading) (ending reading) 10 ≡ true) where
+module _ (reading : Reading) (full : is_overfull (between reading) (ending reading) 10 ≡ true) where
   overfull_report_ends_the_query : after_report (between reading) (ending reading) 10
       ≡ world (Some 21) two_items (at_tens (codes "p") ∷ at_tens (codes "r") ∷ [])
-  overfull_report_ends_the_query = rw over refl
+  overfull_report_ends_the_query = rw full refl
 
   overfull_report_strikes_its_moments : moments_behind (between reading) (ending reading) 10 (all_at 20)
       ≡ at_of (codes "p") 20 ∷ at_of (codes "r") 20 ∷ []
-  overfull_report_strikes_its_moments = rw over refl
+  overfull_report_strikes_its_moments = rw full refl
 
   others_report_on : reports (between reading) (all_at 10 ++ all_at 20)
       ≡ report_of (codes "p") 10 (1 ∷ 3 ∷ [])
       ∷ record { query = codes "q"; at = 10; variables = reading.variables; outcome = Overfull }
       ∷ report_of (codes "r") 10 (1 ∷ 3 ∷ []) ∷ report_of (codes "p") 20 [] ∷ report_of (codes "r") 20 [] ∷ []
-  others_report_on = rw over refl
+  others_report_on = rw full refl
 
   ended_name_is_free : is_live (world_behind (between reading) (all_at 10)) (codes "q") ≡ false
-  ended_name_is_free = rw over refl
+  ended_name_is_free = rw full refl
 
 -- ---- which items are still needed
 
@@ -383,9 +412,9 @@ items_are_kept_to_the_closing : map
     (10 ∷ 11 ∷ 15 ∷ 16 ∷ []) ≡ (item_at 4 1 ∷ item_at 6 2 ∷ []) ∷ (item_at 6 2 ∷ []) ∷ (item_at 6 2 ∷ []) ∷ [] ∷ []
 items_are_kept_to_the_closing = refl
 
--- `q` doesn't see the first item, and `r` none
-seen_items_are_kept : kept_items (world (Some 4) two_items (from 1 (at_tens (codes "q")) ∷ from 2 (at_tens (codes "r")) ∷ []))
-    ≡ item_at 4 1 ∷ []
+-- `q` sees the second and the third item, `r` the third alone, whose stream is no window's
+seen_items_are_kept : kept_items (world (Some 4) (two_items ++ record (item_at 4 2) { stream = codes "s:b" } ∷ [])
+    (from 1 (at_tens (codes "q")) ∷ from 2 (at_tens (codes "r")) ∷ [])) ≡ item_at 4 1 ∷ []
 seen_items_are_kept = refl
 
 triples_are_counted_as_listed : triples_of (record (item_at 1 1) { graph = triple 1 ∷ triple 1 ∷ [] } ∷ two_items) ≡ 4
