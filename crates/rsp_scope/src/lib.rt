@@ -7,6 +7,7 @@
 
 mod item;
 mod queue;
+mod removal;
 mod shared;
 mod stored;
 mod streams;
