@@ -1,5 +1,5 @@
 -- Lists in which each value stands once, by membership; and what is left of them.
-use Rattle.std.proofs.Common.{◌≡◌, Bool, true, false, not, ◌&&◌, ◌||◌, cond, List, [], ◌∷◌, ℤ, pos, ◌+ℤ◌, neg_ℤ, filter, refl, sym, ap, ◌∙◌, true≢false, Decides, arith}
+use Rattle.std.proofs.Common.{◌≡◌, Bool, true, false, not, ◌&&◌, ◌||◌, cond, List, [], ◌∷◌, ℤ, pos, ◌+ℤ◌, filter, refl, sym, ap, ◌∙◌, true≢false, Decides, arith}
 use Rattle.std.specs.List.{list_any, IsDistinct, AllByRecursion}
 use Rattle.std.proofs.lemmas.Int.{ints}
 use Rattle.rsp_multiset.specs.Weights.{only, sum_z, times, weight, negation}

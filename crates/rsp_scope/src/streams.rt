@@ -1,5 +1,5 @@
 // Kept items.
-ghost use Rattle.std.specs.Prelude.{◌≡◌, ◌<◌, ◌+◌, ◌++◌, ◌∷◌, ℕ, [], length, OnOk, OnErr, slice_index_or};
+ghost use Rattle.std.specs.Prelude.{◌≡◌, ◌<◌, ◌+◌, ◌++◌, ◌∷◌, ℕ, [], drop, length, OnOk, OnErr, slice_index_or};
 ghost use Rattle.rsp_scope.specs.Kept.{Kept, needed, shortened, taken, triples_of};
 ghost use Rattle.rsp_scope.specs.declared.item.Item.{Item};
 
@@ -31,7 +31,7 @@ impl Model for Streams {
 }
 
 impl Streams {
-    ghost use Rattle.std.specs.Prelude.{◌≡◌, ◌<◌, ◌+◌, ◌++◌, ◌∷◌, ℕ, [], length, OnOk, OnErr, slice_index_or};
+    ghost use Rattle.std.specs.Prelude.{◌≡◌, ◌<◌, ◌+◌, ◌++◌, ◌∷◌, ℕ, [], drop, length, OnOk, OnErr, slice_index_or};
     ghost use Rattle.rsp_scope.specs.Kept.{Kept, needed, shortened, taken, triples_of};
     ghost use Rattle.rsp_scope.specs.declared.item.Item.{Item};
 
@@ -132,6 +132,21 @@ impl Streams {
         ensures { (d : Item) → result ≡ (slice_index_or self.now.items index d).number }
     {
         self.items[index].number
+    }
+
+    /// How many items were accepted: each has a smaller number.
+    pub fn accepted(&self) -> u64
+        ensures { result ≡ self.now.accepted }
+    {
+        self.accepted
+    }
+
+    /// The kept item with this index.
+    pub(crate) fn item_at(&self, index: usize) -> &Item
+        requires { index < length self.now.items }
+        ensures { drop index self.now.items ≡ result.now ∷ drop (index + 1) self.now.items }
+    {
+        &self.items[index]
     }
 
     // gives a number and keeps nothing

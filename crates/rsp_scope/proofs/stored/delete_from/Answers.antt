@@ -1,4 +1,4 @@
-use Rattle.std.proofs.Common.{◌≡◌, ◌&&◌, ◌+ℤ◌, not, ap, sym, ◌∙◌}
+use Rattle.std.proofs.Common.{◌&&◌, ◌+ℤ◌, not, ap, sym, ◌∙◌}
 use Rattle.std.specs.List.{list_any}
 use Rattle.rsp_multiset.specs.Weights.{times, weight}
 use Rattle.rsp_terms.specs.Same.{fact_eq, fact_same}
