@@ -1,5 +1,5 @@
 -- The content at an instant is what is left of the last move's, and what entered.
-use Rattle.std.proofs.Common.{◌≡◌, ℕ, suc, ◌+◌, ◌<◌, ◌≤◌, Bool, true, false, true≢false, ◌&&◌, ◌||◌, nat_lt, nat_le, Option, None, Some, List, [], ◌∷◌, ◌++◌, ℤ, pos, ◌+ℤ◌, length, filter, map, refl, sym, ap, subst, ◌∙◌, bytes_eq, arith}
+use Rattle.std.proofs.Common.{◌≡◌, ℕ, suc, ◌+◌, ◌<◌, ◌≤◌, Bool, true, false, true≢false, cond, ◌&&◌, ◌||◌, nat_lt, nat_le, Option, None, Some, List, [], ◌∷◌, ◌++◌, ℤ, pos, ◌+ℤ◌, length, filter, map, refl, sym, ap, subst, ◌∙◌, bytes_eq, arith}
 use Rattle.std.specs.List.{flat_map}
 use Rattle.std.specs.Option.{option_map, option_map_or}
 use Rattle.std.proofs.lemmas.Bool.Decides.{nat_tests}
@@ -264,3 +264,24 @@ moved seen now t items more kept change slide reached watched at accepted took m
           let told = moves.tells q in
           omega (arith, ints, was, is, told),
     )
+
+filter-within : {X : Type 0} (p q : X → Bool) → ((x : X) → q x ≡ true → p x ≡ true) → (xs : List X) → filter q (filter p xs) ≡ filter q xs
+filter-within p q within [] = refl
+filter-within p q within (x ∷ xs) = by (p x) (q x) refl (within x) (filter-within p q within xs)
+  where
+    by : (a b : Bool) → q x ≡ b → (q x ≡ true → a ≡ true) → filter q (filter p xs) ≡ filter q xs
+        → filter q (cond a (x ∷ filter p xs) (filter p xs)) ≡ cond b (x ∷ filter q xs) (filter q xs)
+    by true b is k rest = ap (λ c. cond c (x ∷ filter q (filter p xs)) (filter q (filter p xs))) is ∙ ap (λ l. cond b (x ∷ l) l) rest
+    by false true is k rest = absurd (true≢false (sym (k is)))
+    by false false is k rest = rest
+
+-- where the kept items are those of the accepted ones that pass a test, and all of the content pass it, the content is kept
+pub has-content : (watch : Watch) (t : ℕ) (kept : Kept) (items : List Accepted) (stays : Numbered → Bool) → kept.accepted ≡ length items
+    → map as_accepted kept.items ≡ filter stays (numbered 0 items)
+    → ((n : Numbered) → sees watch t n ≡ true → stays n ≡ true)
+    → HasContent watch t kept items
+has-content watch t kept items stays counted same within =
+    record {
+      accepted = counted;
+      same = ap (λ l. content watch t l) same ∙ filter-within stays (sees watch t) within (numbered 0 items);
+    }

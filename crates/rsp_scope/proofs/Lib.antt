@@ -1,4 +1,6 @@
+mod ContentRows
 pub mod Follows
+pub mod Orders
 pub mod Puts
 pub mod ScopeRows
 pub mod Takings

@@ -77,6 +77,9 @@ pub took-as : (gate gate' : Gate) (items : List Item) (p p' now : List Placed) �
 took-as gate gate' items p p' now same left took =
     subst (λ g. TakesIn g items p' now) same (subst (λ l. TakesIn gate items l now) left took)
 
+pub moved-none : (k : ℕ) (p : List Placed) (c d : List (Fact × ℤ)) → Moves k p p c c d d
+moved-none k p c d = record { follows = λ q. refl; tells = λ q. refl }
+
 -- the first item left
 pub moved-left : (k : ℕ) (e : Placed) (p p' : List Placed) (c c' d d' : List (Fact × ℤ)) → p ≡ e ∷ p'
     → ((q : Fact) → weight fact_eq c' q ≡ weight fact_eq c q +ℤ counted_by (negsuc 0) (facts_in k e.1) q)

@@ -2,14 +2,16 @@
 use Rattle.std.specs.Prelude.{◌≡◌}
 use Rattle.rsp_scope.specs.Kept.{Kept, triples_of}
 use Rattle.rsp_scope.specs.Moves.{Followed}
+use Rattle.rsp_scope.specs.Order.{AreInOrder}
 use Rattle.rsp_scope.specs.declared.streams.Streams.TheInside.{Inside}
 use Rattle.rsp_scope.specs.declared.contents.Contents.TheInside.{Inside as Window}
 
 abbrev pub kept_of : Inside → Kept
 kept_of s = record { accepted = s.accepted; items = s.items.items }
 
-abbrev pub IsStreams : Inside → Type 0
-IsStreams s = s.held ≡ triples_of s.items.items
+pub record IsStreams (s : Inside) : Type 0 where
+  pub held : s.held ≡ triples_of s.items.items
+  pub order : AreInOrder s.accepted s.latest s.rising s.items.items
 
 abbrev pub followed_of : Window → Followed
 followed_of s =

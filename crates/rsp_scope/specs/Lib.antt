@@ -7,3 +7,4 @@ pub mod Faults
 pub mod Inside
 pub mod Weighing
 pub mod Moves
+pub mod Order

@@ -46,8 +46,8 @@ pub(crate) fn is_after(opening: Option<u64>, time: u64) -> bool
     }
 }
 
-// whether the last move was before the item was accepted or before its time
-fn is_fresh(seen: u64, since: Option<u64>, number: u64, time: u64) -> bool
+/// Whether the last move was before the item was accepted or before its time.
+pub(crate) fn is_fresh(seen: u64, since: Option<u64>, number: u64, time: u64) -> bool
     ensures { result ≡ is_fresh seen since number time }
 {
     if seen <= number {

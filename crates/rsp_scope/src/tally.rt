@@ -80,7 +80,8 @@ pub(crate) fn take_in(
     ensures moves { OnOk result (Moves tally.old.spot tally.old.content.entries tally.new.content.entries
         tally.old.counts tally.new.counts change.old change.new) }
 {
-    for index in 0..streams.count() {
+    let start = streams.first_fresh(gate.seen, gate.since);
+    for index in start..streams.count() {
         take_one(tally, change, gate, streams.item_at(index))?;
     }
     Ok(())

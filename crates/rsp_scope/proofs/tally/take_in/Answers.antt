@@ -1,9 +1,19 @@
-use Rattle.std.proofs.Common.{ap, ◌∙◌}
+use Rattle.std.proofs.Common.{◌+ℤ◌, refl, ap, ◌∙◌}
 use Rattle.rsp_multiset.specs.Weights.{only, sum_z}
 use Rattle.rsp_scope.specs.Moves.{enters, placed_as}
 use Rattle.rsp_scope.specs.declared.item.Item.{Item}
-use Rattle.rsp_scope.proofs.Tallies.{moved-then, took-next}
+use Rattle.rsp_scope.proofs.Tallies.{moved-none, moved-then, took-next}
+use Rattle.rsp_scope.proofs.Orders.{skipped-stale}
 use Rattle.rsp_scope.proofs.tally.take_in.Goals as goal
+
+pub loop-index-init : goal.loop-index-init
+loop-index-init c = (
+  refl,
+  λ f.
+      ap (λ s. sum_z f c.args.tally.now.content.entries +ℤ s)
+      (skipped-stale c.args.gate.now c.args.streams.now.items c.first_fresh-start.result f c.first_fresh-start.ensures.stale c.first_fresh-start.ensures.bound),
+  moved-none c.args.tally.now.spot c.args.tally.now.content.entries c.args.tally.now.counts c.args.change.now,
+)
 
 pub loop-index-preserved : goal.loop-index-preserved
 loop-index-preserved c = (
