@@ -3,6 +3,7 @@ pub mod Follows
 pub mod Orders
 pub mod Puts
 pub mod ScopeRows
+pub mod StoredLaws
 pub mod Takings
 pub mod Tallies
 pub mod Turns

@@ -69,8 +69,8 @@ impl Contents {
 
     /// Moves to the instant `t`, which isn't before that of the last move and at most 2^48. Gives the change of the window's
     /// graph since then: each fact that came or went once, with 1 or -1. The kept items have to have each item of the content
-    /// at `t`; in which order their times come, and whether the earlier ones are still kept, makes no difference. Fails only
-    /// where memory is refused, and is then only to be dropped.
+    /// at `t`; in which order their times come, and whether the earlier ones are still kept, makes no difference. Fails where
+    /// memory is refused or a count is out of range; what is then left is only to be dropped.
     pub fn move_to(&mut self, streams: &Streams, t: u64) -> Result<Changes<Fact>, AllocError>
         requires instant { t ≤ 2 ^ 48 }
         requires reached { IsReached self.old.at t }
@@ -79,7 +79,8 @@ impl Contents {
         ensures moved { IfOk result (λ change. (items more : List Accepted) → HasSeen self.old items
             → HasContent self.old.watch t streams.now (items ++ more)
             → HasSeen self.new (items ++ more)
-            × IsChanged fact_eq (window_facts self.old.watch self.old.at items) change (window_facts self.old.watch (Some t) (items ++ more))) }
+            × IsChanged fact_eq (window_facts self.old.watch self.old.at items) change
+            (window_facts self.old.watch (Some t) (items ++ more))) }
     {
         let opening = opening_at(&self.window, t);
         let gate = Gate {

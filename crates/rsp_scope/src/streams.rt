@@ -35,7 +35,7 @@ impl Model for Streams {
 }
 
 impl Streams {
-    ghost use Rattle.std.specs.Prelude.{◌≡◌, ◌<◌, ◌≤◌, ◌+◌, ◌++◌, ◌∷◌, ℕ, true, false, [], drop, length, OnOk, OnErr, slice_index_or};
+    ghost use Rattle.std.specs.Prelude.{◌≡◌, ◌<◌, ◌≤◌, ◌+◌, ◌++◌, ◌∷◌, ℕ, false, [], drop, length, OnOk, OnErr, slice_index_or};
     ghost use Rattle.rsp_scope.specs.Kept.{Kept, needed, shortened, taken, triples_of};
     ghost use Rattle.rsp_scope.specs.Moves.{is_fresh};
     ghost use Rattle.rsp_scope.specs.declared.item.Item.{Item};

@@ -29,7 +29,8 @@ pub(crate) fn let_go(
     opening: Option<u64>,
 ) -> Result<(), AllocError>
     ensures spot { tally.new.spot ≡ tally.old.spot }
-    ensures left { OnOk result (tally.new.content.entries ≡ filter (λ (e : Placed). is_after opening e.0.0) tally.old.content.entries) }
+    ensures left { OnOk result (tally.new.content.entries
+        ≡ filter (λ (e : Placed). is_after opening e.0.0) tally.old.content.entries) }
     ensures moves { OnOk result (Moves tally.old.spot tally.old.content.entries tally.new.content.entries
         tally.old.counts tally.new.counts change.old change.new) }
 {
