@@ -1,4 +1,10 @@
+mod ContentRows
+pub mod Follows
+pub mod Orders
 pub mod Puts
 pub mod ScopeRows
+pub mod StoredLaws
+pub mod Takings
+pub mod Tallies
 pub mod Turns
 pub mod Weights

@@ -7,7 +7,7 @@ use Rattle.rsp_terms.specs.declared.statement.Quad.{Quad}
 use Rattle.rsp_terms.specs.declared.statement.Fact.{Fact}
 use Rattle.rsp_terms.specs.declared.statement.Spot.{Spot}
 use Rattle.rsp_terms.specs.declared.statement.Spot.TheVariants.{Default, Named}
-use Rattle.rsp_scope.specs.Quads.{stored_with}
+use Rattle.rsp_scope.specs.Quads.{stored_with, stored_without}
 use Rattle.rsp_scope.specs.Kept.{Kept, needed, shortened, taken, triples_of}
 use Rattle.rsp_scope.specs.declared.item.Item.{Item}
 
@@ -51,3 +51,10 @@ doubled = refl
 
 graphs : stored_with (fact Default ∷ []) (quad (Some (Iri (97 ∷ []))) ∷ quad None ∷ []) ≡ fact Default ∷ fact (Named (Iri (97 ∷ []))) ∷ []
 graphs = refl
+
+-- a quad goes from its own graph alone, and one that isn't stored changes nothing
+deleted : stored_without (fact Default ∷ fact (Named (Iri (97 ∷ []))) ∷ []) (quad None ∷ quad None ∷ []) ≡ fact (Named (Iri (97 ∷ []))) ∷ []
+deleted = refl
+
+absent : stored_without (fact Default ∷ []) (quad (Some (Iri (97 ∷ []))) ∷ []) ≡ fact Default ∷ []
+absent = refl

@@ -1,7 +1,10 @@
 -- Definitions: what a reader must believe
 pub mod Kept
+pub mod Contents
 pub mod Quads
 pub mod Faults
 -- Words of the way
 pub mod Inside
 pub mod Weighing
+pub mod Moves
+pub mod Order

@@ -1,5 +1,5 @@
 -- Definitions: the stored quads, as distinct facts of the default graph and of named graphs.
-use Rattle.std.specs.Prelude.{Option, None, Some, if◌then◌else◌, List, [], ◌∷◌, ◌++◌, fold}
+use Rattle.std.specs.Prelude.{Bool, not, Option, None, Some, if◌then◌else◌, List, [], ◌∷◌, ◌++◌, fold, filter}
 use Rattle.std.specs.List.{list_any}
 use Rattle.rsp_terms.specs.declared.term.Term.{Term}
 use Rattle.rsp_terms.specs.declared.statement.Quad.{Quad}
@@ -23,3 +23,11 @@ store stored quad = if list_any (fact_eq (fact_of quad)) stored then stored else
 -- the quads that aren't stored become stored
 abbrev pub stored_with : List Fact → List Quad → List Fact
 stored_with stored quads = fold store stored quads
+
+-- whether one of the quads is the fact
+abbrev pub names : List Quad → Fact → Bool
+names quads fact = list_any (λ quad. fact_eq fact (fact_of quad)) quads
+
+-- the stored facts that no quad names
+abbrev pub stored_without : List Fact → List Quad → List Fact
+stored_without stored quads = filter (λ fact. not (names quads fact)) stored

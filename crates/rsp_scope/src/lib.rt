@@ -1,16 +1,23 @@
-//! What the engine keeps: the items that some window may still need, and the stored quads.
+//! What the engine keeps: the items that some window may still need, what each window's graph was, and the stored quads.
 //!
 //! Contracts see [`Streams`] as the list of kept items and the number of accepted ones; each call is a filter, an append
-//! or a sum of that list. They see [`Stored`] as the list of the stored quads, each once, as facts. Above: the engine. Below:
-//! terms and changes.
+//! or a sum of that list. A move of [`Contents`] gives the facts by which the window's graph then differs, whatever the
+//! order of the items' times. They see [`Stored`] as the list of the stored quads, each once, as facts. Above: the engine.
+//! Below: windows, terms and changes.
 #![tactic(auto)]
 
+mod contents;
+mod counting;
+mod gate;
 mod item;
 mod queue;
+mod removal;
 mod shared;
 mod stored;
 mod streams;
+mod tally;
 
+pub use contents::Contents;
 pub use item::Item;
 pub use shared::Shared;
 pub use stored::{Stored, StoredFault};

@@ -1,10 +1,13 @@
 // Walks over the queue of kept items. None takes memory.
-ghost use Rattle.std.specs.Prelude.{◌≡◌, ◌<◌, ◌≤◌, ◌++◌, ℕ, cond, nat_le, drop, length, slice_index_or};
+ghost use Rattle.std.specs.Prelude.{◌≡◌, true, false, ◌<◌, ◌≤◌, ◌++◌, ℕ, cond, nat_le, drop, length, slice_index_or};
 ghost use Rattle.rsp_scope.specs.Kept.{ended, needed, shortened, triples_of};
+ghost use Rattle.rsp_scope.specs.Moves.{is_fresh};
+ghost use Rattle.rsp_scope.specs.Order.{AreRising, number_of, time_of};
 ghost use Rattle.rsp_scope.specs.Weighing.{weight_from};
 ghost use Rattle.rsp_scope.specs.declared.item.Item.{Item};
 
 use crate::Item;
+use crate::gate::is_fresh;
 use std::alloc::Global;
 use std::collections::VecDeque;
 
@@ -60,4 +63,39 @@ fn triples_at(item: &Item, next: u64) -> u64
         return 0;
     }
     item.graph.get().as_slice().len() as u64
+}
+
+/// The index of the first item that is fresh. The numbers and times rise, so the fresh ones stand at the end.
+pub(crate) fn first_fresh(items: &VecDeque<Item, Global>, seen: u64, since: Option<u64>) -> usize
+    requires numbers { AreRising number_of items.now.items }
+    requires times { AreRising time_of items.now.items }
+    ensures bound { result ≤ length items.now.items }
+    ensures stale { (k : ℕ) (d : Item) → k < result
+        → is_fresh seen since (slice_index_or items.now.items k d).number (slice_index_or items.now.items k d).time ≡ false }
+{
+    let count = items.len();
+    for past in 0..count {
+        let index = count - 1 - past;
+        if is_stale_to(items, index, seen, since) {
+            return index + 1;
+        }
+    }
+    0
+}
+
+// whether the item of this index isn't fresh, and so none before it
+fn is_stale_to(items: &VecDeque<Item, Global>, index: usize, seen: u64, since: Option<u64>) -> bool
+    requires within { index < length items.now.items }
+    requires numbers { AreRising number_of items.now.items }
+    requires times { AreRising time_of items.now.items }
+    ensures { result ≡ true → (k : ℕ) (d : Item) → k ≤ index
+        → is_fresh seen since (slice_index_or items.now.items k d).number (slice_index_or items.now.items k d).time ≡ false }
+{
+    !is_item_fresh(&items[index], seen, since)
+}
+
+fn is_item_fresh(item: &Item, seen: u64, since: Option<u64>) -> bool
+    ensures { result ≡ is_fresh seen since item.now.number item.now.time }
+{
+    is_fresh(seen, since, item.number, item.time)
 }

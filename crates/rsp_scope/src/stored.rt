@@ -1,11 +1,13 @@
 // Stored quads.
 ghost use Rattle.std.specs.Prelude.{◌≡◌, ◌<◌, ◌≤◌, ◌+ℤ◌, ℕ, [], take, drop, length, map, IfOk, IfErr, OnOk, OnErr};
-ghost use Rattle.rsp_multiset.specs.Weights.{times, weight, IsChanged};
+ghost use Rattle.std.specs.List.{IsDistinct};
+ghost use Rattle.rsp_multiset.specs.Weights.{times, weight, IsChanged, IsSameMultiset};
 ghost use Rattle.rsp_terms.specs.declared.statement.Fact.{Fact};
 ghost use Rattle.rsp_terms.specs.Same.{fact_eq};
-ghost use Rattle.rsp_scope.specs.Quads.{fact_of, stored_with};
+ghost use Rattle.rsp_scope.specs.Quads.{fact_of, stored_with, stored_without};
 ghost use Rattle.rsp_scope.specs.Faults.{IsStoredFault};
 
+use crate::removal::{stored_among, take_out};
 use indexmap::IndexSet;
 use rsp_multiset::Changes;
 use rsp_terms::{Fact, Quad, Spot};
@@ -56,10 +58,11 @@ impl Model for Stored {
 
 impl Stored {
     ghost use Rattle.std.specs.Prelude.{◌≡◌, ◌<◌, ◌≤◌, ◌+ℤ◌, ℕ, [], take, drop, length, map, IfOk, OnOk, OnErr, IfErr};
-    ghost use Rattle.rsp_multiset.specs.Weights.{times, weight, IsChanged};
+    ghost use Rattle.std.specs.List.{IsDistinct};
+    ghost use Rattle.rsp_multiset.specs.Weights.{times, weight, IsChanged, IsSameMultiset};
     ghost use Rattle.rsp_terms.specs.declared.statement.Fact.{Fact};
     ghost use Rattle.rsp_terms.specs.Same.{fact_eq};
-    ghost use Rattle.rsp_scope.specs.Quads.{fact_of, stored_with};
+    ghost use Rattle.rsp_scope.specs.Quads.{fact_of, stored_with, stored_without};
     ghost use Rattle.rsp_scope.specs.Faults.{IsStoredFault};
 
     /// No quads. Takes no memory.
@@ -74,7 +77,8 @@ impl Stored {
 
     /// How many quads are stored.
     pub fn count(&self) -> u64
-        ensures { result ≡ length self.now }
+        ensures count { result ≡ length self.now }
+        ensures once { IsDistinct fact_eq self.now }
     {
         self.facts.len() as u64
     }
@@ -93,6 +97,17 @@ impl Stored {
             self.facts.truncate(before);
         }
         change
+    }
+
+    /// Takes out the named quads that are stored. Gives what went. The order of those that stay is left open. Want of
+    /// memory leaves all as it was.
+    pub fn delete(&mut self, quads: &[Quad]) -> Result<Changes<Fact>, AllocError>
+        ensures stored { OnOk result (IsSameMultiset fact_eq self.new (stored_without self.old quads.now)) }
+        ensures once { OnOk result (IsDistinct fact_eq self.new) }
+        ensures change { IfOk result (λ change. IsChanged fact_eq self.old change self.new) }
+        ensures err { OnErr result (self.new ≡ self.old) }
+    {
+        delete_from(self.alloc, &mut self.facts, quads)
     }
 
     /// Every stored quad as a fact, once.
@@ -122,6 +137,24 @@ fn put_within(
         return Err(StoredFault::StoreFull { quads: stored });
     }
     let change = changes_of(alloc, &facts.as_slice()[before..])?;
+    Ok(change)
+}
+
+// all that takes memory comes before what changes
+fn delete_from(
+    alloc: Global,
+    facts: &mut IndexSet<Fact>,
+    quads: &[Quad],
+) -> Result<Changes<Fact>, AllocError>
+    ensures stored { OnOk result (IsSameMultiset fact_eq facts.new.keys (stored_without facts.old.keys quads.now)) }
+    ensures once { OnOk result (IsDistinct fact_eq facts.new.keys) }
+    ensures change { IfOk result (λ change. IsChanged fact_eq facts.old.keys change facts.new.keys) }
+    ensures err { OnErr result (facts.new.keys ≡ facts.old.keys) }
+{
+    let gone = stored_among(alloc, facts, quads)?;
+    let mut change = changes_of(alloc, gone.as_slice())?;
+    change.negate();
+    take_out(facts, gone.as_slice());
     Ok(change)
 }
 
@@ -155,8 +188,8 @@ fn put_all(facts: &mut IndexSet<Fact>, quads: &[Quad]) -> Result<(), AllocError>
     Ok(())
 }
 
-// the quad as a fact of its graph
-fn fact_of(quad: &Quad) -> Result<Fact, AllocError>
+/// The quad as a fact of its graph.
+pub(crate) fn fact_of(quad: &Quad) -> Result<Fact, AllocError>
     ensures { IfOk result (λ fact. fact ≡ fact_of quad.now) }
 {
     let triple = quad.triple.share()?;

@@ -1,9 +1,10 @@
 // Kept items.
-ghost use Rattle.std.specs.Prelude.{◌≡◌, ◌<◌, ◌+◌, ◌++◌, ◌∷◌, ℕ, [], length, OnOk, OnErr, slice_index_or};
+ghost use Rattle.std.specs.Prelude.{◌≡◌, ◌<◌, ◌≤◌, ◌+◌, ◌++◌, ◌∷◌, ℕ, true, false, [], drop, length, OnOk, OnErr, slice_index_or};
 ghost use Rattle.rsp_scope.specs.Kept.{Kept, needed, shortened, taken, triples_of};
+ghost use Rattle.rsp_scope.specs.Moves.{is_fresh};
 ghost use Rattle.rsp_scope.specs.declared.item.Item.{Item};
 
-use crate::queue::{let_go, shorten_all, triples_from};
+use crate::queue::{first_fresh, let_go, shorten_all, triples_from};
 use crate::{Item, Shared};
 use rsp_terms::{Listed, Text, Triple};
 use std::alloc::{AllocError, Global};
@@ -16,6 +17,9 @@ pub struct Streams {
     alloc: Global,
     accepted: u64,
     held: u64,
+    // no kept item's time is after the latest; the items' times rise, unless one came late
+    latest: u64,
+    rising: bool,
     items: VecDeque<Item, Global>,
 }
 
@@ -31,8 +35,9 @@ impl Model for Streams {
 }
 
 impl Streams {
-    ghost use Rattle.std.specs.Prelude.{◌≡◌, ◌<◌, ◌+◌, ◌++◌, ◌∷◌, ℕ, [], length, OnOk, OnErr, slice_index_or};
+    ghost use Rattle.std.specs.Prelude.{◌≡◌, ◌<◌, ◌≤◌, ◌+◌, ◌++◌, ◌∷◌, ℕ, false, [], drop, length, OnOk, OnErr, slice_index_or};
     ghost use Rattle.rsp_scope.specs.Kept.{Kept, needed, shortened, taken, triples_of};
+    ghost use Rattle.rsp_scope.specs.Moves.{is_fresh};
     ghost use Rattle.rsp_scope.specs.declared.item.Item.{Item};
 
     /// Keeps nothing; the first item gets the number 0. Takes no memory.
@@ -43,6 +48,8 @@ impl Streams {
             alloc,
             accepted: 0,
             held: 0,
+            latest: 0,
+            rising: true,
             items: VecDeque::new(alloc),
         }
     }
@@ -134,6 +141,34 @@ impl Streams {
         self.items[index].number
     }
 
+    /// How many items were accepted: each has a smaller number.
+    pub fn accepted(&self) -> u64
+        ensures { result ≡ self.now.accepted }
+    {
+        self.accepted
+    }
+
+    /// The kept item with this index.
+    pub(crate) fn item_at(&self, index: usize) -> &Item
+        requires { index < length self.now.items }
+        ensures { drop index self.now.items ≡ result.now ∷ drop (index + 1) self.now.items }
+    {
+        &self.items[index]
+    }
+
+    /// An index before which no kept item is fresh: each has a number below `seen` and a time up to `since`. Where the times
+    /// rise, it is the least such index.
+    pub(crate) fn first_fresh(&self, seen: u64, since: Option<u64>) -> usize
+        ensures bound { result ≤ length self.now.items }
+        ensures stale { (k : ℕ) (d : Item) → k < result
+            → is_fresh seen since (slice_index_or self.now.items k d).number (slice_index_or self.now.items k d).time ≡ false }
+    {
+        if !self.rising {
+            return 0;
+        }
+        first_fresh(&self.items, seen, since)
+    }
+
     // gives a number and keeps nothing
     fn pass_by(&mut self) -> Result<(), AllocError>
         ensures ok { OnOk result (self.new ≡ record self.old { accepted = self.old.accepted + 1 }) }
@@ -148,6 +183,7 @@ impl Streams {
 
     // gives a number and keeps the item; all that can fail comes before what changes
     fn keep(&mut self, item: Item) -> Result<(), AllocError>
+        requires { item.number ≡ self.old.accepted }
         ensures ok { OnOk result (self.new ≡ record { accepted = self.old.accepted + 1; items = self.old.items ++ item ∷ [] }) }
         ensures err { OnErr result (self.new ≡ self.old) }
     {
@@ -158,9 +194,19 @@ impl Streams {
         let Some(held) = self.held.checked_add(triples) else {
             return Err(AllocError);
         };
+        let time = item.time;
         self.items.push_back(item)?;
         self.accepted = accepted;
         self.held = held;
+        self.rising = is_in_order(self.rising, self.latest, time);
+        self.latest = self.latest.max(time);
         Ok(())
     }
+}
+
+// whether the times still rise with this one
+fn is_in_order(rising: bool, latest: u64, time: u64) -> bool
+    ensures { result ≡ true → (rising ≡ true) × (latest ≤ time) }
+{
+    rising && latest <= time
 }
