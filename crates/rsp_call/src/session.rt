@@ -42,10 +42,13 @@ impl Session {
         ensures prefix { (bytes more : List ℕ) → (rest : List Block)
             × (log_blocks (bytes ++ more) ≡ log_whole_blocks bytes ++ rest) }
     {
+        let engine = Engine::new(alloc);
+        // a new engine has no report left, so it is idle
+        let _is_idle = engine.is_idle();
         Session {
             alloc,
             blocks: Blocks::new(alloc, LOG),
-            engine: Engine::new(alloc),
+            engine,
             refused: false,
         }
     }
