@@ -174,7 +174,8 @@ def ticks(gap, count, policy, span):
 
 
 def gaps(gap, count):
-    return ticks(gap, count, "REPORT CLOSE AND NONEMPTY TICK TIME", "PT1S")
+    """Windows close each millisecond, so that each gap has closings, and a look goes on to the contents."""
+    return ticks(gap, count, "REPORT CLOSE AND NONEMPTY TICK TIME", "PT1S STEP PT0.001S")
 
 
 def coprime(gap):
