@@ -1,3 +1,4 @@
 -- Definitions: what a reader must believe
 pub mod Rows
+pub mod Streams
 pub mod Reports

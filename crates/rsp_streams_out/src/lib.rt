@@ -9,8 +9,10 @@ mod listing;
 mod operator;
 mod order;
 mod text;
+mod turning;
 
 pub use listing::rows_of;
 pub use operator::Operator;
 pub use order::ordered;
 pub use text::{overfull_text, report_text, row_text};
+pub use turning::turn;

@@ -1,0 +1,5 @@
+use Rattle.rsp_streams_out.proofs.Turned.{in_order_ok}
+use Rattle.rsp_streams_out.proofs.turning.in_order_of.Goals as goal
+
+pub returns : goal.returns
+returns c = in_order_ok c.ordered.result c.in_ok-rows_of.field-0 c.args.bag.now c.in_ok-rows_of.ensures c.ordered.ensures.value c.ordered.ensures.texts

@@ -1,0 +1,32 @@
+-- Definitions: the stream operators: what a report gives of the rows of the preceding report and of those of now (RSP-QL, RStream,
+-- IStream, DStream).
+use Rattle.std.specs.Prelude.{Bool, if◌then◌else◌, List, [], ◌∷◌, ℤ}
+use Rattle.rsp_multiset.specs.Rows.{Cells, row_eq}
+use Rattle.rsp_multiset.specs.Weights.{Holds, IsChanged}
+use Rattle.rsp_terms.specs.declared.term.Term.{Term}
+use Rattle.rsp_terms.specs.Same.{term_eq}
+use Rattle.rsp_streams_out.specs.declared.operator.Operator.{Operator}
+use Rattle.rsp_streams_out.specs.declared.operator.Operator.TheVariants.{Rstream, Istream, Dstream}
+use Rattle.rsp_streams_out.specs.Rows.{in_order}
+
+-- the list without its first x; the list itself where it has none
+abbrev pub without_one : {E : Type 0} → (E → E → Bool) → E → List E → List E
+without_one eq x [] = []
+without_one eq x (y ∷ ys) = if eq x y then ys else y ∷ without_one eq x ys
+
+-- xs less ys, as multisets: each value as often as xs holds it oftener than ys, and not at all where it doesn't
+abbrev pub less : {E : Type 0} → (E → E → Bool) → List E → List E → List E
+less eq xs [] = xs
+less eq xs (y ∷ ys) = less eq (without_one eq y xs) ys
+
+-- the rows that the operator reports: all of now, those that are new, those that are gone; in the byte order of their texts
+abbrev pub reported : Operator → List (Cells Term) → List (Cells Term) → List (Cells Term)
+reported Rstream preceding present = in_order present
+reported Istream preceding present = in_order (less (row_eq term_eq) present preceding)
+reported Dstream preceding present = in_order (less (row_eq term_eq) preceding present)
+
+-- what the operator reads stands for these rows: the solutions for those of now, or the change for what joins the two
+abbrev pub StandsFor : Operator → List (Cells Term × ℤ) → List (Cells Term × ℤ) → List (Cells Term) → List (Cells Term) → Type 0
+StandsFor Rstream change solutions preceding present = Holds (row_eq term_eq) solutions present
+StandsFor Istream change solutions preceding present = IsChanged (row_eq term_eq) preceding change present
+StandsFor Dstream change solutions preceding present = IsChanged (row_eq term_eq) preceding change present
