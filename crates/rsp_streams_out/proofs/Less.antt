@@ -5,7 +5,7 @@ use Rattle.std.proofs.lemmas.Int.{ints}
 use Rattle.rsp_multiset.specs.Weights.{only, times, above}
 use Rattle.rsp_multiset.proofs.Changing.{times-ge}
 use Rattle.rsp_multiset.proofs.Signs.{above-nonneg}
-use Rattle.rsp_streams_out.specs.Streams.{without_one, less}
+use Rattle.rsp_streams_out.specs.Streams.{without_one, less, excess}
 
 above-none : (n : ℤ) → n ≤ℤ pos 0 → above n ≡ pos 0
 above-none (pos n) h = ap pos (omega (arith, ints, h))
@@ -56,7 +56,7 @@ module _ {E : Type 0} (eq : E → E → Bool) (same : (x y : E) → Decides (eq 
       ]
 
   -- how often the first list holds a value beyond how often the second does
-  pub less-times : (xs ys : List E) (q : E) → times eq (less eq xs ys) q ≡ above (times eq xs q +ℤ neg_ℤ (times eq ys q))
+  pub less-times : (xs ys : List E) (q : E) → times eq (less eq xs ys) q ≡ excess eq xs ys q
   less-times xs [] q =
       let left : times eq xs q +ℤ neg_ℤ (pos 0) ≡ times eq xs q = omega (arith, ints) in
       sym (ap above left ∙ above-nonneg (times eq xs q) (times-ge eq xs q))

@@ -1,10 +1,10 @@
 -- Worked rows: what the stream operators report.
-use Rattle.std.specs.Prelude.{◌≡◌, refl, ℕ, nat_eq, Some, None, List, [], ◌∷◌, codes}
+use Rattle.std.specs.Prelude.{◌≡◌, refl, ℕ, pos, nat_eq, Some, None, List, [], ◌∷◌, codes}
 use Rattle.rsp_multiset.specs.Rows.{Cells}
 use Rattle.rsp_terms.specs.declared.term.Term.{Term}
 use Rattle.rsp_terms.specs.declared.term.Term.TheVariants.{Iri}
 use Rattle.rsp_streams_out.specs.declared.operator.Operator.TheVariants.{Rstream, Istream, Dstream}
-use Rattle.rsp_streams_out.specs.Streams.{less, reported}
+use Rattle.rsp_streams_out.specs.Streams.{less, reported, times_reported}
 
 -- as often as in the first beyond as often as in the second, and never below 0
 less-by_counts : less nat_eq (5 ∷ 6 ∷ 5 ∷ 7 ∷ 5 ∷ []) (5 ∷ 7 ∷ 7 ∷ 8 ∷ []) ≡ 6 ∷ 5 ∷ 5 ∷ []
@@ -43,3 +43,10 @@ none_gone = refl
 -- the same rows in another order aren't new
 nothing_new : reported Istream present (row (codes "a") ∷ row (codes "a") ∷ row (codes "c") ∷ (None ∷ []) ∷ []) ≡ []
 nothing_new = refl
+
+-- the same by counts: once more than before, never below 0
+once_more : times_reported Istream preceding present (row (codes "a")) ≡ pos 1
+once_more = refl
+
+not_below : times_reported Istream preceding present (row (codes "b")) ≡ pos 0
+not_below = refl

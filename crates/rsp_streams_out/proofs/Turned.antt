@@ -8,7 +8,7 @@ use Rattle.rsp_multiset.specs.Weights.{only, times, weight, above, Holds, IsChan
 use Rattle.rsp_terms.specs.declared.term.Term.{Term}
 use Rattle.rsp_terms.specs.Same.{term_eq, term_same}
 use Rattle.rsp_streams_out.specs.Rows.{AreRows, in_order, put_in, row_text, stands_behind}
-use Rattle.rsp_streams_out.specs.Streams.{less}
+use Rattle.rsp_streams_out.specs.Streams.{excess, less}
 use Rattle.rsp_streams_out.proofs.Less.{less-times}
 
 -- a row that is put in is there once more, wherever it stands
@@ -39,26 +39,38 @@ are_rows rows wanted out held is texts =
       texts = sym (texts wanted (λ q. sym (held q)));
     }
 
+pub in_order_counts : {E : Type 0} (result : Result (List (Cells Term)) E) (rows : List (Cells Term)) (bag : List (Cells Term × ℤ))
+    → ((q : Cells Term) → times (row_eq term_eq) rows q ≡ weight (row_eq term_eq) bag q) → IfOk result (λ out. out ≡ in_order rows)
+    → IfOk result (λ out. (q : Cells Term) → times (row_eq term_eq) out q ≡ weight (row_eq term_eq) bag q)
+in_order_counts (Ok out) rows bag held is = λ q. ap (λ all. times (row_eq term_eq) all q) is ∙ in_order-times rows q ∙ held q
+in_order_counts (Err why) rows bag held is = tt
+
 module _ (change : List (Cells Term × ℤ)) (preceding present : List (Cells Term)) (joins : IsChanged (row_eq term_eq) preceding change present) where
   -- what the change brings in
-  pub new_rows : (bag : List (Cells Term × ℤ))
-      → ((q : Cells Term) → weight (row_eq term_eq) bag q ≡ above (weight (row_eq term_eq) change q))
-      → Holds (row_eq term_eq) bag (less (row_eq term_eq) present preceding)
-  new_rows bag is q =
+  pub new_counts : (q : Cells Term) → above (weight (row_eq term_eq) change q) ≡ excess (row_eq term_eq) present preceding q
+  new_counts q =
       let by = joins q in
       let n : weight (row_eq term_eq) change q ≡ times (row_eq term_eq) present q +ℤ neg_ℤ (times (row_eq term_eq) preceding q) =
       omega (arith, ints, by) in
-      is q ∙ ap above n ∙ sym (less-times (row_eq term_eq) (row_decides term_same) present preceding q)
+      ap above n
+
+  pub new_rows : (bag : List (Cells Term × ℤ))
+      → ((q : Cells Term) → weight (row_eq term_eq) bag q ≡ above (weight (row_eq term_eq) change q))
+      → Holds (row_eq term_eq) bag (less (row_eq term_eq) present preceding)
+  new_rows bag is q = is q ∙ new_counts q ∙ sym (less-times (row_eq term_eq) (row_decides term_same) present preceding q)
 
   -- what it takes out
-  pub gone_rows : (bag : List (Cells Term × ℤ))
-      → ((q : Cells Term) → weight (row_eq term_eq) bag q ≡ above (neg_ℤ (weight (row_eq term_eq) change q)))
-      → Holds (row_eq term_eq) bag (less (row_eq term_eq) preceding present)
-  gone_rows bag is q =
+  pub gone_counts : (q : Cells Term) → above (neg_ℤ (weight (row_eq term_eq) change q)) ≡ excess (row_eq term_eq) preceding present q
+  gone_counts q =
       let by = joins q in
       let n : neg_ℤ (weight (row_eq term_eq) change q) ≡ times (row_eq term_eq) preceding q +ℤ neg_ℤ (times (row_eq term_eq) present q) =
       omega (arith, ints, by) in
-      is q ∙ ap above n ∙ sym (less-times (row_eq term_eq) (row_decides term_same) preceding present q)
+      ap above n
+
+  pub gone_rows : (bag : List (Cells Term × ℤ))
+      → ((q : Cells Term) → weight (row_eq term_eq) bag q ≡ above (neg_ℤ (weight (row_eq term_eq) change q)))
+      → Holds (row_eq term_eq) bag (less (row_eq term_eq) preceding present)
+  gone_rows bag is q = is q ∙ gone_counts q ∙ sym (less-times (row_eq term_eq) (row_decides term_same) preceding present q)
 
 pub in_order_ok : {E : Type 0} (result : Result (List (Cells Term)) E) (rows : List (Cells Term)) (bag : List (Cells Term × ℤ))
     → ((q : Cells Term) → times (row_eq term_eq) rows q ≡ weight (row_eq term_eq) bag q) → IfOk result (λ out. out ≡ in_order rows)

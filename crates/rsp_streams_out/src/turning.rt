@@ -1,11 +1,11 @@
 // What a stream operator reports.
 ghost use Rattle.std.specs.Prelude.{◌≡◌, List, IfOk};
 ghost use Rattle.rsp_multiset.specs.Rows.{Cells, row_eq};
-ghost use Rattle.rsp_multiset.specs.Weights.{Holds};
+ghost use Rattle.rsp_multiset.specs.Weights.{Holds, times, weight};
 ghost use Rattle.rsp_terms.specs.declared.term.Term.{Term};
 ghost use Rattle.rsp_terms.specs.Same.{term_eq};
 ghost use Rattle.rsp_streams_out.specs.Rows.{AreRows, in_order};
-ghost use Rattle.rsp_streams_out.specs.Streams.{reported, StandsFor};
+ghost use Rattle.rsp_streams_out.specs.Streams.{reported, times_reported, StandsFor};
 
 use crate::{Operator, ordered, rows_of};
 use rsp_multiset::{Bag, Changes, Row, negative, positive};
@@ -21,8 +21,11 @@ pub fn turn(
     change: &Changes<Row<Term>>,
     solutions: &Bag<Term>,
 ) -> Result<Listed<Row<Term>>, AllocError>
-    ensures { IfOk result (λ rows. (preceding present : List (Cells Term))
+    ensures rows { IfOk result (λ rows. (preceding present : List (Cells Term))
         → StandsFor operator change.now solutions.now preceding present → AreRows rows (reported operator preceding present)) }
+    ensures counts { IfOk result (λ rows. (preceding present : List (Cells Term))
+        → StandsFor operator change.now solutions.now preceding present
+        → (q : Cells Term) → times (row_eq term_eq) rows q ≡ times_reported operator preceding present q) }
 {
     match operator {
         Operator::Rstream => in_order_of(alloc, solutions),
@@ -33,7 +36,8 @@ pub fn turn(
 
 // the rows of a bag, in order
 fn in_order_of(alloc: Global, bag: &Bag<Term>) -> Result<Listed<Row<Term>>, AllocError>
-    ensures { IfOk result (λ rows. (wanted : List (Cells Term)) → Holds (row_eq term_eq) bag.now wanted → AreRows rows (in_order wanted)) }
+    ensures rows { IfOk result (λ rows. (wanted : List (Cells Term)) → Holds (row_eq term_eq) bag.now wanted → AreRows rows (in_order wanted)) }
+    ensures counts { IfOk result (λ rows. (q : Cells Term) → times (row_eq term_eq) rows q ≡ weight (row_eq term_eq) bag.now q) }
 {
     ordered(alloc, rows_of(alloc, bag)?)
 }
