@@ -62,7 +62,7 @@ module _ {E : Type 0} (eq : E → E → Bool) (same : (x y : E) → Decides (eq 
       sym (ap above left ∙ above-nonneg (times eq xs q) (times-ge eq xs q))
   less-times xs (y ∷ ys) q =
       let sum : times eq xs q +ℤ neg_ℤ (only (eq q y) (pos 1)) +ℤ neg_ℤ (times eq ys q)
-          ≡ times eq xs q +ℤ neg_ℤ (only (eq q y) (pos 1) +ℤ times eq ys q) = omega (arith, ints) in
+      ≡ times eq xs q +ℤ neg_ℤ (only (eq q y) (pos 1) +ℤ times eq ys q) = omega (arith, ints) in
       less-times (without_one eq y xs) ys q
       ∙ ap (λ n. above (n +ℤ neg_ℤ (times eq ys q))) (without_one-times y xs q)
       ∙ above_twice (times eq xs q +ℤ neg_ℤ (only (eq q y) (pos 1))) (times eq ys q) (times-ge eq ys q) ∙ ap above sum

@@ -1,5 +1,7 @@
 pub mod Copies
 pub mod InOrder
+pub mod JsonData
+mod JsonRows
 pub mod Less
 pub mod SameTexts
 pub mod Sorted

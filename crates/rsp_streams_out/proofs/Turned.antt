@@ -18,7 +18,7 @@ put_in-times row [] q = refl
 put_in-times row (first ∷ rows) q =
     let rest = put_in-times row rows q in
     elim (stands_behind row first) as (λ v.
-      times (row_eq term_eq) (cond v (first ∷ put_in row rows) (row ∷ first ∷ rows)) q ≡ times (row_eq term_eq) (row ∷ first ∷ rows) q) [
+    times (row_eq term_eq) (cond v (first ∷ put_in row rows) (row ∷ first ∷ rows)) q ≡ times (row_eq term_eq) (row ∷ first ∷ rows) q) [
       | true ↦ omega (arith, ints, rest)
       | false ↦ refl
     ]

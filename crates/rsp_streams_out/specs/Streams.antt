@@ -1,5 +1,5 @@
--- Definitions: the stream operators: what a report gives of the rows of the preceding report and of those of now (RSP-QL, RStream,
--- IStream, DStream).
+-- Definitions: the stream operators: what a report gives of the rows of now and of those of the preceding report (RSP-QL:
+-- RStream, IStream, DStream).
 use Rattle.std.specs.Prelude.{Bool, if◌then◌else◌, List, [], ◌∷◌, ℤ, ◌+ℤ◌, neg_ℤ}
 use Rattle.rsp_multiset.specs.Rows.{Cells, row_eq}
 use Rattle.rsp_multiset.specs.Weights.{times, above, Holds, IsChanged}
@@ -14,7 +14,7 @@ abbrev pub without_one : {E : Type 0} → (E → E → Bool) → E → List E �
 without_one eq x [] = []
 without_one eq x (y ∷ ys) = if eq x y then ys else y ∷ without_one eq x ys
 
--- xs less ys, as multisets: each value as often as xs holds it oftener than ys, and not at all where it doesn't: ys is taken out
+-- xs less ys, as multisets: each y takes one of its value out of xs, if one is there
 abbrev pub less : {E : Type 0} → (E → E → Bool) → List E → List E → List E
 less eq xs [] = xs
 less eq xs (y ∷ ys) = less eq (without_one eq y xs) ys

@@ -36,7 +36,8 @@ pub fn turn(
 
 // the rows of a bag, in order
 fn in_order_of(alloc: Global, bag: &Bag<Term>) -> Result<Listed<Row<Term>>, AllocError>
-    ensures rows { IfOk result (λ rows. (wanted : List (Cells Term)) → Holds (row_eq term_eq) bag.now wanted → AreRows rows (in_order wanted)) }
+    ensures rows { IfOk result (λ rows. (wanted : List (Cells Term))
+        → Holds (row_eq term_eq) bag.now wanted → AreRows rows (in_order wanted)) }
     ensures counts { IfOk result (λ rows. (q : Cells Term) → times (row_eq term_eq) rows q ≡ weight (row_eq term_eq) bag.now q) }
 {
     ordered(alloc, rows_of(alloc, bag)?)
