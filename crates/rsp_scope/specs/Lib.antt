@@ -5,6 +5,6 @@ pub mod Quads
 pub mod Faults
 -- Words of the way
 pub mod Inside
-pub mod Weighing
 pub mod Moves
 pub mod Order
+pub mod Runs

@@ -8,10 +8,13 @@
 
 mod contents;
 mod counting;
+mod ends;
 mod gate;
 mod item;
+mod peaks;
 mod queue;
 mod removal;
+mod runs;
 mod shared;
 mod stored;
 mod streams;
