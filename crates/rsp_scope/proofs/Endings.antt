@@ -126,7 +126,7 @@ needed-zero (item ∷ items) =
 pub over-needed : (f : Ending → ℕ) (next : ℕ) (items : List Item) → over_items (from next f) items ≡ over_items f (needed next items)
 over-needed f next items = sym (sum-filter (λ (item : Item). nat_le next item.end) (λ (item : Item). f (ending_of item)) items)
 
-gate-most : (b : Bool) (n : ℕ) → cond b n 0 ≤ n
+pub gate-most : (b : Bool) (n : ℕ) → cond b n 0 ≤ n
 gate-most true n = omega arith
 gate-most false n = omega arith
 

@@ -1,6 +1,7 @@
 mod ContentRows
 pub mod Endings
 pub mod Follows
+pub mod LaneLaws
 pub mod Orders
 pub mod Puts
 pub mod Risings

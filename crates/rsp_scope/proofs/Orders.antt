@@ -6,6 +6,8 @@ use Rattle.std.proofs.lemmas.Int.{ints}
 use Rattle.rsp_multiset.specs.Weights.{only, sum_z}
 use Rattle.rsp_multiset.proofs.Sums.{sum_z-alike, sum_z-filter}
 use Rattle.rsp_scope.proofs.Endings.{any-default}
+use Rattle.rsp_scope.proofs.LaneLaws.{at_place, placed-all, placed-none}
+use Rattle.rsp_scope.specs.Lanes.{AreStale, places_of}
 use Rattle.rsp_scope.specs.Kept.{needed, shortened}
 use Rattle.rsp_scope.specs.Moves.{Placed, enters, is_after, is_fresh, placed_as}
 use Rattle.rsp_scope.specs.Order.{AreInOrder, AreRising, number_of, peaks_from}
@@ -21,7 +23,7 @@ module _ {X : Type 0} (P : X → Type 0) where
       by true rest = (h.0, rest)
       by false rest = rest
 
-  all-push : (xs : List X) (y : X) → AllByRecursion P xs → P y → AllByRecursion P (xs ++ y ∷ [])
+  pub all-push : (xs : List X) (y : X) → AllByRecursion P xs → P y → AllByRecursion P (xs ++ y ∷ [])
   all-push [] y h last = (last, h)
   all-push (x ∷ xs) y h last = (h.0, all-push xs y h.1 last)
 
@@ -149,12 +151,12 @@ stale-before seen since items at k d e peak numbers before within is high old =
     (let low = up-to-peak 0 items k at d peak before within in omega (arith, low, high))
     (ap (λ (x : Item). is_fresh seen since x.number peak) (sym here) ∙ old)
 
-skipped : (h : Item → ℤ) (items : List Item) (n : ℕ) → ((k : ℕ) (d : Item) → k < n → h (slice_index_or items k d) ≡ pos 0) → n ≤ length items → sum_z h (drop n items) ≡ sum_z h items
-skipped h items zero none within = refl
+skipped : {X : Type 0} (h : X → ℤ) (xs : List X) (n : ℕ) → ((k : ℕ) (d : X) → k < n → h (slice_index_or xs k d) ≡ pos 0) → n ≤ length xs → sum_z h (drop n xs) ≡ sum_z h xs
+skipped h xs zero none within = refl
 skipped h [] (suc n) none within = absurd (omega (arith, within))
-skipped h (x ∷ items) (suc n) none within =
+skipped h (x ∷ xs) (suc n) none within =
     let first : h x ≡ pos 0 = none 0 x (omega arith) in
-    let rest = skipped h items n (λ k d below. none (suc k) d (omega (arith, below))) (omega (arith, within)) in
+    let rest = skipped h xs n (λ k d below. none (suc k) d (omega (arith, below))) (omega (arith, within)) in
     omega (arith, ints, first, rest)
 
 not-fresh : (k a b c l f : Bool) (n : ℤ) → f ≡ false → only (k && (a && (b && (c && (l && f))))) n ≡ pos 0
@@ -165,6 +167,11 @@ not-fresh true true false c l f n is = refl
 not-fresh true false b c l f n is = refl
 not-fresh false a b c l f n is = refl
 
+not-on : (k a b r : Bool) (n : ℤ) → b ≡ false → only (k && (a && (b && r))) n ≡ pos 0
+not-on true true b r n is = ap (λ c. only (c && r) n) is
+not-on true false b r n is = refl
+not-on false a b r n is = refl
+
 only-both : (a b : Bool) (n : ℤ) → only (a && b) n ≡ only a (only b n)
 only-both true b n = refl
 only-both false b n = refl
@@ -173,24 +180,28 @@ only-both false b n = refl
 abbrev pub passing : Gate → ℕ → (Placed → ℤ) → Item → ℤ
 passing gate cut f item = only (nat_le cut item.end && enters gate item) (f (placed_as item))
 
--- of the items in front that aren't fresh none enters
-skipped-stale : (gate : Gate) (cut : ℕ) (items : List Item) (start : ℕ) (f : Placed → ℤ)
-    → ((k : ℕ) (d : Item) → k < start → is_fresh gate.seen gate.since (slice_index_or items k d).number (slice_index_or items k d).time ≡ false)
-    → start ≤ length items
-    → sum_z (passing gate cut f) (drop start items) ≡ sum_z (passing gate cut f) items
-skipped-stale gate cut items start f front within =
-    skipped (passing gate cut f) items start
-    (λ k d below.
-    let item = slice_index_or items k d in
-    not-fresh (nat_le cut item.end) (nat_le gate.first item.number) (bytes_eq item.stream gate.stream) (is_after gate.opening item.time) (nat_le item.time gate.until) (is_fresh gate.seen gate.since item.number item.time) (f (placed_as item)) (front k d below))
-    within
-
--- so what enters of the fresh ones is what enters of the kept ones
-pub fresh-kept : (gate : Gate) (cut : ℕ) (items : List Item) (start : ℕ) (f : Placed → ℤ)
-    → ((k : ℕ) (d : Item) → k < start → is_fresh gate.seen gate.since (slice_index_or items k d).number (slice_index_or items k d).time ≡ false)
-    → start ≤ length items
-    → sum_z (passing gate cut f) (drop start items) ≡ sum_z (λ (item : Item). only (enters gate item) (f (placed_as item))) (needed cut items)
+-- of the items at the places in front that aren't fresh none enters, nor any of another stream; so what enters of the rest
+-- of the lane is what enters of the kept items
+pub fresh-kept : (gate : Gate) (cut : ℕ) (items : List Item) (start : ℕ) (f : Placed → ℤ) → AreStale gate items (places_of gate.stream 0 items) start
+    → start ≤ length (places_of gate.stream 0 items)
+    → sum_z (at_place (passing gate cut f) items) (drop start (places_of gate.stream 0 items))
+    ≡ sum_z (λ (item : Item). only (enters gate item) (f (placed_as item))) (needed cut items)
 fresh-kept gate cut items start f front within =
-    skipped-stale gate cut items start f front within
+    skipped (at_place (passing gate cut f) items) (places_of gate.stream 0 items) start
+    (λ k place below. placed-none (passing gate cut f) items (slice_index_or (places_of gate.stream 0 items) k place)
+    (λ d.
+    let item = slice_index_or items (slice_index_or (places_of gate.stream 0 items) k place) d in
+    not-fresh (nat_le cut item.end) (nat_le gate.first item.number) (bytes_eq item.stream gate.stream) (is_after gate.opening item.time) (nat_le item.time gate.until) (is_fresh gate.seen gate.since item.number item.time) (f (placed_as item)) (front k place d below)))
+    within
+    ∙ (placed-all gate.stream (passing gate cut f)
+    (λ item other.
+    not-on (nat_le cut item.end) (nat_le gate.first item.number) (bytes_eq item.stream gate.stream)
+    (is_after gate.opening item.time && (nat_le item.time gate.until && is_fresh gate.seen gate.since item.number item.time))
+    (f (placed_as item))
+    other)
+    items
+    0
+    items
+    refl
     ∙ (sum_z-alike (passing gate cut f) (λ (item : Item). only (nat_le cut item.end) (only (enters gate item) (f (placed_as item)))) (λ item. only-both (nat_le cut item.end) (enters gate item) (f (placed_as item))) items
-    ∙ sym (sum_z-filter (λ (item : Item). only (enters gate item) (f (placed_as item))) (λ (item : Item). nat_le cut item.end) items))
+    ∙ sym (sum_z-filter (λ (item : Item). only (enters gate item) (f (placed_as item))) (λ (item : Item). nat_le cut item.end) items)))

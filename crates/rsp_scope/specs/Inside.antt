@@ -2,6 +2,7 @@
 use Rattle.std.specs.Prelude.{◌≡◌, length}
 use Rattle.rsp_scope.specs.Kept.{Kept, needed, triples_of}
 use Rattle.rsp_scope.specs.Moves.{Followed}
+use Rattle.rsp_scope.specs.Lanes.{AreFiled}
 use Rattle.rsp_scope.specs.Order.{AreInOrder, peaks_from}
 use Rattle.rsp_scope.specs.Runs.{AreTied}
 use Rattle.rsp_scope.specs.declared.streams.Streams.TheInside.{Inside}
@@ -17,6 +18,7 @@ pub record IsStreams (s : Inside) : Type 0 where
   pub tied : AreTied s.ends.items (needed s.cut s.items.items)
   pub order : AreInOrder s.accepted s.items.items
   pub peaks : s.peaks.items ≡ peaks_from 0 s.items.items
+  pub filed : AreFiled s.lanes.items s.items.items
 
 abbrev pub followed_of : Window → Followed
 followed_of s =

@@ -6,5 +6,6 @@ pub mod Faults
 -- Words of the way
 pub mod Inside
 pub mod Moves
+pub mod Lanes
 pub mod Order
 pub mod Runs

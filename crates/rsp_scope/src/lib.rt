@@ -11,6 +11,7 @@ mod counting;
 mod ends;
 mod gate;
 mod item;
+mod lanes;
 mod peaks;
 mod queue;
 mod removal;

@@ -1,12 +1,13 @@
 // For each place of the queue the latest time up to there, so that a walk from the end knows where no fresh item is left,
 // in whatever order the times come.
 ghost use Rattle.std.specs.Prelude.{◌≡◌, ◌<◌, ◌≤◌, ◌++◌, ◌∷◌, ℕ, [], List, true, false, length, slice_index_or};
+ghost use Rattle.rsp_scope.specs.Lanes.{AreStale, places_of};
 ghost use Rattle.rsp_scope.specs.Moves.{is_fresh};
 ghost use Rattle.rsp_scope.specs.Order.{AreRising, number_of, peaks_from};
 ghost use Rattle.rsp_scope.specs.declared.item.Item.{Item};
 
 use crate::Item;
-use crate::gate::is_fresh;
+use crate::gate::{Gate, is_fresh};
 use std::alloc::Global;
 use std::collections::VecDeque;
 
@@ -35,23 +36,23 @@ pub(crate) fn peak_with(peaks: &VecDeque<u64, Global>, item: &Item) -> u64
     }
 }
 
-/// The index behind the last item that isn't fresh, nor any before it. In front of it none is fresh.
+/// The index in the lane behind the last item that isn't fresh, nor any before it. In front of it none is fresh.
 pub(crate) fn first_fresh(
     items: &VecDeque<Item, Global>,
     peaks: &VecDeque<u64, Global>,
-    seen: u64,
-    since: Option<u64>,
+    lane: &VecDeque<usize, Global>,
+    gate: &Gate,
 ) -> usize
     requires numbers { AreRising number_of items.now.items }
     requires peaks { peaks.now.items ≡ peaks_from 0 items.now.items }
-    ensures bound { result ≤ length items.now.items }
-    ensures stale { (k : ℕ) (d : Item) → k < result
-        → is_fresh seen since (slice_index_or items.now.items k d).number (slice_index_or items.now.items k d).time ≡ false }
+    requires lane { lane.now.items ≡ places_of gate.now.stream 0 items.now.items }
+    ensures bound { result ≤ length lane.now.items }
+    ensures stale { AreStale gate.now items.now.items lane.now.items result }
 {
-    let count = items.len();
+    let count = lane.len();
     for past in 0..count {
         let index = count - 1 - past;
-        if is_stale_to(items, peaks, index, seen, since) {
+        if is_stale_to(items, peaks, lane[index], gate.seen, gate.since) {
             return index + 1;
         }
     }

@@ -1,11 +1,13 @@
 // Walks over the queue of kept items. None takes memory.
-ghost use Rattle.std.specs.Prelude.{◌≡◌, ◌<◌, ◌≤◌, ◌++◌, ℕ, drop, length, slice_index_or, OnOk};
+ghost use Rattle.std.specs.Prelude.{◌≡◌, ◌<◌, ◌≤◌, ◌++◌, ℕ, List, drop, length, slice_index_or, OnOk};
 ghost use Rattle.rsp_scope.specs.Kept.{ended, needed, shortened};
+ghost use Rattle.rsp_scope.specs.Lanes.{AreFiled, room_of};
 ghost use Rattle.rsp_scope.specs.Order.{AreInOrder, peaks_from};
 ghost use Rattle.rsp_scope.specs.declared.item.Item.{Item};
 
-use crate::Item;
+use crate::lanes::Lane;
 use crate::peaks::fill_peaks;
+use crate::{Item, lanes};
 use std::alloc::{AllocError, Global};
 use std::collections::VecDeque;
 
@@ -41,38 +43,46 @@ fn let_go(items: &mut VecDeque<Item, Global>, next: u64)
     items.retain(|item| next <= item.end);
 }
 
-/// Lets go of the items that end before `cut`, and of their peaks.
+/// Lets go of the items that end before `cut`, with their peaks and their places in the lanes.
 pub(crate) fn close_up(
     items: &mut VecDeque<Item, Global>,
     peaks: &mut VecDeque<u64, Global>,
+    lanes: &mut Vec<Lane, Global>,
     cut: u64,
 )
-    requires { peaks.old.items ≡ peaks_from 0 items.old.items }
+    requires peaks { peaks.old.items ≡ peaks_from 0 items.old.items }
+    requires filed { AreFiled lanes.old.items items.old.items }
     ensures items { items.new.items ≡ needed cut items.old.items }
     ensures peaks { peaks.new.items ≡ peaks_from 0 items.new.items }
+    ensures filed { AreFiled lanes.new.items items.new.items }
     ensures room { peaks.new.cap ≡ peaks.old.cap }
+    ensures lanes { (s : List ℕ) → room_of lanes.new.items s ≡ room_of lanes.old.items s }
 {
     let_go(items, cut);
     fill_peaks(peaks, items);
+    lanes::fill(lanes, items);
 }
 
 /// A cut that keeps the same items and one with this end too. Lets go of the others, where the cut would fall.
 pub(crate) fn lowered(
     items: &mut VecDeque<Item, Global>,
     peaks: &mut VecDeque<u64, Global>,
+    lanes: &mut Vec<Lane, Global>,
     cut: u64,
     end: u64,
 ) -> u64
-    requires { peaks.old.items ≡ peaks_from 0 items.old.items }
+    requires peaks { peaks.old.items ≡ peaks_from 0 items.old.items }
+    requires filed { AreFiled lanes.old.items items.old.items }
     ensures low { result ≤ end }
     ensures kept { needed result items.new.items ≡ needed cut items.old.items }
     ensures peaks { peaks.new.items ≡ peaks_from 0 items.new.items }
+    ensures filed { AreFiled lanes.new.items items.new.items }
     ensures order { (accepted : ℕ) → AreInOrder accepted items.old.items → AreInOrder accepted items.new.items }
 {
     if cut <= end {
         return cut;
     }
-    close_up(items, peaks, cut);
+    close_up(items, peaks, lanes, cut);
     end
 }
 

@@ -1,10 +1,11 @@
 // Kept items.
 use crate::ends::{Run, ending_of};
 use crate::gate::Gate;
+use crate::lanes::Lane;
 use crate::peaks::{fill_peaks, first_fresh, peak_with};
 use crate::queue::{close_up, lowered, make_room, place, shorten_all};
-use crate::tally::{Tally, take_in};
-use crate::{Item, Shared, runs};
+use crate::tally::{Tally, take_in, take_none};
+use crate::{Item, Shared, lanes, runs};
 use rsp_multiset::Changes;
 use rsp_terms::{Fact, Listed, Text, Triple};
 use std::alloc::{AllocError, Global};
@@ -27,6 +28,8 @@ pub struct Streams {
     items: VecDeque<Item, Global>,
     // for each place of the queue the latest time up to there
     peaks: VecDeque<u64, Global>,
+    // for each stream the places of its items in the queue
+    lanes: Vec<Lane, Global>,
 }
 
 impl Model for Streams {
@@ -59,6 +62,7 @@ impl Streams {
             ends: Vec::new(alloc),
             items: VecDeque::new(alloc),
             peaks: VecDeque::new(alloc),
+            lanes: Vec::new(alloc),
         }
     }
 
@@ -105,9 +109,10 @@ impl Streams {
         requires { length untils.now ≡ length self.old.items }
         ensures { self.new ≡ record self.old { items = shortened self.old.items untils.now } }
     {
-        close_up(&mut self.items, &mut self.peaks, self.cut);
+        close_up(&mut self.items, &mut self.peaks, &mut self.lanes, self.cut);
         shorten_all(&mut self.items, untils);
         fill_peaks(&mut self.peaks, &self.items);
+        lanes::fill(&mut self.lanes, &self.items);
         self.cut = 0;
         self.count = self.items.len();
         runs::refill(&mut self.ends, &self.items, self.held);
@@ -178,8 +183,12 @@ impl Streams {
         ensures moves { OnOk result (Moves tally.old.spot tally.old.content.entries tally.new.content.entries
             tally.old.counts tally.new.counts change.old change.new) }
     {
-        let start = first_fresh(&self.items, &self.peaks, gate.seen, gate.since);
-        take_in(tally, change, gate, &self.items, self.cut, start)
+        let Some(at) = lanes::find(self.lanes.as_slice(), &gate.stream) else {
+            return take_none(tally, change, gate, &self.items, self.cut);
+        };
+        let lane = &self.lanes[at].places;
+        let start = first_fresh(&self.items, &self.peaks, lane, gate);
+        take_in(tally, change, gate, &self.items, self.cut, lane, start)
     }
 
     // the kept item with this index
@@ -198,7 +207,8 @@ impl Streams {
         ensures { self.new ≡ self.old }
     {
         if self.count < self.items.len() - self.count {
-            close_up(&mut self.items, &mut self.peaks, self.cut);
+            close_up(&mut self.items, &mut self.peaks, &mut self.lanes, self.cut);
+            lanes::tidy(&mut self.lanes, &self.items);
         }
     }
 
@@ -227,9 +237,17 @@ impl Streams {
         let Some(held) = self.held.checked_add(ending.triples) else {
             return Err(AllocError);
         };
-        self.cut = lowered(&mut self.items, &mut self.peaks, self.cut, item.end);
+        self.cut = lowered(
+            &mut self.items,
+            &mut self.peaks,
+            &mut self.lanes,
+            self.cut,
+            item.end,
+        );
         make_room(&mut self.items, &mut self.peaks)?;
+        lanes::make_place(self.alloc, &mut self.lanes, &item.stream)?;
         runs::put(self.alloc, &mut self.ends, ending)?;
+        lanes::file(&mut self.lanes, &item.stream, self.items.len());
         let peak = peak_with(&self.peaks, &item);
         self.peaks.push_back_reserved(peak);
         self.items.push_back_reserved(item);

@@ -1,11 +1,12 @@
 // A window's content, and how often it lists each fact.
-ghost use Rattle.std.specs.Prelude.{◌≡◌, ◌<◌, ◌≤◌, ◌&&◌, ℕ, nat_le, ℤ, pos, negsuc, ◌+ℤ◌, false, true, drop, filter, length, slice_index_or, IfOk, OnOk};
+ghost use Rattle.std.specs.Prelude.{◌≡◌, ◌<◌, ◌≤◌, ◌&&◌, ℕ, nat_le, ℤ, pos, negsuc, ◌+ℤ◌, [], false, true, drop, filter, length, slice_index_or, IfOk, OnOk};
 ghost use Rattle.rsp_multiset.specs.Weights.{sum_z, only, weight};
 ghost use Rattle.rsp_terms.specs.declared.statement.Fact.{Fact};
 ghost use Rattle.rsp_terms.specs.Same.{fact_eq};
 ghost use Rattle.rsp_scope.specs.Contents.{fact_in, facts_in};
 ghost use Rattle.rsp_scope.specs.Moves.{Moves, Placed, TakesIn, Tells, counted_by, enters, is_after, is_fresh, placed_as};
 ghost use Rattle.rsp_scope.specs.Kept.{needed};
+ghost use Rattle.rsp_scope.specs.Lanes.{AreStale, places_of};
 ghost use Rattle.rsp_scope.specs.declared.item.Item.{Item};
 
 use crate::counting::count_by;
@@ -71,26 +72,44 @@ fn leave_first(tally: &mut Tally, change: &mut Changes<Fact>) -> Result<(), Allo
     Ok(())
 }
 
-/// Takes in the items that end at `cut` or later and pass the gate. Those before the index `start` aren't fresh.
+/// Takes in the items of the lane that end at `cut` or later and pass the gate. Those before the index `start` aren't fresh.
 pub(crate) fn take_in(
     tally: &mut Tally,
     change: &mut Changes<Fact>,
     gate: &Gate,
     items: &VecDeque<Item, Global>,
     cut: u64,
+    lane: &VecDeque<usize, Global>,
     start: usize,
 ) -> Result<(), AllocError>
-    requires bound { start ≤ length items.now.items }
-    requires stale { (k : ℕ) (d : Item) → k < start
-        → is_fresh gate.now.seen gate.now.since (slice_index_or items.now.items k d).number (slice_index_or items.now.items k d).time ≡ false }
+    requires lane { lane.now.items ≡ places_of gate.now.stream 0 items.now.items }
+    requires bound { start ≤ length lane.now.items }
+    requires stale { AreStale gate.now items.now.items lane.now.items start }
     ensures spot { tally.new.spot ≡ tally.old.spot }
     ensures content { OnOk result (TakesIn gate.now (needed cut items.now.items) tally.old.content.entries tally.new.content.entries) }
     ensures moves { OnOk result (Moves tally.old.spot tally.old.content.entries tally.new.content.entries
         tally.old.counts tally.new.counts change.old change.new) }
 {
-    for index in start..items.len() {
-        take_one(tally, change, gate, &items[index], cut)?;
+    for index in start..lane.len() {
+        take_one(tally, change, gate, &items[lane[index]], cut)?;
     }
+    Ok(())
+}
+
+/// Takes in nothing, where the stream has no lane.
+pub(crate) fn take_none(
+    tally: &mut Tally,
+    change: &mut Changes<Fact>,
+    gate: &Gate,
+    items: &VecDeque<Item, Global>,
+    cut: u64,
+) -> Result<(), AllocError>
+    requires { places_of gate.now.stream 0 items.now.items ≡ [] }
+    ensures spot { tally.new.spot ≡ tally.old.spot }
+    ensures content { OnOk result (TakesIn gate.now (needed cut items.now.items) tally.old.content.entries tally.new.content.entries) }
+    ensures moves { OnOk result (Moves tally.old.spot tally.old.content.entries tally.new.content.entries
+        tally.old.counts tally.new.counts change.old change.new) }
+{
     Ok(())
 }
 

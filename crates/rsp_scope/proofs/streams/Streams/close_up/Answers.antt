@@ -23,6 +23,7 @@ invariant_of-self c =
       order = subst (λ l. AreInOrder c.self.inside.accepted l) (sym c.close_up.ensures.items)
           (order-needed c.self.inside.accepted c.self.inside.cut c.self.inside.items.items c.self.invariant.order);
       peaks = c.close_up.ensures.peaks;
+      filed = c.tidy.ensures;
     }
 
 pub returns-then-self-len : goal.returns-then-self-len

@@ -29,6 +29,7 @@ invariant_of-self c =
       tied = subst (λ l. AreTied c.drop_before.new.runs.items l) later tied;
       order = c.self.invariant.order;
       peaks = c.self.invariant.peaks;
+      filed = c.self.invariant.filed;
     }
 
 pub returns-then-self-next : goal.returns-then-self-next

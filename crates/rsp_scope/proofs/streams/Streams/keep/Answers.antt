@@ -6,6 +6,8 @@ use Rattle.rsp_scope.specs.Order.{AreInOrder, peaks_from}
 use Rattle.rsp_scope.specs.Runs.{AreTied}
 use Rattle.rsp_scope.specs.declared.item.Item.{Item}
 use Rattle.rsp_scope.proofs.Endings.{filter-most, filter-push, tied-push, triples-push}
+use Rattle.rsp_scope.specs.Lanes.{places_of}
+use Rattle.rsp_scope.proofs.LaneLaws.{filed-push}
 use Rattle.rsp_scope.proofs.Orders.{order-pushed}
 use Rattle.rsp_scope.proofs.streams.Streams.keep.Goals as goal
 
@@ -19,6 +21,19 @@ invariant_of-self c =
       tied = subst (λ l. AreTied c.self.inside.ends.items l) (sym kept) c.self.invariant.tied;
       order = subst (λ l. AreInOrder c.self.inside.accepted l) (sym c.make_room.ensures.items) (c.lowered-self-inside.ensures.order c.self.inside.accepted c.self.invariant.order);
       peaks = c.make_room.ensures.peaks ∙ (c.lowered-self-inside.ensures.peaks ∙ ap (λ l. peaks_from 0 l) (sym c.make_room.ensures.items));
+      filed = λ s. c.lowered-self-inside.ensures.filed s ∙ ap (λ l. places_of s 0 l) (sym c.make_room.ensures.items);
+    }
+
+pub invariant_of-self-in_err-make_place : goal.invariant_of-self-in_err-make_place
+invariant_of-self-in_err-make_place c =
+    let kept = ap (λ l. needed c.lowered-self-inside.result l) c.make_room.ensures.items ∙ c.lowered-self-inside.ensures.kept in
+    record {
+      count = c.self.invariant.count ∙ ap (λ (l : List Item). length l) (sym kept);
+      held = c.self.invariant.held ∙ ap triples_of (sym kept);
+      tied = subst (λ l. AreTied c.self.inside.ends.items l) (sym kept) c.self.invariant.tied;
+      order = subst (λ l. AreInOrder c.self.inside.accepted l) (sym c.make_room.ensures.items) (c.lowered-self-inside.ensures.order c.self.inside.accepted c.self.invariant.order);
+      peaks = c.make_room.ensures.peaks ∙ (c.lowered-self-inside.ensures.peaks ∙ ap (λ l. peaks_from 0 l) (sym c.make_room.ensures.items));
+      filed = λ s. c.make_place.ensures.same s ∙ (c.lowered-self-inside.ensures.filed s ∙ ap (λ l. places_of s 0 l) (sym c.make_room.ensures.items));
     }
 
 pub invariant_of-self-in_err-put : goal.invariant_of-self-in_err-put
@@ -30,6 +45,7 @@ invariant_of-self-in_err-put c =
       tied = subst (λ l. AreTied c.put.new.runs.items l) (sym kept) (λ f. c.in_err-put.ensures.err f ∙ c.self.invariant.tied f);
       order = subst (λ l. AreInOrder c.self.inside.accepted l) (sym c.make_room.ensures.items) (c.lowered-self-inside.ensures.order c.self.inside.accepted c.self.invariant.order);
       peaks = c.make_room.ensures.peaks ∙ (c.lowered-self-inside.ensures.peaks ∙ ap (λ l. peaks_from 0 l) (sym c.make_room.ensures.items));
+      filed = λ s. c.make_place.ensures.same s ∙ (c.lowered-self-inside.ensures.filed s ∙ ap (λ l. places_of s 0 l) (sym c.make_room.ensures.items));
     }
 
 pub overflow_add-self : goal.overflow_add-self
@@ -63,4 +79,11 @@ invariant_of-self-2 c =
           ∙ (c.peak_with-peak.ensures c.make_room.new.items.items
           (c.make_room.ensures.peaks ∙ (c.lowered-self-inside.ensures.peaks ∙ ap (λ l. peaks_from 0 l) (sym c.make_room.ensures.items)))
           ∙ ap (λ l. peaks_from 0 l) (sym c.push_back_reserved-2.ensures.items));
+      filed = λ s.
+          filed-push c.make_place.new.lanes.items c.file.new.lanes.items c.make_room.new.items.items c.args.item c.len.result
+          (λ t. c.make_place.ensures.same t ∙ (c.lowered-self-inside.ensures.filed t ∙ ap (λ l. places_of t 0 l) (sym c.make_room.ensures.items)))
+          (c.len.ensures ∙ c.make_room.new.items.ok.0)
+          c.file.ensures.lane
+          s
+          ∙ ap (λ l. places_of s 0 l) (sym c.push_back_reserved-2.ensures.items);
     }
