@@ -1,5 +1,5 @@
 -- Words of the way: where the items of each stream stand in the queue.
-use Rattle.std.specs.Prelude.{◌≡◌, ℕ, suc, ◌<◌, false, cond, List, [], ◌∷◌, slice_index_or, bytes_eq}
+use Rattle.std.specs.Prelude.{◌≡◌, ℕ, suc, ◌<◌, Bool, false, cond, List, [], ◌∷◌, slice_index_or, bytes_eq}
 use Rattle.rsp_scope.specs.Moves.{is_fresh}
 use Rattle.rsp_scope.specs.declared.gate.Gate.{Gate}
 use Rattle.rsp_scope.specs.declared.item.Item.{Item}
@@ -31,7 +31,11 @@ IsWithLane lanes stream lane new = (s : List ℕ)
 abbrev pub AreFiled : List Lane → List Item → Type 0
 AreFiled lanes items = (stream : List ℕ) → lane_of lanes stream ≡ places_of stream 0 items
 
--- of the places in front of the index n no item is fresh
+-- the item wasn't in the content of the last move
+abbrev pub is_new : Gate → Item → Bool
+is_new gate item = is_fresh gate.seen gate.since item.number item.time
+
+-- of the places in front of the index n no item is new
 abbrev pub AreStale : Gate → List Item → List ℕ → ℕ → Type 0
 AreStale gate items places n = (k place : ℕ) (item : Item) → k < n
-    → is_fresh gate.seen gate.since (slice_index_or items (slice_index_or places k place) item).number (slice_index_or items (slice_index_or places k place) item).time ≡ false
+    → is_new gate (slice_index_or items (slice_index_or places k place) item) ≡ false

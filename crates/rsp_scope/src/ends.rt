@@ -114,7 +114,8 @@ impl Run {
         requires start { start ≤ length items.now.items }
         requires few { triples_of items.now.items ≤ most }
         ensures behind { result ≡ min (start + length self.old) (length items.now.items) }
-        ensures same { (f : Ending → ℕ) → sum_by f self.new + over_items f (drop result items.now.items) ≡ over_items f (drop start items.now.items) }
+        ensures same { (f : Ending → ℕ) → sum_by f self.new + over_items f (drop result items.now.items)
+            ≡ over_items f (drop start items.now.items) }
     {
         let room = self.rising.len();
         let behind = start + room.min(items.len() - start);

@@ -18,12 +18,15 @@ pub(crate) struct Lane {
 /// The index of the stream's lane.
 pub(crate) fn find(lanes: &[Lane], stream: &Text) -> Option<usize>
     ensures within { IfSome result (λ at. at < length lanes.now) }
-    ensures lane { IfSome result (λ at. (d : Lane) → lane_of lanes.now stream.now ≡ (slice_index_or lanes.now at d).places.items) }
+    ensures lane { IfSome result (λ at. (d : Lane)
+        → lane_of lanes.now stream.now ≡ (slice_index_or lanes.now at d).places.items) }
     ensures room { IfSome result (λ at. (d : Lane) → room_of lanes.now stream.now ≡ (slice_index_or lanes.now at d).places.cap) }
-    ensures written { IfSome result (λ at. (lane : Lane) → lane.stream ≡ stream.now → IsWithLane lanes.now stream.now lane (slice_set lanes.now at lane)) }
+    ensures written { IfSome result (λ at. (lane : Lane) → lane.stream ≡ stream.now
+        → IsWithLane lanes.now stream.now lane (slice_set lanes.now at lane)) }
     ensures same { IfSome result (λ at. (d : Lane) → (slice_index_or lanes.now at d).stream ≡ stream.now) }
     ensures none { IfNone result ((lane_of lanes.now stream.now ≡ []) × (room_of lanes.now stream.now ≡ 0)) }
-    ensures pushed { IfNone result ((lane : Lane) → lane.stream ≡ stream.now → IsWithLane lanes.now stream.now lane (lanes.now ++ lane ∷ [])) }
+    ensures pushed { IfNone result ((lane : Lane) → lane.stream ≡ stream.now
+        → IsWithLane lanes.now stream.now lane (lanes.now ++ lane ∷ [])) }
 {
     for at in 0..lanes.len() {
         if lanes[at].stream == *stream {
@@ -52,7 +55,8 @@ pub(crate) fn make_place(
 // a new lane with room for a place
 fn start(alloc: Global, lanes: &mut Vec<Lane, Global>, stream: &Text) -> Result<(), AllocError>
     requires none { lane_of lanes.old.items stream.now ≡ [] }
-    requires pushed { (lane : Lane) → lane.stream ≡ stream.now → IsWithLane lanes.old.items stream.now lane (lanes.old.items ++ lane ∷ []) }
+    requires pushed { (lane : Lane) → lane.stream ≡ stream.now
+        → IsWithLane lanes.old.items stream.now lane (lanes.old.items ++ lane ∷ []) }
     ensures same { (s : List ℕ) → lane_of lanes.new.items s ≡ lane_of lanes.old.items s }
     ensures room { OnOk result (length (lane_of lanes.new.items stream.now) < room_of lanes.new.items stream.now) }
 {

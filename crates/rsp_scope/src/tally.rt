@@ -86,7 +86,8 @@ pub(crate) fn take_in(
     requires bound { start ≤ length lane.now.items }
     requires stale { AreStale gate.now items.now.items lane.now.items start }
     ensures spot { tally.new.spot ≡ tally.old.spot }
-    ensures content { OnOk result (TakesIn gate.now (needed cut items.now.items) tally.old.content.entries tally.new.content.entries) }
+    ensures content { OnOk result (TakesIn gate.now (needed cut items.now.items)
+        tally.old.content.entries tally.new.content.entries) }
     ensures moves { OnOk result (Moves tally.old.spot tally.old.content.entries tally.new.content.entries
         tally.old.counts tally.new.counts change.old change.new) }
 {
@@ -106,7 +107,8 @@ pub(crate) fn take_none(
 ) -> Result<(), AllocError>
     requires { places_of gate.now.stream 0 items.now.items ≡ [] }
     ensures spot { tally.new.spot ≡ tally.old.spot }
-    ensures content { OnOk result (TakesIn gate.now (needed cut items.now.items) tally.old.content.entries tally.new.content.entries) }
+    ensures content { OnOk result (TakesIn gate.now (needed cut items.now.items)
+        tally.old.content.entries tally.new.content.entries) }
     ensures moves { OnOk result (Moves tally.old.spot tally.old.content.entries tally.new.content.entries
         tally.old.counts tally.new.counts change.old change.new) }
 {
@@ -122,7 +124,8 @@ fn take_one(
 ) -> Result<(), AllocError>
     ensures spot { tally.new.spot ≡ tally.old.spot }
     ensures content { OnOk result ((f : Placed → ℤ) → sum_z f tally.new.content.entries
-        ≡ sum_z f tally.old.content.entries +ℤ only (nat_le cut item.now.end && enters gate.now item.now) (f (placed_as item.now))) }
+        ≡ sum_z f tally.old.content.entries
+        +ℤ only (nat_le cut item.now.end && enters gate.now item.now) (f (placed_as item.now))) }
     ensures moves { OnOk result (Moves tally.old.spot tally.old.content.entries tally.new.content.entries
         tally.old.counts tally.new.counts change.old change.new) }
 {
