@@ -1,5 +1,5 @@
 -- The content at an instant is what is left of the last move's, and what entered.
-use Rattle.std.proofs.Common.{◌≡◌, ℕ, suc, ◌+◌, ◌<◌, ◌≤◌, Bool, true, false, true≢false, cond, ◌&&◌, ◌||◌, nat_lt, nat_le, Option, None, Some, List, [], ◌∷◌, ◌++◌, ℤ, pos, ◌+ℤ◌, length, filter, map, refl, sym, ap, subst, ◌∙◌, bytes_eq, arith}
+use Rattle.std.proofs.Common.{◌≡◌, ℕ, suc, ◌+◌, ◌<◌, ◌≤◌, Bool, true, false, true≢false, ◌&&◌, ◌||◌, nat_lt, nat_le, Option, None, Some, List, [], ◌∷◌, ◌++◌, ℤ, pos, ◌+ℤ◌, length, filter, map, refl, sym, ap, subst, ◌∙◌, bytes_eq, arith}
 use Rattle.std.specs.List.{flat_map}
 use Rattle.std.specs.Option.{option_map, option_map_or}
 use Rattle.std.proofs.lemmas.Bool.Decides.{nat_tests}
@@ -14,6 +14,7 @@ use Rattle.rsp_terms.specs.declared.statement.Triple.{Triple}
 use Rattle.rsp_terms.specs.declared.statement.Fact.{Fact}
 use Rattle.rsp_terms.specs.declared.statement.Spot.TheVariants.{Window}
 use Rattle.rsp_terms.specs.Same.{fact_eq, spot_eq, triple_eq, triple_same}
+use Rattle.rsp_scope.proofs.Endings.{filter-twice}
 use Rattle.rsp_scope.specs.Contents.{Accepted, HasContent, Numbered, Watch, as_accepted, content, content_at, fact_in, facts_in, graph_of, numbered, sees, window_facts}
 use Rattle.rsp_scope.specs.Kept.{Kept}
 use Rattle.rsp_scope.specs.Moves.{Followed, HasSeen, IsReached, Moves, Placed, TakesIn, enters, gate_of, is_after, is_fresh, listed, presence}
@@ -265,16 +266,6 @@ moved seen now t items more kept change slide reached watched at accepted took m
           omega (arith, ints, was, is, told),
     )
 
-filter-within : {X : Type 0} (p q : X → Bool) → ((x : X) → q x ≡ true → p x ≡ true) → (xs : List X) → filter q (filter p xs) ≡ filter q xs
-filter-within p q within [] = refl
-filter-within p q within (x ∷ xs) = by (p x) (q x) refl (within x) (filter-within p q within xs)
-  where
-    by : (a b : Bool) → q x ≡ b → (q x ≡ true → a ≡ true) → filter q (filter p xs) ≡ filter q xs
-        → filter q (cond a (x ∷ filter p xs) (filter p xs)) ≡ cond b (x ∷ filter q xs) (filter q xs)
-    by true b is k rest = ap (λ c. cond c (x ∷ filter q (filter p xs)) (filter q (filter p xs))) is ∙ ap (λ l. cond b (x ∷ l) l) rest
-    by false true is k rest = absurd (true≢false (sym (k is)))
-    by false false is k rest = rest
-
 -- where the kept items are those of the accepted ones that pass a test, and all of the content pass it, the content is kept
 pub has-content : (watch : Watch) (t : ℕ) (kept : Kept) (items : List Accepted) (stays : Numbered → Bool) → kept.accepted ≡ length items
     → map as_accepted kept.items ≡ filter stays (numbered 0 items)
@@ -283,5 +274,5 @@ pub has-content : (watch : Watch) (t : ℕ) (kept : Kept) (items : List Accepted
 has-content watch t kept items stays counted same within =
     record {
       accepted = counted;
-      same = ap (λ l. content watch t l) same ∙ filter-within stays (sees watch t) within (numbered 0 items);
+      same = ap (λ l. content watch t l) same ∙ filter-twice stays (sees watch t) within (numbered 0 items);
     }

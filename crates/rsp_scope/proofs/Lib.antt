@@ -1,10 +1,12 @@
 mod ContentRows
+pub mod Endings
 pub mod Follows
+pub mod LaneLaws
 pub mod Orders
 pub mod Puts
+pub mod Risings
 pub mod ScopeRows
 pub mod StoredLaws
 pub mod Takings
 pub mod Tallies
 pub mod Turns
-pub mod Weights

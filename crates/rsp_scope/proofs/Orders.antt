@@ -1,12 +1,16 @@
--- Kept items stay in order, and those that a window has looked at stand in front.
+-- Kept items stay in order, and of those in front that a window has looked at none enters.
 use Rattle.std.proofs.Common.{◌≡◌, ℕ, zero, suc, ◌+◌, ◌<◌, ◌≤◌, Bool, true, false, true≢false, ◌&&◌, ◌||◌, cond, nat_le, bytes_eq, max, Option, None, Some, List, [], ◌∷◌, ◌++◌, ℤ, pos, drop, length, filter, slice_index_or, refl, sym, ap, ◌∙◌, arith}
 use Rattle.std.specs.List.{AllByRecursion}
 use Rattle.std.proofs.lemmas.Bool.Decides.{nat_tests}
 use Rattle.std.proofs.lemmas.Int.{ints}
 use Rattle.rsp_multiset.specs.Weights.{only, sum_z}
+use Rattle.rsp_multiset.proofs.Sums.{sum_z-alike, sum_z-filter}
+use Rattle.rsp_scope.proofs.Endings.{any-default}
+use Rattle.rsp_scope.proofs.LaneLaws.{at_place, placed-all, placed-none}
+use Rattle.rsp_scope.specs.Lanes.{AreStale, places_of}
 use Rattle.rsp_scope.specs.Kept.{needed, shortened}
 use Rattle.rsp_scope.specs.Moves.{Placed, enters, is_after, is_fresh, placed_as}
-use Rattle.rsp_scope.specs.Order.{AreInOrder, AreRising, number_of, time_of}
+use Rattle.rsp_scope.specs.Order.{AreInOrder, AreRising, number_of, peaks_from}
 use Rattle.rsp_scope.specs.declared.gate.Gate.{Gate}
 use Rattle.rsp_scope.specs.declared.item.Item.{Item}
 
@@ -19,7 +23,7 @@ module _ {X : Type 0} (P : X → Type 0) where
       by true rest = (h.0, rest)
       by false rest = rest
 
-  all-push : (xs : List X) (y : X) → AllByRecursion P xs → P y → AllByRecursion P (xs ++ y ∷ [])
+  pub all-push : (xs : List X) (y : X) → AllByRecursion P xs → P y → AllByRecursion P (xs ++ y ∷ [])
   all-push [] y h last = (last, h)
   all-push (x ∷ xs) y h last = (h.0, all-push xs y h.1 last)
 
@@ -65,48 +69,66 @@ numbers-shortened (item ∷ items) [] h = tt
 numbers-shortened (item ∷ items) (None ∷ untils) h = numbers-shortened items untils h.1
 numbers-shortened (item ∷ items) (Some end ∷ untils) h = (all-shortened (λ (x : Item). item.number ≤ x.number) (λ x e k. k) items untils h.0, numbers-shortened items untils h.1)
 
-times-shortened : (items : List Item) (untils : List (Option ℕ)) → AreRising time_of items → AreRising time_of (shortened items untils)
-times-shortened [] untils h = h
-times-shortened (item ∷ items) [] h = tt
-times-shortened (item ∷ items) (None ∷ untils) h = times-shortened items untils h.1
-times-shortened (item ∷ items) (Some end ∷ untils) h = (all-shortened (λ (x : Item). item.time ≤ x.time) (λ x e k. k) items untils h.0, times-shortened items untils h.1)
-
-module _ (accepted latest : ℕ) (rising : Bool) where
+module _ (accepted : ℕ) where
   abbrev Below : Item → Type 0
   Below item = item.number < accepted
 
-  abbrev UpTo : Item → Type 0
-  UpTo item = item.time ≤ latest
-
-  pub order-needed : (next : ℕ) (items : List Item) → AreInOrder accepted latest rising items → AreInOrder accepted latest rising (needed next items)
+  pub order-needed : (next : ℕ) (items : List Item) → AreInOrder accepted items → AreInOrder accepted (needed next items)
   order-needed next items h =
       record {
         below = all-filter Below (λ (item : Item). nat_le next item.end) items h.below;
         numbers = rising-filter number_of (λ (item : Item). nat_le next item.end) items h.numbers;
-        up_to = all-filter UpTo (λ (item : Item). nat_le next item.end) items h.up_to;
-        times = λ rises. rising-filter time_of (λ (item : Item). nat_le next item.end) items (h.times rises);
       }
 
-  pub order-shortened : (items : List Item) (untils : List (Option ℕ)) → AreInOrder accepted latest rising items → AreInOrder accepted latest rising (shortened items untils)
+  pub order-shortened : (items : List Item) (untils : List (Option ℕ)) → AreInOrder accepted items → AreInOrder accepted (shortened items untils)
   order-shortened items untils h =
       record {
         below = all-shortened Below (λ x e k. k) items untils h.below;
         numbers = numbers-shortened items untils h.numbers;
-        up_to = all-shortened UpTo (λ x e k. k) items untils h.up_to;
-        times = λ rises. times-shortened items untils (h.times rises);
       }
 
-  pub order-pushed : (items : List Item) (item : Item) (accepted' latest' : ℕ) (rising' : Bool) → accepted' ≡ accepted + 1 → item.number ≡ accepted → latest' ≡ max latest item.time
-      → (rising' ≡ true → (rising ≡ true) × (latest ≤ item.time))
-      → AreInOrder accepted latest rising items
-      → AreInOrder accepted' latest' rising' (items ++ item ∷ [])
-  order-pushed items item accepted' latest' rising' next numbered late rises h =
+  pub order-pushed : (items : List Item) (item : Item) (accepted' : ℕ) → accepted' ≡ accepted + 1 → item.number ≡ accepted → AreInOrder accepted items
+      → AreInOrder accepted' (items ++ item ∷ [])
+  order-pushed items item accepted' next numbered h =
       record {
         below = all-push (λ (x : Item). x.number < accepted') items item (all-weaker Below (λ (x : Item). x.number < accepted') (λ x k. omega (arith, k, next)) items h.below) (omega (arith, numbered, next));
         numbers = rising-push number_of items item h.numbers (all-weaker Below (λ (x : Item). x.number ≤ item.number) (λ x k. omega (arith, k, numbered)) items h.below);
-        up_to = all-push (λ (x : Item). x.time ≤ latest') items item (all-weaker UpTo (λ (x : Item). x.time ≤ latest') (λ x k. omega (arith, k, late)) items h.up_to) (omega (arith, late));
-        times = λ is. let both = rises is in rising-push time_of items item (h.times both.0) (all-weaker UpTo (λ (x : Item). x.time ≤ item.time) (λ x k. omega (arith, k, both.1)) items h.up_to);
       }
+
+-- a peak is no lower than what came before
+above-latest : (latest : ℕ) (items : List Item) (i e : ℕ) → i < length items → latest ≤ slice_index_or (peaks_from latest items) i e
+above-latest latest [] i e within = absurd (omega (arith, within))
+above-latest latest (x ∷ items) zero e within = omega arith
+above-latest latest (x ∷ items) (suc i) e within =
+    let rest = above-latest (max x.time latest) items i e (omega (arith, within)) in
+    omega (arith, rest)
+
+-- nor than the times of the items up to it
+pub up-to-peak : (latest : ℕ) (items : List Item) (k i : ℕ) (d : Item) (e : ℕ) → k ≤ i → i < length items
+    → (slice_index_or items k d).time ≤ slice_index_or (peaks_from latest items) i e
+up-to-peak latest [] k i d e before within = absurd (omega (arith, within))
+up-to-peak latest (x ∷ items) zero zero d e before within = omega arith
+up-to-peak latest (x ∷ items) zero (suc i) d e before within =
+    let rest = above-latest (max x.time latest) items i e (omega (arith, within)) in
+    omega (arith, rest)
+up-to-peak latest (x ∷ items) (suc k) zero d e before within = absurd (omega (arith, before))
+up-to-peak latest (x ∷ items) (suc k) (suc i) d e before within =
+    up-to-peak (max x.time latest) items k i d e (omega (arith, before)) (omega (arith, within))
+
+pub peaks-long : (latest : ℕ) (items : List Item) → length (peaks_from latest items) ≡ length items
+peaks-long latest [] = refl
+peaks-long latest (x ∷ items) = let rest = peaks-long (max x.time latest) items in omega (arith, rest)
+
+-- a peak more
+pub peaks-push : (latest : ℕ) (items : List Item) (last : ℕ) (item : Item) (peak : ℕ) → length items ≡ suc last
+    → ((e : ℕ) → peak ≡ max item.time (slice_index_or (peaks_from latest items) last e))
+    → peaks_from latest items ++ peak ∷ [] ≡ peaks_from latest (items ++ item ∷ [])
+peaks-push latest [] last item peak long is = absurd (omega (arith, long))
+peaks-push latest (x ∷ []) zero item peak long is = ap (λ n. max x.time latest ∷ n ∷ []) (is 0)
+peaks-push latest (x ∷ []) (suc last) item peak long is = absurd (omega (arith, long))
+peaks-push latest (x ∷ y ∷ items) zero item peak long is = absurd (omega (arith, long))
+peaks-push latest (x ∷ y ∷ items) (suc last) item peak long is =
+    ap (λ l. max x.time latest ∷ l) (peaks-push (max x.time latest) (y ∷ items) last item peak (omega (arith, long)) is)
 
 -- an item that isn't fresh, and those before it
 stale : (seen : ℕ) (since : Option ℕ) (number time number' time' : ℕ) → number' ≤ number → time' ≤ time → is_fresh seen since number time ≡ false → is_fresh seen since number' time' ≡ false
@@ -117,45 +139,69 @@ stale seen None number time number' time' low early is = absurd (by (nat_le seen
     by false h = true≢false h
 stale seen (Some at) number time number' time' low early is = grind (arith, nat_tests, low, early, is)
 
-any-default : (items : List Item) (i : ℕ) (d e : Item) → i < length items → slice_index_or items i d ≡ slice_index_or items i e
-any-default [] i d e within = absurd (omega (arith, within))
-any-default (x ∷ items) zero d e within = refl
-any-default (x ∷ items) (suc i) d e within = any-default items i d e (omega (arith, within))
-
-pub stale-before : (seen : ℕ) (since : Option ℕ) (items : List Item) (at k : ℕ) (d e : Item) → AreRising number_of items → AreRising time_of items → k ≤ at → at < length items
+pub stale-before : (seen : ℕ) (since : Option ℕ) (items : List Item) (at k : ℕ) (d e : Item) (peak : ℕ) → AreRising number_of items → k ≤ at → at < length items
     → e ≡ slice_index_or items at e
-    → is_fresh seen since e.number e.time ≡ false
+    → peak ≡ slice_index_or (peaks_from 0 items) at peak
+    → is_fresh seen since e.number peak ≡ false
     → is_fresh seen since (slice_index_or items k d).number (slice_index_or items k d).time ≡ false
-stale-before seen since items at k d e numbers times before within is old =
+stale-before seen since items at k d e peak numbers before within is high old =
     let here : e ≡ slice_index_or items at d = is ∙ any-default items at e d within in
-    stale seen since (slice_index_or items at d).number (slice_index_or items at d).time (slice_index_or items k d).number (slice_index_or items k d).time
+    stale seen since (slice_index_or items at d).number peak (slice_index_or items k d).number (slice_index_or items k d).time
     (rising-at number_of items k at d numbers before within)
-    (rising-at time_of items k at d times before within)
-    (ap (λ (x : Item). is_fresh seen since x.number x.time) (sym here) ∙ old)
+    (let low = up-to-peak 0 items k at d peak before within in omega (arith, low, high))
+    (ap (λ (x : Item). is_fresh seen since x.number peak) (sym here) ∙ old)
 
-skipped : (h : Item → ℤ) (items : List Item) (n : ℕ) → ((k : ℕ) (d : Item) → k < n → h (slice_index_or items k d) ≡ pos 0) → n ≤ length items → sum_z h (drop n items) ≡ sum_z h items
-skipped h items zero none within = refl
+skipped : {X : Type 0} (h : X → ℤ) (xs : List X) (n : ℕ) → ((k : ℕ) (d : X) → k < n → h (slice_index_or xs k d) ≡ pos 0) → n ≤ length xs → sum_z h (drop n xs) ≡ sum_z h xs
+skipped h xs zero none within = refl
 skipped h [] (suc n) none within = absurd (omega (arith, within))
-skipped h (x ∷ items) (suc n) none within =
+skipped h (x ∷ xs) (suc n) none within =
     let first : h x ≡ pos 0 = none 0 x (omega arith) in
-    let rest = skipped h items n (λ k d below. none (suc k) d (omega (arith, below))) (omega (arith, within)) in
+    let rest = skipped h xs n (λ k d below. none (suc k) d (omega (arith, below))) (omega (arith, within)) in
     omega (arith, ints, first, rest)
 
-not-fresh : (a b c l f : Bool) (n : ℤ) → f ≡ false → only (a && (b && (c && (l && f)))) n ≡ pos 0
-not-fresh true true true true f n is = ap (λ b. only b n) is
-not-fresh true true true false f n is = refl
-not-fresh true true false l f n is = refl
-not-fresh true false c l f n is = refl
-not-fresh false b c l f n is = refl
+not-fresh : (k a b c l f : Bool) (n : ℤ) → f ≡ false → only (k && (a && (b && (c && (l && f))))) n ≡ pos 0
+not-fresh true true true true true f n is = ap (λ b. only b n) is
+not-fresh true true true true false f n is = refl
+not-fresh true true true false l f n is = refl
+not-fresh true true false c l f n is = refl
+not-fresh true false b c l f n is = refl
+not-fresh false a b c l f n is = refl
 
--- of the items in front that aren't fresh none enters
-pub skipped-stale : (gate : Gate) (items : List Item) (start : ℕ) (f : Placed → ℤ)
-    → ((k : ℕ) (d : Item) → k < start → is_fresh gate.seen gate.since (slice_index_or items k d).number (slice_index_or items k d).time ≡ false)
-    → start ≤ length items
-    → sum_z (λ (item : Item). only (enters gate item) (f (placed_as item))) (drop start items) ≡ sum_z (λ (item : Item). only (enters gate item) (f (placed_as item))) items
-skipped-stale gate items start f front within =
-    skipped (λ (item : Item). only (enters gate item) (f (placed_as item))) items start
-    (λ k d below.
-    let item = slice_index_or items k d in
-    not-fresh (nat_le gate.first item.number) (bytes_eq item.stream gate.stream) (is_after gate.opening item.time) (nat_le item.time gate.until) (is_fresh gate.seen gate.since item.number item.time) (f (placed_as item)) (front k d below))
+not-on : (k a b r : Bool) (n : ℤ) → b ≡ false → only (k && (a && (b && r))) n ≡ pos 0
+not-on true true b r n is = ap (λ c. only (c && r) n) is
+not-on true false b r n is = refl
+not-on false a b r n is = refl
+
+only-both : (a b : Bool) (n : ℤ) → only (a && b) n ≡ only a (only b n)
+only-both true b n = refl
+only-both false b n = refl
+
+-- what of an item enters, if it is kept
+abbrev pub passing : Gate → ℕ → (Placed → ℤ) → Item → ℤ
+passing gate cut f item = only (nat_le cut item.end && enters gate item) (f (placed_as item))
+
+-- of the items at the places in front that aren't fresh none enters, nor any of another stream; so what enters of the rest
+-- of the lane is what enters of the kept items
+pub fresh-kept : (gate : Gate) (cut : ℕ) (items : List Item) (start : ℕ) (f : Placed → ℤ) → AreStale gate items (places_of gate.stream 0 items) start
+    → start ≤ length (places_of gate.stream 0 items)
+    → sum_z (at_place (passing gate cut f) items) (drop start (places_of gate.stream 0 items))
+    ≡ sum_z (λ (item : Item). only (enters gate item) (f (placed_as item))) (needed cut items)
+fresh-kept gate cut items start f front within =
+    skipped (at_place (passing gate cut f) items) (places_of gate.stream 0 items) start
+    (λ k place below. placed-none (passing gate cut f) items (slice_index_or (places_of gate.stream 0 items) k place)
+    (λ d.
+    let item = slice_index_or items (slice_index_or (places_of gate.stream 0 items) k place) d in
+    not-fresh (nat_le cut item.end) (nat_le gate.first item.number) (bytes_eq item.stream gate.stream) (is_after gate.opening item.time) (nat_le item.time gate.until) (is_fresh gate.seen gate.since item.number item.time) (f (placed_as item)) (front k place d below)))
     within
+    ∙ (placed-all gate.stream (passing gate cut f)
+    (λ item other.
+    not-on (nat_le cut item.end) (nat_le gate.first item.number) (bytes_eq item.stream gate.stream)
+    (is_after gate.opening item.time && (nat_le item.time gate.until && is_fresh gate.seen gate.since item.number item.time))
+    (f (placed_as item))
+    other)
+    items
+    0
+    items
+    refl
+    ∙ (sum_z-alike (passing gate cut f) (λ (item : Item). only (nat_le cut item.end) (only (enters gate item) (f (placed_as item)))) (λ item. only-both (nat_le cut item.end) (enters gate item) (f (placed_as item))) items
+    ∙ sym (sum_z-filter (λ (item : Item). only (enters gate item) (f (placed_as item))) (λ (item : Item). nat_le cut item.end) items)))

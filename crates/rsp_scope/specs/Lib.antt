@@ -5,6 +5,7 @@ pub mod Quads
 pub mod Faults
 -- Words of the way
 pub mod Inside
-pub mod Weighing
 pub mod Moves
+pub mod Lanes
 pub mod Order
+pub mod Runs

@@ -1,5 +1,5 @@
 -- Words of the way: the order in which kept items stand.
-use Rattle.std.specs.Prelude.{◌≡◌, ℕ, ◌<◌, ◌≤◌, ⊤, Bool, true, List, [], ◌∷◌}
+use Rattle.std.specs.Prelude.{ℕ, ◌<◌, ◌≤◌, ⊤, max, List, [], ◌∷◌}
 use Rattle.std.specs.List.{AllByRecursion}
 use Rattle.rsp_scope.specs.declared.item.Item.{Item}
 
@@ -11,12 +11,12 @@ AreRising n (item ∷ items) = AllByRecursion (λ (other : Item). n item ≤ n o
 abbrev pub number_of : Item → ℕ
 number_of item = item.number
 
-abbrev pub time_of : Item → ℕ
-time_of item = item.time
-
--- the numbers rise and are below that of the next item; no time is after the latest, and where they rise, so do the times
-pub record AreInOrder (accepted latest : ℕ) (rising : Bool) (items : List Item) : Type 0 where
+-- the numbers rise and are below that of the next item
+pub record AreInOrder (accepted : ℕ) (items : List Item) : Type 0 where
   pub below : AllByRecursion (λ (item : Item). item.number < accepted) items
   pub numbers : AreRising number_of items
-  pub up_to : AllByRecursion (λ (item : Item). item.time ≤ latest) items
-  pub times : rising ≡ true → AreRising time_of items
+
+-- for each item the latest time up to it, where `latest` came before
+abbrev pub peaks_from : ℕ → List Item → List ℕ
+peaks_from latest [] = []
+peaks_from latest (item ∷ items) = max item.time latest ∷ peaks_from (max item.time latest) items

@@ -9,7 +9,7 @@ ghost use Rattle.rsp_scope.specs.Moves.{HasSeen, IsReached};
 
 use crate::Streams;
 use crate::gate::Gate;
-use crate::tally::{Tally, let_go, take_in};
+use crate::tally::{Tally, let_go};
 use rsp_multiset::Changes;
 use rsp_terms::{Fact, Text};
 use rsp_windows::Window;
@@ -93,7 +93,7 @@ impl Contents {
         };
         let mut change = Changes::new(self.alloc);
         let_go(&mut self.tally, &mut change, opening)?;
-        take_in(&mut self.tally, &mut change, &gate, streams)?;
+        streams.feed(&gate, &mut self.tally, &mut change)?;
         self.at = Some(t);
         self.accepted = streams.accepted();
         Ok(change)

@@ -17,8 +17,18 @@ pub(crate) struct Gate {
     pub since: Option<u64>,
 }
 
-/// Whether the item enters.
-pub(crate) fn enters(gate: &Gate, item: &Item) -> bool
+/// Whether the item is kept, as it ends at `cut` or later, and enters.
+pub(crate) fn passes(gate: &Gate, cut: u64, item: &Item) -> bool
+    ensures { result ≡ (nat_le cut item.now.end && enters gate.now item.now) }
+{
+    if item.end < cut {
+        return false;
+    }
+    enters(gate, item)
+}
+
+// whether the item enters
+fn enters(gate: &Gate, item: &Item) -> bool
     ensures { result ≡ enters gate.now item.now }
 {
     if item.number < gate.first {

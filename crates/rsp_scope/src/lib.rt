@@ -8,10 +8,14 @@
 
 mod contents;
 mod counting;
+mod ends;
 mod gate;
 mod item;
+mod lanes;
+mod peaks;
 mod queue;
 mod removal;
+mod runs;
 mod shared;
 mod stored;
 mod streams;

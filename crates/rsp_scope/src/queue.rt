@@ -1,14 +1,14 @@
 // Walks over the queue of kept items. None takes memory.
-ghost use Rattle.std.specs.Prelude.{◌≡◌, true, false, ◌<◌, ◌≤◌, ◌++◌, ℕ, cond, nat_le, drop, length, slice_index_or};
-ghost use Rattle.rsp_scope.specs.Kept.{ended, needed, shortened, triples_of};
-ghost use Rattle.rsp_scope.specs.Moves.{is_fresh};
-ghost use Rattle.rsp_scope.specs.Order.{AreRising, number_of, time_of};
-ghost use Rattle.rsp_scope.specs.Weighing.{weight_from};
+ghost use Rattle.std.specs.Prelude.{◌≡◌, ◌<◌, ◌≤◌, ◌++◌, ℕ, List, drop, length, slice_index_or, OnOk};
+ghost use Rattle.rsp_scope.specs.Kept.{ended, needed, shortened};
+ghost use Rattle.rsp_scope.specs.Lanes.{AreFiled, room_of};
+ghost use Rattle.rsp_scope.specs.Order.{AreInOrder, peaks_from};
 ghost use Rattle.rsp_scope.specs.declared.item.Item.{Item};
 
-use crate::Item;
-use crate::gate::is_fresh;
-use std::alloc::Global;
+use crate::lanes::Lane;
+use crate::peaks::fill_peaks;
+use crate::{Item, lanes};
+use std::alloc::{AllocError, Global};
 use std::collections::VecDeque;
 
 /// Gives each item its new end, in order, and takes out those without one.
@@ -36,66 +36,85 @@ fn turn(items: &mut VecDeque<Item, Global>, until: Option<u64>)
     items.push_back_reserved(item);
 }
 
-/// Lets go of the items that end before `next`.
-pub(crate) fn let_go(items: &mut VecDeque<Item, Global>, next: u64)
+// lets go of the items that end before `next`
+fn let_go(items: &mut VecDeque<Item, Global>, next: u64)
     ensures { items.new.items ≡ needed next items.old.items }
 {
     items.retain(|item| next <= item.end);
 }
 
-/// The triples of the items that end at `next` or later. All together are no more than `most`.
-pub(crate) fn triples_from(items: &VecDeque<Item, Global>, next: u64, most: u64) -> u64
-    requires { triples_of items.now.items ≤ most }
-    ensures { result ≡ triples_of (needed next items.now.items) }
+/// Lets go of the items that end before `cut`, with their peaks and their places in the lanes.
+pub(crate) fn close_up(
+    items: &mut VecDeque<Item, Global>,
+    peaks: &mut VecDeque<u64, Global>,
+    lanes: &mut Vec<Lane, Global>,
+    cut: u64,
+)
+    requires peaks { peaks.old.items ≡ peaks_from 0 items.old.items }
+    requires filed { AreFiled lanes.old.items items.old.items }
+    ensures items { items.new.items ≡ needed cut items.old.items }
+    ensures peaks { peaks.new.items ≡ peaks_from 0 items.new.items }
+    ensures filed { AreFiled lanes.new.items items.new.items }
+    ensures room { peaks.new.cap ≡ peaks.old.cap }
+    ensures lanes { (s : List ℕ) → room_of lanes.new.items s ≡ room_of lanes.old.items s }
 {
-    let mut sum = 0;
+    let_go(items, cut);
+    fill_peaks(peaks, items);
+    lanes::fill(lanes, items);
+}
+
+/// A cut that keeps the same items and one with this end too. Lets go of the others, where the cut would fall.
+pub(crate) fn lowered(
+    items: &mut VecDeque<Item, Global>,
+    peaks: &mut VecDeque<u64, Global>,
+    lanes: &mut Vec<Lane, Global>,
+    cut: u64,
+    end: u64,
+) -> u64
+    requires peaks { peaks.old.items ≡ peaks_from 0 items.old.items }
+    requires filed { AreFiled lanes.old.items items.old.items }
+    ensures low { result ≤ end }
+    ensures kept { needed result items.new.items ≡ needed cut items.old.items }
+    ensures peaks { peaks.new.items ≡ peaks_from 0 items.new.items }
+    ensures filed { AreFiled lanes.new.items items.new.items }
+    ensures order { (accepted : ℕ) → AreInOrder accepted items.old.items → AreInOrder accepted items.new.items }
+{
+    if cut <= end {
+        return cut;
+    }
+    close_up(items, peaks, lanes, cut);
+    end
+}
+
+/// Makes room for one item more.
+pub(crate) fn make_room(
+    items: &mut VecDeque<Item, Global>,
+    peaks: &mut VecDeque<u64, Global>,
+) -> Result<(), AllocError>
+    ensures items { items.new.items ≡ items.old.items }
+    ensures peaks { peaks.new.items ≡ peaks.old.items }
+    ensures room { OnOk result ((length items.new.items < items.new.cap) × (length peaks.new.items < peaks.new.cap)) }
+{
+    items.reserve(1)?;
+    peaks.reserve(1)?;
+    Ok(())
+}
+
+/// The place in the queue of the kept item with this index.
+pub(crate) fn place(items: &VecDeque<Item, Global>, cut: u64, index: usize) -> usize
+    requires { index < length (needed cut items.now.items) }
+    ensures within { result < length items.now.items }
+    ensures item { (d : Item) → slice_index_or items.now.items result d ≡ slice_index_or (needed cut items.now.items) index d }
+{
+    let mut left = index;
     for at in 0..items.len() {
-        sum += triples_at(&items[at], next);
-    }
-    sum
-}
-
-// the item's triples, if it ends at `next` or later
-fn triples_at(item: &Item, next: u64) -> u64
-    ensures { result ≡ weight_from next item.now }
-{
-    if item.end < next {
-        return 0;
-    }
-    item.graph.get().as_slice().len() as u64
-}
-
-/// The index of the first item that is fresh. The numbers and times rise, so the fresh ones stand at the end.
-pub(crate) fn first_fresh(items: &VecDeque<Item, Global>, seen: u64, since: Option<u64>) -> usize
-    requires numbers { AreRising number_of items.now.items }
-    requires times { AreRising time_of items.now.items }
-    ensures bound { result ≤ length items.now.items }
-    ensures stale { (k : ℕ) (d : Item) → k < result
-        → is_fresh seen since (slice_index_or items.now.items k d).number (slice_index_or items.now.items k d).time ≡ false }
-{
-    let count = items.len();
-    for past in 0..count {
-        let index = count - 1 - past;
-        if is_stale_to(items, index, seen, since) {
-            return index + 1;
+        if items[at].end < cut {
+            continue;
         }
+        if left == 0 {
+            return at;
+        }
+        left -= 1;
     }
-    0
-}
-
-// whether the item of this index isn't fresh, and so none before it
-fn is_stale_to(items: &VecDeque<Item, Global>, index: usize, seen: u64, since: Option<u64>) -> bool
-    requires within { index < length items.now.items }
-    requires numbers { AreRising number_of items.now.items }
-    requires times { AreRising time_of items.now.items }
-    ensures { result ≡ true → (k : ℕ) (d : Item) → k ≤ index
-        → is_fresh seen since (slice_index_or items.now.items k d).number (slice_index_or items.now.items k d).time ≡ false }
-{
-    !is_item_fresh(&items[index], seen, since)
-}
-
-fn is_item_fresh(item: &Item, seen: u64, since: Option<u64>) -> bool
-    ensures { result ≡ is_fresh seen since item.now.number item.now.time }
-{
-    is_fresh(seen, since, item.number, item.time)
+    unreachable!()
 }

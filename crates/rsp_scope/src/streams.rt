@@ -1,26 +1,35 @@
 // Kept items.
-ghost use Rattle.std.specs.Prelude.{◌≡◌, ◌<◌, ◌≤◌, ◌+◌, ◌++◌, ◌∷◌, ℕ, true, false, [], drop, length, OnOk, OnErr, slice_index_or};
-ghost use Rattle.rsp_scope.specs.Kept.{Kept, needed, shortened, taken, triples_of};
-ghost use Rattle.rsp_scope.specs.Moves.{is_fresh};
-ghost use Rattle.rsp_scope.specs.declared.item.Item.{Item};
-
-use crate::queue::{first_fresh, let_go, shorten_all, triples_from};
-use crate::{Item, Shared};
-use rsp_terms::{Listed, Text, Triple};
+use crate::ends::{Run, ending_of};
+use crate::gate::Gate;
+use crate::lanes::Lane;
+use crate::peaks::{fill_peaks, first_fresh, peak_with};
+use crate::queue::{close_up, lowered, make_room, place, shorten_all};
+use crate::tally::{Tally, take_in, take_none};
+use crate::{Item, Shared, lanes, runs};
+use rsp_multiset::Changes;
+use rsp_terms::{Fact, Listed, Text, Triple};
 use std::alloc::{AllocError, Global};
 use std::collections::VecDeque;
 use std::marker::Model;
 
 /// The items that are kept, in order of acceptance, and how many were accepted.
+//
+// Kept are the items that end at `cut` or later. What has left stands in the queue until it is more than what is kept, so
+// that each walk over the queue is paid for by as many items that left.
 #[derive(Drop)]
 pub struct Streams {
     alloc: Global,
     accepted: u64,
+    cut: u64,
+    // how many items are kept, their triples and their ends
+    count: usize,
     held: u64,
-    // no kept item's time is after the latest; the items' times rise, unless one came late
-    latest: u64,
-    rising: bool,
+    ends: Vec<Run, Global>,
     items: VecDeque<Item, Global>,
+    // for each place of the queue the latest time up to there
+    peaks: VecDeque<u64, Global>,
+    // for each stream the places of its items in the queue
+    lanes: Vec<Lane, Global>,
 }
 
 impl Model for Streams {
@@ -37,7 +46,7 @@ impl Model for Streams {
 impl Streams {
     ghost use Rattle.std.specs.Prelude.{◌≡◌, ◌<◌, ◌≤◌, ◌+◌, ◌++◌, ◌∷◌, ℕ, false, [], drop, length, OnOk, OnErr, slice_index_or};
     ghost use Rattle.rsp_scope.specs.Kept.{Kept, needed, shortened, taken, triples_of};
-    ghost use Rattle.rsp_scope.specs.Moves.{is_fresh};
+    ghost use Rattle.rsp_scope.specs.Moves.{Moves, TakesIn};
     ghost use Rattle.rsp_scope.specs.declared.item.Item.{Item};
 
     /// Keeps nothing; the first item gets the number 0. Takes no memory.
@@ -47,10 +56,13 @@ impl Streams {
         Streams {
             alloc,
             accepted: 0,
+            cut: 0,
+            count: 0,
             held: 0,
-            latest: 0,
-            rising: true,
+            ends: Vec::new(alloc),
             items: VecDeque::new(alloc),
+            peaks: VecDeque::new(alloc),
+            lanes: Vec::new(alloc),
         }
     }
 
@@ -83,8 +95,13 @@ impl Streams {
     pub fn drop_before(&mut self, next: u64)
         ensures { self.new ≡ record self.old { items = needed next self.old.items } }
     {
-        self.held = triples_from(&self.items, next, self.held);
-        let_go(&mut self.items, next);
+        if self.cut < next {
+            self.held = runs::triples_from(self.ends.as_slice(), next, self.held);
+            runs::drop_before(&mut self.ends, next);
+            self.count = runs::count(self.ends.as_slice(), self.count);
+            self.cut = next;
+            self.close_up();
+        }
     }
 
     /// Gives each item its new end, and lets go of those without one. Takes no memory.
@@ -92,8 +109,14 @@ impl Streams {
         requires { length untils.now ≡ length self.old.items }
         ensures { self.new ≡ record self.old { items = shortened self.old.items untils.now } }
     {
+        close_up(&mut self.items, &mut self.peaks, &mut self.lanes, self.cut);
         shorten_all(&mut self.items, untils);
-        self.held = triples_from(&self.items, 0, self.held);
+        fill_peaks(&mut self.peaks, &self.items);
+        lanes::fill(&mut self.lanes, &self.items);
+        self.cut = 0;
+        self.count = self.items.len();
+        runs::refill(&mut self.ends, &self.items, self.held);
+        self.held = runs::triples_from(self.ends.as_slice(), 0, self.held);
     }
 
     /// How many triples the kept items have, as listed.
@@ -107,14 +130,14 @@ impl Streams {
     pub fn held_from(&self, next: u64) -> u64
         ensures { result ≡ triples_of (needed next self.now.items) }
     {
-        triples_from(&self.items, next, self.held)
+        runs::triples_from(self.ends.as_slice(), next, self.held)
     }
 
     /// How many items are kept.
     pub fn count(&self) -> usize
         ensures { result ≡ length self.now.items }
     {
-        self.items.len()
+        self.count
     }
 
     /// The time of the kept item with this index.
@@ -122,7 +145,7 @@ impl Streams {
         requires { index < length self.now.items }
         ensures { (d : Item) → result ≡ (slice_index_or self.now.items index d).time }
     {
-        self.items[index].time
+        self.item_at(index).time
     }
 
     /// The stream of the kept item with this index.
@@ -130,7 +153,7 @@ impl Streams {
         requires { index < length self.now.items }
         ensures { (d : Item) → result.now ≡ (slice_index_or self.now.items index d).stream }
     {
-        &self.items[index].stream
+        &self.item_at(index).stream
     }
 
     /// The number of the kept item with this index, in the order of acceptance.
@@ -138,7 +161,7 @@ impl Streams {
         requires { index < length self.now.items }
         ensures { (d : Item) → result ≡ (slice_index_or self.now.items index d).number }
     {
-        self.items[index].number
+        self.item_at(index).number
     }
 
     /// How many items were accepted: each has a smaller number.
@@ -148,25 +171,45 @@ impl Streams {
         self.accepted
     }
 
-    /// The kept item with this index.
-    pub(crate) fn item_at(&self, index: usize) -> &Item
-        requires { index < length self.now.items }
-        ensures { drop index self.now.items ≡ result.now ∷ drop (index + 1) self.now.items }
+    /// Lets the kept items that pass the gate into the tally.
+    pub(crate) fn feed(
+        &self,
+        gate: &Gate,
+        tally: &mut Tally,
+        change: &mut Changes<Fact>,
+    ) -> Result<(), AllocError>
+        ensures spot { tally.new.spot ≡ tally.old.spot }
+        ensures content { OnOk result (TakesIn gate.now self.now.items tally.old.content.entries tally.new.content.entries) }
+        ensures moves { OnOk result (Moves tally.old.spot tally.old.content.entries tally.new.content.entries
+            tally.old.counts tally.new.counts change.old change.new) }
     {
-        &self.items[index]
+        let Some(at) = lanes::find(self.lanes.as_slice(), &gate.stream) else {
+            return take_none(tally, change, gate, &self.items, self.cut);
+        };
+        let lane = &self.lanes[at].places;
+        let start = first_fresh(&self.items, &self.peaks, lane, gate);
+        take_in(tally, change, gate, &self.items, self.cut, lane, start)
     }
 
-    /// An index before which no kept item is fresh: each has a number below `seen` and a time up to `since`. Where the times
-    /// rise, it is the least such index.
-    pub(crate) fn first_fresh(&self, seen: u64, since: Option<u64>) -> usize
-        ensures bound { result ≤ length self.now.items }
-        ensures stale { (k : ℕ) (d : Item) → k < result
-            → is_fresh seen since (slice_index_or self.now.items k d).number (slice_index_or self.now.items k d).time ≡ false }
+    // the kept item with this index
+    fn item_at(&self, index: usize) -> &Item
+        requires { index < length self.now.items }
+        ensures { (d : Item) → result.now ≡ slice_index_or self.now.items index d }
     {
-        if !self.rising {
-            return 0;
+        if self.items.len() == self.count {
+            return &self.items[index];
         }
-        first_fresh(&self.items, seen, since)
+        &self.items[place(&self.items, self.cut, index)]
+    }
+
+    // closes the queue up once more has left than is kept
+    fn close_up(&mut self)
+        ensures { self.new ≡ self.old }
+    {
+        if self.count < self.items.len() - self.count {
+            close_up(&mut self.items, &mut self.peaks, &mut self.lanes, self.cut);
+            lanes::tidy(&mut self.lanes, &self.items);
+        }
     }
 
     // gives a number and keeps nothing
@@ -187,26 +230,30 @@ impl Streams {
         ensures ok { OnOk result (self.new ≡ record { accepted = self.old.accepted + 1; items = self.old.items ++ item ∷ [] }) }
         ensures err { OnErr result (self.new ≡ self.old) }
     {
-        let triples = item.graph.get().as_slice().len() as u64;
         let Some(accepted) = self.accepted.checked_add(1) else {
             return Err(AllocError);
         };
-        let Some(held) = self.held.checked_add(triples) else {
+        let ending = ending_of(&item);
+        let Some(held) = self.held.checked_add(ending.triples) else {
             return Err(AllocError);
         };
-        let time = item.time;
-        self.items.push_back(item)?;
+        self.cut = lowered(
+            &mut self.items,
+            &mut self.peaks,
+            &mut self.lanes,
+            self.cut,
+            item.end,
+        );
+        make_room(&mut self.items, &mut self.peaks)?;
+        lanes::make_place(self.alloc, &mut self.lanes, &item.stream)?;
+        runs::put(self.alloc, &mut self.ends, ending)?;
+        lanes::file(&mut self.lanes, &item.stream, self.items.len());
+        let peak = peak_with(&self.peaks, &item);
+        self.peaks.push_back_reserved(peak);
+        self.items.push_back_reserved(item);
         self.accepted = accepted;
+        self.count += 1;
         self.held = held;
-        self.rising = is_in_order(self.rising, self.latest, time);
-        self.latest = self.latest.max(time);
         Ok(())
     }
-}
-
-// whether the times still rise with this one
-fn is_in_order(rising: bool, latest: u64, time: u64) -> bool
-    ensures { result ≡ true → (rising ≡ true) × (latest ≤ time) }
-{
-    rising && latest <= time
 }

@@ -1,18 +1,21 @@
 // A window's content, and how often it lists each fact.
-ghost use Rattle.std.specs.Prelude.{◌≡◌, ◌<◌, ℤ, pos, negsuc, ◌+ℤ◌, false, true, drop, filter, length, IfOk, OnOk};
+ghost use Rattle.std.specs.Prelude.{◌≡◌, ◌<◌, ◌≤◌, ◌&&◌, ℕ, nat_le, ℤ, pos, negsuc, ◌+ℤ◌, [], false, true, drop, filter, length, slice_index_or, IfOk, OnOk};
 ghost use Rattle.rsp_multiset.specs.Weights.{sum_z, only, weight};
 ghost use Rattle.rsp_terms.specs.declared.statement.Fact.{Fact};
 ghost use Rattle.rsp_terms.specs.Same.{fact_eq};
 ghost use Rattle.rsp_scope.specs.Contents.{fact_in, facts_in};
-ghost use Rattle.rsp_scope.specs.Moves.{Moves, Placed, TakesIn, Tells, counted_by, enters, is_after, placed_as};
+ghost use Rattle.rsp_scope.specs.Moves.{Moves, Placed, TakesIn, Tells, counted_by, enters, is_after, is_fresh, placed_as};
+ghost use Rattle.rsp_scope.specs.Kept.{needed};
+ghost use Rattle.rsp_scope.specs.Lanes.{AreStale, places_of};
+ghost use Rattle.rsp_scope.specs.declared.item.Item.{Item};
 
 use crate::counting::count_by;
-use crate::gate::{Gate, enters, is_after};
-use crate::{Item, Shared, Streams};
+use crate::gate::{Gate, is_after, passes};
+use crate::{Item, Shared};
 use rsp_multiset::{Changes, Count};
 use rsp_terms::{Fact, Listed, Spot, Triple};
 use std::alloc::{AllocError, Global};
-use std::collections::BTreeMap;
+use std::collections::{BTreeMap, VecDeque};
 
 /// The graphs of a content, by time and number, and how often they list each fact of the window.
 #[derive(Drop)]
@@ -69,22 +72,46 @@ fn leave_first(tally: &mut Tally, change: &mut Changes<Fact>) -> Result<(), Allo
     Ok(())
 }
 
-/// Takes in the kept items that pass the gate.
+/// Takes in the items of the lane that end at `cut` or later and pass the gate. Those before the index `start` aren't fresh.
 pub(crate) fn take_in(
     tally: &mut Tally,
     change: &mut Changes<Fact>,
     gate: &Gate,
-    streams: &Streams,
+    items: &VecDeque<Item, Global>,
+    cut: u64,
+    lane: &VecDeque<usize, Global>,
+    start: usize,
 ) -> Result<(), AllocError>
+    requires lane { lane.now.items ≡ places_of gate.now.stream 0 items.now.items }
+    requires bound { start ≤ length lane.now.items }
+    requires stale { AreStale gate.now items.now.items lane.now.items start }
     ensures spot { tally.new.spot ≡ tally.old.spot }
-    ensures content { OnOk result (TakesIn gate.now streams.now.items tally.old.content.entries tally.new.content.entries) }
+    ensures content { OnOk result (TakesIn gate.now (needed cut items.now.items)
+        tally.old.content.entries tally.new.content.entries) }
     ensures moves { OnOk result (Moves tally.old.spot tally.old.content.entries tally.new.content.entries
         tally.old.counts tally.new.counts change.old change.new) }
 {
-    let start = streams.first_fresh(gate.seen, gate.since);
-    for index in start..streams.count() {
-        take_one(tally, change, gate, streams.item_at(index))?;
+    for index in start..lane.len() {
+        take_one(tally, change, gate, &items[lane[index]], cut)?;
     }
+    Ok(())
+}
+
+/// Takes in nothing, where the stream has no lane.
+pub(crate) fn take_none(
+    tally: &mut Tally,
+    change: &mut Changes<Fact>,
+    gate: &Gate,
+    items: &VecDeque<Item, Global>,
+    cut: u64,
+) -> Result<(), AllocError>
+    requires { places_of gate.now.stream 0 items.now.items ≡ [] }
+    ensures spot { tally.new.spot ≡ tally.old.spot }
+    ensures content { OnOk result (TakesIn gate.now (needed cut items.now.items)
+        tally.old.content.entries tally.new.content.entries) }
+    ensures moves { OnOk result (Moves tally.old.spot tally.old.content.entries tally.new.content.entries
+        tally.old.counts tally.new.counts change.old change.new) }
+{
     Ok(())
 }
 
@@ -93,14 +120,16 @@ fn take_one(
     change: &mut Changes<Fact>,
     gate: &Gate,
     item: &Item,
+    cut: u64,
 ) -> Result<(), AllocError>
     ensures spot { tally.new.spot ≡ tally.old.spot }
     ensures content { OnOk result ((f : Placed → ℤ) → sum_z f tally.new.content.entries
-        ≡ sum_z f tally.old.content.entries +ℤ only (enters gate.now item.now) (f (placed_as item.now))) }
+        ≡ sum_z f tally.old.content.entries
+        +ℤ only (nat_le cut item.now.end && enters gate.now item.now) (f (placed_as item.now))) }
     ensures moves { OnOk result (Moves tally.old.spot tally.old.content.entries tally.new.content.entries
         tally.old.counts tally.new.counts change.old change.new) }
 {
-    if enters(gate, item) {
+    if passes(gate, cut, item) {
         enter(tally, change, item)?;
     }
     Ok(())

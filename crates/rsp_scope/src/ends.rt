@@ -1,0 +1,155 @@
+// When the kept items end.
+ghost use Rattle.std.specs.Prelude.{◌≡◌, ◌-◌, ◌<◌, ◌≤◌, false, length, slice_index_or};
+ghost use Rattle.rsp_scope.specs.Runs.{ending_of};
+ghost use Rattle.rsp_scope.specs.declared.ends.Ending.{Ending};
+
+use crate::Item;
+use std::alloc::{AllocError, Global};
+use std::collections::VecDeque;
+use std::marker::Model;
+
+/// The end of an item, and how many triples it has, as listed.
+#[derive(Clone, Copy)]
+pub(crate) struct Ending {
+    pub end: u64,
+    pub triples: u64,
+}
+
+/// Endings, each not before the one in front of it.
+#[derive(Drop)]
+pub(crate) struct Run {
+    triples: u64,
+    rising: VecDeque<Ending, Global>,
+}
+
+impl Model for Run {
+    ghost use Rattle.std.specs.Prelude.{List};
+    ghost use Rattle.rsp_scope.specs.Runs.{IsRun, run_of};
+    ghost use Rattle.rsp_scope.specs.declared.ends.Ending.{Ending};
+
+    ghost Value = { List Ending };
+
+    ghost view = { run_of };
+
+    ghost invariant = { IsRun };
+}
+
+impl Run {
+    ghost use Rattle.std.specs.Prelude.{◌≡◌, ◌+◌, ◌++◌, ◌∷◌, ◌≤◌, ℕ, [], List, cond, IfOk, OnErr, drop, length, min, take, sum_by};
+    ghost use Rattle.rsp_scope.specs.Kept.{triples_of};
+    ghost use Rattle.rsp_scope.specs.Runs.{ending_of, over_items, reaching, triples_in};
+    ghost use Rattle.rsp_scope.specs.declared.ends.Ending.{Ending};
+    ghost use Rattle.rsp_scope.specs.declared.item.Item.{Item};
+
+    /// The run of one ending. Fails only where memory is refused.
+    pub(crate) fn starting(alloc: Global, ending: Ending) -> Result<Run, AllocError>
+        ensures { IfOk result (λ run. run ≡ ending ∷ []) }
+    {
+        let mut rising = VecDeque::new(alloc);
+        rising.push_back(ending)?;
+        Ok(Run {
+            triples: ending.triples,
+            rising,
+        })
+    }
+
+    /// Puts the ending last, unless the last one is later. Gives whether it did. Fails only where memory is refused.
+    pub(crate) fn put(&mut self, ending: Ending) -> Result<bool, AllocError>
+        ensures ok { IfOk result (λ done. self.new ≡ cond done (self.old ++ ending ∷ []) self.old) }
+        ensures err { OnErr result (self.new ≡ self.old) }
+    {
+        if is_later(&self.rising, ending.end) {
+            return Ok(false);
+        }
+        let Some(triples) = self.triples.checked_add(ending.triples) else {
+            return Err(AllocError);
+        };
+        self.rising.push_back(ending)?;
+        self.triples = triples;
+        Ok(true)
+    }
+
+    /// Lets go of the endings before `next`. They stand in front.
+    pub(crate) fn drop_before(&mut self, next: u64)
+        ensures { self.new ≡ reaching next self.old }
+    {
+        while let Some(front) = self.rising.front() {
+            if next <= front.end {
+                break;
+            }
+            self.triples -= front.triples;
+            let _ = self.rising.pop_front();
+        }
+    }
+
+    /// The triples of the endings at `next` or later. Looks at the others alone.
+    pub(crate) fn triples_from(&self, next: u64) -> u64
+        ensures { result ≡ triples_in (reaching next self.now) }
+    {
+        let mut triples = self.triples;
+        for at in 0..self.rising.len() {
+            let ending = self.rising[at];
+            if next <= ending.end {
+                break;
+            }
+            triples -= ending.triples;
+        }
+        triples
+    }
+
+    pub(crate) fn len(&self) -> usize
+        ensures { result ≡ length self.now }
+    {
+        self.rising.len()
+    }
+
+    /// Holds the endings of items in place of its own: of as many, from the index `start` on. Gives the index behind them.
+    /// Takes no memory. All items together have at most `most` triples.
+    pub(crate) fn refill(
+        &mut self,
+        items: &VecDeque<Item, Global>,
+        start: usize,
+        most: u64,
+    ) -> usize
+        requires start { start ≤ length items.now.items }
+        requires few { triples_of items.now.items ≤ most }
+        ensures behind { result ≡ min (start + length self.old) (length items.now.items) }
+        ensures same { (f : Ending → ℕ) → sum_by f self.new + over_items f (drop result items.now.items)
+            ≡ over_items f (drop start items.now.items) }
+    {
+        let room = self.rising.len();
+        let behind = start + room.min(items.len() - start);
+        self.rising.clear();
+        self.triples = 0;
+        for at in start..behind {
+            let ending = ending_of(&items[at]);
+            self.triples += ending.triples;
+            self.rising.push_back_reserved(ending);
+        }
+        self.rising
+            .make_contiguous()
+            .sort_unstable_by_key(|ending: &Ending| ending.end);
+        behind
+    }
+}
+
+/// When the item ends, and with how many triples.
+pub(crate) fn ending_of(item: &Item) -> Ending
+    ensures { result ≡ ending_of item.now }
+{
+    Ending {
+        end: item.end,
+        triples: item.graph.get().as_slice().len() as u64,
+    }
+}
+
+// whether the last ending is after this instant
+fn is_later(rising: &VecDeque<Ending, Global>, end: u64) -> bool
+    ensures { result ≡ false → (d : Ending) → 0 < length rising.now.items
+        → (slice_index_or rising.now.items (length rising.now.items - 1) d).end ≤ end }
+{
+    match rising.back() {
+        Some(last) => end < last.end,
+        None => false,
+    }
+}
