@@ -6,4 +6,8 @@ pub mod Reading
 pub mod Taking
 pub mod Parted
 pub mod Going
+pub mod FileLines
+pub mod Recordings
+pub mod RecordedTimes
+pub mod ByTime
 mod BlockRows
