@@ -11,3 +11,4 @@ pub mod Recordings
 pub mod RecordedTimes
 pub mod ByTime
 mod BlockRows
+mod FileRows
