@@ -1,5 +1,7 @@
 // The trusted edge: files that the runtime opens, of which nothing is told but counts.
-ghost use Rattle.std.specs.Prelude.{◌≡◌, ◌<◌, ◌≤◌, ◌||◌, None, Ok, IfOk, IsFalse, IsOk, IsTrue, is_ok, is_some, false, length};
+ghost use Rattle.std.specs.Prelude.{◌≡◌, ◌<◌, ◌≤◌, ◌||◌, [], None, Some, Ok, IfOk, IsFalse, IsOk, IsTrue, is_ok, is_some, false, length};
+ghost use Rattle.std.specs.Io.KnownBytes.{ReadConsumes};
+ghost use Rattle.std.specs.Option.{option_map_or};
 ghost use Rattle.rsp_spec.specs.Faults.{HasCause};
 ghost use Rattle.rsp_io.specs.Reading.{ReadTakes, GivenRises};
 ghost use Rattle.rsp_io.specs.Files.{PickFinds, FailsForName};
@@ -109,9 +111,11 @@ impl<R: Files> Shelf for DirShelf<'_, R> {
     }
 }
 
-// one read of the file that is open, if one is
+// one read of the file that is open, if one is; it is proved of any reader what the runtime's files tell nothing of
 fn read_open<F: Read>(file: &mut Option<F>, buf: &mut [u8]) -> Result<usize, Failed>
     ensures bound { IfOk result (λ n. n ≤ length buf.old) }
+    ensures bytes { ReadConsumes (option_map_or F.remaining file.old (Some [])) (option_map_or F.remaining file.new (Some []))
+        result buf.new }
     ensures open { is_some file.new ≡ is_some file.old }
     ensures closed { IsFalse (is_some file.old) → result ≡ Ok 0 }
 {
