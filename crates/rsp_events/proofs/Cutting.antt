@@ -52,7 +52,7 @@ ended_of_parts n (x ∷ []) = []
 ended_of_parts n (x ∷ y ∷ more) = record { number = n; bytes = x; ended = true } ∷ ended_of_parts (n + 1) (y ∷ more)
 
 -- how the parts of bytes give the two
-record Cut (ps : List (List ℕ)) (ended : ℕ → List ℕ → List Line) (begun : List ℕ → List ℕ) : Type 0 where
+pub record Cut (ps : List (List ℕ)) (ended : ℕ → List ℕ → List Line) (begun : List ℕ → List ℕ) : Type 0 where
   pub first : List ℕ
   pub rest : List (List ℕ)
   pub is : ps ≡ first ∷ rest
@@ -84,7 +84,7 @@ cut_more false c ps ended begun h = record {
       ap (λ x. last_part (x ∷ h.rest)) (sym (append_assoc line (c ∷ []) (h.first))) ∙ h.begins (line ++ (c ∷ []));
 }
 
-cut : (bs : List ℕ) → Cut (parts bs) (λ n line. ended_from n line bs) (λ line. begun_from line bs)
+pub cut : (bs : List ℕ) → Cut (parts bs) (λ n line. ended_from n line bs) (λ line. begun_from line bs)
 cut [] = record { first = []; rest = []; is = refl; ends = λ _ _. refl; begins = λ line. append-nil line }
 cut (b ∷ bs) = cut_more (b == 10) b (parts bs) (λ n line. ended_from n line bs) (λ line. begun_from line bs) (cut bs)
 

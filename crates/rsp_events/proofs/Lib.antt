@@ -6,4 +6,9 @@ pub mod Reading
 pub mod Taking
 pub mod Parted
 pub mod Going
+pub mod FileLines
+pub mod Recordings
+pub mod RecordedTimes
+pub mod ByTime
 mod BlockRows
+mod FileRows

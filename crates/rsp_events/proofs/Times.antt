@@ -27,7 +27,7 @@ AllTimed-append (x ∷ xs) ys hx hy = (hx.0, AllTimed-append xs ys hx.1 hy)
 
 -- ---- the times of directives
 
-abbrev AtMost : Option ℕ → Type 0
+abbrev pub AtMost : Option ℕ → Type 0
 AtMost None = ⊤
 AtMost (Some time) = time ≤ last_instant
 
@@ -47,7 +47,7 @@ within n =
       | false ↦ λ e. tt
     ] refl
 
-number_within : (o : Option ℕ) → AtMost (option_and_then (λ n. if nat_le n last_instant then Some n else None) o)
+pub number_within : (o : Option ℕ) → AtMost (option_and_then (λ n. if nat_le n last_instant then Some n else None) o)
 number_within None = tt
 number_within (Some n) = within n
 
@@ -55,7 +55,7 @@ since_within : (z : ℤ) → AtMost (since_1970 z)
 since_within (pos n) = within n
 since_within (negsuc n) = tt
 
-chosen : (b : Bool) (o : Option ℕ) → AtMost o → AtMost (if b then o else None)
+pub chosen : (b : Bool) (o : Option ℕ) → AtMost o → AtMost (if b then o else None)
 chosen true o h = h
 chosen false o h = tt
 
@@ -65,7 +65,7 @@ instant_of_within date time part zone =
     ((day_number date *ℤ pos 86400000) +ℤ pos (seconds_of_day time * 1000 + thousandths part)) -ℤ (minutes_ahead zone *ℤ pos 60000) in
     chosen ((is_date date && is_time time) && (is_fraction part && (is_utc zone || is_offset zone))) (since_1970 ms) (since_within ms)
 
-instant_within : (text : List ℕ) → AtMost (instant text)
+pub instant_within : (text : List ℕ) → AtMost (instant text)
 unfolding instant
 instant_within text =
     let behind = drop 19 text in

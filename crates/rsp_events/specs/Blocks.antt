@@ -1,5 +1,5 @@
 -- Definitions: the blocks of a whole text.
-use Rattle.std.specs.Prelude.{◌≡◌, ℕ, zero, suc, ◌+◌, Bool, true, false, ◌||◌, not, nat_lt, if◌then◌else◌, List, [], ◌∷◌, length, filter, map}
+use Rattle.std.specs.Prelude.{ℕ, zero, suc, ◌+◌, Bool, true, ◌||◌, not, nat_lt, if◌then◌else◌, List, [], ◌∷◌, length, filter, map}
 use Rattle.std.specs.List.{list_any, flat_map}
 use Rattle.rsp_events.specs.declared.event.Content.{Content}
 use Rattle.rsp_events.specs.declared.event.Content.TheVariants.{Fault}

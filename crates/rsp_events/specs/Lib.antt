@@ -4,8 +4,12 @@ pub mod Directives
 pub mod Contents
 pub mod Blocks
 pub mod Instants
+pub mod Files
+pub mod Recorded
+pub mod Merged
 -- Words of the way
 pub mod Begun
 pub mod Reader
 pub mod Steps
 pub mod BodyLines
+pub mod Recording

@@ -7,7 +7,7 @@ ghost use Rattle.rsp_events.specs.Lines.{Line};
 ghost use Rattle.rsp_events.specs.declared.begun.HeldLine.TheVariants as held;
 ghost use Rattle.rsp_events.specs.declared.begun.BegunBlock.TheVariants as begun;
 
-use crate::lines::is_end;
+use crate::lines::{is_end, without_return};
 use rsp_terms::Listed;
 use rsp_text::is_blank;
 use std::alloc::{AllocError, Global};
@@ -85,16 +85,6 @@ fn ending_of(bytes: &[u8]) -> Ending
     let last = is_end(bytes);
     let fed = is_end(without_return(bytes));
     Ending { last, fed }
-}
-
-// the bytes without the one carriage return at their end
-fn without_return(bytes: &[u8]) -> &[u8]
-    ensures { result.now ≡ strip_carriage_return bytes.now }
-{
-    match bytes.split_last() {
-        Some((13, front)) => front,
-        _ => bytes,
-    }
 }
 
 // how bytes stand to `@end` with these behind them, where there are enough of them for an `@end`

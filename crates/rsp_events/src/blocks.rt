@@ -4,7 +4,6 @@ ghost use Rattle.rsp_events.specs.declared.event.Block.{Block};
 ghost use Rattle.rsp_events.specs.declared.begun.BegunLine.TheVariants as line;
 ghost use Rattle.rsp_events.specs.declared.begun.BegunBlock.TheVariants as begun;
 ghost use Rattle.rsp_events.specs.declared.blocks.Place.TheVariants as place;
-ghost use Rattle.std.specs.List.{position_or_len};
 ghost use Rattle.rsp_events.specs.Lines.{IsInLine, Line, ends_body, has_body, is_passed};
 ghost use Rattle.rsp_events.specs.Begun.{begun_block_of, held_line_of};
 ghost use Rattle.rsp_events.specs.Reader.{HasRead};
@@ -14,7 +13,7 @@ ghost use Rattle.rsp_events.specs.Steps.{Reads, TakesLine, begun_groups, place_o
 
 use crate::begun::{BegunBlock, BegunLine, HeldLine, grown, held, lengthened};
 use crate::contents::content_of_texts;
-use crate::lines::{has_body, is_end, is_passed};
+use crate::lines::{has_body, is_end, is_passed, line_end};
 use crate::{Block, BlockFault, Content};
 use rsp_terms::Listed;
 use std::alloc::{AllocError, Global};
@@ -266,14 +265,6 @@ fn read_piece(alloc: Global, blocks: &mut Blocks, piece: &[u8]) -> Result<Listed
             }
         }
     }
-}
-
-// where the first line feed stands, or the number of bytes
-fn line_end(bytes: &[u8]) -> usize
-    ensures place { result ≡ position_or_len (λ b. b == 10) bytes.now }
-    ensures bound { result ≤ length bytes.now }
-{
-    bytes.iter().take_while(|b| **b != b'\n').count()
 }
 
 fn push_some(given: &mut Listed<Block>, block: Option<Block>) -> Result<(), AllocError>

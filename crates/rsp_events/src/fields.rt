@@ -100,7 +100,8 @@ pub(crate) fn time_of(field: &[u8]) -> Option<u64>
     }
 }
 
-fn number_of(field: &[u8]) -> Option<u64>
+/// A number of ms since 1970, up to the end of the year 9999.
+pub(crate) fn number_of(field: &[u8]) -> Option<u64>
     ensures { result ≡ form.number_of field.now }
 {
     let number = read_u64(field)?;

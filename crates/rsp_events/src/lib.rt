@@ -13,7 +13,16 @@ mod contents;
 mod directives;
 mod event;
 mod fields;
+mod files;
 mod lines;
+mod loading;
+mod merging;
+mod recording;
+mod refused;
 
 pub use blocks::Blocks;
 pub use event::{Block, BlockFault, Content, Event};
+pub use loading::{LoadedQuads, loaded};
+pub use merging::merge;
+pub use recording::{RecordedItems, recorded};
+pub use refused::{LineRefused, RefusedAs};

@@ -1,10 +1,29 @@
-// Lines: which are passed over, which have a body, which end one.
-ghost use Rattle.std.specs.Prelude.{◌≡◌, ◌≤◌, bytes_eq, length};
+// Lines: where they end, which are passed over, which have a body, which end one.
+ghost use Rattle.std.specs.Prelude.{◌≡◌, ◌≤◌, ◌==◌, bytes_eq, length};
 ghost use Rattle.std.specs.List.{list_all, position_or_len};
+ghost use Rattle.std.specs.Str.Lines.{strip_carriage_return};
 ghost use Rattle.rsp_text.specs.Fronts.{is_blank};
 ghost use Rattle.rsp_events.specs.Lines as text;
 
 use rsp_text::is_blank;
+
+/// Where the first line feed stands, or the number of bytes.
+pub(crate) fn line_end(bytes: &[u8]) -> usize
+    ensures place { result ≡ position_or_len (λ b. b == 10) bytes.now }
+    ensures bound { result ≤ length bytes.now }
+{
+    bytes.iter().take_while(|b| **b != b'\n').count()
+}
+
+/// The bytes without the one carriage return at their end.
+pub(crate) fn without_return(bytes: &[u8]) -> &[u8]
+    ensures { result.now ≡ strip_carriage_return bytes.now }
+{
+    match bytes.split_last() {
+        Some((13, front)) => front,
+        _ => bytes,
+    }
+}
 
 /// Whether these are the same bytes.
 pub(crate) fn same(left: &[u8], right: &[u8]) -> bool

@@ -66,6 +66,12 @@ pub record StdSourceState : Type 0 where
   pub given : ℕ
   pub faults : ℕ
 
+-- `picked` is whether a pick succeeded so far
+pub record DirShelfState : Type 0 where
+  pub picked : Bool
+  pub given : ℕ
+  pub faults : ℕ
+
 pub record StdSinkState : Type 0 where
   pub faults : ℕ
 

@@ -2,13 +2,14 @@
 //!
 //! A call answers Failed only where the object's count of faults rose in it. Such a read took nothing, such a write
 //! appended nothing, such a pick left the bytes as they were. Objects in memory tell their bytes, so whoever drives
-//! them can say what was written of what was read; steady ones never fail by themselves. The two over the runtime
-//! are the trusted edge: they tell only their counts.
+//! them can say what was written of what was read; steady ones never fail by themselves. The three over the
+//! runtime are the trusted edge: they tell only counts.
 //!
 //! Below stand the words on counts of `rsp_spec`; above stands the top call.
 #![tactic(auto)]
 
 mod calls;
+mod dir_shelf;
 mod failed;
 mod files;
 mod memory_shelf;
@@ -25,6 +26,7 @@ mod steady_shelf;
 mod steady_sink;
 mod steady_source;
 
+pub use dir_shelf::DirShelf;
 pub use failed::Failed;
 pub use memory_shelf::MemoryShelf;
 pub use memory_sink::MemorySink;

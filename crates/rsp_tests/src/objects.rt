@@ -2,8 +2,8 @@
 ghost use Rattle.std.specs.Prelude.{◌<◌, length};
 
 use rsp_io::{
-    Failed, MemoryShelf, MemorySink, MemorySource, Shelf, Sink, Source, StdSource, SteadyShelf,
-    SteadySink, SteadySource,
+    DirShelf, Failed, MemoryShelf, MemorySink, MemorySource, Shelf, Sink, Source, StdSource,
+    SteadyShelf, SteadySink, SteadySource,
 };
 use std::alloc::{AllocError, Global};
 use std::test::Fail;
@@ -103,4 +103,19 @@ fn memory_sink_fails_as_listed(rt: HostRuntime) -> Result<(), Fail> {
 #[test]
 fn standard_input_opens(rt: HostRuntime) {
     let _source = StdSource::new(&rt);
+}
+
+#[test]
+fn dir_shelf_opens_files_by_their_paths(rt: HostRuntime) -> Result<(), Fail> {
+    let mut shelf = DirShelf::new(&rt);
+    let mut buf = [7; 4];
+    assert_eq!(rt; read_from(&mut shelf, &mut buf), Ok(0));
+    assert_eq!(rt; pick_from(&mut shelf, "/dev/zero"), Ok(()));
+    assert_eq!(rt; pick_from(&mut shelf, "no such file"), Err(Failed));
+    assert_eq!(rt; pick_from(&mut shelf, "/dev"), Err(Failed));
+    assert_eq!(rt; read_from(&mut shelf, &mut buf), Ok(4));
+    assert_eq!(rt; buf, [0, 0, 0, 0]);
+    assert_eq!(rt; pick_from(&mut shelf, "/dev/null"), Ok(()));
+    assert_eq!(rt; read_from(&mut shelf, &mut buf), Ok(0));
+    Ok(())
 }
