@@ -1,12 +1,9 @@
 // The first fault of a query's file.
-ghost use Rattle.std.specs.Prelude.{◌≡◌, IfOk, Result};
+ghost use Rattle.std.specs.Prelude.{IfOk, Result};
 ghost use Rattle.rsp_query.specs.Queries.{Registered, registered};
-ghost use Rattle.rsp_report.specs.declared.words.PolicyWords as policies;
-ghost use Rattle.rsp_shapes.specs.Sound.{IsSound};
 ghost use Rattle.rsp_syntax.specs.Answers.{IsParsed};
 ghost use Rattle.rsp_syntax.specs.Parsing.{parse};
 ghost use Rattle.rsp_syntax.specs.declared.fault.SyntaxFault as fault;
-ghost use Rattle.rsp_translation.specs.Translation.{IsFault};
 ghost use Rattle.rsp_engine.specs.Refusals as refusals;
 ghost use Rattle.rsp_call.specs.Checks.{file_fault};
 ghost use Rattle.rsp_call.specs.Verdicts.{IsFirst};
