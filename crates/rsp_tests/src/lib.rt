@@ -14,8 +14,6 @@ mod engine;
 #[cfg(test)]
 mod events;
 #[cfg(test)]
-mod modes;
-#[cfg(test)]
 mod multisets;
 #[cfg(test)]
 mod nquads;
