@@ -11,3 +11,4 @@ pub mod Files
 pub mod Tallying
 pub mod Answering
 pub mod FileFaults
+pub mod WordRows
