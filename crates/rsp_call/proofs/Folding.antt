@@ -29,7 +29,7 @@ refused_more world block more = list_any-append is_refusal (step world block).sa
 
 -- ---- cut in two
 
-run-append : (world : World) (xs ys : List Block) → run world (xs ++ ys) ≡ followed_by (run world xs) (run (run world xs).after ys)
+pub run-append : (world : World) (xs ys : List Block) → run world (xs ++ ys) ≡ followed_by (run world xs) (run (run world xs).after ys)
 run-append world [] ys = refl
 run-append world (x ∷ xs) ys =
     ap (followed_by (step world x)) (run-append (step world x).after xs ys)

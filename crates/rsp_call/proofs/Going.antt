@@ -1,6 +1,6 @@
 -- A log that is read a piece at a time, and the answers of its ends.
-use Rattle.std.proofs.Common.{◌≡◌, ℕ, ◌+◌, ◌-◌, ◌^◌, ◌<◌, ◌≤◌, Bool, true, false, IsTrue, List, [], ◌∷◌, ◌++◌, length, length-append, take, Result, Ok, Err, Option, Some, None, IfSome, MatchResult, refl, sym, ◌∙◌, ap, append_assoc, arith}
-use Rattle.std.proofs.lemmas.List.{append-nil, length-take}
+use Rattle.std.proofs.Common.{◌≡◌, ℕ, ◌+◌, ◌-◌, ◌^◌, ◌<◌, ◌≤◌, Bool, true, false, IsTrue, List, [], ◌++◌, length, length-append, Result, Ok, Err, Option, Some, None, IfSome, MatchResult, refl, sym, ◌∙◌, ap, append_assoc, arith}
+use Rattle.std.proofs.lemmas.List.{append-nil}
 use Rattle.std.specs.Prelude.{⊤}
 use Rattle.std.specs.Io.KnownBytes.{Consumes, IsAtEnd}
 use Rattle.rsp_spec.specs.Faults.{Rose}
@@ -17,20 +17,11 @@ use Rattle.rsp_call.specs.Sinks.{SinkSeen, Wrote, WrotePart}
 use Rattle.rsp_call.specs.Stops.{Ends, Stops, status_of}
 use Rattle.rsp_call.specs.Sessions.{IsAt, Adds, Breaks, Closes}
 use Rattle.rsp_call.specs.Answers.{AnswersLog, PassesLimit, ReadFails, most_bytes}
+use Rattle.rsp_call.proofs.Consuming.{consumed_more, consumed_nothing}
 use Rattle.rsp_call.proofs.Writings.{wrote_nothing, wrote_more, wrote_part, ends_behind, stops_behind}
 use Rattle.rsp_call.proofs.Working.{text_behind, world_at}
 
 -- ---- bytes that are taken
-
-consumed_nothing : (left : Option (List ℕ)) → Consumes left left []
-consumed_nothing None = tt
-consumed_nothing (Some bytes) = refl
-
-consumed_more : (a b c : Option (List ℕ)) (x y : List ℕ) → Consumes a b x → Consumes b c y → Consumes a c (x ++ y)
-consumed_more None b c x y first second = tt
-consumed_more (Some a) None c x y first second = absurd first
-consumed_more (Some a) (Some b) None x y first second = absurd second
-consumed_more (Some a) (Some b) (Some c) x y first second = first ∙ (ap (λ bytes. x ++ bytes) second ∙ sym (append_assoc x y c))
 
 took_nothing : (source : SourceSeen) → Took source source []
 took_nothing source = record { left = consumed_nothing source.left; given = λ below. omega arith }
@@ -195,12 +186,3 @@ log_ended source_before source source_after before mid now reader engine known t
     at_end
     (rw close.added (ends_behind before mid now _ _ result going.wrote close.ends))
     close.refused
-
--- none of a list is its first none
-pub first_none : (bytes : List ℕ) (n : ℕ) → n ≡ 0 → take n bytes ≡ []
-first_none [] n is = rw is refl
-first_none (byte ∷ bytes) n is = rw is refl
-
--- as many as were taken
-pub first_many : (bytes : List ℕ) (n : ℕ) → n ≤ length bytes → n ≡ length (take n bytes)
-first_many bytes n low = let size = length-take n bytes in omega (arith, size, low)

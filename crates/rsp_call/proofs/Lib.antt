@@ -5,3 +5,10 @@ pub mod Takings
 pub mod Working
 pub mod Going
 pub mod WordLists
+pub mod WordTables
+pub mod Consuming
+pub mod Files
+pub mod Tallying
+pub mod Answering
+pub mod FileFaults
+pub mod WordRows

@@ -43,7 +43,7 @@ unfolding lines_of
 rows_as_lines [] = refl
 rows_as_lines (row ∷ rows) = ap (λ text. row_text row ++ (10 ∷ text)) (rows_as_lines rows)
 
-counted : (rows : List (Cells Term)) → length rows ≡ length (map row_text rows)
+pub counted : (rows : List (Cells Term)) → length rows ≡ length (map row_text rows)
 counted [] = refl
 counted (row ∷ rows) = ap suc (counted rows)
 

@@ -1,14 +1,17 @@
 -- Definitions: what each answer of the call says.
-use Rattle.std.specs.Prelude.{◌≡◌, ℕ, ◌^◌, ◌<◌, ◌≤◌, ◌++◌, Bool, true, false, Option, Some, None, List, length}
+use Rattle.std.specs.Prelude.{◌≡◌, ℕ, ◌^◌, ◌<◌, ◌≤◌, ◌++◌, Bool, true, false, Option, Some, None, List, [], ◌∷◌, length}
 use Rattle.std.specs.Option.{IfSome}
 use Rattle.std.specs.Io.KnownBytes.{IsAtEnd}
 use Rattle.rsp_spec.specs.Faults.{Rose}
 use Rattle.rsp_call.specs.declared.status.Status.{Status}
 use Rattle.rsp_call.specs.declared.status.Status.TheVariants.{Done, DoneWithRefusals, Usage, ReadFault, WriteFault, OutOfMemory, TooLong}
-use Rattle.rsp_call.specs.declared.words.Mode.{Mode}
-use Rattle.rsp_call.specs.declared.words.Mode.TheVariants.{Events}
+use Rattle.rsp_call.specs.Words.{Mode, events, check, generate}
 use Rattle.rsp_call.specs.Output.{output, has_refusal, usage_text, whole_text}
 use Rattle.rsp_call.specs.Sources.{SourceSeen, Took}
+use Rattle.rsp_call.specs.Shelves.{ShelfSeen}
+use Rattle.rsp_call.specs.Checks.{checked}
+use Rattle.rsp_call.specs.Summaries.{counted}
+use Rattle.rsp_call.specs.FileAnswers.{AnswersFiles}
 use Rattle.rsp_call.specs.Sinks.{SinkSeen, Wrote, WrotePart, WriteFailed}
 
 -- the most bytes of standard input
@@ -84,6 +87,20 @@ AnswersUsage sink sink' WriteFault = WriteFailed sink sink' usage_text
 AnswersUsage sink sink' _ = ⊥
 
 -- by what the words ask for
-abbrev pub Answers : Option Mode → SourceSeen → SourceSeen → SinkSeen → SinkSeen → Status → Type 0
-Answers (Some Events) before now sink sink' status = AnswersLog before now sink sink' status
-Answers None before now sink sink' status = AnswersUsage sink sink' status × (now ≡ before)
+abbrev pub Answers : Option Mode → SourceSeen → SourceSeen → ShelfSeen → ShelfSeen → SinkSeen → SinkSeen → Status → Type 0
+Answers (Some events) before now shelf shelf' sink sink' status = AnswersLog before now sink sink' status
+Answers (Some (check query)) before now shelf shelf' sink sink' status =
+    AnswersFiles (query ∷ []) checked shelf shelf' sink sink' status
+Answers (Some (generate count)) before now shelf shelf' sink sink' status =
+    AnswersFiles [] (counted count) shelf shelf' sink sink' status
+Answers None before now shelf shelf' sink sink' status = AnswersUsage sink sink' status × (now ≡ before)
+
+-- the log alone is read from the source
+abbrev pub reads_source : Option Mode → Bool
+reads_source (Some events) = true
+reads_source _ = false
+
+-- and files alone from the shelf
+abbrev pub reads_shelf : Option Mode → Bool
+reads_shelf (Some (check query)) = true
+reads_shelf _ = false

@@ -1,12 +1,21 @@
 -- Definitions
+pub mod Words
 pub mod Refusals
 pub mod Output
+pub mod Checks
+pub mod Generator
+pub mod Summaries
 pub mod Sources
+pub mod Shelves
 pub mod Sinks
-pub mod Words
 pub mod Statuses
+pub mod FileAnswers
 pub mod Answers
 -- Words of the way
+pub mod Asked
+pub mod Verdicts
+pub mod Tallies
+pub mod Readings
 pub mod Runs
 pub mod Stops
 pub mod Sessions

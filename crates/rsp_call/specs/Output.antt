@@ -1,5 +1,6 @@
--- Definitions: what a log says, block by block, and the text of it.
+-- Definitions: what a log, a check and the generator say, and the text of it.
 use Rattle.std.specs.Prelude.{ℕ, Bool, true, false, Result, Ok, Err, List, [], ◌∷◌, ◌++◌, map, codes}
+use Rattle.std.specs.Fmt.{decimal}
 use Rattle.std.specs.List.{flat_map, list_any}
 use Rattle.rsp_events.specs.declared.event.Event as events
 use Rattle.rsp_events.specs.declared.event.Block as blocks
@@ -21,9 +22,13 @@ use Rattle.rsp_call.specs.Refusals.{Reason, of_block, of_event, refusal_line}
 
 -- ---- what is said
 
+-- a report; a refusal at a place; that the text of a query has no fault; or how many reports so many items of the generator gave,
+-- and how many rows these have in all
 pub data Saying : Type 0 where
   a_report : Report → Saying
   a_refusal : Place → Reason → Saying
+  no_fault : Saying
+  a_summary : ℕ → ℕ → ℕ → Saying
 
 abbrev pub outcome_text : List ℕ → ℕ → List (List ℕ) → Outcome → List ℕ
 outcome_text name at variables (Rows rows) = report_text name at variables rows
@@ -35,6 +40,10 @@ text_of_report report = outcome_text report.query report.at report.variables rep
 abbrev pub text_of_saying : Saying → List ℕ
 text_of_saying (a_report report) = text_of_report report
 text_of_saying (a_refusal place reason) = refusal_line place reason
+text_of_saying no_fault = codes "ok\n"
+text_of_saying (a_summary count reports rows) =
+    codes "gen "
+    ++ (decimal count ++ (codes " reports " ++ (decimal reports ++ (codes " rows " ++ (decimal rows ++ codes "\n")))))
 
 abbrev pub text_of : List Saying → List ℕ
 text_of said = flat_map text_of_saying said
@@ -42,6 +51,8 @@ text_of said = flat_map text_of_saying said
 abbrev pub is_refusal : Saying → Bool
 is_refusal (a_report report) = false
 is_refusal (a_refusal place reason) = true
+is_refusal no_fault = false
+is_refusal (a_summary count reports rows) = false
 
 -- ---- one step: what a block says in a world, and the world behind it
 

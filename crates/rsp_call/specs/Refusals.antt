@@ -7,7 +7,7 @@ use Rattle.rsp_numbering.specs.declared.limit.LimitName.{LimitName}
 use Rattle.rsp_numbering.specs.declared.limit.LimitName.TheVariants as name
 use Rattle.rsp_engine.specs.Refusals.{Refusal, bad_token, syntax, left_out, limit, graph_shape, exists_shape, scope, policy_mix, late, name_taken, no_query, queries_full, unbuilt, start_overfull, refusal_of}
 use Rattle.rsp_call.specs.declared.refusing.Place.{Place}
-use Rattle.rsp_call.specs.declared.refusing.Place.TheVariants.{Block}
+use Rattle.rsp_call.specs.declared.refusing.Place.TheVariants.{Block, Query}
 use Rattle.rsp_call.specs.declared.refusing.Answered.{Answered}
 use Rattle.rsp_call.specs.declared.refusing.Answered.TheVariants as answered
 
@@ -61,9 +61,10 @@ details (of_event (scope variable)) = codes " variable=" ++ variable
 details (of_event (late time next)) = codes " time=" ++ (decimal time ++ (codes " next=" ++ decimal next))
 details _ = []
 
--- where: a block by its number
+-- where: a block by its number, or the query that is checked
 abbrev pub place_text : Place → List ℕ
 place_text (Block number) = codes "block " ++ decimal number
+place_text Query = codes "query"
 
 -- the line
 abbrev pub refusal_line : Place → Reason → List ℕ

@@ -1,10 +1,71 @@
--- Definitions: what the program's words ask for.
-use Rattle.std.specs.Prelude.{ℕ, ◌&&◌, if◌then◌else◌, Option, Some, None, List, [], ◌∷◌, codes, bytes_eq}
-use Rattle.rsp_call.specs.declared.words.Mode.{Mode}
-use Rattle.rsp_call.specs.declared.words.Mode.TheVariants.{Events}
+-- Definitions: what the program's words ask for: the table of the command line.
+use Rattle.std.specs.Prelude.{ℕ, Bool, false, not, ◌&&◌, ◌==◌, nat_le, if◌then◌else◌, Option, Some, None, List, [], ◌∷◌, codes, bytes_eq}
+use Rattle.std.specs.Str.{byte}
+use Rattle.rsp_text.specs.Digits.{read_u64}
 
--- `events`, or `events --`; none where they are in no row of the table
+-- to work off the log; to check the query in the file of this name; to work off so many items of the generator
+pub data Mode : Type 0 where
+  events : Mode
+  check : List ℕ → Mode
+  generate : ℕ → Mode
+
+-- ---- what stands behind the word of a mode
+
+abbrev pub is_dashes : List ℕ → Bool
+is_dashes word = bytes_eq word (codes "--")
+
+-- the values: all words but the first `--`, which may stand anywhere among them
+abbrev pub values : List (List ℕ) → List (List ℕ)
+values [] = []
+values (word ∷ more) = if is_dashes word then more else word ∷ values more
+
+-- a file's name has at least one byte, and doesn't begin with `-`
+abbrev pub is_file : List ℕ → Bool
+is_file [] = false
+is_file (first ∷ rest) = not (first == byte "-")
+
+-- a number of items, in digits
+abbrev pub is_count : ℕ → Bool
+is_count count = nat_le 1 count && nat_le count 1000000
+
+-- ---- the rows of the table, each by its values
+
+-- events
+abbrev pub events_of : List (List ℕ) → Option Mode
+events_of [] = Some events
+events_of _ = None
+
+-- check QUERY
+abbrev pub check_of : List (List ℕ) → Option Mode
+check_of (query ∷ []) = if is_file query then Some (check query) else None
+check_of _ = None
+
+-- gen COUNT
+abbrev pub generate_so_many : Option ℕ → Option Mode
+generate_so_many None = None
+generate_so_many (Some count) = if is_count count then Some (generate count) else None
+
+abbrev pub generate_of : List (List ℕ) → Option Mode
+generate_of (count ∷ []) = generate_so_many (read_u64 count)
+generate_of _ = None
+
+-- ---- the table
+
+abbrev pub Row : Type 0
+Row = List ℕ × (List (List ℕ) → Option Mode)
+
+abbrev pub table : List Row
+table =
+    (codes "events", events_of)
+    ∷ (codes "check", check_of)
+    ∷ (codes "gen", generate_of)
+    ∷ []
+
+abbrev pub mode_in : List Row → List ℕ → List (List ℕ) → Option Mode
+mode_in [] word more = None
+mode_in (row ∷ rows) word more = if bytes_eq word row.0 then row.1 (values more) else mode_in rows word more
+
+-- none where the words are in no row
 abbrev pub mode_of : List (List ℕ) → Option Mode
-mode_of (mode ∷ []) = if bytes_eq mode (codes "events") then Some Events else None
-mode_of (mode ∷ dashes ∷ []) = if bytes_eq mode (codes "events") && bytes_eq dashes (codes "--") then Some Events else None
-mode_of _ = None
+mode_of [] = None
+mode_of (word ∷ more) = mode_in table word more

@@ -1,10 +1,15 @@
 //! The call `rsp`: all that the program does, over a source, a shelf and a sink that are handed in.
 //!
-//! Its contract is the headline: what it writes for a log is exactly the defined output of the log's bytes, and every
-//! other answer has its cause. Above: the program, which makes the real objects and calls it.
-//! Below: the engine, the event log, reports and io.
+//! Its contract is the headline: what it writes for a log is exactly the defined output of the log's bytes, so it is with a
+//! query that is checked and with the generator's events, and every other answer has its cause. Above: the program, which makes
+//! the real objects and calls it. Below: the engine, the event log, the readers of queries, reports and io.
 #![tactic(auto)]
 
+mod checking;
+mod counting;
+mod faults;
+mod generating;
+mod reading;
 mod refusing;
 mod session;
 mod status;

@@ -14,7 +14,10 @@ use std::alloc::{AllocError, Global};
 /// Where something is refused.
 #[derive(Clone, Copy)]
 pub(crate) enum Place {
+    /// The block of this number.
     Block(u64),
+    /// The query that is checked.
+    Query,
 }
 
 /// What a block was answered that isn't taken: it is no event, or the engine doesn't take its event.
@@ -84,6 +87,7 @@ fn place_text(alloc: Global, place: Place) -> Result<String, AllocError>
 {
     match place {
         Place::Block(number) => format!(in alloc; "block {number}"),
+        Place::Query => String::from_str(alloc, "query"),
     }
 }
 

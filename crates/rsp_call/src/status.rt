@@ -7,17 +7,17 @@ ghost use Rattle.rsp_call.specs.Statuses.{code_of};
 pub enum Status {
     /// All input was read, all output written, and nothing was refused.
     Done,
-    /// The same, but some block was refused.
+    /// The same, but some block was refused, or the query that is checked.
     DoneWithRefusals,
     /// The words are in no row of the table; the usage line was written.
     Usage,
-    /// A read failed.
+    /// A read failed, or the pick of a file.
     ReadFault,
     /// A write failed.
     WriteFault,
     /// Memory was refused.
     OutOfMemory,
-    /// The input is longer than 2^40 bytes.
+    /// The input is longer than 2^40 bytes, or a file than 67,108,864.
     TooLong,
 }
 

@@ -1,5 +1,5 @@
 // The top call.
-ghost use Rattle.std.specs.Prelude.{◌≡◌, ◌++◌, IsTrue, None, List, ℕ, []};
+ghost use Rattle.std.specs.Prelude.{◌≡◌, ◌++◌, IsTrue, List, ℕ, [], false};
 ghost use Rattle.rsp_events.specs.declared.event.Block.{Block};
 ghost use Rattle.rsp_engine.specs.Stands.{is_idle};
 ghost use Rattle.rsp_call.specs.Output.{log_blocks, log_whole_blocks};
@@ -7,12 +7,15 @@ ghost use Rattle.rsp_call.specs.Sessions.{IsAt};
 ghost use Rattle.rsp_call.specs.Words.{mode_of};
 ghost use Rattle.rsp_call.specs.Sinks.{sink_seen};
 ghost use Rattle.rsp_call.specs.Sources.{source_seen};
+ghost use Rattle.rsp_call.specs.Shelves.{shelf_seen};
 ghost use Rattle.rsp_call.specs.Stops.{status_of};
-ghost use Rattle.rsp_call.specs.Answers.{Answers, AnswersLog, AnswersUsage};
+ghost use Rattle.rsp_call.specs.Answers.{Answers, AnswersLog, AnswersUsage, reads_shelf, reads_source};
 
+use crate::checking::check;
+use crate::counting::generate;
 use crate::session::Session;
 use crate::status::Status;
-use crate::stop::Stop;
+use crate::stop::status_of;
 use crate::words::{Mode, mode_of};
 use crate::writing::write_whole;
 use rsp_io::{Failed, Shelf, Sink, Source};
@@ -31,8 +34,10 @@ const USAGE: &str =
 
 /// Does all that the program does, by its words without its name.
 ///
-/// On `events` it reads the log from `input` to its end and writes what the log gives to `out`: reports and refusals.
-/// On all other words it reads nothing, takes no memory and writes the usage line.
+/// On `events` it reads the log from `input` to its end and writes what the log gives to `out`: reports and refusals. On
+/// `check` it reads one file from `shelf` and writes whether the query in it has a fault. On `gen` it works off events that it
+/// makes itself and writes how many reports they gave. On all other words it reads nothing, takes no memory and writes the
+/// usage line.
 pub fn rsp<S: Source, H: Shelf, K: Sink, L: Ledger>(
     alloc: Global,
     words: &[Text],
@@ -44,14 +49,17 @@ pub fn rsp<S: Source, H: Shelf, K: Sink, L: Ledger>(
     ensures answer { Answers (mode_of words.now)
         (source_seen (S.left input.old) (S.given input.old) (S.faults input.old) (S.sure input.old))
         (source_seen (S.left input.new) (S.given input.new) (S.faults input.new) (S.sure input.new))
+        (shelf_seen (H.files shelf.old) (H.left shelf.old) (H.given shelf.old) (H.faults shelf.old) (H.sure shelf.old))
+        (shelf_seen (H.files shelf.new) (H.left shelf.new) (H.given shelf.new) (H.faults shelf.new) (H.sure shelf.new))
         (sink_seen (K.taken out.old) (K.room out.old) (K.faults out.old))
         (sink_seen (K.taken out.new) (K.room out.new) (K.faults out.new)) result }
-    ensures unread { mode_of words.now ≡ None → input.new ≡ input.old }
-    ensures shelf { shelf.new ≡ shelf.old }
+    ensures unread { reads_source (mode_of words.now) ≡ false → input.new ≡ input.old }
+    ensures shelf { reads_shelf (mode_of words.now) ≡ false → shelf.new ≡ shelf.old }
 {
-    let _ = shelf;
     match mode_of(words) {
         Some(Mode::Events) => events(alloc, input, out, steps),
+        Some(Mode::Check(query)) => check(alloc, query, shelf, out),
+        Some(Mode::Generate(count)) => generate(alloc, count, out, steps),
         None => usage(out),
     }
 }
@@ -118,17 +126,5 @@ fn read_log<S: Source, K: Sink, L: Ledger>(
             }
             Err(Failed) => return Status::ReadFault,
         }
-    }
-}
-
-// how the work on a log ended, as a status
-fn status_of(worked: Result<bool, Stop>) -> Status
-    ensures { result ≡ status_of worked }
-{
-    match worked {
-        Ok(false) => Status::Done,
-        Ok(true) => Status::DoneWithRefusals,
-        Err(Stop::Memory) => Status::OutOfMemory,
-        Err(Stop::Write) => Status::WriteFault,
     }
 }

@@ -1,29 +1,111 @@
 // The program's words.
-ghost use Rattle.std.specs.Prelude.{◌≡◌, IfOk, List, ℕ, drop, map, string_bytes};
+ghost use Rattle.std.specs.Prelude.{◌≡◌, ◌∷◌, [], IfOk, drop, map, option_map, string_bytes};
 ghost use Rattle.std.specs.Vec.Iter.{into_iter_items};
-ghost use Rattle.rsp_call.specs.Words.{mode_of};
+ghost use Rattle.rsp_call.specs.Asked.{mode_for, only_value};
+ghost use Rattle.rsp_call.specs.Words.{check_of, events_of, generate_of, is_dashes, is_file, mode_in, mode_of, table, values};
 
 use rsp_terms::{Listed, Text};
+use rsp_text::read_u64;
 use std::alloc::{AllocError, Global};
 use std::vec::IntoIter;
 
+// The most items of the generator.
+const MOST_ITEMS: u64 = 1_000_000;
+
 /// What the words ask for.
 #[derive(Clone, Copy)]
-pub(crate) enum Mode {
+pub(crate) enum Mode<'a> {
     /// To work off the log on standard input.
     Events,
+    /// To check the query in the file of this name.
+    Check(&'a str),
+    /// To work off so many items of the generator, 1 to 1,000,000.
+    Generate(u64),
 }
 
 /// What the words, without the program's name, ask for; None where they are in no row of the table. Takes no memory.
-pub(crate) fn mode_of(words: &[Text]) -> Option<Mode>
-    ensures { result ≡ mode_of words.now }
+pub(crate) fn mode_of(words: &[Text]) -> Option<Mode<'_>>
+    ensures { option_map mode_for result ≡ mode_of words.now }
 {
     match words {
-        [mode] if mode.as_str() == "events" => Some(Mode::Events),
-        [mode, dashes] if mode.as_str() == "events" && dashes.as_str() == "--" => {
-            Some(Mode::Events)
-        }
+        [] => None,
+        [word, more @ ..] => mode_in_table(word.as_str(), more),
+    }
+}
+
+fn mode_in_table<'a>(word: &str, more: &'a [Text]) -> Option<Mode<'a>>
+    ensures { option_map mode_for result ≡ mode_in table word.now more.now }
+{
+    match word {
+        "events" => events_of(more),
+        "check" => check_of(more),
+        "gen" => generate_of(more),
         _ => None,
+    }
+}
+
+fn events_of(more: &[Text]) -> Option<Mode<'static>>
+    ensures { option_map mode_for result ≡ events_of (values more.now) }
+{
+    match more {
+        [] => Some(Mode::Events),
+        [word] => is_dashes(word).then_some(Mode::Events),
+        [_, _, ..] => None,
+    }
+}
+
+fn check_of(more: &[Text]) -> Option<Mode<'_>>
+    ensures { option_map mode_for result ≡ check_of (values more.now) }
+{
+    match only_value(more) {
+        Some(query) if is_file(query.as_bytes()) => Some(Mode::Check(query)),
+        _ => None,
+    }
+}
+
+fn generate_of(more: &[Text]) -> Option<Mode<'static>>
+    ensures { option_map mode_for result ≡ generate_of (values more.now) }
+{
+    match read_u64(only_value(more)?.as_bytes()) {
+        Some(count) if 1 <= count && count <= MOST_ITEMS => Some(Mode::Generate(count)),
+        _ => None,
+    }
+}
+
+// the value behind a mode, where there is one alone
+fn only_value(more: &[Text]) -> Option<&str>
+    ensures { option_map (λ v. v.now) result ≡ only_value (values more.now) }
+{
+    match more {
+        [] => None,
+        [word] => (!is_dashes(word)).then_some(word.as_str()),
+        [first, second] => value_of_two(first, second),
+        [_, _, _, ..] => None,
+    }
+}
+
+// the one of two words that isn't `--`, where the other is
+fn value_of_two<'a>(first: &'a Text, second: &'a Text) -> Option<&'a str>
+    ensures { option_map (λ v. v.now) result ≡ only_value (values (first.now ∷ second.now ∷ [])) }
+{
+    if is_dashes(first) {
+        return Some(second.as_str());
+    }
+    is_dashes(second).then_some(first.as_str())
+}
+
+fn is_dashes(word: &Text) -> bool
+    ensures { result ≡ is_dashes word.now }
+{
+    word.as_str() == "--"
+}
+
+fn is_file(name: &[u8]) -> bool
+    ensures { result ≡ is_file name.now }
+{
+    match name {
+        [] => false,
+        [first, ..] => *first != b'-',
     }
 }
 

@@ -1,0 +1,15 @@
+use Rattle.rsp_call.proofs.Tallying.{going_none, going_on}
+use Rattle.rsp_call.proofs.counting.count_items.Goals as goal
+
+pub items-init : goal.items-init
+items-init g c = going_none _ _ _ c.requires.idle
+
+pub items-preserved : goal.items-preserved
+items-preserved g c =
+    going_on _ _ _ _ _ _ _ _ _ _ c.in_ok-item.field-0
+    c.items.invariant
+    c.items-test.true
+    c.next_random-x.ensures
+    c.in_ok-item.ensures.item
+    c.in_ok-count_event.ensures.idle
+    c.in_ok-count_event.ensures.counts

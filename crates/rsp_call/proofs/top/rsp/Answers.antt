@@ -1,0 +1,8 @@
+use Rattle.std.proofs.Common.{◌≡◌, Some, rules}
+use Rattle.rsp_call.specs.Words.{generate, mode_of}
+use Rattle.rsp_call.proofs.top.rsp.Goals as goal
+
+pub returns-in-Some-Generate-clause-answer : goal.returns-in-Some-Generate-clause-answer
+returns-in-Some-Generate-clause-answer g c =
+    let asked : mode_of c.args.words.now ≡ Some (generate c.in-Some-Generate.count) = search rules in
+    rw asked (c.generate.ensures.text _)

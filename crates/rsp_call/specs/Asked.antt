@@ -1,0 +1,15 @@
+-- Words of the way: the mode that the words' reader answers, whose names are borrowed; and the one value of a mode.
+use Rattle.std.specs.Prelude.{ℕ, Option, Some, None, List, [], ◌∷◌}
+use Rattle.rsp_call.specs.Words as words
+use Rattle.rsp_call.specs.declared.words.Mode.{Mode}
+use Rattle.rsp_call.specs.declared.words.Mode.TheVariants.{Events, Check, Generate}
+
+abbrev pub mode_for : Mode → words.Mode
+mode_for Events = words.events
+mode_for (Check query) = words.check query.now
+mode_for (Generate count) = words.generate count
+
+-- the value, where there is one alone
+abbrev pub only_value : List (List ℕ) → Option (List ℕ)
+only_value (value ∷ []) = Some value
+only_value _ = None

@@ -1,0 +1,26 @@
+-- Definitions: what is said of the file of a query, by its text alone.
+use Rattle.std.specs.Prelude.{ℕ, nat_lt, if◌then◌else◌, Option, None, Some, List, [], ◌∷◌, length}
+use Rattle.std.specs.Str.{is_utf8}
+use Rattle.std.specs.Str.Lossy.{utf8_valid_len}
+use Rattle.rsp_numbering.specs.declared.limit.LimitName.TheVariants as name
+use Rattle.rsp_syntax.specs.Parsing.{parse}
+use Rattle.rsp_engine.specs.Refusals.{Refusal, bad_token, limit, text_fault}
+use Rattle.rsp_call.specs.declared.refusing.Place.TheVariants.{Query}
+use Rattle.rsp_call.specs.Refusals.{of_event}
+use Rattle.rsp_call.specs.Output.{Saying, a_refusal, no_fault}
+
+-- the first fault of a file: it is longer than a text may be; behind so many bytes it is no UTF-8; or the first of its text
+abbrev pub file_fault : List ℕ → Option Refusal
+file_fault bytes =
+    if nat_lt 65536 (length bytes)
+    then Some (limit name.Text)
+    else (if is_utf8 bytes then text_fault (parse bytes) else Some (bad_token (utf8_valid_len bytes)))
+
+abbrev pub verdict : Option Refusal → Saying
+verdict None = no_fault
+verdict (Some refusal) = a_refusal Query (of_event refusal)
+
+-- of the one file that is checked
+abbrev pub checked : List (List ℕ) → List Saying
+checked (bytes ∷ []) = verdict (file_fault bytes) ∷ []
+checked _ = []

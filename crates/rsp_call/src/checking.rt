@@ -1,0 +1,68 @@
+// Checking the query in a file.
+ghost use Rattle.std.specs.Prelude.{◌≡◌, ◌∷◌, [], IfOk};
+ghost use Rattle.std.specs.List.{list_any};
+ghost use Rattle.rsp_call.specs.Checks.{checked};
+ghost use Rattle.rsp_call.specs.FileAnswers.{AnswersFiles};
+ghost use Rattle.rsp_call.specs.Output.{is_refusal, text_of};
+ghost use Rattle.rsp_call.specs.Shelves.{shelf_seen};
+ghost use Rattle.rsp_call.specs.Sinks.{sink_seen};
+ghost use Rattle.rsp_call.specs.Stops.{Ends};
+ghost use Rattle.rsp_call.specs.Readings.{status_of_unread};
+
+use crate::faults::file_fault;
+use crate::reading::{Unread, read_named};
+use crate::refusing::{Answered, Place, refuse};
+use crate::status::Status;
+use crate::stop::{Stop, status_of};
+use crate::writing::write_all;
+use rsp_io::{Shelf, Sink};
+use std::alloc::{AllocError, Global};
+
+/// Reads the file of this name, and writes `ok` or the first fault of the query in it.
+pub(crate) fn check<H: Shelf, K: Sink>(
+    alloc: Global,
+    query: &str,
+    shelf: &mut H,
+    out: &mut K,
+) -> Status
+    ensures file { AnswersFiles (query.now ∷ []) checked
+        (shelf_seen (H.files shelf.old) (H.left shelf.old) (H.given shelf.old) (H.faults shelf.old) (H.sure shelf.old))
+        (shelf_seen (H.files shelf.new) (H.left shelf.new) (H.given shelf.new) (H.faults shelf.new) (H.sure shelf.new))
+        (sink_seen (K.taken out.old) (K.room out.old) (K.faults out.old))
+        (sink_seen (K.taken out.new) (K.room out.new) (K.faults out.new))
+        result }
+{
+    match read_named(alloc, shelf, query) {
+        Ok(bytes) => status_of(tell_verdict(alloc, bytes.as_slice(), out)),
+        Err(unread) => status_of_unread(unread),
+    }
+}
+
+// writes what is said of the file; the answer is whether the query is refused
+fn tell_verdict<K: Sink>(alloc: Global, bytes: &[u8], out: &mut K) -> Result<bool, Stop>
+    ensures text { Ends
+        (sink_seen (K.taken out.old) (K.room out.old) (K.faults out.old))
+        (sink_seen (K.taken out.new) (K.room out.new) (K.faults out.new))
+        (text_of (checked (bytes.now ∷ []))) result }
+    ensures refused { IfOk result (λ refused. refused ≡ list_any is_refusal (checked (bytes.now ∷ []))) }
+{
+    match file_fault(alloc, bytes) {
+        Ok(Some(why)) => refuse(alloc, Place::Query, Answered::Event(why), out),
+        Ok(None) => {
+            write_all(out, b"ok\n")?;
+            Ok(false)
+        }
+        Err(AllocError) => Err(Stop::Memory),
+    }
+}
+
+// why a file wasn't read, as a status
+fn status_of_unread(why: Unread) -> Status
+    ensures { result ≡ status_of_unread why }
+{
+    match why {
+        Unread::Memory => Status::OutOfMemory,
+        Unread::Fault => Status::ReadFault,
+        Unread::TooLong => Status::TooLong,
+    }
+}

@@ -1,0 +1,67 @@
+// Reading a named file whole.
+ghost use Rattle.std.specs.Prelude.{◌≡◌};
+ghost use Rattle.rsp_call.specs.Shelves.{shelf_seen};
+ghost use Rattle.rsp_call.specs.Readings.{Reads, ReadsPicked};
+
+use rsp_io::{Failed, Shelf};
+use std::alloc::{AllocError, Global};
+
+// The most bytes of a named file, and the bytes of one read.
+const MOST_FILE_BYTES: usize = 67_108_864;
+
+const READ_BYTES: usize = 1 << 14;
+
+/// Why a named file isn't read.
+#[derive(Clone, Copy)]
+pub(crate) enum Unread {
+    /// Memory was refused.
+    Memory,
+    /// The name couldn't be picked, or a read failed.
+    Fault,
+    /// It has more bytes than a file may have.
+    TooLong,
+}
+
+/// The bytes of the file of this name, to its end. A file of more than 67,108,864 bytes is TooLong.
+pub(crate) fn read_named<H: Shelf>(
+    alloc: Global,
+    shelf: &mut H,
+    name: &str,
+) -> Result<Vec<u8>, Unread>
+    ensures file { Reads
+        (shelf_seen (H.files shelf.old) (H.left shelf.old) (H.given shelf.old) (H.faults shelf.old) (H.sure shelf.old))
+        (shelf_seen (H.files shelf.new) (H.left shelf.new) (H.given shelf.new) (H.faults shelf.new) (H.sure shelf.new))
+        name.now result }
+{
+    match shelf.pick(name) {
+        Ok(()) => read_picked(alloc, shelf),
+        Err(Failed) => Err(Unread::Fault),
+    }
+}
+
+// the bytes that are left of the file that was just picked
+fn read_picked<H: Shelf>(alloc: Global, shelf: &mut H) -> Result<Vec<u8>, Unread>
+    requires { H.given shelf.old ≡ 0 }
+    ensures file { ReadsPicked
+        (shelf_seen (H.files shelf.old) (H.left shelf.old) (H.given shelf.old) (H.faults shelf.old) (H.sure shelf.old))
+        (shelf_seen (H.files shelf.new) (H.left shelf.new) (H.given shelf.new) (H.faults shelf.new) (H.sure shelf.new))
+        result }
+{
+    let mut bytes = Vec::new(alloc);
+    let mut buffer = [0u8; READ_BYTES];
+    'reads: loop {
+        match shelf.read(&mut buffer[..]) {
+            Ok(0) => return Ok(bytes),
+            Ok(read) => {
+                if MOST_FILE_BYTES < bytes.len() + read {
+                    return Err(Unread::TooLong);
+                }
+                match bytes.extend_from_slice(buffer.split_at(read).0) {
+                    Ok(()) => {}
+                    Err(AllocError) => return Err(Unread::Memory),
+                }
+            }
+            Err(Failed) => return Err(Unread::Fault),
+        }
+    }
+}
