@@ -3,7 +3,6 @@ use Rattle.std.proofs.Common.{◌≡◌, ◌⊎◌, inl, inr, ℕ, Bool, true, f
 use Rattle.std.specs.List.{AllByRecursion, IsDistinct, flat_map, list_any}
 use Rattle.rsp_engine.specs.declared.item.Item.{Item}
 use Rattle.rsp_engine.specs.declared.live_query.StreamWindow.{StreamWindow}
-use Rattle.rsp_engine.specs.World.{Registration}
 use Rattle.std.specs.Prelude.{nat_eq}
 use Rattle.std.proofs.lemmas.Bool.{ne_eqb}
 use Rattle.std.proofs.lemmas.Int.{ints}
@@ -107,8 +106,8 @@ windows_are_set items at k (w ∷ ws) =
     (windows_are_set items at (k + 1) ws)
     (λ t. others_from k t items at (k + 1) ws (omega arith))
 
-pub facts_are_set : (items : List Item) (query : Registration) (t : ℕ) → IsSet (facts_over items query t)
-facts_are_set items query t = windows_are_set (visible_items items query) t 0 query.reading.windows
+pub facts_are_set : (items : List Item) (first : ℕ) (windows : List StreamWindow) (t : ℕ) → IsSet (facts_over items first windows t)
+facts_are_set items first windows t = windows_are_set (visible_items items first) t 0 windows
 
 -- ---- the change from one set of facts to another
 

@@ -35,10 +35,10 @@ use Rattle.rsp_engine.specs.Refusals.{Refusal, left_out, late, scope, policy_mix
 use Rattle.rsp_engine.specs.World.{World, Query, Reading, Registration}
 use Rattle.rsp_engine.specs.Readings.{is_rstream, reading_of}
 use Rattle.rsp_engine.specs.Accept.{accept, accept_reading, is_live, new_query, starts_overfull}
-use Rattle.rsp_engine.specs.Contents.{content, facts}
+use Rattle.rsp_engine.specs.Contents.{content}
 use Rattle.rsp_engine.specs.Moments.{Moment, moments}
-use Rattle.rsp_engine.specs.Reports.{reports, world_behind, is_overfull, after_report, moments_behind}
-use Rattle.rsp_engine.specs.Kept.{kept_items, triples_of}
+use Rattle.rsp_engine.specs.Reports.{facts, reports, world_behind, is_overfull, after_report, moments_behind}
+use Rattle.rsp_engine.specs.Kept.{Sight, kept_items, triples_of}
 
 -- ---- what the rows speak of
 
@@ -408,13 +408,13 @@ module _ (reading : Reading) (full : is_overfull (between reading) (ending readi
 
 -- until (0, 10] and (5, 15] have closed
 items_are_kept_to_the_closing : map
-    (λ next. kept_items (world (Some next) (item_at 4 1 ∷ item_at 6 2 ∷ []) (query (at_instants []) (on_a 10 5) ∷ [])))
+    (λ next. kept_items (Some next) (record { first = 0; windows = on_a 10 5 } ∷ []) (item_at 4 1 ∷ item_at 6 2 ∷ []))
     (10 ∷ 11 ∷ 15 ∷ 16 ∷ []) ≡ (item_at 4 1 ∷ item_at 6 2 ∷ []) ∷ (item_at 6 2 ∷ []) ∷ (item_at 6 2 ∷ []) ∷ [] ∷ []
 items_are_kept_to_the_closing = refl
 
--- `q` sees the second and the third item, `r` the third alone, whose stream is no window's
-seen_items_are_kept : kept_items (world (Some 4) (two_items ++ record (item_at 4 2) { stream = codes "s:b" } ∷ [])
-    (from 1 (at_tens (codes "q")) ∷ from 2 (at_tens (codes "r")) ∷ [])) ≡ item_at 4 1 ∷ []
+-- one query sees the second and the third item, another the third alone, whose stream is no window's
+seen_items_are_kept : kept_items (Some 4) (record { first = 1; windows = on_a 10 10 } ∷ record { first = 2; windows = on_a 10 10 } ∷ [])
+    (two_items ++ record (item_at 4 2) { stream = codes "s:b" } ∷ []) ≡ item_at 4 1 ∷ []
 seen_items_are_kept = refl
 
 triples_are_counted_as_listed : triples_of (record (item_at 1 1) { graph = triple 1 ∷ triple 1 ∷ [] } ∷ two_items) ≡ 4

@@ -7,8 +7,9 @@ ghost use Rattle.rsp_algebra.specs.Solutions.{eval};
 ghost use Rattle.rsp_terms.specs.declared.statement.Fact.{Fact};
 ghost use Rattle.rsp_streams_out.specs.Rows.{in_order};
 ghost use Rattle.rsp_engine.specs.declared.report.Outcome.TheVariants as outcomes;
-ghost use Rattle.rsp_engine.specs.Inside.{Answers, live_of};
-ghost use Rattle.rsp_engine.specs.Passing.{IsReported, seeing};
+ghost use Rattle.rsp_engine.specs.Contents.{facts_over};
+ghost use Rattle.rsp_engine.specs.Inside.{Answers};
+ghost use Rattle.rsp_engine.specs.Passing.{IsReported};
 ghost use Rattle.rsp_engine.specs.Reports.{IsOutcome, cells_at};
 
 use crate::contents::facts;
@@ -33,9 +34,9 @@ fn outcome_at<A: Answer, L: Ledger>(
     requires instant { at ≤ last_instant + 1 }
     requires first { live.old.first ≤ length items.now }
     requires answers { Answers A.node A.width A.facts A.spent live.old }
-    ensures seen { OnOk result (live_of live.new ≡ seeing (live_of live.old) items.now at) }
     ensures watched { OnOk result (live.new.watched.items ≡ live.old.watched.items) }
-    ensures reported { IfOk result (IsReported A.node A.width A.facts A.spent (live_of live.old) items.now at live.new) }
+    ensures reported { IfOk result (IsReported A.node A.width A.facts A.spent live.old
+        (facts_over items.now live.old.first live.old.windows at) live.new) }
 {
     let now = facts(alloc, live.windows.as_slice(), live.first, items, at)?;
     let changes = changes(alloc, live.seen.as_slice(), now.as_slice())?;
@@ -58,13 +59,12 @@ pub(crate) fn report_at<A: Answer, L: Ledger>(
     requires instant { at ≤ last_instant + 1 }
     requires first { live.old.first ≤ length items.now }
     requires answers { Answers A.node A.width A.facts A.spent live.old }
-    ensures seen { OnOk result (live_of live.new ≡ seeing (live_of live.old) items.now at) }
     ensures watched { OnOk result (live.new.watched.items ≡ live.old.watched.items) }
     ensures query { IfOk result (λ report. report.query ≡ live.old.name) }
     ensures at { IfOk result (λ report. report.at ≡ at) }
     ensures variables { IfOk result (λ report. report.variables ≡ live.old.variables) }
-    ensures reported { IfOk result (λ report.
-        IsReported A.node A.width A.facts A.spent (live_of live.old) items.now at live.new report.outcome) }
+    ensures reported { IfOk result (λ report. IsReported A.node A.width A.facts A.spent live.old
+        (facts_over items.now live.old.first live.old.windows at) live.new report.outcome) }
 {
     let query = live.name.share()?;
     let variables = shared(alloc, live.variables.as_slice())?;
