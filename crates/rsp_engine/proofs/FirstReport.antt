@@ -8,21 +8,22 @@ use Rattle.std.specs.List.{IsDistinct}
 use Rattle.rsp_multiset.specs.Rows.{Cells}
 use Rattle.rsp_terms.specs.declared.term.Term.{Term}
 use Rattle.rsp_terms.specs.declared.statement.Fact.{Fact}
-use Rattle.rsp_terms.specs.Same.{fact_eq}
+use Rattle.rsp_terms.specs.Same.{fact_eq, fact_same}
 use Rattle.rsp_multiset.specs.Weights.{IsSameMultiset, times}
-use Rattle.rsp_algebra.specs.Overfull.{overfull}
+use Rattle.rsp_multiset.proofs.SameLists.{same-append}
 use Rattle.rsp_engine.specs.declared.finding.Pending.{Pending}
 use Rattle.rsp_engine.specs.declared.report.Outcome.{Outcome}
 use Rattle.rsp_engine.specs.declared.report.Outcome.TheVariants as outcomes
 use Rattle.rsp_engine.specs.declared.report.Report.{Report}
 use Rattle.rsp_engine.specs.World.{Query, Registration, World, registrations}
 use Rattle.rsp_engine.specs.Accept.{without}
+use Rattle.rsp_engine.specs.Contents.{facts_over}
 use Rattle.rsp_engine.specs.Left.{IsFirstLeft, left_from, name_in}
 use Rattle.rsp_engine.specs.Moments.{Moment}
 use Rattle.rsp_engine.specs.Reports.{IsOutcome, after_report, facts, is_overfull, live_query, moments_behind, next_step, query_after_report, report_of}
 use Rattle.rsp_engine.specs.Stands.{HaveSeen, IsState, Live, Stands, State, facts_in, left_in, next_in, places_left, registration_of, registrations_in, test_in}
 use Rattle.rsp_engine.specs.Offers.{GivesOf}
-use Rattle.rsp_engine.specs.Passing.{ReportsFirst, is_overfull_outcome, outcome_over, place_behind, queries_behind}
+use Rattle.rsp_engine.specs.Passing.{ReportsFirst, is_overfull_outcome, place_behind, queries_behind}
 use Rattle.rsp_engine.proofs.Left.{gone, waiting_head}
 use Rattle.rsp_engine.proofs.Places.{nearer, nearer_gone}
 use Rattle.rsp_engine.proofs.Named.{drop_named, find_named, get_map, remove_map, remove_named, set_map, set_named, set_same}
@@ -75,16 +76,20 @@ module _ (old new : State) (report : Report) (world : World) (left : List Moment
       let waits = state.waits place given.first in
       here ∙ waiting_head name_in (test_in old) (registrations_in old) (next_in old) place query waits (get_map registration_of old.queries place.query live given.listed)
 
-  -- what it sees is what it sees in the world
-  seen : seen_now ≡ facts world query place.at
-  seen =
+  in_windows : facts_over old.items live.first live.windows place.at ≡ facts_over world.items live.first live.windows place.at
+  in_windows =
       let waits = state.waits place given.first in
       let all = (sees old world place.at stands.next stands.kept).windows place.at (omega arith) waits.within in
-      subst (λ (l : Live). facts_in old l place.at ≡ facts world (registration_of l) place.at) (get_or_from_slice_get old.queries place.query live live given.listed)
+      subst (λ (l : Live). facts_over old.items l.first l.windows place.at ≡ facts_over world.items l.first l.windows place.at) (get_or_from_slice_get old.queries place.query live live given.listed)
       (all place.query live (slice_get_within old.queries place.query live given.listed))
 
+  -- what it sees is what it sees in the world
+  seen : IsSameMultiset fact_eq seen_now (facts world query place.at)
+  seen =
+      same-append fact_same old.stored world.stored (facts_over old.items live.first live.windows place.at) (facts_over world.items live.first live.windows place.at) stands.stored (λ q. ap (λ fs. times fact_eq fs q) in_windows)
+
   full : is_overfull_outcome report.outcome ≡ is_overfull world query place.at
-  full = full_or_rows _ report.outcome _ given.outcome ∙ ap (λ fs. overfull query.reading.width query.reading.node fs) seen
+  full = full_or_rows _ report.outcome _ (given.outcome (facts world query place.at) seen)
 
   -- it is the live query of its name
   live_is : live_query world live.name ≡ Some query
@@ -112,6 +117,7 @@ module _ (old new : State) (report : Report) (world : World) (left : List Moment
           ready = given.broken ∙ stands.ready;
           next = given.next ∙ stands.next;
           kept = given.items ∙ stands.kept;
+          stored = subst (λ fs. IsSameMultiset fact_eq fs world.stored) (sym given.stored) stands.stored;
           queries = regs;
           seen = have;
           moments = all;
@@ -147,9 +153,9 @@ module _ (old new : State) (report : Report) (world : World) (left : List Moment
       let regs_old : registrations_in new ≡ registrations_in old = ap (map registration_of) queries ∙ (set_map registration_of old.queries place.query given.now ∙ (ap (slice_set (registrations_in old) place.query) given.same ∙ set_same (registrations_in old) place.query query (get_map registration_of old.queries place.query live given.listed))) in
       let regs_world : map (λ (q : Query). q.registration) (slice_set world.queries place.query told) ≡ registrations world = set_map (λ (q : Query). q.registration) world.queries place.query told ∙ set_same (registrations world) place.query found.0.registration (get_map (λ (q : Query). q.registration) world.queries place.query found.0 found.1) in
       let regs : registrations_in new ≡ map (λ (q : Query). q.registration) (map (query_after_report world place.at live.name) world.queries) = regs_old ∙ (stands.queries ∙ (sym regs_world ∙ ap (map (λ (q : Query). q.registration)) (sym set_is))) in
-      let seen_told : seen_now ≡ told.seen = seen ∙ ap (λ r. facts world r place.at) (sym found.2) in
+      let seen_told : IsSameMultiset fact_eq seen_now told.seen = subst (λ r. IsSameMultiset fact_eq seen_now (facts world r place.at)) (sym found.2) seen in
       let have : HaveSeen new.queries (map (query_after_report world place.at live.name) world.queries) = subst (λ ls. HaveSeen ls (map (query_after_report world place.at live.name) world.queries)) (sym queries)
-      (subst (λ qs. HaveSeen (slice_set old.queries place.query given.now) qs) (sym set_is) (seen_set old.queries world.queries place.query given.now told stands.seen (λ f. stood f ∙ ap (λ fs. times fact_eq fs f) seen_told))) in
+      (subst (λ qs. HaveSeen (slice_set old.queries place.query given.now) qs) (sym set_is) (seen_set old.queries world.queries place.query given.now told stands.seen (λ f. stood f ∙ seen_told f))) in
       behind false (map (query_after_report world place.at live.name) world.queries) queries regs have first rest (ap (λ qs. left_from name_in (test_in old) qs (next_in old) place.at (place.query + 1)) regs_old)
 
   stands_behind : (ends : Bool) → is_overfull world query place.at ≡ ends → (ends ≡ false → IsSameMultiset fact_eq given.now.seen seen_now) → new.queries ≡ queries_behind old place given.now ends
@@ -160,7 +166,6 @@ module _ (old new : State) (report : Report) (world : World) (left : List Moment
 
   pub first_given : GivesOf world left report new
   first_given =
-      let wanted : outcome_over query.reading seen_now ≡ (report_of world query place.at).outcome = ap (outcome_over query.reading) seen in
       record {
         step = record { report = report_of world query place.at; after = after_report world query place.at; left = moments_behind world query place.at rest };
         is_next = ap (next_step world) is_first ∙ rw live_is refl;
@@ -168,7 +173,7 @@ module _ (old new : State) (report : Report) (world : World) (left : List Moment
           query = given.query;
           at = given.at;
           variables = given.variables;
-          outcome = subst (λ o. IsOutcome report.outcome o) wanted given.outcome;
+          outcome = given.outcome (facts world query place.at) seen;
         };
         stands = stands_behind (is_overfull_outcome report.outcome) (sym full) given.seen given.queries given.left;
       }

@@ -1,15 +1,21 @@
 -- An accepted event leads from an idle engine that stands for a world to one that stands for the next.
 use Rattle.std.proofs.Common.{◌≡◌, ℕ, ◌+◌, ◌-◌, ◌<◌, ◌≤◌, true, false, List, [], ◌∷◌, ◌++◌, length, map, filter, remove, slice_get, Option, None, Some, Result, Ok, Err, refl, sym, ◌∙◌, ap, subst, arith, nat_lt, nat_le, unwrap_or, bytes_eq}
 use Rattle.std.proofs.lemmas.List.{append-nil, map_push}
-use Rattle.std.proofs.lemmas.Bool.{le-leb, le-ltb, lt-leb}
+use Rattle.std.proofs.lemmas.Bool.{le-leb, le-ltb, lt-leb, lt-ltb}
 use Rattle.std.specs.Prelude.{IfErr, OnOk}
 use Rattle.std.specs.List.{IsDistinct, flat_map, list_any, range_with_len}
 use Rattle.std.specs.Option.{is_some, option_map_or}
 use Rattle.std.specs.Cmp.Lexicographic.{bytes_decides}
 use Rattle.rsp_terms.specs.Same.{fact_eq}
-use Rattle.rsp_multiset.specs.Weights.{times}
+use Rattle.rsp_multiset.specs.Weights.{IsSameMultiset, times}
+use Rattle.rsp_terms.specs.declared.statement.Fact.{Fact}
+use Rattle.rsp_terms.specs.declared.statement.Quad.{Quad}
+use Rattle.rsp_scope.specs.declared.stored.StoredFault.TheVariants.{StoreFull}
+use Rattle.rsp_scope.specs.Faults.{IsStoredFault}
+use Rattle.rsp_scope.specs.Quads.{stored_with, stored_without}
+use Rattle.rsp_scope.proofs.StoredLaws.{as-many-stored_with, same-stored_with, same-stored_without}
 use Rattle.rsp_events.specs.declared.event.Event.{Event}
-use Rattle.rsp_events.specs.declared.event.Event.TheVariants.{Cancel, Item, Register, Tick}
+use Rattle.rsp_events.specs.declared.event.Event.TheVariants.{Cancel, Delete, Insert, Item, Register, Tick}
 use Rattle.rsp_terms.specs.declared.statement.Triple.{Triple}
 use Rattle.rsp_engine.specs.declared.item.Item as item
 use Rattle.rsp_query.specs.Queries.{Registered}
@@ -22,7 +28,7 @@ use Rattle.rsp_engine.specs.Offers.{Answers, Offers, Refuses}
 use Rattle.rsp_engine.specs.Refusals.{Refusal, refusal_of, shape_fault, text_fault}
 use Rattle.rsp_engine.specs.World.{Query, Registration, World, registrations}
 use Rattle.rsp_engine.specs.Readings.{is_rstream, reading_of}
-use Rattle.rsp_engine.specs.Accept.{accept, has_name, is_live, most_items, most_queries, most_triples, new_query, next_of, starts_overfull, without}
+use Rattle.rsp_engine.specs.Accept.{accept, has_name, is_live, most_items, most_quads, most_queries, most_triples, new_query, next_of, starts_overfull, without}
 use Rattle.rsp_engine.specs.Due.{is_due_over}
 use Rattle.rsp_engine.specs.Left.{IsFirstLeft, left_from, name_in, reports_at}
 use Rattle.rsp_engine.specs.Moments.{Moment, due_moments, moments, moments_at, moments_from}
@@ -64,7 +70,7 @@ arrivals world came to =
 module _ (old new : State) (items : List item.Item) (came : Option (List ℕ)) (to : ℕ) (world : World) (arrived : List item.Item)
     (passes : Passes old items came to new) (kept : items ≡ world.items ++ arrived) (stands : Stands old world []) (low : unwrap_or old.next to ≤ to) where
   abbrev after : World
-  after = record { next = Some to; items = world.items ++ arrived; queries = world.queries }
+  after = record { next = Some to; items = world.items ++ arrived; stored = world.stored; queries = world.queries }
 
   regs : registrations_in new ≡ registrations after
   regs = ap (map registration_of) passes.queries ∙ stands.queries
@@ -99,6 +105,7 @@ module _ (old new : State) (items : List item.Item) (came : Option (List ℕ)) (
         ready = passes.broken;
         next = passes.next;
         kept = passes.items ∙ kept;
+        stored = subst (λ fs. IsSameMultiset fact_eq fs world.stored) (sym passes.stored) stands.stored;
         queries = regs;
         seen = subst (λ lives. HaveSeen lives world.queries) (sym passes.queries) stands.seen;
         moments = sym left_is;
@@ -157,6 +164,7 @@ other_queries old lives world after queries idle stands is regs seen =
       ready = stands.ready;
       next = stands.next;
       kept = stands.kept;
+      stored = stands.stored;
       queries = regs;
       seen = seen;
       moments = rw idle refl;
@@ -202,6 +210,59 @@ cancel_leads old name place live world idle names listed is stands =
       rw is_named refl,
       other_queries old (remove old.queries place) world after (remove world.queries place) idle stands (ap (λ qs. record world { queries = qs }) gone) regs (seen_removed old.queries world.queries place stands.seen),
     )
+
+-- ---- stored quads: no moment
+
+-- an engine that is idle, with other quads, stands for the world with these
+other_quads : (old : State) (stored wanted : List Fact) (world : World) → old.first ≡ None → IsSameMultiset fact_eq stored wanted → Stands old world []
+    → Stands (record old { stored = stored }) (record world { stored = wanted }) (option_map_or (λ from. moments_from (record world { stored = wanted }) from) world.next [] ++ [])
+other_quads old stored wanted world idle same stands =
+    let none : option_map_or (λ from. moments_from (record world { stored = wanted }) from) world.next [] ++ [] ≡ [] =
+    append-nil _ ∙ none_behind (record world { stored = wanted }) world.next in
+    rw none
+    (record {
+      ready = stands.ready;
+      next = stands.next;
+      kept = stands.kept;
+      stored = same;
+      queries = stands.queries;
+      seen = stands.seen;
+      moments = rw idle refl;
+      head = rw idle (λ place some. cc);
+      none = (λ _. refl, λ _. idle);
+    })
+
+-- the quads that weren't stored are stored
+pub insert_leads : (old : State) (quads : List Quad) (world : World) → old.first ≡ None → length (stored_with old.stored quads) ≤ most_quads → Stands old world []
+    → Leads world (Insert quads) (record old { stored = stored_with old.stored quads })
+insert_leads old quads world idle few stands =
+    let after : World = record world { stored = stored_with world.stored quads } in
+    let many : length (stored_with old.stored quads) ≡ length (stored_with world.stored quads) = as-many-stored_with old.stored world.stored quads stands.stored in
+    let within : nat_lt most_quads (length (stored_with world.stored quads)) ≡ false = le-ltb _ _ (rw many at few) in (
+      after,
+      rw within refl,
+      other_quads old (stored_with old.stored quads) (stored_with world.stored quads) world idle (same-stored_with old.stored world.stored quads stands.stored) stands,
+    )
+
+-- the named quads are no longer stored
+pub delete_leads : (old : State) (quads : List Quad) (stored : List Fact) (world : World) → old.first ≡ None → IsSameMultiset fact_eq stored (stored_without old.stored quads) → Stands old world []
+    → Leads world (Delete quads) (record old { stored = stored })
+delete_leads old quads stored world idle same stands = (
+  record world { stored = stored_without world.stored quads },
+  refl,
+  other_quads old stored (stored_without world.stored quads) world idle (λ q. same q ∙ same-stored_without old.stored world.stored quads stands.stored q) stands,
+)
+
+-- more would be stored than can be
+pub full_store_refuses : (old : State) (quads : List Quad) (many : ℕ) → old.broken ≡ false → IsStoredFault (length (stored_with old.stored quads)) (StoreFull many) → Refuses old (Insert quads) (answer.StoreFull many) old
+full_store_refuses old quads many ready fault = record {
+  was_ready = ready;
+  unchanged = refl;
+  refused = λ world stands.
+      let so_many : many ≡ length (stored_with world.stored quads) = fault.0 ∙ as-many-stored_with old.stored world.stored quads stands.stored in
+      let over : nat_lt most_quads (length (stored_with world.stored quads)) ≡ true = lt-ltb _ _ (rw (fault.0, so_many) at fault.1) in
+      rw (over, so_many) refl;
+}
 
 -- ---- refusals
 

@@ -1,12 +1,7 @@
 -- The measure of a place: behind it there are fewer places left.
-use Rattle.std.proofs.Common.{◌≡◌, ℕ, ◌+◌, ◌-◌, ◌*◌, ◌<◌, ◌≤◌, Bool, List, length, Option, None, Some, inl, inr, arith}
-use Rattle.std.specs.Option.{option_map_or}
+use Rattle.std.proofs.Common.{◌≡◌, ℕ, ◌+◌, ◌-◌, ◌*◌, ◌<◌, ◌≤◌, inl, inr, arith}
 use Rattle.std.proofs.Math.Nat.{mul-le-mul_right, mul-le-mul_left}
 use Rattle.std.proofs.lemmas.Bool.{cases_lt}
-use Rattle.std.proofs.lemmas.Option.{slice_get_within}
-use Rattle.rsp_engine.specs.declared.finding.Pending.{Pending}
-use Rattle.rsp_engine.specs.World.{Registration}
-use Rattle.rsp_engine.specs.Left.{IsFirstLeft, name_in}
 
 -- fewer instants are left
 earlier : (next at after n a b : ℕ) → at < after → after ≤ next → a ≤ n

@@ -10,18 +10,18 @@ use Rattle.std.proofs.lemmas.Simd.{map-map}
 use Rattle.rsp_spec.specs.Windows.{last_instant}
 use Rattle.rsp_terms.specs.declared.statement.Fact.{Fact}
 use Rattle.rsp_terms.specs.Same.{fact_eq}
-use Rattle.rsp_multiset.specs.Weights.{times}
-use Rattle.rsp_algebra.specs.Changing.{IsSet}
+use Rattle.rsp_multiset.specs.Weights.{times, weight}
 use Rattle.rsp_algebra.specs.Nodes.{Node, node_of}
 use Rattle.rsp_engine.specs.declared.engine.Engine.TheInside.{Inside}
 use Rattle.rsp_engine.specs.declared.finding.Pending.{Pending}
 use Rattle.rsp_engine.specs.declared.item.Item.{Item}
 use Rattle.rsp_engine.specs.declared.live_query.LiveQuery.{LiveQuery}
 use Rattle.rsp_engine.specs.Accept.{has_name}
-use Rattle.rsp_engine.specs.Inside.{Answers, IsReady, IsWatching, Parts, fixed, live_of, parts_of, state_of}
+use Rattle.rsp_engine.specs.Inside.{Answers, IsOnce, IsReady, IsWatching, Parts, fixed, live_of, parts_of, state_of}
 use Rattle.rsp_engine.specs.Kept.{triples_of}
 use Rattle.rsp_engine.specs.Left.{IsFirstLeft, name_in, reports_at}
-use Rattle.rsp_engine.specs.Stands.{HasArrived, IsTimed, Live, State, is_idle, registration_of, registrations_in}
+use Rattle.rsp_engine.specs.Stands.{HasArrived, IsStore, IsTimed, Live, State, is_idle, registration_of, registrations_in}
+use Rattle.rsp_engine.proofs.FactSets.{store_new}
 use Rattle.rsp_engine.proofs.Left.{newest_of, waits_at}
 use Rattle.rsp_engine.proofs.Named.{All-remove, distinct_more, distinct_removed, remove_map}
 use Rattle.rsp_engine.proofs.Reporting.{fixed_left}
@@ -107,8 +107,8 @@ module _ {A : Type 0} (node : A → Node) (width : A → ℕ) (facts : A → Lis
     node_is = ap (λ (p : Parts A). node p.answer) (sym is) ∙ (answers.node_is ∙ ap (λ (p : Parts A). node_of p.translated.tree) is);
     width_is = ap (λ (p : Parts A). width p.answer) (sym is) ∙ (answers.width_is ∙ ap (λ (p : Parts A). p.translated.width) is);
     ready = ap (λ (p : Parts A). spent p.answer) (sym is) ∙ answers.ready;
-    same = λ q. ap (λ (p : Parts A). times fact_eq (facts p.answer) q) (sym is) ∙ (answers.same q ∙ ap (λ (p : Parts A). times fact_eq p.seen q) is);
-    set = subst (λ (p : Parts A). IsSet p.seen) is answers.set;
+    same = λ q. ap (λ (p : Parts A). times fact_eq (facts p.answer) q) (sym is) ∙ (answers.same q ∙ ap (λ (p : Parts A). weight fact_eq p.seen q) is);
+    once = λ q. subst (λ (p : Parts A). IsOnce (weight fact_eq p.seen q)) is (answers.once q);
   }
 
   -- queries of the same parts have their answers
@@ -138,7 +138,7 @@ module _ {A : Type 0} (node : A → Node) (width : A → ℕ) (facts : A → Lis
   -- every instant before `to` is complete, where queries watch these items
   module _ (new : Inside A) (to : ℕ) (from : ℕ) (next : new.next ≡ Some to) (high : to ≤ last_instant + 1)
       (lives : map (live_of facts) new.queries.items ≡ map (live_of facts) e.queries.items) (more : length e.items.items ≤ length new.items.items)
-      (timed : IsTimed new.items.items to) (arrival : ForSome new.arrived (HasArrived new.items.items to)) (held : new.held ≡ triples_of new.items.items)
+      (stored : new.stored ≡ e.stored) (timed : IsTimed new.items.items to) (arrival : ForSome new.arrived (HasArrived new.items.items to)) (held : new.held ≡ triples_of new.items.items)
       (answers : All (Answers node width facts spent) new.queries.items) (watching : All (IsWatching new.items.items) new.queries.items)
       (left : IsFirstLeft name_in (reports_at new.items.items to new.arrived) (map fixed new.queries.items) to from 0 new.first) where
     pub ready_passed : IsReady node width facts spent new
@@ -147,6 +147,7 @@ module _ {A : Type 0} (node : A → Node) (width : A → ℕ) (facts : A → Lis
         next_high = rw next high;
         timed = rw next timed;
         arrival = rw next arrival;
+        store = rw stored ready.state.store;
         firsts = rw lives (λ k d below. let low = ready.state.firsts k d below in omega (arith, low, more));
         names = rw lives ready.state.names;
         waits = rw next (waits_at name_in (reports_at new.items.items to new.arrived) (registrations_in (state_of facts new)) to from 0 new.first
@@ -158,7 +159,7 @@ module _ {A : Type 0} (node : A → Node) (width : A → ℕ) (facts : A → Lis
     }
 
   -- other queries, where no place is set
-  module _ (new : Inside A) (next : new.next ≡ e.next) (items : new.items ≡ e.items) (held : new.held ≡ e.held) (arrived : new.arrived ≡ e.arrived) (first : new.first ≡ None) where
+  module _ (new : Inside A) (next : new.next ≡ e.next) (items : new.items ≡ e.items) (stored : new.stored ≡ e.stored) (held : new.held ≡ e.held) (arrived : new.arrived ≡ e.arrived) (first : new.first ≡ None) where
     pub ready_more : (query : LiveQuery A) → new.queries.items ≡ e.queries.items ++ query ∷ [] → query.first ≡ length e.items.items
         → list_any (has_name query.name) (registrations_in (state_of facts e)) ≡ false → IsWatching e.items.items query → Answers node width facts spent query → IsReady node width facts spent new
     ready_more query is at_end free watching answers =
@@ -168,6 +169,7 @@ module _ {A : Type 0} (node : A → Node) (width : A → ℕ) (facts : A → Lis
             next_high = rw next ready.state.next_high;
             timed = rw (next, items) ready.state.timed;
             arrival = rw (next, items, arrived) ready.state.arrival;
+            store = rw stored ready.state.store;
             firsts = rw (lives, items) (one_more (λ (l : Live). l.first ≤ length e.items.items) (map (live_of facts) e.queries.items) (live_of facts query) ready.state.firsts (omega (arith, at_end)));
             names = rw lives (distinct_more (map (live_of facts) e.queries.items) (λ (l : Live). l.name) query.name (live_of facts query) ready.state.names (any_fixed (map (live_of facts) e.queries.items) query.name free) refl);
             waits = rw first (λ x is. cc);
@@ -185,6 +187,7 @@ module _ {A : Type 0} (node : A → Node) (width : A → ℕ) (facts : A → Lis
             next_high = rw next ready.state.next_high;
             timed = rw (next, items) ready.state.timed;
             arrival = rw (next, items, arrived) ready.state.arrival;
+            store = rw stored ready.state.store;
             firsts = rw (lives, items) (All-remove (λ (l : Live). l.first ≤ length e.items.items) (map (live_of facts) e.queries.items) place ready.state.firsts);
             names = rw lives (distinct_removed (map (live_of facts) e.queries.items) (λ (l : Live). l.name) place ready.state.names);
             waits = rw first (λ x is. cc);
@@ -194,14 +197,32 @@ module _ {A : Type 0} (node : A → Node) (width : A → ℕ) (facts : A → Lis
           watching = rw (is, items) (All-remove (IsWatching e.items.items) e.queries.items place ready.watching);
         }
 
+  -- other quads, where no place is set
+  pub ready_stored : (new : Inside A) → new.next ≡ e.next → new.queries ≡ e.queries → new.items ≡ e.items → new.held ≡ e.held → new.arrived ≡ e.arrived → new.first ≡ e.first → IsStore new.stored → IsReady node width facts spent new
+  ready_stored new next queries items held arrived first store = record {
+    state = record {
+      next_high = rw next ready.state.next_high;
+      timed = rw (next, items) ready.state.timed;
+      arrival = rw (next, items, arrived) ready.state.arrival;
+      store = store;
+      firsts = rw (queries, items) ready.state.firsts;
+      names = rw queries ready.state.names;
+      waits = rw (next, queries, items, arrived, first) ready.state.waits;
+    };
+    held = rw (held, items) ready.held;
+    answers = rw queries ready.answers;
+    watching = rw (queries, items) ready.watching;
+  }
+
 -- an engine that has taken nothing
-pub ready_new : {A : Type 0} (node : A → Node) (width : A → ℕ) (facts : A → List Fact) (spent : A → Bool) (e : Inside A) → e.next ≡ None → e.queries.items ≡ [] → e.items.items ≡ [] → e.held ≡ 0 → e.arrived ≡ None → e.first ≡ None → IsReady node width facts spent e
+pub ready_new : {A : Type 0} (node : A → Node) (width : A → ℕ) (facts : A → List Fact) (spent : A → Bool) (e : Inside A) → e.next ≡ None → e.queries.items ≡ [] → e.items.items ≡ [] → e.stored ≡ [] → e.held ≡ 0 → e.arrived ≡ None → e.first ≡ None → IsReady node width facts spent e
 unfolding IsDistinct
-ready_new node width facts spent e next queries items held arrived first = record {
+ready_new node width facts spent e next queries items stored held arrived first = record {
   state = record {
     next_high = rw next (omega arith);
     timed = rw (next, items) (record { sorted = IsNonDecreasingBy-short (λ x. x) [] (omega arith); high = none (λ (i : Item). i.time ≤ 0) });
     arrival = rw arrived (λ x is. cc);
+    store = rw stored store_new;
     firsts = rw (queries, items) (none (λ (l : Live). l.first ≤ 0));
     names = rw queries tt;
     waits = rw first (λ x is. cc);

@@ -17,7 +17,7 @@ use Rattle.rsp_engine.specs.Due.{watched_of}
 use Rattle.rsp_engine.specs.Inside.{Answers, IsPolicy, IsReady, IsWatching, fixed, live_of, state_of}
 use Rattle.rsp_engine.specs.Left.{IsFirstLeft, IsWaiting, name_in}
 use Rattle.rsp_engine.specs.Passing.{IsReported, is_overfull_outcome, place_behind, queries_behind}
-use Rattle.rsp_engine.specs.Stands.{Live, State, facts_in, next_in, registration_of, registrations_in, test_in}
+use Rattle.rsp_engine.specs.Stands.{IsStore, Live, State, facts_in, next_in, registration_of, registrations_in, test_in}
 use Rattle.rsp_engine.specs.World.{Registration}
 use Rattle.rsp_engine.proofs.Left.{waits_at}
 use Rattle.rsp_engine.proofs.Named.{All-remove, distinct_removed, get_map, remove_map, set_map, set_same}
@@ -60,6 +60,9 @@ module _ {A : Type 0} (node : A → Node) (width : A → ℕ) (facts : A → Lis
   listed =
       let below = slice_get_within (registrations_in here) place.query waits.query waits.listed in
       rw (length-map (map (live_of facts) e.queries.items) registration_of, length-map e.queries.items (live_of facts)) at below
+
+  pub store : IsStore e.stored
+  store = ready.state.store
 
   module _ (live : LiveQuery A) (is : slice_get e.queries.items place.query ≡ Some live) where
     pub first_seen : live.first ≤ length e.items.items
@@ -115,7 +118,7 @@ module _ {A : Type 0} (node : A → Node) (width : A → ℕ) (facts : A → Lis
 
       -- the engine with the queries behind, and another place
       module _ (new : Inside A)
-          (next : new.next ≡ e.next) (items : new.items ≡ e.items) (held : new.held ≡ e.held) (arrived : new.arrived ≡ e.arrived)
+          (next : new.next ≡ e.next) (items : new.items ≡ e.items) (stored : new.stored ≡ e.stored) (held : new.held ≡ e.held) (arrived : new.arrived ≡ e.arrived)
           (queries : new.queries.items ≡ behind (is_overfull_outcome given))
           (left : IsFirstLeft name_in (test_in here) (map fixed new.queries.items) (next_in here) place.at (place_behind place (is_overfull_outcome given)) new.first) where
         lives : map (live_of facts) new.queries.items ≡ queries_behind here place (live_of facts now) (is_overfull_outcome given)
@@ -128,6 +131,7 @@ module _ {A : Type 0} (node : A → Node) (width : A → ℕ) (facts : A → Lis
                 next_high = rw next ready.state.next_high;
                 timed = rw (next, items) ready.state.timed;
                 arrival = rw (next, items, arrived) ready.state.arrival;
+                store = rw stored ready.state.store;
                 firsts = rw (lives, items) (firsts_behind (is_overfull_outcome given));
                 names = rw lives (names_behind (is_overfull_outcome given));
                 waits = rw (next, items, arrived) (waits_at name_in (test_in here) (registrations_in (state_of facts new)) (next_in here) place.at (place_behind place (is_overfull_outcome given)) new.first

@@ -4,8 +4,8 @@ use Rattle.std.specs.List.{All}
 use Rattle.rsp_engine.specs.World.{Registration, World}
 use Rattle.rsp_engine.specs.Accept.{next_of}
 use Rattle.rsp_engine.specs.Left.{reports_at}
-use Rattle.rsp_engine.specs.Reports.{facts}
-use Rattle.rsp_engine.specs.Stands.{Live, Sees, State, facts_in, registration_of, registrations_in, test_in}
+use Rattle.rsp_engine.specs.Contents.{facts_over}
+use Rattle.rsp_engine.specs.Stands.{Live, Sees, State, registrations_in, test_in}
 
 each : {X : Type 0} (P : X → Type 0) (xs : List X) → ((x : X) → P x) → All P xs
 each P xs holds = λ k d below. holds _
@@ -14,7 +14,8 @@ each P xs holds = λ k d below. holds _
 pub sees : (engine : State) (world : World) (from : ℕ) → engine.next ≡ world.next → engine.items ≡ world.items → Sees engine world from
 sees engine world from next kept = record {
   accepted = ap length kept;
-  windows = λ t late early. each (λ (live : Live). facts_in engine live t ≡ facts world (registration_of live) t) engine.queries (λ live. rw kept refl);
+  windows = λ t late early.
+      each (λ (live : Live). facts_over engine.items live.first live.windows t ≡ facts_over world.items live.first live.windows t) engine.queries (λ live. rw kept refl);
   due = λ t late early.
       each (λ (query : Registration). test_in engine t query ≡ reports_at world.items (next_of world) engine.arrived t query) (registrations_in engine) (λ query. rw (kept, next) refl);
 }

@@ -1,14 +1,13 @@
 -- Words of the way: the engine's fields as its state, and what holds of them, for every kind of answer.
-use Rattle.std.specs.Prelude.{◌≡◌, ℕ, ◌<◌, Bool, true, false, None, List, map}
+use Rattle.std.specs.Prelude.{◌≡◌, ◌⊎◌, ℕ, ℤ, pos, ◌<◌, Bool, true, false, None, List, map}
 use Rattle.std.specs.List.{All}
 use Rattle.std.specs.Option.{ForSome}
 use Rattle.rsp_terms.specs.declared.statement.Fact.{Fact}
 use Rattle.rsp_terms.specs.Same.{fact_eq}
-use Rattle.rsp_multiset.specs.Weights.{times}
+use Rattle.rsp_multiset.specs.Weights.{times, weight}
 use Rattle.rsp_report.specs.declared.chosen.Chosen.{Chosen}
 use Rattle.rsp_algebra.specs.Nodes.{Node, node_of}
 use Rattle.rsp_algebra.specs.declared.tree.Translated.{Translated}
-use Rattle.rsp_algebra.specs.Changing.{IsSet}
 use Rattle.rsp_engine.specs.declared.engine.Engine.TheInside.{Inside}
 use Rattle.rsp_engine.specs.declared.item.Item.{Item}
 use Rattle.rsp_engine.specs.declared.live_query.LiveQuery.{LiveQuery}
@@ -59,6 +58,7 @@ state_of facts e =
       next = e.next;
       queries = map (live_of facts) e.queries.items;
       items = e.items.items;
+      stored = e.stored;
       arrived = e.arrived;
       first = e.first;
       broken = e.broken;
@@ -68,7 +68,7 @@ state_of facts e =
 pub record Parts (A : Type 0) : Type 0 where
   pub query : Registration
   pub translated : Translated
-  pub seen : List Fact
+  pub seen : List (Fact × ℤ)
   pub answer : A
 
 -- all of a live query but the times that it watches
@@ -86,14 +86,18 @@ pub record IsWatching {A : Type 0} (items : List Item) (live : LiveQuery A) : Ty
   pub policy : IsPolicy live.policy
   pub watched : live.watched.items ≡ watched_of items (fixed live)
 
+-- a fact stands once or not at all
+abbrev pub IsOnce : ℤ → Type 0
+IsOnce n = (n ≡ pos 0) ⊎ (n ≡ pos 1)
+
 -- the answer of a live query is one of its tree, and stands for the facts that are kept as those of its last report
 pub record Answers {A : Type 0} (node : A → Node) (width : A → ℕ) (facts : A → List Fact) (spent : A → Bool)
     (live : LiveQuery A) : Type 0 where
   pub node_is : node live.answer ≡ node_of live.query.value.tree
   pub width_is : width live.answer ≡ live.query.value.width
   pub ready : spent live.answer ≡ false
-  pub same : (q : Fact) → times fact_eq (facts live.answer) q ≡ times fact_eq live.seen q
-  pub set : IsSet live.seen
+  pub same : (q : Fact) → times fact_eq (facts live.answer) q ≡ weight fact_eq live.seen q
+  pub once : (q : Fact) → IsOnce (weight fact_eq live.seen q)
 
 pub record IsReady {A : Type 0} (node : A → Node) (width : A → ℕ) (facts : A → List Fact) (spent : A → Bool)
     (e : Inside A) : Type 0 where

@@ -31,6 +31,7 @@ pub record Passes (old : State) (kept : List Item) (came : Option (List ℕ)) (t
   pub next : new.next ≡ Some to
   pub queries : new.queries ≡ old.queries
   pub items : new.items ≡ kept
+  pub stored : new.stored ≡ old.stored
   pub arrived : new.arrived ≡ came
   pub broken : new.broken ≡ false
   pub first : IsFirstLeft name_in (reports_at kept to came) (registrations_in old) to (unwrap_or old.next to) 0 new.first
@@ -47,10 +48,14 @@ outcome_over reading facts =
     then outcomes.Overfull
     else outcomes.Rows (in_order (map (cells_at reading.shown) (eval reading.width reading.node facts)))
 
+-- the outcome over these facts, and over any others that are the same multiset
+abbrev pub IsOutcomeOver : Outcome → Reading → List Fact → Type 0
+IsOutcomeOver given reading now = (facts : List Fact) → IsSameMultiset fact_eq now facts → IsOutcome given (outcome_over reading facts)
+
 -- a live query reported over these facts at t, and its answer stands for them where it is still live
 pub record IsReported {A : Type 0} (node : A → Node) (width : A → ℕ) (facts : A → List Fact) (spent : A → Bool)
     (live : LiveQuery A) (now : List Fact) (new : LiveQuery A) (given : Outcome) : Type 0 where
-  pub outcome : IsOutcome given (outcome_over (fixed live).reading now)
+  pub outcome : IsOutcomeOver given (fixed live).reading now
   pub same : fixed new ≡ fixed live
   pub answers : is_overfull_outcome given ≡ false
       → Answers node width facts spent new × IsSameMultiset fact_eq (facts new.answer) now
@@ -76,11 +81,12 @@ pub record ReportsFirst (old : State) (report : Report) (new : State) : Type 0 w
   pub query : report.query ≡ live.name
   pub at : report.at ≡ place.at
   pub variables : report.variables ≡ live.variables
-  pub outcome : IsOutcome report.outcome (outcome_over (reading_in live) (facts_in old live place.at))
+  pub outcome : IsOutcomeOver report.outcome (reading_in live) (facts_in old live place.at)
   pub same : registration_of now ≡ registration_of live
   pub seen : is_overfull_outcome report.outcome ≡ false → IsSameMultiset fact_eq now.seen (facts_in old live place.at)
   pub next : new.next ≡ old.next
   pub items : new.items ≡ old.items
+  pub stored : new.stored ≡ old.stored
   pub arrived : new.arrived ≡ old.arrived
   pub broken : new.broken ≡ old.broken
   pub queries : new.queries ≡ queries_behind old place now (is_overfull_outcome report.outcome)

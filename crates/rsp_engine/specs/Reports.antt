@@ -1,5 +1,5 @@
 -- Definitions: what is reported at a moment (RSP-QL, RStream), and working off the moments of an event.
-use Rattle.std.specs.Prelude.{◌≡◌, ℕ, zero, suc, Bool, not, if◌then◌else◌, Option, None, Some, List, [], ◌∷◌, length, map, filter, slice_index_or, bytes_eq}
+use Rattle.std.specs.Prelude.{◌≡◌, ℕ, zero, suc, Bool, not, if◌then◌else◌, Option, None, Some, List, [], ◌∷◌, ◌++◌, length, map, filter, slice_index_or, bytes_eq}
 use Rattle.std.specs.List.{find}
 use Rattle.std.specs.Option.{option_map_or}
 use Rattle.rsp_terms.specs.declared.term.Term.{Term}
@@ -18,9 +18,9 @@ use Rattle.rsp_engine.specs.Contents.{facts_over}
 use Rattle.rsp_engine.specs.Moments.{Moment}
 use Rattle.rsp_engine.specs.Accept.{has_name, without}
 
--- the facts that a query sees in the world at t
+-- the facts that a query sees in the world at t: the stored quads, and the graphs of its windows
 abbrev pub facts : World → Registration → ℕ → List Fact
-facts world query t = facts_over world.items query.first query.reading.windows t
+facts world query t = world.stored ++ facts_over world.items query.first query.reading.windows t
 
 -- the cells of a row at these places, in their order
 abbrev pub cells_at : List ℕ → Cells Term → Cells Term

@@ -1,12 +1,14 @@
 -- Words of the way: what an engine's state is, and which world and which moments left it stands for.
-use Rattle.std.specs.Prelude.{◌≡◌, ℕ, ◌+◌, ◌-◌, ◌*◌, ◌≤◌, ◌↔◌, Bool, false, ◌||◌, not, Option, None, Some, List, [], ◌∷◌, ⊤, length, map, slice_get, bytes_eq, unwrap_or}
+use Rattle.std.specs.Prelude.{◌≡◌, ℕ, ◌+◌, ◌-◌, ◌*◌, ◌≤◌, ◌↔◌, Bool, false, ◌||◌, not, Option, None, Some, List, [], ◌∷◌, ◌++◌, ⊤, length, map, slice_get, bytes_eq, pos, unwrap_or}
 use Rattle.std.specs.List.{All, IsDistinct}
 use Rattle.std.specs.List.Sorted.{IsNonDecreasing}
 use Rattle.std.specs.Option.{is_some, option_map_or, ForSome}
 use Rattle.rsp_spec.specs.Windows.{last_instant}
 use Rattle.rsp_terms.specs.declared.statement.Fact.{Fact}
+use Rattle.rsp_terms.specs.declared.statement.Triple.{Triple}
+use Rattle.rsp_terms.specs.declared.statement.Spot.TheVariants as spot
 use Rattle.rsp_terms.specs.Same.{fact_eq}
-use Rattle.rsp_multiset.specs.Weights.{IsSameMultiset}
+use Rattle.rsp_multiset.specs.Weights.{IsSameMultiset, times}
 use Rattle.rsp_report.specs.declared.chosen.Chosen.{Chosen}
 use Rattle.rsp_streams_out.specs.declared.operator.Operator.{Operator}
 use Rattle.rsp_algebra.specs.Nodes.{node_of}
@@ -20,7 +22,6 @@ use Rattle.rsp_engine.specs.Contents.{facts_over}
 use Rattle.rsp_engine.specs.Due.{newest}
 use Rattle.rsp_engine.specs.Left.{IsWaiting, left_from, name_in, reports_at}
 use Rattle.rsp_engine.specs.Moments.{Moment}
-use Rattle.rsp_engine.specs.Reports.{facts}
 
 -- what an engine keeps of a live query, and the facts for which its answer stands
 pub record Live : Type 0 where
@@ -34,12 +35,14 @@ pub record Live : Type 0 where
   pub first : ℕ
   pub seen : List Fact
 
--- what an engine keeps: `next`; its live queries, in order of registration; its items; the stream of the newest, where the event
--- that set `next` was an item; the place of the first moment left, if one is; and whether memory was refused to it
+-- what an engine keeps: `next`; its live queries, in order of registration; its items; the stored quads; the stream of the newest
+-- item, where the event that set `next` was an item; the place of the first moment left, if one is; and whether memory was refused
+-- to it
 pub record State : Type 0 where
   pub next : Option ℕ
   pub queries : List Live
   pub items : List Item
+  pub stored : List Fact
   pub arrived : Option (List ℕ)
   pub first : Option Pending
   pub broken : Bool
@@ -68,9 +71,9 @@ registrations_in engine = map registration_of engine.queries
 abbrev pub next_in : State → ℕ
 next_in engine = unwrap_or engine.next 0
 
--- what a live query sees of the kept items at t
+-- what a live query sees at t, of the stored quads and of the kept items
 abbrev pub facts_in : State → Live → ℕ → List Fact
-facts_in engine live t = facts_over engine.items live.first live.windows t
+facts_in engine live t = engine.stored ++ facts_over engine.items live.first live.windows t
 
 -- ---- the moments that are left
 
@@ -105,18 +108,19 @@ pub record Stands (engine : State) (world : World) (left : List Moment) : Type 0
   pub ready : engine.broken ≡ false
   pub next : engine.next ≡ world.next
   pub kept : engine.items ≡ world.items
+  pub stored : IsSameMultiset fact_eq engine.stored world.stored
   pub queries : registrations_in engine ≡ registrations world
   pub seen : HaveSeen engine.queries world.queries
   pub moments : left ≡ left_in engine
   pub head : ForSome engine.first (IsHead engine left)
   pub none : (engine.first ≡ None) ↔ (left ≡ [])
 
--- all that the engine needs of the items: from an instant on each live query sees by the kept items what it sees in the world, and
--- reports exactly where it does there
+-- all that the engine needs of the items: from an instant on each live query sees in its windows by the kept items what it sees
+-- there in the world, and reports exactly where it does there
 pub record Sees (engine : State) (world : World) (from : ℕ) : Type 0 where
   pub accepted : length engine.items ≡ length world.items
   pub windows : (t : ℕ) → from ≤ t → t ≤ next_in engine
-      → All (λ live. facts_in engine live t ≡ facts world (registration_of live) t) engine.queries
+      → All (λ live. facts_over engine.items live.first live.windows t ≡ facts_over world.items live.first live.windows t) engine.queries
   pub due : (t : ℕ) → from ≤ t → t ≤ next_in engine
       → All (λ query. test_in engine t query ≡ reports_at world.items (next_of world) engine.arrived t query) (registrations_in engine)
 
@@ -147,10 +151,16 @@ pub record HasArrived (items : List Item) (time : ℕ) (stream : List ℕ) : Typ
   pub stream_is : item.stream ≡ stream
   pub time_is : item.time ≡ time
 
+-- the stored quads are distinct, and none is a fact of a window
+pub record IsStore (stored : List Fact) : Type 0 where
+  pub once : IsDistinct fact_eq stored
+  pub graphs : (k : ℕ) (triple : Triple) → times fact_eq stored (record { spot = spot.Window k; triple = triple }) ≡ pos 0
+
 pub record IsState (engine : State) : Type 0 where
   pub next_high : next_in engine ≤ last_instant + 1
   pub timed : IsTimed engine.items (next_in engine)
   pub arrival : ForSome engine.arrived (HasArrived engine.items (next_in engine))
   pub firsts : All (λ (live : Live). live.first ≤ length engine.items) engine.queries
+  pub store : IsStore engine.stored
   pub names : IsDistinct bytes_eq (map (λ (live : Live). live.name) engine.queries)
   pub waits : ForSome engine.first (IsWaiting (test_in engine) (registrations_in engine) (next_in engine))

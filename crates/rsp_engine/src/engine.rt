@@ -20,8 +20,9 @@ use rsp_algebra::{Answer, Translated};
 use rsp_events::Event;
 use rsp_query::Query;
 use rsp_report::Chosen;
+use rsp_scope::{Stored, StoredFault};
 use rsp_steps::Steps;
-use rsp_terms::Text;
+use rsp_terms::{Quad, Text};
 use std::alloc::{AllocError, Global};
 use std::marker::Model;
 use std::sync::ledger::Ledger;
@@ -43,6 +44,8 @@ pub struct Engine<A: Answer> {
     // in order of registration
     queries: Vec<LiveQuery<A>>,
     items: Vec<Item>,
+    // the stored quads
+    stored: Stored,
     // the triples of the items, as listed
     held: u64,
     // the stream of the newest item, where the event that set `next` was this item
@@ -103,6 +106,7 @@ impl<A: Answer> Engine<A> {
             next: None,
             queries: Vec::new(alloc),
             items: Vec::new(alloc),
+            stored: Stored::new(alloc),
             held: 0,
             arrived: None,
             first: None,
@@ -145,7 +149,7 @@ impl<A: Answer> Engine<A> {
     /// Refused as `Broken` exactly where memory was refused before; with the definition's refusal, which changes nothing,
     /// only where the definition refuses the event so; as `OutOfMemory` where memory is refused, which breaks the engine:
     /// never for a tick or a cancellation, never for an item that the definition refuses, never for a registration under
-    /// a name that is taken. Any other registration that the definition refuses may be answered so.
+    /// a name that is taken. Any other registration, and any insert, that the definition refuses may be answered so.
     pub fn offer(&mut self, event: Event) -> Result<(), Refused>
         requires idle { IsTrue (is_idle self.old) }
         requires instant { IsInstant event }
@@ -167,7 +171,8 @@ impl<A: Answer> Engine<A> {
                 graph,
             }),
             Event::Tick { time } => self.tick(time),
-            Event::Insert { .. } | Event::Delete { .. } => Err(Refused::Unbuilt),
+            Event::Insert { quads } => self.insert(quads.as_slice()),
+            Event::Delete { quads } => self.delete(quads.as_slice()),
         }
     }
 
@@ -345,6 +350,31 @@ impl<A: Answer> Engine<A> {
         Refused::OutOfMemory
     }
 
+    // ---- stored quads
+
+    fn insert(&mut self, quads: &[Quad]) -> Result<(), Refused>
+        requires idle { IsTrue (is_idle self.old) }
+        requires ready { self.old.broken ≡ false }
+        ensures { Offers self.old (Event.Insert quads.now) result self.new }
+    {
+        match self.stored.insert(quads) {
+            Ok(_) => Ok(()),
+            Err(StoredFault::StoreFull { quads }) => Err(Refused::StoreFull { quads }),
+            Err(StoredFault::OutOfMemory) => Err(self.break_off()),
+        }
+    }
+
+    fn delete(&mut self, quads: &[Quad]) -> Result<(), Refused>
+        requires idle { IsTrue (is_idle self.old) }
+        requires ready { self.old.broken ≡ false }
+        ensures { Offers self.old (Event.Delete quads.now) result self.new }
+    {
+        match self.stored.delete(quads) {
+            Ok(_) => Ok(()),
+            Err(AllocError) => Err(self.break_off()),
+        }
+    }
+
     // ---- time
 
     fn take_item(&mut self, item: Item) -> Result<(), Refused>
@@ -486,6 +516,7 @@ impl<A: Answer> Engine<A> {
         match report_at(
             self.alloc,
             &mut self.queries[place.query],
+            &self.stored,
             items,
             place.at,
             steps,

@@ -23,6 +23,7 @@ ghost use Rattle.rsp_engine.specs.declared.refused.Refused.TheVariants as refusa
 use crate::Refused;
 use crate::live_query::{LiveQuery, StreamWindow};
 use rsp_algebra::{Answer, Translated};
+use rsp_multiset::Changes;
 use rsp_query::{Operator, PolicyWords, Query, WindowClause};
 use rsp_report::{Chosen, PolicyMix, Watched, policy};
 use rsp_syntax::{SyntaxFault, parse};
@@ -220,7 +221,7 @@ fn live_query<A: Answer>(
         query: made,
         variables,
         first,
-        seen: Listed::new(alloc),
+        seen: Changes::new(alloc),
         watched,
         answer,
     })

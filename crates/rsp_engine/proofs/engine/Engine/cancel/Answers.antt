@@ -12,7 +12,7 @@ pub invariant_of-self : goal.invariant_of-self
 invariant_of-self g c = λ _.
     let sound : IsReady g.A.Answer.node g.A.Answer.width g.A.Answer.facts g.A.Answer.spent c.self.inside = c.self.invariant (rw (← c.self.view_is) at c.requires.ready) in
     let idle = idle_first (state_of g.A.Answer.facts c.self.inside) (rw (← c.self.view_is) at c.requires.ready) (rw (← c.self.view_is) at c.requires.idle) in
-    ready_without _ _ _ _ _ sound _ refl refl refl refl idle c.in-Some.place c.remove.ensures.items
+    ready_without _ _ _ _ _ sound _ refl refl refl refl refl idle c.in-Some.place c.remove.ensures.items
 
 pub returns-in-Some : goal.returns-in-Some
 returns-in-Some g c =

@@ -20,7 +20,7 @@ invariant_of-self g c = λ _.
     let later : unwrap_or c.self.inside.next 0 ≤ c.args.to = rw (← c.self.view_is) at c.requires.later in
     let by_watch = rw c.as_slice-queries.ensures.value at c.first_moment-self-inside.ensures in
     let left = first_by_items c.self.inside.queries.items c.self.inside.items.items sound.watching c.args.to None _ 0 c.first_moment-self-inside.result (low_of c.self.inside.next c.args.to later) by_watch in
-    ready_passed _ _ _ _ _ sound _ c.args.to _ refl c.requires.instant refl (omega arith) (timed_later c.self.inside.items.items _ c.args.to sound.state.timed later) (λ x is. cc) sound.held sound.answers sound.watching left
+    ready_passed _ _ _ _ _ sound _ c.args.to _ refl c.requires.instant refl (omega arith) refl (timed_later c.self.inside.items.items _ c.args.to sound.state.timed later) (λ x is. cc) sound.held sound.answers sound.watching left
 
 pub returns : goal.returns
 returns g c =
@@ -33,6 +33,7 @@ returns g c =
       next = refl;
       queries = refl;
       items = refl;
+      stored = refl;
       arrived = refl;
       broken = rw (← c.self.view_is) at c.requires.ready;
       first = fixed_left g.A.Answer.facts c.self.inside.queries.items (reports_at c.self.inside.items.items c.args.to None) c.args.to (unwrap_or c.self.inside.next c.args.to) 0 c.first_moment-self-inside.result left;

@@ -75,7 +75,7 @@ invariant_of-self g c = λ _.
     let by_watch = rw (c.unwrap_or-next.ensures, c.as_slice-queries.ensures.value, c.place_behind-query.ensures.place ∙ place_is c.args.place full) at c.first_left-self-inside.ensures in
     let left = first_by_items c.place_behind-query.new.queries.items c.self.inside.items.items watching (next_in (state_of g.A.Answer.facts c.self.inside)) c.self.inside.arrived c.args.place.at (place_behind c.args.place full) c.first_left-self-inside.result
     (within _ _ _ _ _ sound c.args.place first) by_watch in
-    ready_behind _ _ _ _ _ sound c.args.place first live is c.report_at.new.live c.in-Ok.report.outcome reported c.in-Ok.ensures.watched _ refl refl refl refl behind left
+    ready_behind _ _ _ _ _ sound c.args.place first live is c.report_at.new.live c.in-Ok.report.outcome reported c.in-Ok.ensures.watched _ refl refl refl refl refl behind left
 
 pub returns-in-Ok-clause-ok : goal.returns-in-Ok-clause-ok
 returns-in-Ok-clause-ok g c =
@@ -107,6 +107,7 @@ returns-in-Ok-clause-ok g c =
       seen = λ rows. (reported.answers rows).1;
       next = refl;
       items = refl;
+      stored = refl;
       arrived = refl;
       broken = refl;
       queries = ap (map (live_of g.A.Answer.facts)) behind ∙ states_behind _ _ _ _ _ sound c.args.place first live is now c.in-Ok.report.outcome reported c.in-Ok.ensures.watched full;

@@ -42,7 +42,7 @@ invariant_of-self g c = λ _.
     let answers = answers_kept _ _ _ _ c.self.inside.queries.items c.keep.new.queries parts sound.answers in
     let left = first_by_items c.keep.new.queries c.keep.new.items.items c.in-Ok.ensures.watching c.args.item.time (Some c.in-Ok.field-0.stream) (unwrap_or c.self.inside.next c.args.item.time) 0 c.first_moment-self-inside.result (low_of c.self.inside.next c.args.item.time later) by_watch in
     let all = ready_passed _ _ _ _ _ sound in
-    all _ c.args.item.time (unwrap_or c.self.inside.next c.args.item.time) refl (let high = c.requires.instant in omega (arith, high)) lives more timed arrival c.in-Ok.ensures.held
+    all _ c.args.item.time (unwrap_or c.self.inside.next c.args.item.time) refl (let high = c.requires.instant in omega (arith, high)) lives more refl timed arrival c.in-Ok.ensures.held
     (subst (λ qs. All (Answers g.A.Answer.node g.A.Answer.width g.A.Answer.facts g.A.Answer.spent) qs) (sym whole) answers)
     (subst (λ qs. All (IsWatching c.keep.new.items.items) qs) (sym whole) c.in-Ok.ensures.watching)
     (subst (λ qs. IsFirstLeft name_in (reports_at c.keep.new.items.items c.args.item.time (Some c.in-Ok.field-0.stream)) (map fixed qs) c.args.item.time (unwrap_or c.self.inside.next c.args.item.time) 0 c.first_moment-self-inside.result) (sym whole) left)
@@ -63,6 +63,7 @@ returns-in-Ok-clause-ok g c =
       next = refl;
       queries = ap (map (live_of g.A.Answer.facts)) whole ∙ lives;
       items = c.in-Ok.ensures.items;
+      stored = refl;
       arrived = ap Some c.in-Ok.ensures.stream;
       broken = rw (← c.self.view_is) at c.requires.ready;
       first = rw (← lives) (fixed_left g.A.Answer.facts c.keep.new.queries (reports_at (c.self.inside.items.items ++ c.args.item ∷ []) c.args.item.time (Some c.args.item.stream)) c.args.item.time (unwrap_or c.self.inside.next c.args.item.time) 0 c.first_moment-self-inside.result left);
