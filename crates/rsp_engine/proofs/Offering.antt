@@ -260,7 +260,7 @@ full_store_refuses old quads many ready fault = record {
   unchanged = refl;
   refused = λ world stands.
       let so_many : many ≡ length (stored_with world.stored quads) = fault.0 ∙ as-many-stored_with old.stored world.stored quads stands.stored in
-      let over : nat_lt most_quads (length (stored_with world.stored quads)) ≡ true = lt-ltb _ _ (rw (fault.0, so_many) at fault.1) in
+      let over : nat_lt most_quads (length (stored_with world.stored quads)) ≡ true = lt-ltb most_quads (length (stored_with world.stored quads)) (subst (λ n. most_quads < n) (as-many-stored_with old.stored world.stored quads stands.stored) fault.1) in
       rw (over, so_many) refl;
 }
 

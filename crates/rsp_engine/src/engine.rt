@@ -14,6 +14,7 @@ use crate::finding::{Pending, first_left};
 use crate::live_query::LiveQuery;
 use crate::registering::{begun, chosen, is_rstream, parsed, translated};
 use crate::seeing::report_at;
+use crate::storing::{put, take_out};
 use crate::watching::{Arrival, keep};
 use crate::{EngineFault, Item, Outcome, Refused, Report};
 use rsp_algebra::{Answer, Translated};
@@ -357,8 +358,8 @@ impl<A: Answer> Engine<A> {
         requires ready { self.old.broken ≡ false }
         ensures { Offers self.old (Event.Insert quads.now) result self.new }
     {
-        match self.stored.insert(quads) {
-            Ok(_) => Ok(()),
+        match put(&mut self.stored, quads) {
+            Ok(()) => Ok(()),
             Err(StoredFault::StoreFull { quads }) => Err(Refused::StoreFull { quads }),
             Err(StoredFault::OutOfMemory) => Err(self.break_off()),
         }
@@ -369,8 +370,8 @@ impl<A: Answer> Engine<A> {
         requires ready { self.old.broken ≡ false }
         ensures { Offers self.old (Event.Delete quads.now) result self.new }
     {
-        match self.stored.delete(quads) {
-            Ok(_) => Ok(()),
+        match take_out(&mut self.stored, quads) {
+            Ok(()) => Ok(()),
             Err(AllocError) => Err(self.break_off()),
         }
     }
