@@ -173,9 +173,9 @@ def inserts(size):
 
 
 def changes(size):
-    """A hundred reports over so many stored quads, of which ten go and ten others come before each of them."""
+    """Twenty reports over so many stored quads, of which ten go and ten others come before each of them."""
     rounds = []
-    for number in range(100):
+    for number in range(20):
         gone, come = 10 * number, size + 10 * number
         rounds.append(block("@delete", map(quad, range(gone, gone + 10))) + block("@insert", map(quad, range(come, come + 10))))
         rounds.append(block(f"@item <s:a> {10_000 * number + 1000}", [f"<a:{number}> <p:v> <b:{come}> .\n"]))
