@@ -24,10 +24,10 @@ def reading(number):
 
 
 def statements(size):
-    """A sensor log of so many statements, in as few `@insert` blocks as their limit allows."""
+    """A sensor log of so many statements, in as few blocks as their limit allows: deletes of what isn't stored."""
     readings = [reading(number) for number in range(size // 2)]
     most = (MOST_BYTES - 100) // max(map(len, readings))
-    return b"".join(block("@insert", readings[at:at + most]) for at in range(0, len(readings), most))
+    return b"".join(block("@delete", readings[at:at + most]) for at in range(0, len(readings), most))
 
 
 def items(size):
@@ -150,6 +150,37 @@ def arrivals(size):
     """So many items under one query that reports the last second on each of them."""
     window = "FROM NAMED WINDOW <w:1> ON <s:a> [RANGE PT1S]"
     return registration("q", "UNDER CQELS", window, PATTERN) + stream(size)
+
+
+# ---- what is stored
+
+MOST_STORED = 100_000
+JOINED = "WINDOW <w:1> { ?x <p:v> ?y } GRAPH <g:1> { ?y <p:m> ?z }"
+
+
+def quad(number):
+    return f"<b:{number}> <p:m> <c:{number}> <g:1> .\n"
+
+
+def joining():
+    return block("@register q", [QUERY.replace("WINDOW <w:1> { %s }", "%s") % ("?x ?z", JOINED) + "\n"])
+
+
+def inserts(size):
+    """So many quads that are stored, a thousand a block, under a query that joins a window with them, and one report."""
+    blocks = [block("@insert", map(quad, range(at, min(at + 1000, size)))) for at in range(0, size, 1000)]
+    return joining() + b"".join(blocks) + block("@item <s:a> 1000", ["<a:1> <p:v> <b:1> .\n"]) + b"@tick 10000\n"
+
+
+def changes(size):
+    """Twenty reports over so many stored quads, of which ten go and ten others come before each of them."""
+    rounds = []
+    for number in range(20):
+        gone, come = 10 * number, size + 10 * number
+        rounds.append(block("@delete", map(quad, range(gone, gone + 10))) + block("@insert", map(quad, range(come, come + 10))))
+        rounds.append(block(f"@item <s:a> {10_000 * number + 1000}", [f"<a:{number}> <p:v> <b:{come}> .\n"]))
+        rounds.append(b"@tick %d\n" % (10_000 * number + 10_000))
+    return inserts(size).rsplit(b"@item", 1)[0] + b"".join(rounds)
 
 
 # ---- ticks far apart

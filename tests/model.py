@@ -8,7 +8,7 @@ import sys
 from collections import namedtuple
 
 import query_model
-from algebra_model import Overfull, solutions, translated
+from algebra_model import DEFAULT, Overfull, solutions, translated
 from policy_model import content, instants, is_due, is_due_on_arrival, is_mixed, policy_of, window_of
 from query_model import LAST_INSTANT, instant
 from shape_model import fault
@@ -18,6 +18,7 @@ USAGE = b"usage: rsp events [--json] | run [--json] [--store FILE] QUERY STREAM=
 MOST_BYTES = 16_777_216
 MOST_ITEMS = MOST_TRIPLES = 1_000
 MOST_QUERIES = 256
+MOST_QUADS = 1_000_000
 
 
 def is_utf8(text):
@@ -250,7 +251,8 @@ def event_of(group):
         raise BadBlock(f"4 BadBody line={group[-1].number + 1}")
     if head == b"@register":
         return head, *fields, b"".join(line.text + b"\n" for line in body)
-    return head, *fields, [terms for terms in (statement(line.text) for line in body) if terms]
+    said = [terms for terms in (statement(line.text) for line in body) if terms]
+    return head, *fields, said if head == b"@item" else [stored_fact(terms[:3], *terms[3:]) for terms in said]
 
 
 # ---- queries
@@ -295,14 +297,20 @@ def has_start(made):
         return False
 
 
+def stored_fact(triple, graph=None):
+    """The fact that a statement of an insert or a delete says: a triple of the default graph or of the graph of a name."""
+    return DEFAULT if graph is None else ("named", graph), *triple
+
+
 # ---- the world
 
 
 class World:
-    """The live queries, in the order of their registrations, all accepted items, and the first instant that isn't complete."""
+    """The live queries, in the order of their registrations, all accepted items, the stored quads, and the first instant that
+    isn't complete. A quad that is stored is a key of `stored`."""
 
     def __init__(self):
-        self.next, self.items, self.queries = None, [], []
+        self.next, self.items, self.stored, self.queries = None, [], {}, []
 
     def names(self):
         return [query.name for query in self.queries]
@@ -310,9 +318,9 @@ class World:
     # ---- reports
 
     def facts(self, query, at):
-        """The distinct triples of each window at the instant, with the window's number."""
+        """The stored quads, and the distinct triples of each window at the instant, with the window's number."""
         held = [(place, n) for place, window in enumerate(query.windows) for n in content(query, window, self.items, at)]
-        return list(dict.fromkeys((("window", place), *triple) for place, n in held for triple in self.items[n][2]))
+        return [*self.stored, *dict.fromkeys((("window", place), *triple) for place, n in held for triple in self.items[n][2])]
 
     def report(self, query, at):
         """The report of a query; one that is overfull ends it."""
@@ -379,10 +387,21 @@ class World:
         self.check_time(time, time + 1)
         yield from self.pass_to(time + 1)
 
+    def insert(self, quads):
+        stored = {**self.stored, **dict.fromkeys(quads)}
+        if len(stored) > MOST_QUADS:
+            raise Refused(f"20 StoreFull quads={len(stored)}")
+        self.stored = stored
+
+    def delete(self, quads):
+        for quad in quads:
+            self.stored.pop(quad, None)
+
     def take(self, head, *values):
-        events = {b"@register": self.register, b"@cancel": self.cancel, b"@item": self.item, b"@tick": self.tick}
-        if head not in events:
-            raise Refused("22 Unbuilt")
+        events = {
+            b"@register": self.register, b"@cancel": self.cancel, b"@item": self.item, b"@tick": self.tick,
+            b"@insert": self.insert, b"@delete": self.delete,
+        }
         return b"".join(events[head](*values) or [])
 
 

@@ -2,6 +2,7 @@
 
 What can be seen is kept beside each text, so that names are mostly ones that are bound. Each part is out of its rules
 with the chance `fault`. Spans are of some seconds, of some milliseconds in a `fine` log, and of hours to years in a `far` one.
+Where the log stores quads, the queries look for them more often.
 """
 XSD = "http://www.w3.org/2001/XMLSchema#"
 NAMES = ["s", "o", "x", "y", "z"]
@@ -39,8 +40,8 @@ MIXES = ["REPORT CLOSE TICK TUPLE", "REPORT CHANGE AND NONEMPTY AND CHANGE TICK 
 class QueryWriter:
     """Writes one query. `seen` is the list of names that are visible so far in the group at hand."""
 
-    def __init__(self, dice, fault, scale="seconds"):
-        self.dice, self.fault, self.made = dice, fault, 0
+    def __init__(self, dice, fault, scale="seconds", is_storing=False):
+        self.dice, self.fault, self.made, self.is_storing = dice, fault, 0, is_storing
         self.spans, self.steps, self.scale = SPANS[scale], STEPS[scale], scale
         self.windows = [f"<w:{place}>" for place in range(1, 1 + dice.choice([1, 1, 1, 1, 2, 2, 3, 5]))]
 
@@ -197,7 +198,9 @@ class QueryWriter:
 
     def exists(self, seen, depth, is_inside):
         inner = self.inner(seen)
-        body = self.group(inner, depth - 1, is_inside, "exists") + self.test(seen, inner)
+        is_stored = self.is_storing and self.chance(0.3)
+        body = f"GRAPH <g:1> {{ {self.triples(inner)} }}" if is_stored else self.group(inner, depth - 1, is_inside, "exists")
+        body += self.test(seen, inner)
         return f"FILTER {self.dice.choice(['', 'NOT ', 'NOT '])}EXISTS {{ {body} }}"
 
     def bind(self, seen):
@@ -216,7 +219,8 @@ class QueryWriter:
 
     def graph(self, seen, depth):
         if self.chance(0.5):
-            return f"GRAPH <g:1> {{ {self.group(seen, depth - 1, True)} }}"
+            name = self.dice.choice(["<g:1>", "<g:1>", "<g:2>", "<a:1>", "e:1"])
+            return f"GRAPH {name} {{ {self.group(seen, depth - 1, True)} }}"
         name = self.noted("g", seen)
         return f"GRAPH {name} {{ {self.group(seen, 1, True) if self.slips(5) else self.triples(seen)} }}"
 
@@ -238,14 +242,15 @@ class QueryWriter:
 
     def kinds(self, depth, is_inside, role):
         """What may stand in a group, with weights."""
-        kinds = {"triples": 3 if is_inside else 0.1, "window": 0.2 if is_inside else 2, "filter": 1.5}
+        outside = 1 if self.is_storing else 0.1
+        kinds = {"triples": 3 if is_inside else outside, "window": 0.2 if is_inside else 2, "filter": 1.5}
         if depth > 0:
             kinds["union"] = 1.5
         if role == "exists" and not self.slips(2):
             return kinds
         kinds.update({"bind": 1.5, "values": 1})
         if depth > 0:
-            kinds.update({"optional": 2.5, "minus": 1, "graph": 0.2, "sub": 0.8})
+            kinds.update({"optional": 2.5, "minus": 1, "graph": 2 if self.is_storing else 0.2, "sub": 0.8})
             kinds["exists"] = 2 if role != "optional" or self.slips() else 0
         return kinds
 
@@ -253,7 +258,9 @@ class QueryWriter:
         """The elements of a group; what is visible in it is added to `seen`."""
         parts = []
         if not self.chance(0.08):
-            parts.append(self.triples(seen) if is_inside else self.window(seen, depth))
+            is_first_stored = self.is_storing and depth > 0 and role != "exists" and self.chance(0.15)
+            first = self.graph if is_first_stored and not is_inside else self.window
+            parts.append(self.triples(seen) if is_inside else first(seen, depth))
         while self.chance(0.6 if depth > 0 else 0.25) and len(parts) < 4:
             kinds = self.kinds(depth, is_inside, role)
             kind = self.dice.choices(list(kinds), list(kinds.values()))[0]
@@ -353,8 +360,10 @@ class QueryWriter:
         return f"FROM NAMED WINDOW {name} ON {self.dice.choice(STREAMS)} [RANGE {width}{step}{start}]"
 
     def whole(self):
-        """All triples of all windows, so that each difference of contents can be seen."""
+        """All triples of all windows, and all that is stored, so that each difference of them can be seen."""
         parts = [f"{{ WINDOW {name} {{ ?s ?p ?o }} BIND({name} AS ?w) }}" for name in self.windows]
+        if self.is_storing:
+            parts += ["{ ?s ?p ?o }", "{ GRAPH ?w { ?s ?p ?o } }"]
         return "SELECT ?w ?s ?p ?o", f"{{ {' UNION '.join(parts)} }}"
 
     def text(self):

@@ -2,12 +2,15 @@
 use Rattle.std.proofs.Common.{◌≡◌, ℕ, zero, suc, ◌+◌, ◌<◌, Bool, true, false, List, [], ◌∷◌, filter, length, map, remove, slice_get, slice_set, drop, Option, None, Some, refl, sym, ◌∙◌, ap, subst, arith}
 use Rattle.std.specs.Prelude.{if◌then◌else◌, not, bytes_eq}
 use Rattle.std.proofs.lemmas.List.{length-map, length-set}
-use Rattle.std.proofs.lemmas.Option.{slice_get_within}
+use Rattle.std.proofs.lemmas.Option.{get_or_from_slice_get, slice_get_within}
 use Rattle.std.proofs.lemmas.Simd.{map-map}
 use Rattle.std.specs.List.{IsDistinct}
 use Rattle.rsp_multiset.specs.Rows.{Cells}
 use Rattle.rsp_terms.specs.declared.term.Term.{Term}
-use Rattle.rsp_algebra.specs.Overfull.{overfull}
+use Rattle.rsp_terms.specs.declared.statement.Fact.{Fact}
+use Rattle.rsp_terms.specs.Same.{fact_eq, fact_same}
+use Rattle.rsp_multiset.specs.Weights.{IsSameMultiset, times}
+use Rattle.rsp_multiset.proofs.SameLists.{same-append}
 use Rattle.rsp_engine.specs.declared.finding.Pending.{Pending}
 use Rattle.rsp_engine.specs.declared.report.Outcome.{Outcome}
 use Rattle.rsp_engine.specs.declared.report.Outcome.TheVariants as outcomes
@@ -15,16 +18,18 @@ use Rattle.rsp_engine.specs.declared.report.Report.{Report}
 use Rattle.rsp_engine.specs.World.{Query, Registration, World, registrations}
 use Rattle.rsp_engine.specs.Accept.{without}
 use Rattle.rsp_engine.specs.Contents.{facts_over}
-use Rattle.rsp_engine.specs.Left.{IsFirstLeft, left_from}
+use Rattle.rsp_engine.specs.Left.{IsFirstLeft, left_from, name_in}
 use Rattle.rsp_engine.specs.Moments.{Moment}
-use Rattle.rsp_engine.specs.Reports.{IsOutcome, after_report, is_overfull, live_query, moments_behind, next_step, query_after_report, report_of}
-use Rattle.rsp_engine.specs.Stands.{IsState, Live, Stands, State, moments_left, next_in, places_left, query_of, registration_of, registrations_in, test_in}
+use Rattle.rsp_engine.specs.Reports.{IsOutcome, after_report, facts, is_overfull, live_query, moments_behind, next_step, query_after_report, report_of}
+use Rattle.rsp_engine.specs.Stands.{HaveSeen, IsState, Live, Stands, State, facts_in, left_in, next_in, places_left, registration_of, registrations_in, test_in}
 use Rattle.rsp_engine.specs.Offers.{GivesOf}
-use Rattle.rsp_engine.specs.Passing.{ReportsFirst, is_overfull_outcome, outcome_over, place_behind, queries_behind, seeing}
-use Rattle.rsp_engine.proofs.Left.{first_left_is, gone, waiting_head}
+use Rattle.rsp_engine.specs.Passing.{ReportsFirst, is_overfull_outcome, place_behind, queries_behind}
+use Rattle.rsp_engine.proofs.Left.{gone, waiting_head}
 use Rattle.rsp_engine.proofs.Places.{nearer, nearer_gone}
 use Rattle.rsp_engine.proofs.Named.{drop_named, find_named, get_map, remove_map, remove_named, set_map, set_named, set_same}
-use Rattle.rsp_engine.proofs.Standing.{left_as, left_here, same_registrations}
+use Rattle.rsp_engine.proofs.Sees.{sees}
+use Rattle.rsp_engine.proofs.Seen.{name_of_query, seen_removed, seen_set, world_at, world_names}
+use Rattle.rsp_engine.proofs.Standing.{head_is, left_here, left_renamed, none_is, waits_renamed}
 
 -- by what was reported
 full_or_rows : (full : Bool) (given : Outcome) (rows : List (Cells Term)) → IsOutcome given (if full then outcomes.Overfull else outcomes.Rows rows) → is_overfull_outcome given ≡ full
@@ -39,10 +44,6 @@ shorter [] i below = absurd (omega (arith, below))
 shorter (x ∷ xs) zero below = omega arith
 shorter (x ∷ xs) (suc i) below = let rest = shorter xs i (omega (arith, below)) in omega (arith, rest)
 
--- the name under which a query is looked up
-abbrev name_of : Query → List ℕ
-name_of query = query.registration.name
-
 module _ (old new : State) (report : Report) (world : World) (left : List Moment) (state : IsState old) (given : ReportsFirst old report new) (stands : Stands old world left) where
   abbrev live : Live
   live = given.live
@@ -54,86 +55,117 @@ module _ (old new : State) (report : Report) (world : World) (left : List Moment
   query = registration_of live
 
   abbrev rest : List Moment
-  rest = left_from (test_in old) (registrations_in old) (next_in old) place.at (place.query + 1)
+  rest = left_from name_in (test_in old) (registrations_in old) (next_in old) place.at (place.query + 1)
 
-  listed_world : slice_get world.queries place.query ≡ Some (query_of live)
-  listed_world = rw (← stands.queries) (get_map query_of old.queries place.query live given.listed)
+  abbrev seen_now : List Fact
+  seen_now = facts_in old live place.at
 
-  names_world : IsDistinct bytes_eq (map name_of world.queries)
-  names_world = rw (← stands.queries, map-map name_of query_of old.queries) state.names
+  found : (q : Query) × (slice_get world.queries place.query ≡ Some q) × (q.registration ≡ query)
+  found = world_at old world stands.queries place.query live given.listed
+
+  names : IsDistinct bytes_eq (map name_of_query world.queries)
+  names = world_names old world stands.queries state.names
+
+  called : name_of_query found.0 ≡ live.name
+  called = ap (λ (r : Registration). r.name) found.2
 
   -- the moment is the first
   is_first : left ≡ record { at = place.at; query = live.name } ∷ rest
   is_first =
       let here = left_here old world left stands place given.first in
       let waits = state.waits place given.first in
-      here ∙ waiting_head (test_in old) (registrations_in old) (next_in old) place query waits (get_map registration_of old.queries place.query live given.listed)
+      here ∙ waiting_head name_in (test_in old) (registrations_in old) (next_in old) place query waits (get_map registration_of old.queries place.query live given.listed)
 
-  seen : facts_over world.items query place.at ≡ facts_over old.items query place.at
-  seen = ap (λ items. facts_over items query place.at) (sym stands.items)
+  in_windows : facts_over old.items live.first live.windows place.at ≡ facts_over world.items live.first live.windows place.at
+  in_windows =
+      let waits = state.waits place given.first in
+      let all = (sees old world place.at stands.next stands.kept).windows place.at (omega arith) waits.within in
+      subst (λ (l : Live). facts_over old.items l.first l.windows place.at ≡ facts_over world.items l.first l.windows place.at) (get_or_from_slice_get old.queries place.query live live given.listed)
+      (all place.query live (slice_get_within old.queries place.query live given.listed))
+
+  -- what it sees is what it sees in the world
+  seen : IsSameMultiset fact_eq seen_now (facts world query place.at)
+  seen =
+      same-append fact_same old.stored world.stored (facts_over old.items live.first live.windows place.at) (facts_over world.items live.first live.windows place.at) stands.stored (λ q. ap (λ fs. times fact_eq fs q) in_windows)
 
   full : is_overfull_outcome report.outcome ≡ is_overfull world query place.at
-  full = full_or_rows _ report.outcome _ given.outcome ∙ ap (λ fs. overfull query.reading.width query.reading.node fs) (sym seen)
+  full = full_or_rows _ report.outcome _ (given.outcome (facts world query place.at) seen)
 
   -- it is the live query of its name
   live_is : live_query world live.name ≡ Some query
   live_is = find_named (registrations world) (λ (q : Registration). q.name) place.query query
-      (rw (map-map (λ (q : Registration). q.name) (λ (q : Query). q.registration) world.queries) names_world)
-      (get_map (λ (q : Query). q.registration) world.queries place.query (query_of live) listed_world)
+      (rw (map-map (λ (q : Registration). q.name) (λ (q : Query). q.registration) world.queries) names)
+      (ap (λ qs. slice_get qs place.query) (sym stands.queries) ∙ get_map registration_of old.queries place.query live given.listed)
 
   -- ---- the world behind it
 
-  behind : (ends : Bool) → is_overfull world query place.at ≡ ends → new.queries ≡ queries_behind old place live ends
-      → IsFirstLeft (test_in old) (registrations_in new) (next_in old) place.at (place_behind place ends) new.first
-      → Stands new (after_report world query place.at) (moments_behind world query place.at rest)
-  behind true ends queries first =
-      let after : World = record world { queries = without live.name world.queries } in
-      let gone_is : without live.name world.queries ≡ remove world.queries place.query = remove_named world.queries name_of place.query (query_of live) names_world listed_world in
-      let lives : map query_of new.queries ≡ without live.name world.queries = ap (map query_of) queries ∙ (remove_map query_of old.queries place.query ∙ (ap (λ qs. remove qs place.query) stands.queries ∙ sym gone_is)) in
-      let regs : registrations_in new ≡ remove (registrations_in old) place.query = ap (map registration_of) queries ∙ remove_map registration_of old.queries place.query in
+  -- the engine behind it stands for a world with these queries
+  module _ (ends : Bool) (queries : List Query) (behind_is : new.queries ≡ queries_behind old place given.now ends)
+      (regs : registrations_in new ≡ map (λ (q : Query). q.registration) queries) (have : HaveSeen new.queries queries)
+      (first : IsFirstLeft name_in (test_in old) (registrations_in new) (next_in old) place.at (place_behind place ends) new.first) where
+    abbrev after : World
+    after = record world { queries = queries }
+
+    left_behind : left_in new ≡ left_from name_in (test_in old) (registrations_in new) (next_in old) place.at (place_behind place ends)
+    left_behind = left_renamed old new given.items given.next given.arrived place.at (place_behind place ends) first
+
+    behind : (moments : List Moment) → left_from name_in (test_in old) (registrations_in new) (next_in old) place.at (place_behind place ends) ≡ moments → Stands new after moments
+    behind moments is =
+        let all : moments ≡ left_in new = sym (left_behind ∙ is) in
+        let waits = waits_renamed old new given.items given.next given.arrived place.at (place_behind place ends) first in
+        record {
+          ready = given.broken ∙ stands.ready;
+          next = given.next ∙ stands.next;
+          kept = given.items ∙ stands.kept;
+          stored = subst (λ fs. IsSameMultiset fact_eq fs world.stored) (sym given.stored) stands.stored;
+          queries = regs;
+          seen = have;
+          moments = all;
+          head = head_is new moments all waits;
+          none = none_is new moments all waits;
+        }
+
+  -- an overfull report ends the query
+  ended : new.queries ≡ queries_behind old place given.now true → IsFirstLeft name_in (test_in old) (registrations_in new) (next_in old) place.at place.query new.first
+      → Stands new (record world { queries = without live.name world.queries }) (filter (λ (m : Moment). not (bytes_eq m.query live.name)) rest)
+  ended queries first =
+      let gone_is : without live.name world.queries ≡ remove world.queries place.query = subst (λ n. without n world.queries ≡ remove world.queries place.query) called (remove_named world.queries name_of_query place.query found.0 names found.1) in
+      let regs_old : registrations_in new ≡ remove (registrations_in old) place.query = ap (map registration_of) queries ∙ remove_map registration_of old.queries place.query in
+      let regs : registrations_in new ≡ map (λ (q : Query). q.registration) (without live.name world.queries) = regs_old ∙ (ap (λ qs. remove qs place.query) stands.queries ∙ (sym (remove_map (λ (q : Query). q.registration) world.queries place.query) ∙ ap (map (λ (q : Query). q.registration)) (sym gone_is))) in
+      let have : HaveSeen new.queries (without live.name world.queries) = subst (λ ls. HaveSeen ls (without live.name world.queries)) (sym queries)
+      (subst (λ qs. HaveSeen (remove old.queries place.query) qs) (sym gone_is) (seen_removed old.queries world.queries place.query stands.seen)) in
       let names_old : IsDistinct bytes_eq (map (λ (q : Registration). q.name) (registrations_in old)) = rw (map-map (λ (q : Registration). q.name) registration_of old.queries) state.names in
       let listed_old = get_map registration_of old.queries place.query live given.listed in
       let cut = remove_named (registrations_in old) (λ (q : Registration). q.name) place.query query names_old listed_old in
       let dropped = drop_named (registrations_in old) (λ (q : Registration). q.name) place.query query names_old listed_old in
       let struck = gone (test_in old) live.name (registrations_in old) (registrations_in new) (next_in old) place.at place.query (place.query + 1)
-      (regs ∙ sym cut) (ap (drop place.query) regs ∙ dropped) in
-      let found = first_left_is _ _ _ _ _ _ first in
-      let regs_after : registrations after ≡ registrations_in new = same_registrations new.queries after lives in
-      let moments : moments_left after new.arrived new.first ≡ filter (λ (m : Moment). not (bytes_eq m.query live.name)) rest =
-      ap (λ came. moments_left after came new.first) given.arrived ∙ (left_as old after (registrations_in new) new.first stands.next stands.items regs_after ∙ (found ∙ struck)) in
-      rw ends
-      (record {
-        ready = given.broken ∙ stands.ready;
-        next = given.next ∙ stands.next;
-        items = given.items ∙ stands.items;
-        queries = lives;
-        moments = sym moments;
-      })
-  behind false ends queries first =
-      let now = query_of (seeing live old.items place.at) in
-      let after : World = record world { queries = map (query_after_report world place.at live.name) world.queries } in
-      let told : record (query_of live) { seen = facts_over world.items query place.at } ≡ now = ap (λ fs. record (query_of live) { seen = fs }) seen in
-      let set_is : map (query_after_report world place.at live.name) world.queries ≡ slice_set world.queries place.query now =
-      set_named world.queries name_of place.query (query_of live) (λ q. record q { seen = facts_over world.items q.registration place.at }) names_world listed_world ∙ ap (slice_set world.queries place.query) told in
-      let lives : map query_of new.queries ≡ map (query_after_report world place.at live.name) world.queries = ap (map query_of) queries ∙ (set_map query_of old.queries place.query (seeing live old.items place.at) ∙ (ap (λ qs. slice_set qs place.query now) stands.queries ∙ sym set_is)) in
-      let regs : registrations_in new ≡ registrations_in old = ap (map registration_of) queries ∙ (set_map registration_of old.queries place.query (seeing live old.items place.at) ∙ set_same (registrations_in old) place.query query (get_map registration_of old.queries place.query live given.listed)) in
-      let found = first_left_is _ _ _ _ _ _ first in
-      let regs_after : registrations after ≡ registrations_in new = same_registrations new.queries after lives in
-      let moments : moments_left after new.arrived new.first ≡ rest =
-      ap (λ came. moments_left after came new.first) given.arrived ∙ (left_as old after (registrations_in new) new.first stands.next stands.items regs_after ∙ (found ∙ ap (λ qs. left_from (test_in old) qs (next_in old) place.at (place.query + 1)) regs)) in
-      rw ends
-      (record {
-        ready = given.broken ∙ stands.ready;
-        next = given.next ∙ stands.next;
-        items = given.items ∙ stands.items;
-        queries = lives;
-        moments = sym moments;
-      })
+      (regs_old ∙ sym cut) (ap (drop place.query) regs_old ∙ dropped) in
+      behind true (without live.name world.queries) queries regs have first _ struck
+
+  -- any other report has shown the query the facts of its instant
+  went_on : new.queries ≡ queries_behind old place given.now false → IsSameMultiset fact_eq given.now.seen seen_now → IsFirstLeft name_in (test_in old) (registrations_in new) (next_in old) place.at (place.query + 1) new.first
+      → Stands new (record world { queries = map (query_after_report world place.at live.name) world.queries }) rest
+  went_on queries stood first =
+      let told : Query = record found.0 { seen = facts world found.0.registration place.at } in
+      let set_is : map (query_after_report world place.at live.name) world.queries ≡ slice_set world.queries place.query told =
+      subst (λ n. map (query_after_report world place.at n) world.queries ≡ slice_set world.queries place.query told) called
+      (set_named world.queries name_of_query place.query found.0 (λ q. record q { seen = facts world q.registration place.at }) names found.1) in
+      let regs_old : registrations_in new ≡ registrations_in old = ap (map registration_of) queries ∙ (set_map registration_of old.queries place.query given.now ∙ (ap (slice_set (registrations_in old) place.query) given.same ∙ set_same (registrations_in old) place.query query (get_map registration_of old.queries place.query live given.listed))) in
+      let regs_world : map (λ (q : Query). q.registration) (slice_set world.queries place.query told) ≡ registrations world = set_map (λ (q : Query). q.registration) world.queries place.query told ∙ set_same (registrations world) place.query found.0.registration (get_map (λ (q : Query). q.registration) world.queries place.query found.0 found.1) in
+      let regs : registrations_in new ≡ map (λ (q : Query). q.registration) (map (query_after_report world place.at live.name) world.queries) = regs_old ∙ (stands.queries ∙ (sym regs_world ∙ ap (map (λ (q : Query). q.registration)) (sym set_is))) in
+      let seen_told : IsSameMultiset fact_eq seen_now told.seen = subst (λ r. IsSameMultiset fact_eq seen_now (facts world r place.at)) (sym found.2) seen in
+      let have : HaveSeen new.queries (map (query_after_report world place.at live.name) world.queries) = subst (λ ls. HaveSeen ls (map (query_after_report world place.at live.name) world.queries)) (sym queries)
+      (subst (λ qs. HaveSeen (slice_set old.queries place.query given.now) qs) (sym set_is) (seen_set old.queries world.queries place.query given.now told stands.seen (λ f. stood f ∙ seen_told f))) in
+      behind false (map (query_after_report world place.at live.name) world.queries) queries regs have first rest (ap (λ qs. left_from name_in (test_in old) qs (next_in old) place.at (place.query + 1)) regs_old)
+
+  stands_behind : (ends : Bool) → is_overfull world query place.at ≡ ends → (ends ≡ false → IsSameMultiset fact_eq given.now.seen seen_now) → new.queries ≡ queries_behind old place given.now ends
+      → IsFirstLeft name_in (test_in old) (registrations_in new) (next_in old) place.at (place_behind place ends) new.first
+      → Stands new (after_report world query place.at) (moments_behind world query place.at rest)
+  stands_behind true ends stood queries first = rw ends (ended queries first)
+  stands_behind false ends stood queries first = rw ends (went_on queries (stood refl) first)
 
   pub first_given : GivesOf world left report new
   first_given =
-      let wanted : (report_of world query place.at).outcome ≡ outcome_over query.reading (facts_over old.items query place.at) = ap (outcome_over query.reading) seen in
-      let by_outcome = full in
       record {
         step = record { report = report_of world query place.at; after = after_report world query place.at; left = moments_behind world query place.at rest };
         is_next = ap (next_step world) is_first ∙ rw live_is refl;
@@ -141,19 +173,19 @@ module _ (old new : State) (report : Report) (world : World) (left : List Moment
           query = given.query;
           at = given.at;
           variables = given.variables;
-          outcome = subst (λ o. IsOutcome report.outcome o) (sym wanted) given.outcome;
+          outcome = given.outcome (facts world query place.at) seen;
         };
-        stands = behind (is_overfull_outcome report.outcome) (sym full) given.queries given.left;
+        stands = stands_behind (is_overfull_outcome report.outcome) (sym full) given.seen given.queries given.left;
       }
 
 -- ---- fewer places are left
 
 module _ (old new : State) (report : Report) (given : ReportsFirst old report new) where
-  less : (ends : Bool) → new.queries ≡ queries_behind old given.place given.live ends
-      → IsFirstLeft (test_in old) (registrations_in new) (next_in old) given.place.at (place_behind given.place ends) new.first → places_left new < places_left old
+  less : (ends : Bool) → new.queries ≡ queries_behind old given.place given.now ends
+      → IsFirstLeft name_in (test_in old) (registrations_in new) (next_in old) given.place.at (place_behind given.place ends) new.first → places_left new < places_left old
   less true queries first = by new.first refl first
     where
-      by : (r : Option Pending) → new.first ≡ r → IsFirstLeft (test_in old) (registrations_in new) (next_in old) given.place.at given.place.query r → places_left new < places_left old
+      by : (r : Option Pending) → new.first ≡ r → IsFirstLeft name_in (test_in old) (registrations_in new) (next_in old) given.place.at given.place.query r → places_left new < places_left old
       by None is h = rw (is, given.first) (omega arith)
       by (Some later) is h =
           let few = slice_get_within (registrations_in new) later.query h.0.query h.0.listed in
@@ -163,11 +195,11 @@ module _ (old new : State) (report : Report) (given : ReportsFirst old report ne
           rw (is, given.first, given.next) (nearer_gone (next_in old) given.place.at given.place.query later.at later.query (length old.queries) (length new.queries) counts h.1 h.2 below h.0.within)
   less false queries first = by new.first refl first
     where
-      by : (r : Option Pending) → new.first ≡ r → IsFirstLeft (test_in old) (registrations_in new) (next_in old) given.place.at (given.place.query + 1) r → places_left new < places_left old
+      by : (r : Option Pending) → new.first ≡ r → IsFirstLeft name_in (test_in old) (registrations_in new) (next_in old) given.place.at (given.place.query + 1) r → places_left new < places_left old
       by None is h = rw (is, given.first) (omega arith)
       by (Some later) is h =
           let few = slice_get_within (registrations_in new) later.query h.0.query h.0.listed in
-          let counts : length new.queries ≡ length old.queries = ap length queries ∙ length-set old.queries given.place.query (seeing given.live old.items given.place.at) in
+          let counts : length new.queries ≡ length old.queries = ap length queries ∙ length-set old.queries given.place.query given.now in
           let below : later.query < length old.queries = rw (length-map new.queries registration_of, counts) at few in
           rw (is, given.first, given.next, counts) (nearer (next_in old) given.place.at given.place.query later.at later.query (length old.queries) h.1 h.2 below h.0.within)
 

@@ -1,19 +1,19 @@
 -- The moments that are left from a place on, and how they go.
-use Rattle.std.proofs.Common.{◌≡◌, ℕ, zero, suc, ◌+◌, ◌-◌, ◌<◌, ◌≤◌, Bool, true, false, true≢false, not, ◌&&◌, ◌||◌, cond, List, [], ◌∷◌, ◌++◌, filter, drop, Option, None, Some, slice_get, refl, sym, ap, subst, ◌∙◌, arith, nat_lt, bytes_eq, if◌then◌else◌}
-use Rattle.std.specs.List.{flat_map, list_any, range_with_len}
-use Rattle.std.specs.Option.{option_map_or}
+use Rattle.std.proofs.Common.{◌≡◌, ℕ, zero, suc, ◌+◌, ◌-◌, ◌<◌, ◌≤◌, Bool, true, false, true≢false, not, ◌||◌, cond, List, [], ◌∷◌, ◌++◌, filter, map, drop, Option, None, Some, slice_get, refl, sym, ap, subst, ◌∙◌, arith, nat_lt, bytes_eq, if◌then◌else◌}
+use Rattle.std.specs.List.{All, flat_map, list_any, range_with_len}
+use Rattle.std.specs.Option.{ForSome, option_map_or}
 use Rattle.std.proofs.lemmas.Bool.{lt-ltb, le-ltb}
-use Rattle.std.proofs.lemmas.List.{append-nil, append_assoc, drop_more}
-use Rattle.std.proofs.lemmas.List.Elements.{filter-append}
+use Rattle.std.proofs.lemmas.List.{append-nil, append_assoc, drop-map, drop_more}
+use Rattle.std.proofs.lemmas.List.Elements.{All-drop, filter-append}
 use Rattle.std.proofs.lemmas.Option.{get_or_from_slice_get, same_Some, slice_get_within}
 use Rattle.rsp_engine.specs.declared.item.Item.{Item}
 use Rattle.rsp_engine.specs.declared.finding.Pending.{Pending}
 use Rattle.rsp_engine.specs.World.{Registration}
-use Rattle.rsp_engine.specs.Due.{is_due, is_due_on, newest}
+use Rattle.rsp_engine.specs.Due.{is_due, is_due_over, newest}
 use Rattle.rsp_engine.specs.Moments.{Moment, moments_at}
-use Rattle.rsp_engine.specs.Left.{IsFirstLeft, IsWaiting, left_from, reports_at}
+use Rattle.rsp_engine.specs.Left.{IsFirstLeft, IsWaiting, left_from, moments_of, name_in, reports_at}
 use Rattle.rsp_engine.specs.Accept.{has_name}
-use Rattle.rsp_engine.proofs.Named.{last_of}
+use Rattle.rsp_engine.proofs.Named.{get_map, last_of}
 
 -- ---- one step
 
@@ -29,26 +29,26 @@ none_pass test (x ∷ xs) none =
       | false ↦ λ is. none_pass test xs is
     ] none
 
-module _ (test : ℕ → Registration → Bool) (queries : List Registration) (last : ℕ) where
+module _ {Q : Type 0} (name : Q → List ℕ) (test : ℕ → Q → Bool) (queries : List Q) (last : ℕ) where
   -- a query that passes is the first
-  pub head : (t i : ℕ) (query : Registration) → slice_get queries i ≡ Some query → test t query ≡ true
-      → left_from test queries last t i ≡ record { at = t; query = query.name } ∷ left_from test queries last t (i + 1)
+  pub head : (t i : ℕ) (query : Q) → slice_get queries i ≡ Some query → test t query ≡ true
+      → left_from name test queries last t i ≡ record { at = t; query = name query } ∷ left_from name test queries last t (i + 1)
   head t i query listed passes = rw (drop_is queries i query listed, passes) refl
 
   -- queries that don't pass are passed over
   pub quiet : (t i k : ℕ) → filter (test t) (drop i queries) ≡ filter (test t) (drop k queries)
-      → left_from test queries last t i ≡ left_from test queries last t k
+      → left_from name test queries last t i ≡ left_from name test queries last t k
   quiet t i k same = rw same refl
 
   -- the end of an instant leads to the next
   pub over : (t i : ℕ) → filter (test t) (drop i queries) ≡ [] → t < last
-      → left_from test queries last t i ≡ left_from test queries last (t + 1) 0
+      → left_from name test queries last t i ≡ left_from name test queries last (t + 1) 0
   over t i none below =
       let more : last - t ≡ suc (last - (t + 1)) = omega arith in
       rw (none, more) refl
 
   -- behind the last is nothing
-  pub ended : (t i : ℕ) → filter (test t) (drop i queries) ≡ [] → last ≤ t → left_from test queries last t i ≡ []
+  pub ended : (t i : ℕ) → filter (test t) (drop i queries) ≡ [] → last ≤ t → left_from name test queries last t i ≡ []
   ended t i none beyond =
       let less : last - t ≡ 0 = omega arith in
       rw (none, less) refl
@@ -56,41 +56,41 @@ module _ (test : ℕ → Registration → Bool) (queries : List Registration) (l
   -- ---- instants that are passed over
 
   jump_by : (gap t u : ℕ) → t + gap ≡ u → u ≤ last → ((s : ℕ) → t ≤ s → s < u → list_any (test s) queries ≡ false)
-      → left_from test queries last t 0 ≡ left_from test queries last u 0
-  jump_by zero t u is high none = let same : t ≡ u = omega arith in ap (λ s. left_from test queries last s 0) same
+      → left_from name test queries last t 0 ≡ left_from name test queries last u 0
+  jump_by zero t u is high none = let same : t ≡ u = omega arith in ap (λ s. left_from name test queries last s 0) same
   jump_by (suc gap) t u is high none =
       let here = none_pass (test t) queries (none t (omega arith) (omega arith)) in
       over t 0 here (omega arith) ∙ jump_by gap (t + 1) u (omega arith) high (λ s late early. none s (omega arith) early)
 
   pub jump : (t u : ℕ) → t ≤ u → u ≤ last → ((s : ℕ) → t ≤ s → s < u → list_any (test s) queries ≡ false)
-      → left_from test queries last t 0 ≡ left_from test queries last u 0
+      → left_from name test queries last t 0 ≡ left_from name test queries last u 0
   jump t u low high none = jump_by (u - t) t u (omega arith) high none
 
   pub none : (t : ℕ) → t ≤ last → ((s : ℕ) → t ≤ s → s ≤ last → list_any (test s) queries ≡ false)
-      → left_from test queries last t 0 ≡ []
+      → left_from name test queries last t 0 ≡ []
   none t low nowhere =
       jump t last low (omega arith) (λ s late early. nowhere s late (omega arith))
       ∙ ended last 0 (none_pass (test last) queries (nowhere last low (omega arith))) (omega arith)
 
   -- ---- the first place
 
-  pub waiting_head : (place : Pending) (query : Registration) → IsWaiting test queries last place
+  pub waiting_head : (place : Pending) (query : Q) → IsWaiting test queries last place
       → slice_get queries place.query ≡ Some query
-      → left_from test queries last place.at place.query
-      ≡ record { at = place.at; query = query.name } ∷ left_from test queries last place.at (place.query + 1)
+      → left_from name test queries last place.at place.query
+      ≡ record { at = place.at; query = name query } ∷ left_from name test queries last place.at (place.query + 1)
   waiting_head place query waiting listed =
       let same : waiting.query ≡ query = same_Some _ _ (sym waiting.listed ∙ listed) in
       head place.at place.query query listed (subst (λ q. test place.at q ≡ true) same waiting.reports)
 
-  pub first_left_is : (t i : ℕ) (r : Option Pending) → IsFirstLeft test queries last t i r
-      → option_map_or (λ (place : Pending). left_from test queries last place.at place.query) r []
-      ≡ left_from test queries last t i
+  pub first_left_is : (t i : ℕ) (r : Option Pending) → IsFirstLeft name test queries last t i r
+      → option_map_or (λ (place : Pending). left_from name test queries last place.at place.query) r []
+      ≡ left_from name test queries last t i
   first_left_is t i None is = sym is
   first_left_is t i (Some place) is = sym is.3
 
   -- where a query waits, a moment is left
   pub waiting_some : (place : Pending) → IsWaiting test queries last place
-      → left_from test queries last place.at place.query ≡ [] → ⊥
+      → left_from name test queries last place.at place.query ≡ [] → ⊥
   waiting_some place waiting is = let first = waiting_head place waiting.query waiting waiting.listed in cc
 
   -- ---- all from an instant on
@@ -105,20 +105,22 @@ module _ (test : ℕ → Registration → Bool) (queries : List Registration) (l
       ∙ sym (append_assoc (f from) (flat_map f (range_with_len (from + 1) n)) (f (from + 1 + n))))
 
   pub event : (from : ℕ) → from ≤ last
-      → left_from test queries last from 0
-      ≡ flat_map (λ t. moments_at (test t) queries t) (range_with_len from (last - from)) ++ moments_at (test last) queries last
+      → left_from name test queries last from 0
+      ≡ flat_map (λ t. moments_of name (test t) queries t) (range_with_len from (last - from)) ++ moments_of name (test last) queries last
   event from low =
       let same : from + (last - from) ≡ last = omega arith in
-      more_at (λ t. moments_at (test t) queries t) from (last - from)
-      ∙ ap (λ end. flat_map (λ t. moments_at (test t) queries t) (range_with_len from (last - from))
-      ++ moments_at (test end) queries end) same
+      more_at (λ t. moments_of name (test t) queries t) from (last - from)
+      ∙ ap (λ end. flat_map (λ t. moments_of name (test t) queries t) (range_with_len from (last - from))
+      ++ moments_of name (test end) queries end) same
 
 -- an event's moments: those of the instants that became complete, then those on the item that arrived
-module _ (items : List Item) (to : ℕ) (arrived : Bool) (queries : List Registration) where
+module _ (items : List Item) (to : ℕ) (arrived : Option (List ℕ)) (queries : List Registration) where
+  abbrev on_arrival : Registration → Bool
+  on_arrival query = option_map_or (λ stream. is_due_over items query stream to) arrived false
+
   -- what is tested at an instant, by whether it is complete
   abbrev tested : ℕ → Bool → Registration → Bool
-  tested t complete query =
-      if complete then is_due items query t else (arrived && option_map_or (is_due_on items query) (newest items) false)
+  tested t complete query = if complete then is_due items query t else on_arrival query
 
   complete : (n from : ℕ) → from + n ≤ to
       → flat_map (λ t. moments_at (reports_at items to arrived t) queries t) (range_with_len from n)
@@ -131,15 +133,94 @@ module _ (items : List Item) (to : ℕ) (arrived : Bool) (queries : List Registr
       ∙ ap (λ rest. moments_at (λ query. is_due items query from) queries from ++ rest) (complete n (from + 1) (omega arith))
 
   pub instants : (from : ℕ) → from ≤ to
-      → left_from (reports_at items to arrived) queries to from 0
+      → left_from name_in (reports_at items to arrived) queries to from 0
       ≡ flat_map (λ t. moments_at (λ query. is_due items query t) queries t) (range_with_len from (to - from))
-      ++ moments_at (λ query. arrived && option_map_or (is_due_on items query) (newest items) false) queries to
+      ++ moments_at on_arrival queries to
   instants from low =
       let beyond : nat_lt to to ≡ false = le-ltb to to (omega arith) in
-      event (reports_at items to arrived) queries to from low
+      event name_in (reports_at items to arrived) queries to from low
       ∙ (ap (λ early. early ++ moments_at (reports_at items to arrived to) queries to) (complete (to - from) from (omega arith))
       ∙ ap (λ b. flat_map (λ t. moments_at (λ query. is_due items query t) queries t) (range_with_len from (to - from))
       ++ moments_at (tested to b) queries to) beyond)
+
+-- a place that is set waits
+pub waits_at : {Q : Type 0} (name : Q → List ℕ) (test : ℕ → Q → Bool) (queries : List Q) (last t i : ℕ) (r : Option Pending)
+    → IsFirstLeft name test queries last t i r → ForSome r (IsWaiting test queries last)
+waits_at name test queries last t i None first = λ x is. cc
+waits_at name test queries last t i (Some place) first = λ x is. let same : place ≡ x = cc in subst (IsWaiting test queries last) same first.0
+
+-- ---- tests that agree
+
+same_filter : {X : Type 0} (p q : X → Bool) (xs : List X) → All (λ x. p x ≡ q x) xs → filter p xs ≡ filter q xs
+same_filter p q [] all = refl
+same_filter p q (x ∷ xs) all =
+    let first : p x ≡ q x = all 0 x (omega arith) in
+    let rest = same_filter p q xs (λ k d below. all (suc k) d (omega (arith, below))) in
+    rw (first, rest) refl
+
+module _ {Q : Type 0} (name : Q → List ℕ) (one other : ℕ → Q → Bool) (queries : List Q) (last : ℕ) where
+  same_later : (n from t : ℕ) → from + n ≤ last + 1 → t ≤ from → ((s : ℕ) → t ≤ s → s ≤ last → All (λ query. one s query ≡ other s query) queries)
+      → flat_map (λ later. moments_of name (one later) queries later) (range_with_len from n)
+      ≡ flat_map (λ later. moments_of name (other later) queries later) (range_with_len from n)
+  same_later zero from t high low same = refl
+  same_later (suc n) from t high low same =
+      let here = same_filter (one from) (other from) queries (same from low (omega (arith, high))) in
+      rw (here, same_later n (from + 1) t (omega (arith, high)) (omega (arith, low)) same) refl
+
+  -- the moments left are the same by tests that agree from the instant on
+  pub same_left : (t i : ℕ) → t ≤ last → ((s : ℕ) → t ≤ s → s ≤ last → All (λ query. one s query ≡ other s query) queries)
+      → left_from name one queries last t i ≡ left_from name other queries last t i
+  same_left t i low same =
+      let here = same_filter (one t) (other t) (drop i queries) (All-drop (λ query. one t query ≡ other t query) i queries (same t (omega arith) low)) in
+      rw (here, same_later (last - t) (t + 1) t (omega (arith, low)) (omega arith) same) refl
+
+  -- a first place is one by the other
+  pub same_first : (t i : ℕ) (r : Option Pending) → t ≤ last → ((s : ℕ) → t ≤ s → s ≤ last → All (λ query. one s query ≡ other s query) queries)
+      → IsFirstLeft name one queries last t i r → IsFirstLeft name other queries last t i r
+  same_first t i None low same first = sym (same_left t i low same) ∙ first
+  same_first t i (Some place) low same first =
+      let at = same place.at first.1 first.0.within in
+      let listed = first.0.listed in
+      let agrees : one place.at first.0.query ≡ other place.at first.0.query =
+      subst (λ q. one place.at q ≡ other place.at q) (get_or_from_slice_get queries place.query first.0.query first.0.query listed)
+      (at place.query first.0.query (slice_get_within queries place.query first.0.query listed)) in (
+        record { within = first.0.within; query = first.0.query; listed = listed; reports = sym agrees ∙ first.0.reports },
+        first.1,
+        first.2,
+        sym (same_left t i low same) ∙ (first.3 ∙ same_left place.at place.query first.0.within (λ s late early. same s (omega (arith, first.1, late)) early)),
+      )
+
+-- ---- queries by what they are read as
+
+module _ {Q R : Type 0} (read : Q → R) (name : R → List ℕ) (test : ℕ → R → Bool) where
+  read_at : (queries : List Q) (t : ℕ) → moments_of (λ q. name (read q)) (λ q. test t (read q)) queries t ≡ moments_of name (test t) (map read queries) t
+  read_at [] t = refl
+  read_at (q ∷ queries) t = by (test t (read q)) (read_at queries t)
+    where
+      by : (b : Bool) → moments_of (λ q. name (read q)) (λ q. test t (read q)) queries t ≡ moments_of name (test t) (map read queries) t
+          → map {B = Moment} (λ q. record { at = t; query = name (read q) }) (cond b (q ∷ filter (λ q. test t (read q)) queries) (filter (λ q. test t (read q)) queries))
+          ≡ map {B = Moment} (λ r. record { at = t; query = name r }) (cond b (read q ∷ filter (test t) (map read queries)) (filter (test t) (map read queries)))
+      by true rest = ap (λ ms. record { at = t; query = name (read q) } ∷ ms) rest
+      by false rest = rest
+
+  read_later : (queries : List Q) (ts : List ℕ) → flat_map (λ t. moments_of (λ q. name (read q)) (λ q. test t (read q)) queries t) ts ≡ flat_map (λ t. moments_of name (test t) (map read queries) t) ts
+  read_later queries [] = refl
+  read_later queries (t ∷ ts) = rw (read_at queries t, read_later queries ts) refl
+
+  pub read_left : (queries : List Q) (last t i : ℕ) → left_from (λ q. name (read q)) (λ t q. test t (read q)) queries last t i ≡ left_from name test (map read queries) last t i
+  read_left queries last t i =
+      ap (λ ms. ms ++ flat_map (λ later. moments_of (λ q. name (read q)) (λ q. test later (read q)) queries later) (range_with_len (t + 1) (last - t))) (read_at (drop i queries) t ∙ ap (λ qs. moments_of name (test t) qs t) (sym (drop-map read i queries)))
+      ∙ ap (λ ms. moments_of name (test t) (drop i (map read queries)) t ++ ms) (read_later queries (range_with_len (t + 1) (last - t)))
+
+  -- a first place is one
+  pub read_first : (queries : List Q) (last t i : ℕ) (r : Option Pending) → IsFirstLeft (λ q. name (read q)) (λ t q. test t (read q)) queries last t i r → IsFirstLeft name test (map read queries) last t i r
+  read_first queries last t i None first = sym (read_left queries last t i) ∙ first
+  read_first queries last t i (Some place) first = (
+    record { within = first.0.within; query = read first.0.query; listed = get_map read queries place.query first.0.query first.0.listed; reports = first.0.reports },
+    first.1,
+    first.2,
+    sym (read_left queries last t i) ∙ (first.3 ∙ read_left queries last place.at place.query),
+  )
 
 -- the item that was accepted last
 pub newest_of : (items : List Item) (item : Item) → newest (items ++ item ∷ []) ≡ Some item
@@ -176,26 +257,26 @@ module _ (test : ℕ → Registration → Bool) (name : List ℕ) where
       ] refl
 
   -- at some instants
-  abbrev moments_of : List Registration → List ℕ → List Moment
-  moments_of queries ts = flat_map (λ t. moments_at (test t) queries t) ts
+  abbrev moments_over : List Registration → List ℕ → List Moment
+  moments_over queries ts = flat_map (λ t. moments_at (test t) queries t) ts
 
-  struck_of : (queries : List Registration) (ts : List ℕ) → moments_of (others queries) ts ≡ struck (moments_of queries ts)
+  struck_of : (queries : List Registration) (ts : List ℕ) → moments_over (others queries) ts ≡ struck (moments_over queries ts)
   struck_of queries [] = refl
   struck_of queries (t ∷ ts) =
-      ap (λ ms. ms ++ moments_of (others queries) ts) (struck_at t queries)
+      ap (λ ms. ms ++ moments_over (others queries) ts) (struck_at t queries)
       ∙ (ap (λ ms. struck (moments_at (test t) queries t) ++ ms) (struck_of queries ts)
       ∙ sym (filter-append (λ (moment : Moment). not (bytes_eq moment.query name)) (moments_at (test t) queries t)
-      (moments_of queries ts)))
+      (moments_over queries ts)))
 
   -- those left without it are those left with its name struck
   pub gone : (queries rest : List Registration) (last t i j : ℕ) → rest ≡ filter (λ query. not (has_name name query)) queries
       → drop i rest ≡ filter (λ query. not (has_name name query)) (drop j queries)
-      → left_from test rest last t i
-      ≡ filter (λ (moment : Moment). not (bytes_eq moment.query name)) (left_from test queries last t j)
+      → left_from name_in test rest last t i
+      ≡ filter (λ (moment : Moment). not (bytes_eq moment.query name)) (left_from name_in test queries last t j)
   gone queries rest last t i j all is =
       let later = range_with_len (t + 1) (last - t) in
       rw (is, all)
-      (ap (λ ms. ms ++ moments_of (others queries) later) (struck_at t (drop j queries))
+      (ap (λ ms. ms ++ moments_over (others queries) later) (struck_at t (drop j queries))
       ∙ (ap (λ ms. struck (moments_at (test t) (drop j queries) t) ++ ms) (struck_of queries later)
       ∙ sym (filter-append (λ (moment : Moment). not (bytes_eq moment.query name)) (moments_at (test t) (drop j queries) t)
-      (moments_of queries later))))
+      (moments_over queries later))))

@@ -2,6 +2,8 @@ pub mod Left
 pub mod Named
 pub mod Places
 pub mod Standing
+pub mod Sees
+pub mod Seen
 pub mod Reporting
 pub mod Readiness
 pub mod Offering

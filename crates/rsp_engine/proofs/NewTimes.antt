@@ -9,7 +9,7 @@ use Rattle.rsp_engine.specs.declared.item.Item.{Item}
 use Rattle.rsp_engine.specs.declared.live_query.StreamWindow.{StreamWindow}
 use Rattle.rsp_engine.specs.declared.live_query.LiveQuery.{LiveQuery}
 use Rattle.rsp_engine.specs.Contents.{visible_items}
-use Rattle.rsp_engine.specs.Inside.{IsWatching, fixed}
+use Rattle.rsp_engine.specs.Inside.{IsWatching}
 use Rattle.rsp_engine.specs.Due.{is_over, newest, watched_window}
 use Rattle.rsp_engine.specs.Watching.{with_time}
 
@@ -68,7 +68,7 @@ module _ {W X : Type 0} (old new : W → X) where
 -- a query watches each of its windows
 pub watched_length : {A : Type 0} (items : List Item) (live : LiveQuery A) → IsWatching items live → live.watched.len ≡ length live.windows
 watched_length items live is =
-    live.watched.ok.0 ∙ (ap length is.watched ∙ length-map live.windows (watched_window (visible_items items (fixed live))))
+    live.watched.ok.0 ∙ (ap length is.watched ∙ length-map live.windows (watched_window (visible_items items live.first)))
 
 pub next_watched : (ws : List StreamWindow) (items : List Item) (item : Item) (i : ℕ) (watched : List Watched) (one new : Watched) (over : Bool)
     → watched ≡ so_far (watched_window items) (watched_window (items ++ (item ∷ []))) ws i

@@ -1,14 +1,21 @@
 -- An accepted event leads from an idle engine that stands for a world to one that stands for the next.
-use Rattle.std.proofs.Common.{◌≡◌, ℕ, ◌+◌, ◌-◌, ◌<◌, ◌≤◌, Bool, true, false, ◌&&◌, List, [], ◌∷◌, ◌++◌, length, map, filter, remove, slice_get, Option, None, Some, Result, Ok, Err, refl, sym, ◌∙◌, ap, subst, arith, nat_lt, nat_le, unwrap_or, bytes_eq}
-use Rattle.std.proofs.lemmas.List.{append-nil, length-map}
-use Rattle.std.proofs.lemmas.Bool.{le-leb, le-ltb, lt-leb}
-use Rattle.std.proofs.lemmas.Simd.{map-map}
+use Rattle.std.proofs.Common.{◌≡◌, ℕ, ◌+◌, ◌-◌, ◌<◌, ◌≤◌, true, false, List, [], ◌∷◌, ◌++◌, length, map, filter, remove, slice_get, Option, None, Some, Result, Ok, Err, refl, sym, ◌∙◌, ap, subst, arith, nat_lt, nat_le, unwrap_or, bytes_eq}
+use Rattle.std.proofs.lemmas.List.{append-nil, map_push}
+use Rattle.std.proofs.lemmas.Bool.{le-leb, le-ltb, lt-leb, lt-ltb}
 use Rattle.std.specs.Prelude.{IfErr, OnOk}
 use Rattle.std.specs.List.{IsDistinct, flat_map, list_any, range_with_len}
 use Rattle.std.specs.Option.{is_some, option_map_or}
 use Rattle.std.specs.Cmp.Lexicographic.{bytes_decides}
+use Rattle.rsp_terms.specs.Same.{fact_eq}
+use Rattle.rsp_multiset.specs.Weights.{IsSameMultiset, times}
+use Rattle.rsp_terms.specs.declared.statement.Fact.{Fact}
+use Rattle.rsp_terms.specs.declared.statement.Quad.{Quad}
+use Rattle.rsp_scope.specs.declared.stored.StoredFault.TheVariants.{StoreFull}
+use Rattle.rsp_scope.specs.Faults.{IsStoredFault}
+use Rattle.rsp_scope.specs.Quads.{stored_with, stored_without}
+use Rattle.rsp_scope.proofs.StoredLaws.{as-many-stored_with, same-stored_with, same-stored_without}
 use Rattle.rsp_events.specs.declared.event.Event.{Event}
-use Rattle.rsp_events.specs.declared.event.Event.TheVariants.{Cancel, Item, Register, Tick}
+use Rattle.rsp_events.specs.declared.event.Event.TheVariants.{Cancel, Delete, Insert, Item, Register, Tick}
 use Rattle.rsp_terms.specs.declared.statement.Triple.{Triple}
 use Rattle.rsp_engine.specs.declared.item.Item as item
 use Rattle.rsp_query.specs.Queries.{Registered}
@@ -19,17 +26,19 @@ use Rattle.rsp_engine.specs.declared.refused.Refused.TheVariants as answer
 use Rattle.rsp_engine.specs.declared.refused.Refused.{Refused}
 use Rattle.rsp_engine.specs.Offers.{Answers, Offers, Refuses}
 use Rattle.rsp_engine.specs.Refusals.{Refusal, refusal_of, shape_fault, text_fault}
-use Rattle.rsp_engine.specs.World.{Query, World, registrations}
+use Rattle.rsp_engine.specs.World.{Query, Registration, World, registrations}
 use Rattle.rsp_engine.specs.Readings.{is_rstream, reading_of}
-use Rattle.rsp_engine.specs.Accept.{accept, has_name, is_live, most_items, most_queries, most_triples, new_query, next_of, starts_overfull, without}
-use Rattle.rsp_engine.specs.Due.{is_due_on, newest}
-use Rattle.rsp_engine.specs.Left.{IsFirstLeft, reports_at}
-use Rattle.rsp_engine.specs.Moments.{Moment, due_moments, moments, moments_at, moments_from, moments_on}
+use Rattle.rsp_engine.specs.Accept.{accept, has_name, is_live, most_items, most_quads, most_queries, most_triples, new_query, next_of, starts_overfull, without}
+use Rattle.rsp_engine.specs.Due.{is_due_over}
+use Rattle.rsp_engine.specs.Left.{IsFirstLeft, left_from, name_in, reports_at}
+use Rattle.rsp_engine.specs.Moments.{Moment, due_moments, moments, moments_at, moments_from}
 use Rattle.rsp_engine.specs.Passing.{Passes}
-use Rattle.rsp_engine.specs.Stands.{Live, Stands, State, moments_left, next_in, query_of, registrations_in}
-use Rattle.rsp_engine.proofs.Left.{first_left_is, instants, newest_of}
-use Rattle.rsp_engine.proofs.Named.{get_map, remove_map, remove_named}
-use Rattle.rsp_engine.proofs.Standing.{any_named, same_live, same_registrations}
+use Rattle.rsp_engine.specs.Stands.{HaveSeen, Live, Sees, Stands, State, left_in, next_in, registration_of, registrations_in, test_in}
+use Rattle.rsp_engine.proofs.Left.{first_left_is, instants, same_left, waits_at}
+use Rattle.rsp_engine.proofs.Named.{remove_map, remove_named}
+use Rattle.rsp_engine.proofs.Sees.{sees}
+use Rattle.rsp_engine.proofs.Seen.{name_of_query, seen_more, seen_removed, world_at, world_names}
+use Rattle.rsp_engine.proofs.Standing.{any_named, head_is, none_is, same_count, same_live}
 
 pub same_bytes : (name : List ℕ) → bytes_eq name name ≡ true
 same_bytes name = (bytes_decides name name).1 refl
@@ -39,11 +48,6 @@ abbrev pub Leads : World → Event → State → Type 0
 Leads world event new = (after : World) × (accept world event ≡ Ok after) × Stands new after (moments world event after)
 
 -- ---- time that passes
-
--- the moments on what arrived, if something did
-abbrev arrivals : World → Bool → ℕ → List Moment
-arrivals world arrived to =
-    moments_at (λ query. arrived && option_map_or (is_due_on world.items query) (newest world.items) false) (registrations world) to
 
 -- the instants that became complete
 complete : (world : World) (to : ℕ) (before : Option ℕ) → world.next ≡ Some to → unwrap_or before to ≤ to
@@ -56,60 +60,89 @@ none_pass : {X : Type 0} (xs : List X) → filter (λ _. false) xs ≡ []
 none_pass [] = refl
 none_pass (x ∷ xs) = none_pass xs
 
--- an engine that passed to an instant stands for the world with these items, and for the moments of what became complete and arrived
-pub passed : (old new : State) (items : List item.Item) (arrived : Bool) (to : ℕ) (world : World) → Passes old items arrived to new → Stands old world [] → unwrap_or old.next to ≤ to
-    → let after : World = record { next = Some to; items = items; queries = world.queries } in
-    Stands new after (option_map_or (λ from. moments_from after from) world.next [] ++ arrivals after arrived to)
-passed old new items arrived to world passes stands low =
-    let after : World = record { next = Some to; items = items; queries = world.queries } in
-    let regs = same_registrations old.queries world stands.queries in
-    let before : unwrap_or old.next to ≡ unwrap_or world.next to = ap (λ n. unwrap_or n to) stands.next in
-    let low_world : unwrap_or world.next to ≤ to = subst (λ n. n ≤ to) before low in
-    let first = subst (λ qs. IsFirstLeft (reports_at items to arrived) qs to (unwrap_or old.next to) 0 new.first) (sym regs) passes.first in
-    let there = subst (λ from. IsFirstLeft (reports_at items to arrived) (registrations after) to from 0 new.first) before first in
-    let whole = first_left_is (reports_at items to arrived) (registrations after) to (unwrap_or world.next to) 0 new.first there in
-    let split = instants items to arrived (registrations after) (unwrap_or world.next to) low_world in
-    let done = complete after to world.next refl low_world in
-    let all : moments_left after arrived new.first ≡ option_map_or (λ from. moments_from after from) world.next [] ++ arrivals after arrived to =
-    whole ∙ (split ∙ ap (λ ms. ms ++ arrivals after arrived to) done) in
-    record {
-      ready = passes.broken;
-      next = passes.next;
-      items = passes.items;
-      queries = ap (map query_of) passes.queries ∙ stands.queries;
-      moments = sym (ap (λ came. moments_left after came new.first) passes.arrived ∙ all);
-    }
+-- the moments on what arrived over this stream, if something did
+abbrev arrivals : World → Option (List ℕ) → ℕ → List Moment
+arrivals world came to =
+    moments_at (λ query. option_map_or (λ stream. is_due_over world.items query stream to) came false) (registrations world) to
+
+-- an engine that passed to an instant, with items by which it sees those of the world from the old `next` on, stands for the world
+-- with the new items, and for the moments of what became complete and arrived
+module _ (old new : State) (items : List item.Item) (came : Option (List ℕ)) (to : ℕ) (world : World) (arrived : List item.Item)
+    (passes : Passes old items came to new) (kept : items ≡ world.items ++ arrived) (stands : Stands old world []) (low : unwrap_or old.next to ≤ to) where
+  abbrev after : World
+  after = record { next = Some to; items = world.items ++ arrived; stored = world.stored; queries = world.queries }
+
+  regs : registrations_in new ≡ registrations after
+  regs = ap (map registration_of) passes.queries ∙ stands.queries
+
+  sees_after : Sees new after (unwrap_or old.next to)
+  sees_after = sees new after (unwrap_or old.next to) passes.next (passes.items ∙ kept)
+
+  first_here : IsFirstLeft name_in (test_in new) (registrations_in new) (next_in new) (unwrap_or old.next to) 0 new.first
+  first_here = rw (passes.next, passes.items, passes.arrived, passes.queries) passes.first
+
+  named : left_from name_in (reports_at after.items to new.arrived) (registrations_in new) (next_in new) (unwrap_or old.next to) 0
+      ≡ left_from name_in (reports_at after.items to came) (registrations after) to (unwrap_or old.next to) 0
+  named = rw (passes.arrived, regs, passes.next) refl
+
+  -- the moments left are those of the world
+  left_is : left_in new ≡ option_map_or (λ from. moments_from after from) world.next [] ++ arrivals after came to
+  left_is =
+      let below : unwrap_or old.next to ≤ next_in new = rw passes.next low in
+      let before : unwrap_or old.next to ≡ unwrap_or world.next to = ap (λ n. unwrap_or n to) stands.next in
+      let low_world : unwrap_or world.next to ≤ to = subst (λ n. n ≤ to) before low in
+      let whole = first_left_is name_in (test_in new) (registrations_in new) (next_in new) (unwrap_or old.next to) 0 new.first first_here in
+      let by_world = same_left name_in (test_in new) (reports_at after.items (next_of after) new.arrived) (registrations_in new) (next_in new) (unwrap_or old.next to) 0 below sees_after.due in
+      let split = instants after.items to came (registrations after) (unwrap_or world.next to) low_world in
+      let done = complete after to world.next refl low_world in
+      whole ∙ (by_world ∙ (named ∙ (ap (λ from. left_from name_in (reports_at after.items to came) (registrations after) to from 0) before
+      ∙ (split ∙ ap (λ ms. ms ++ arrivals after came to) done))))
+
+  pub passed : Stands new after (option_map_or (λ from. moments_from after from) world.next [] ++ arrivals after came to)
+  passed =
+      let waits = waits_at name_in (test_in new) (registrations_in new) (next_in new) (unwrap_or old.next to) 0 new.first first_here in
+      record {
+        ready = passes.broken;
+        next = passes.next;
+        kept = passes.items ∙ kept;
+        stored = subst (λ fs. IsSameMultiset fact_eq fs world.stored) (sym passes.stored) stands.stored;
+        queries = regs;
+        seen = subst (λ lives. HaveSeen lives world.queries) (sym passes.queries) stands.seen;
+        moments = sym left_is;
+        head = head_is new _ (sym left_is) waits;
+        none = none_is new _ (sym left_is) waits;
+      }
 
 -- what is due is not before `next`
 pub low_of : (next : Option ℕ) (to : ℕ) → unwrap_or next 0 ≤ to → unwrap_or next to ≤ to
 low_of None to low = omega arith
 low_of (Some n) to low = low
 
-pub tick_leads : (old new : State) (time : ℕ) (world : World) → next_in old ≤ time + 1 → Passes old old.items false (time + 1) new → Stands old world [] → Leads world (Tick time) new
+pub tick_leads : (old new : State) (time : ℕ) (world : World) → next_in old ≤ time + 1 → Passes old old.items None (time + 1) new → Stands old world [] → Leads world (Tick time) new
 tick_leads old new time world late passes stands =
     let after : World = record world { next = Some (time + 1) } in
     let in_time : nat_lt (time + 1) (next_of world) ≡ false = le-ltb _ _ (rw stands.next at late) in
-    let there = passed old new old.items false (time + 1) world passes stands (low_of old.next (time + 1) late) in
-    let nothing : arrivals after false (time + 1) ≡ [] = ap (map _) (none_pass (registrations after)) in (
+    let there = passed old new old.items None (time + 1) world [] passes (stands.kept ∙ sym (append-nil world.items)) stands (low_of old.next (time + 1) late) in
+    let nothing : arrivals after None (time + 1) ≡ [] = ap (map _) (none_pass (registrations after)) in (
       after,
       rw in_time refl,
-      rw (stands.items, nothing) at there,
+      rw (append-nil world.items, nothing) at there,
     )
 
 -- an item that was kept, and time that passed up to it
 pub item_leads : (old new : State) (stream : List ℕ) (time : ℕ) (graph : List Triple) (world : World) → length graph ≤ most_triples → length old.items < most_items → next_in old ≤ time
-    → Passes old (old.items ++ record { stream = stream; time = time; graph = graph } ∷ []) true time new → Stands old world [] → Leads world (Item stream time graph) new
+    → Passes old (old.items ++ record { stream = stream; time = time; graph = graph } ∷ []) (Some stream) time new → Stands old world [] → Leads world (Item stream time graph) new
 item_leads old new stream time graph world small few late passes stands =
     let arrived : item.Item = record { stream = stream; time = time; graph = graph } in
     let after : World = record world { next = Some time; items = world.items ++ arrived ∷ [] } in
-    let few_items : nat_le most_items (length world.items) ≡ false = lt-leb _ _ (rw stands.items at few) in
+    let accepted : length old.items ≡ length world.items = (sees old world 0 stands.next stands.kept).accepted in
+    let few_items : nat_le most_items (length world.items) ≡ false = lt-leb _ _ (rw accepted at few) in
     let few_triples : nat_lt most_triples (length graph) ≡ false = le-ltb _ _ small in
     let in_time : nat_lt time (next_of world) ≡ false = le-ltb _ _ (rw stands.next at late) in
-    let there = passed old new (old.items ++ arrived ∷ []) true time world passes stands (low_of old.next time late) in
-    let on_item : arrivals after true time ≡ moments_on after (Item stream time graph) = rw (newest_of world.items arrived) refl in (
+    let there = passed old new (old.items ++ arrived ∷ []) (Some stream) time world (arrived ∷ []) passes (ap (λ items. items ++ arrived ∷ []) stands.kept) stands (low_of old.next time late) in (
       after,
       rw (few_triples, few_items, in_time) refl,
-      rw (stands.items, on_item) at there,
+      there,
     )
 
 -- ---- registrations and cancellations: no moment
@@ -120,35 +153,45 @@ none_behind world None = refl
 none_behind world (Some next) = let none : next - next ≡ 0 = omega arith in rw none refl
 
 -- an engine that is idle, with other queries, stands for the world with these
-other_queries : (old : State) (lives : List Live) (world after : World) → old.first ≡ None → Stands old world [] → after ≡ record world { queries = map query_of lives }
+other_queries : (old : State) (lives : List Live) (world after : World) (queries : List Query) → old.first ≡ None → Stands old world [] → after ≡ record world { queries = queries }
+    → map registration_of lives ≡ map (λ (query : Query). query.registration) queries → HaveSeen lives queries
     → Stands (record old { queries = lives }) after (option_map_or (λ from. moments_from after from) world.next [] ++ [])
-other_queries old lives world after idle stands is = rw is
+other_queries old lives world after queries idle stands is regs seen =
+    let none : option_map_or (λ from. moments_from (record world { queries = queries }) from) world.next [] ++ [] ≡ [] =
+    append-nil _ ∙ none_behind (record world { queries = queries }) world.next in
+    rw (is, none)
     (record {
       ready = stands.ready;
       next = stands.next;
-      items = stands.items;
-      queries = refl;
-      moments = append-nil _ ∙ (none_behind (record world { queries = map query_of lives }) world.next ∙ rw idle refl);
+      kept = stands.kept;
+      stored = stands.stored;
+      queries = regs;
+      seen = seen;
+      moments = rw idle refl;
+      head = rw idle (λ place some. cc);
+      none = (λ _. refl, λ _. idle);
     })
 
 -- a query that became live
-pub register_leads : (old : State) (name text : List ℕ) (q : Registered) (kept : Live) (world : World) → query_of kept ≡ new_query name (reading_of q) (length old.items) → old.first ≡ None
-    → list_any (has_name name) (registrations_in old) ≡ false → parse text ≡ Ok q → first_fault q ≡ None → is_mixed q.policy ≡ false → is_rstream q.operator ≡ true → length old.queries < most_queries → starts_overfull (reading_of q) ≡ false → Stands old world []
+pub register_leads : (old : State) (name text : List ℕ) (q : Registered) (kept : Live) (world : World) → registration_of kept ≡ (new_query name (reading_of q) (length old.items)).registration → kept.seen ≡ []
+    → old.first ≡ None → list_any (has_name name) (registrations_in old) ≡ false → parse text ≡ Ok q → first_fault q ≡ None → is_mixed q.policy ≡ false → is_rstream q.operator ≡ true → length old.queries < most_queries → starts_overfull (reading_of q) ≡ false → Stands old world []
     → Leads world (Register name text) (record old { queries = old.queries ++ kept ∷ [] })
-register_leads old name text q kept world made idle free is good unmixed rstream few starts stands =
-    let after : World = record world { queries = world.queries ++ new_query name (reading_of q) (length world.items) ∷ [] } in
+register_leads old name text q kept world made nothing idle free is good unmixed rstream few starts stands =
+    let new : Query = new_query name (reading_of q) (length world.items) in
+    let after : World = record world { queries = world.queries ++ new ∷ [] } in
     let none_live : is_live world name ≡ false = same_live old world name stands.queries ∙ free in
-    let count : length world.queries ≡ length old.queries = ap length (sym stands.queries) ∙ length-map old.queries query_of in
+    let count : length world.queries ≡ length old.queries = same_count old world stands.queries in
     let room : nat_le most_queries (length world.queries) ≡ false = lt-leb _ _ (rw (← count) at few) in
-    let as_kept : after ≡ record world { queries = map query_of (old.queries ++ kept ∷ []) } = rw (map_more old.queries kept, stands.queries, made, stands.items) refl in (
+    let accepted : length old.items ≡ length world.items = (sees old world 0 stands.next stands.kept).accepted in
+    let made_is : registration_of kept ≡ new.registration = made ∙ ap (λ n. (new_query name (reading_of q) n).registration) accepted in
+    let regs : map registration_of (old.queries ++ kept ∷ []) ≡ map (λ (query : Query). query.registration) (world.queries ++ new ∷ []) =
+    map_push registration_of old.queries kept ∙ (ap (λ qs. qs ++ registration_of kept ∷ []) stands.queries
+    ∙ (ap (λ r. registrations world ++ r ∷ []) made_is ∙ sym (map_push (λ (query : Query). query.registration) world.queries new))) in
+    let seen = seen_more old.queries world.queries kept new stands.seen (λ f. ap (λ fs. times fact_eq fs f) nothing) in (
       after,
       rw (none_live, is, good, unmixed, rstream, room, starts) refl,
-      other_queries old (old.queries ++ kept ∷ []) world after idle stands as_kept,
+      other_queries old (old.queries ++ kept ∷ []) world after (world.queries ++ new ∷ []) idle stands refl regs seen,
     )
-  where
-    map_more : (lives : List Live) (live : Live) → map query_of (lives ++ live ∷ []) ≡ map query_of lives ++ query_of live ∷ []
-    map_more [] live = refl
-    map_more (x ∷ xs) live = ap (λ rest. query_of x ∷ rest) (map_more xs live)
 
 -- the named query goes
 pub cancel_leads : (old : State) (name : List ℕ) (place : ℕ) (live : Live) (world : World) → old.first ≡ None → IsDistinct bytes_eq (map (λ (l : Live). l.name) old.queries)
@@ -157,18 +200,69 @@ pub cancel_leads : (old : State) (name : List ℕ) (place : ℕ) (live : Live) (
 cancel_leads old name place live world idle names listed is stands =
     let after : World = record world { queries = without name world.queries } in
     let is_named : is_live world name ≡ true = same_live old world name stands.queries ∙ any_named old.queries place live name listed is in
-    let gone : without name world.queries ≡ map query_of (remove old.queries place) = gone_is old name place live world names listed is stands in (
+    let found = world_at old world stands.queries place live listed in
+    let called : name_of_query found.0 ≡ name = ap (λ (r : Registration). r.name) found.2 ∙ is in
+    let gone : without name world.queries ≡ remove world.queries place =
+    subst (λ n. without n world.queries ≡ remove world.queries place) called (remove_named world.queries name_of_query place found.0 (world_names old world stands.queries names) found.1) in
+    let regs : map registration_of (remove old.queries place) ≡ map (λ (query : Query). query.registration) (remove world.queries place) =
+    remove_map registration_of old.queries place ∙ (ap (λ qs. remove qs place) stands.queries ∙ sym (remove_map (λ (query : Query). query.registration) world.queries place)) in (
       after,
       rw is_named refl,
-      other_queries old (remove old.queries place) world after idle stands (rw gone refl),
+      other_queries old (remove old.queries place) world after (remove world.queries place) idle stands (ap (λ qs. record world { queries = qs }) gone) regs (seen_removed old.queries world.queries place stands.seen),
     )
-  where
-    gone_is : (old : State) (name : List ℕ) (place : ℕ) (live : Live) (world : World) → IsDistinct bytes_eq (map (λ (l : Live). l.name) old.queries)
-        → slice_get old.queries place ≡ Some live → live.name ≡ name → Stands old world [] → without name world.queries ≡ map query_of (remove old.queries place)
-    gone_is old name place live world names listed is stands =
-        rw (← stands.queries, ← is)
-        (remove_named (map query_of old.queries) (λ (q : Query). q.registration.name) place (query_of live) (rw (map-map (λ (q : Query). q.registration.name) query_of old.queries) names) (get_map query_of old.queries place live listed)
-        ∙ sym (remove_map query_of old.queries place))
+
+-- ---- stored quads: no moment
+
+-- an engine that is idle, with other quads, stands for the world with these
+other_quads : (old : State) (stored wanted : List Fact) (world : World) → old.first ≡ None → IsSameMultiset fact_eq stored wanted → Stands old world []
+    → Stands (record old { stored = stored }) (record world { stored = wanted }) (option_map_or (λ from. moments_from (record world { stored = wanted }) from) world.next [] ++ [])
+other_quads old stored wanted world idle same stands =
+    let none : option_map_or (λ from. moments_from (record world { stored = wanted }) from) world.next [] ++ [] ≡ [] =
+    append-nil _ ∙ none_behind (record world { stored = wanted }) world.next in
+    rw none
+    (record {
+      ready = stands.ready;
+      next = stands.next;
+      kept = stands.kept;
+      stored = same;
+      queries = stands.queries;
+      seen = stands.seen;
+      moments = rw idle refl;
+      head = rw idle (λ place some. cc);
+      none = (λ _. refl, λ _. idle);
+    })
+
+-- the quads that weren't stored are stored
+pub insert_leads : (old : State) (quads : List Quad) (world : World) → old.first ≡ None → length (stored_with old.stored quads) ≤ most_quads → Stands old world []
+    → Leads world (Insert quads) (record old { stored = stored_with old.stored quads })
+insert_leads old quads world idle few stands =
+    let after : World = record world { stored = stored_with world.stored quads } in
+    let many : length (stored_with old.stored quads) ≡ length (stored_with world.stored quads) = as-many-stored_with old.stored world.stored quads stands.stored in
+    let within : nat_lt most_quads (length (stored_with world.stored quads)) ≡ false = le-ltb _ _ (rw many at few) in (
+      after,
+      rw within refl,
+      other_quads old (stored_with old.stored quads) (stored_with world.stored quads) world idle (same-stored_with old.stored world.stored quads stands.stored) stands,
+    )
+
+-- the named quads are no longer stored
+pub delete_leads : (old : State) (quads : List Quad) (stored : List Fact) (world : World) → old.first ≡ None → IsSameMultiset fact_eq stored (stored_without old.stored quads) → Stands old world []
+    → Leads world (Delete quads) (record old { stored = stored })
+delete_leads old quads stored world idle same stands = (
+  record world { stored = stored_without world.stored quads },
+  refl,
+  other_quads old stored (stored_without world.stored quads) world idle (λ q. same q ∙ same-stored_without old.stored world.stored quads stands.stored q) stands,
+)
+
+-- more would be stored than can be
+pub full_store_refuses : (old : State) (quads : List Quad) (many : ℕ) → old.broken ≡ false → IsStoredFault (length (stored_with old.stored quads)) (StoreFull many) → Refuses old (Insert quads) (answer.StoreFull many) old
+full_store_refuses old quads many ready fault = record {
+  was_ready = ready;
+  unchanged = refl;
+  refused = λ world stands.
+      let so_many : many ≡ length (stored_with world.stored quads) = fault.0 ∙ as-many-stored_with old.stored world.stored quads stands.stored in
+      let over : nat_lt most_quads (length (stored_with world.stored quads)) ≡ true = lt-ltb most_quads (length (stored_with world.stored quads)) (subst (λ n. most_quads < n) (as-many-stored_with old.stored world.stored quads stands.stored) fault.1) in
+      rw (over, so_many) refl;
+}
 
 -- ---- refusals
 
@@ -215,7 +309,7 @@ module _ (old : State) (name text : List ℕ) (q : Registered) (ready : old.brok
 
     module _ (rstream : is_rstream q.operator ≡ true) where
       count : (world : World) → Stands old world [] → length world.queries ≡ length old.queries
-      count world stands = ap length (sym stands.queries) ∙ length-map old.queries query_of
+      count world stands = same_count old world stands.queries
 
       pub full_refuses : most_queries ≤ length old.queries → Refuses old (Register name text) answer.QueriesFull old
       full_refuses many = record {
@@ -236,14 +330,14 @@ module _ (old : State) (name text : List ℕ) (q : Registered) (ready : old.brok
       }
 
 -- a query that has begun becomes live, or memory is refused
-pub begun_offers : (old new : State) (name text : List ℕ) (q : Registered) (kept : Live) (result : Result (Unit {0}) Refused) → old.broken ≡ false → query_of kept ≡ new_query name (reading_of q) (length old.items) → old.first ≡ None
+pub begun_offers : (old new : State) (name text : List ℕ) (q : Registered) (kept : Live) (result : Result (Unit {0}) Refused) → old.broken ≡ false → registration_of kept ≡ (new_query name (reading_of q) (length old.items)).registration → kept.seen ≡ [] → old.first ≡ None
     → list_any (has_name name) (registrations_in old) ≡ false → parse text ≡ Ok q → first_fault q ≡ None → is_mixed q.policy ≡ false → is_rstream q.operator ≡ true → length old.queries < most_queries → starts_overfull (reading_of q) ≡ false
     → OnOk result (new ≡ record old { queries = old.queries ++ kept ∷ [] }) → IfErr result (λ why. (why ≡ answer.OutOfMemory) × (new.broken ≡ true)) → Offers old (Register name text) result new
-begun_offers old new name text q kept (Ok done) ready made idle free is good unmixed rstream few starts went failed =
+begun_offers old new name text q kept (Ok done) ready made nothing idle free is good unmixed rstream few starts went failed =
     let became : new ≡ record old { queries = old.queries ++ kept ∷ [] } = went in
     rw became (record {
       was_ready = ready;
       ready = ready;
-      stands = λ world stands. register_leads old name text q kept world made idle free is good unmixed rstream few starts stands;
+      stands = λ world stands. register_leads old name text q kept world made nothing idle free is good unmixed rstream few starts stands;
     })
-begun_offers old new name text q kept (Err why) ready made idle free is good unmixed rstream few starts went failed = breaks old name text why new ready free failed.0 failed.1
+begun_offers old new name text q kept (Err why) ready made nothing idle free is good unmixed rstream few starts went failed = breaks old name text why new ready free failed.0 failed.1

@@ -1,12 +1,7 @@
 -- The measure of a place: behind it there are fewer places left.
-use Rattle.std.proofs.Common.{◌≡◌, ℕ, ◌+◌, ◌-◌, ◌*◌, ◌<◌, ◌≤◌, Bool, List, length, Option, None, Some, inl, inr, arith}
-use Rattle.std.specs.Option.{option_map_or}
+use Rattle.std.proofs.Common.{◌≡◌, ℕ, ◌+◌, ◌-◌, ◌*◌, ◌<◌, ◌≤◌, inl, inr, arith}
 use Rattle.std.proofs.Math.Nat.{mul-le-mul_right, mul-le-mul_left}
 use Rattle.std.proofs.lemmas.Bool.{cases_lt}
-use Rattle.std.proofs.lemmas.Option.{slice_get_within}
-use Rattle.rsp_engine.specs.declared.finding.Pending.{Pending}
-use Rattle.rsp_engine.specs.World.{Registration}
-use Rattle.rsp_engine.specs.Left.{IsFirstLeft}
 
 -- fewer instants are left
 earlier : (next at after n a b : ℕ) → at < after → after ≤ next → a ≤ n
@@ -41,23 +36,3 @@ nearer_gone next at query after behind n m is late later within high =
           let more = later same in
           rw (← same) (omega (arith, fewer, more))
     ]
-
--- what is left behind a place
-module _ (test : ℕ → Registration → Bool) (queries : List Registration) (next at query : ℕ) where
-  -- the next one
-  pub fewer : (r : Option Pending) → IsFirstLeft test queries next at (query + 1) r
-      → option_map_or (λ (place : Pending). (next - place.at) * (length queries + 1) + (length queries - place.query) + 1) r 0
-      < (next - at) * (length queries + 1) + (length queries - query) + 1
-  fewer None is = omega arith
-  fewer (Some place) is =
-      nearer next at query place.at place.query (length queries) is.1 is.2
-      (slice_get_within queries place.query is.0.query is.0.listed) is.0.within
-
-  -- the next one, once a query went
-  pub fewer_gone : (n : ℕ) (r : Option Pending) → length queries + 1 ≡ n → IsFirstLeft test queries next at query r
-      → option_map_or (λ (place : Pending). (next - place.at) * (length queries + 1) + (length queries - place.query) + 1) r 0
-      < (next - at) * (n + 1) + (n - query) + 1
-  fewer_gone n None one is = omega arith
-  fewer_gone n (Some place) one is =
-      nearer_gone next at query place.at place.query n (length queries) one is.1 is.2
-      (slice_get_within queries place.query is.0.query is.0.listed) is.0.within

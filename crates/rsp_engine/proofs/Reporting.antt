@@ -1,11 +1,10 @@
 -- An engine behind a report.
-use Rattle.std.proofs.Common.{◌≡◌, inl, inr, ℕ, zero, suc, ◌+◌, ◌<◌, ◌≤◌, Bool, true, false, List, [], ◌∷◌, length, map, remove, slice_get, slice_set, Option, None, Some, refl, sym, ◌∙◌, ap, subst, arith}
-use Rattle.std.specs.Prelude.{◌⊎◌, if◌then◌else◌, bytes_eq, slice_index_or}
+use Rattle.std.proofs.Common.{◌≡◌, ℕ, zero, suc, ◌+◌, ◌<◌, ◌≤◌, Bool, true, false, List, [], ◌∷◌, length, map, remove, slice_get, slice_set, Option, Some, refl, sym, ◌∙◌, ap, subst, arith}
+use Rattle.std.specs.Prelude.{if◌then◌else◌, bytes_eq}
 use Rattle.std.specs.List.{All, IsDistinct}
-use Rattle.std.specs.Option.{ForSome}
 use Rattle.std.proofs.lemmas.List.{length-map}
 use Rattle.std.proofs.lemmas.List.Elements.{All-set}
-use Rattle.std.proofs.lemmas.Option.{get_or_from_slice_get, slice_get-get_or, slice_get_within}
+use Rattle.std.proofs.lemmas.Option.{get_or_from_slice_get, slice_get_within}
 use Rattle.std.proofs.lemmas.Simd.{map-map}
 use Rattle.rsp_spec.specs.Windows.{last_instant}
 use Rattle.rsp_terms.specs.declared.statement.Fact.{Fact}
@@ -14,27 +13,24 @@ use Rattle.rsp_engine.specs.declared.engine.Engine.TheInside.{Inside}
 use Rattle.rsp_engine.specs.declared.finding.Pending.{Pending}
 use Rattle.rsp_engine.specs.declared.live_query.LiveQuery.{LiveQuery}
 use Rattle.rsp_engine.specs.declared.report.Outcome.{Outcome}
-use Rattle.rsp_engine.specs.declared.report.Outcome.TheVariants as outcomes
 use Rattle.rsp_engine.specs.Due.{watched_of}
 use Rattle.rsp_engine.specs.Inside.{Answers, IsPolicy, IsReady, IsWatching, fixed, live_of, state_of}
-use Rattle.rsp_engine.specs.Left.{IsFirstLeft, IsWaiting}
-use Rattle.rsp_engine.specs.Passing.{IsReported, is_overfull_outcome, place_behind, queries_behind, seeing}
-use Rattle.rsp_engine.specs.Stands.{Live, next_in, registration_of, registrations_in, test_in}
+use Rattle.rsp_engine.specs.Left.{IsFirstLeft, IsWaiting, name_in}
+use Rattle.rsp_engine.specs.Passing.{IsReported, is_overfull_outcome, place_behind, queries_behind}
+use Rattle.rsp_engine.specs.Stands.{IsStore, Live, State, facts_in, next_in, registration_of, registrations_in, test_in}
 use Rattle.rsp_engine.specs.World.{Registration}
+use Rattle.rsp_engine.proofs.Left.{waits_at}
 use Rattle.rsp_engine.proofs.Named.{All-remove, distinct_removed, get_map, remove_map, set_map, set_same}
 
 -- by the queries as registration fixed them
-pub fixed_left : {A : Type 0} (queries : List (LiveQuery A)) (test : ℕ → Registration → Bool) (last t i : ℕ) (r : Option Pending)
-    → IsFirstLeft test (map fixed queries) last t i r → IsFirstLeft test (map registration_of (map live_of queries)) last t i r
-fixed_left queries test last t i r left = rw (map-map registration_of live_of queries) left
+pub fixed_left : {A : Type 0} (facts : A → List Fact) (queries : List (LiveQuery A)) (test : ℕ → Registration → Bool) (last t i : ℕ) (r : Option Pending)
+    → IsFirstLeft name_in test (map fixed queries) last t i r → IsFirstLeft name_in test (map registration_of (map (live_of facts) queries)) last t i r
+fixed_left facts queries test last t i r left = rw (map-map registration_of (live_of facts) queries) left
 
 -- ---- lists
 
 pub All-get : {X : Type 0} (P : X → Type 0) (xs : List X) (i : ℕ) (x : X) → All P xs → slice_get xs i ≡ Some x → P x
 All-get P xs i x all listed = subst P (get_or_from_slice_get xs i x x listed) (all i x (slice_get_within xs i x listed))
-
-pub get_index : {X : Type 0} (xs : List X) (i : ℕ) (x : X) → i < length xs → x ≡ slice_index_or xs i x → slice_get xs i ≡ Some x
-get_index xs i x below is = slice_get-get_or xs i x below ∙ ap Some (sym is)
 
 remove_set : {X : Type 0} (xs : List X) (i : ℕ) (x : X) → remove (slice_set xs i x) i ≡ remove xs i
 remove_set [] zero x = refl
@@ -47,16 +43,14 @@ pub place_is : (place : Pending) (ends : Bool) → (if ends then place.query els
 place_is place true = refl
 place_is place false = refl
 
--- a place that is set waits
-pub waits_at : (test : ℕ → Registration → Bool) (queries : List Registration) (last t i : ℕ) (r : Option Pending) → IsFirstLeft test queries last t i r → ForSome r (IsWaiting test queries last)
-waits_at test queries last t i None first = λ x is. cc
-waits_at test queries last t i (Some place) first = λ x is. let same : place ≡ x = cc in subst (IsWaiting test queries last) same first.0
-
 module _ {A : Type 0} (node : A → Node) (width : A → ℕ) (facts : A → List Fact) (spent : A → Bool) (e : Inside A) (ready : IsReady node width facts spent e) (place : Pending) (first : e.first ≡ Some place) where
-  waits : IsWaiting (test_in (state_of e)) (registrations_in (state_of e)) (next_in (state_of e)) place
+  abbrev here : State
+  here = state_of facts e
+
+  waits : IsWaiting (test_in here) (registrations_in here) (next_in here) place
   waits = ready.state.waits place first
 
-  pub within : place.at ≤ next_in (state_of e)
+  pub within : place.at ≤ next_in here
   within = waits.within
 
   pub high : place.at ≤ last_instant + 1
@@ -64,12 +58,15 @@ module _ {A : Type 0} (node : A → Node) (width : A → ℕ) (facts : A → Lis
 
   pub listed : place.query < length e.queries.items
   listed =
-      let below = slice_get_within (registrations_in (state_of e)) place.query waits.query waits.listed in
-      rw (length-map (map live_of e.queries.items) registration_of, length-map e.queries.items live_of) at below
+      let below = slice_get_within (registrations_in here) place.query waits.query waits.listed in
+      rw (length-map (map (live_of facts) e.queries.items) registration_of, length-map e.queries.items (live_of facts)) at below
+
+  pub store : IsStore e.stored
+  store = ready.state.store
 
   module _ (live : LiveQuery A) (is : slice_get e.queries.items place.query ≡ Some live) where
     pub first_seen : live.first ≤ length e.items.items
-    first_seen = All-get (λ (l : Live). l.first ≤ length e.items.items) (map live_of e.queries.items) place.query (live_of live) ready.state.firsts (get_map live_of e.queries.items place.query live is)
+    first_seen = All-get (λ (l : Live). l.first ≤ length e.items.items) (map (live_of facts) e.queries.items) place.query (live_of facts live) ready.state.firsts (get_map (live_of facts) e.queries.items place.query live is)
 
     pub answers : Answers node width facts spent live
     answers = All-get (Answers node width facts spent) e.queries.items place.query live ready.answers is
@@ -77,13 +74,12 @@ module _ {A : Type 0} (node : A → Node) (width : A → ℕ) (facts : A → Lis
     watching : IsWatching e.items.items live
     watching = All-get (IsWatching e.items.items) e.queries.items place.query live ready.watching is
 
-    module _ (now : LiveQuery A) (seen : live_of now ≡ seeing (live_of live) e.items.items place.at) (watched : now.watched.items ≡ live.watched.items) where
+    module _ (now : LiveQuery A) (given : Outcome) (reported : IsReported node width facts spent live (facts_in here (live_of facts live) place.at) now given) (watched : now.watched.items ≡ live.watched.items) where
       watching_now : IsWatching e.items.items now
       watching_now =
-          let same : fixed live ≡ fixed now = ap registration_of (sym seen) in
           record {
-            policy = subst IsPolicy (ap (λ (l : Live). l.policy) (sym seen)) watching.policy;
-            watched = watched ∙ (watching.watched ∙ ap (watched_of e.items.items) same);
+            policy = subst IsPolicy (ap (λ (r : Registration). r.reading.policy) (sym reported.same)) watching.policy;
+            watched = watched ∙ (watching.watched ∙ ap (watched_of e.items.items) (sym reported.same));
           }
 
       -- the queries behind the report
@@ -97,37 +93,36 @@ module _ {A : Type 0} (node : A → Node) (width : A → ℕ) (facts : A → Lis
       pub watching_behind : (ends : Bool) → All (IsWatching e.items.items) (behind ends)
       watching_behind ends = all_behind (IsWatching e.items.items) ends ready.watching (λ _. watching_now)
 
-      pub states_behind : (ends : Bool) → map live_of (behind ends) ≡ queries_behind (state_of e) place (live_of live) ends
-      states_behind true = ap (map live_of) (remove_set e.queries.items place.query now) ∙ remove_map live_of e.queries.items place.query
-      states_behind false = set_map live_of e.queries.items place.query now ∙ ap (slice_set (map live_of e.queries.items) place.query) seen
+      pub states_behind : (ends : Bool) → map (live_of facts) (behind ends) ≡ queries_behind here place (live_of facts now) ends
+      states_behind true = ap (map (live_of facts)) (remove_set e.queries.items place.query now) ∙ remove_map (live_of facts) e.queries.items place.query
+      states_behind false = set_map (live_of facts) e.queries.items place.query now
 
-      firsts_behind : (ends : Bool) → All (λ (l : Live). l.first ≤ length e.items.items) (queries_behind (state_of e) place (live_of live) ends)
-      firsts_behind true = All-remove (λ (l : Live). l.first ≤ length e.items.items) (map live_of e.queries.items) place.query ready.state.firsts
-      firsts_behind false = All-set (λ (l : Live). l.first ≤ length e.items.items) (map live_of e.queries.items) place.query (seeing (live_of live) e.items.items place.at) first_seen ready.state.firsts
+      firsts_behind : (ends : Bool) → All (λ (l : Live). l.first ≤ length e.items.items) (queries_behind here place (live_of facts now) ends)
+      firsts_behind true = All-remove (λ (l : Live). l.first ≤ length e.items.items) (map (live_of facts) e.queries.items) place.query ready.state.firsts
+      firsts_behind false =
+          let low : now.first ≤ length e.items.items = subst (λ (r : Registration). r.first ≤ length e.items.items) (sym reported.same) first_seen in
+          All-set (λ (l : Live). l.first ≤ length e.items.items) (map (live_of facts) e.queries.items) place.query (live_of facts now) low ready.state.firsts
 
-      names_behind : (ends : Bool) → IsDistinct bytes_eq (map (λ (l : Live). l.name) (queries_behind (state_of e) place (live_of live) ends))
-      names_behind true = distinct_removed (map live_of e.queries.items) (λ (l : Live). l.name) place.query ready.state.names
+      names_behind : (ends : Bool) → IsDistinct bytes_eq (map (λ (l : Live). l.name) (queries_behind here place (live_of facts now) ends))
+      names_behind true = distinct_removed (map (live_of facts) e.queries.items) (λ (l : Live). l.name) place.query ready.state.names
       names_behind false =
-          let same : map (λ (l : Live). l.name) (slice_set (map live_of e.queries.items) place.query (seeing (live_of live) e.items.items place.at)) ≡ map (λ (l : Live). l.name) (map live_of e.queries.items) =
-          set_map (λ (l : Live). l.name) (map live_of e.queries.items) place.query (seeing (live_of live) e.items.items place.at)
-          ∙ set_same (map (λ (l : Live). l.name) (map live_of e.queries.items)) place.query live.name (get_map (λ (l : Live). l.name) (map live_of e.queries.items) place.query (live_of live) (get_map live_of e.queries.items place.query live is)) in
+          let called : now.name ≡ live.name = ap (λ (r : Registration). r.name) reported.same in
+          let same : map (λ (l : Live). l.name) (slice_set (map (live_of facts) e.queries.items) place.query (live_of facts now)) ≡ map (λ (l : Live). l.name) (map (live_of facts) e.queries.items) =
+          set_map (λ (l : Live). l.name) (map (live_of facts) e.queries.items) place.query (live_of facts now)
+          ∙ (ap (slice_set (map (λ (l : Live). l.name) (map (live_of facts) e.queries.items)) place.query) called
+          ∙ set_same (map (λ (l : Live). l.name) (map (live_of facts) e.queries.items)) place.query live.name (get_map (λ (l : Live). l.name) (map (live_of facts) e.queries.items) place.query (live_of facts live) (get_map (live_of facts) e.queries.items place.query live is))) in
           rw same ready.state.names
 
-      answers_behind : (given : Outcome) → IsReported node width facts spent (live_of live) e.items.items place.at now given → All (Answers node width facts spent) (behind (is_overfull_outcome given))
-      answers_behind given reported = all_behind (Answers node width facts spent) (is_overfull_outcome given) ready.answers (by given reported.answers)
-        where
-          by : (o : Outcome) → (o ≡ outcomes.Overfull) ⊎ Answers node width facts spent now → is_overfull_outcome o ≡ false → Answers node width facts spent now
-          by outcomes.Overfull either rows = cc
-          by (outcomes.Rows rows) (inl over) none = cc
-          by (outcomes.Rows rows) (inr holds) none = holds
+      answers_behind : All (Answers node width facts spent) (behind (is_overfull_outcome given))
+      answers_behind = all_behind (Answers node width facts spent) (is_overfull_outcome given) ready.answers (λ rows. (reported.answers rows).0)
 
       -- the engine with the queries behind, and another place
-      module _ (given : Outcome) (reported : IsReported node width facts spent (live_of live) e.items.items place.at now given) (new : Inside A)
-          (next : new.next ≡ e.next) (items : new.items ≡ e.items) (held : new.held ≡ e.held) (arrived : new.arrived ≡ e.arrived)
+      module _ (new : Inside A)
+          (next : new.next ≡ e.next) (items : new.items ≡ e.items) (stored : new.stored ≡ e.stored) (held : new.held ≡ e.held) (arrived : new.arrived ≡ e.arrived)
           (queries : new.queries.items ≡ behind (is_overfull_outcome given))
-          (left : IsFirstLeft (test_in (state_of e)) (map fixed new.queries.items) (next_in (state_of e)) place.at (place_behind place (is_overfull_outcome given)) new.first) where
-        lives : map live_of new.queries.items ≡ queries_behind (state_of e) place (live_of live) (is_overfull_outcome given)
-        lives = ap (map live_of) queries ∙ states_behind (is_overfull_outcome given)
+          (left : IsFirstLeft name_in (test_in here) (map fixed new.queries.items) (next_in here) place.at (place_behind place (is_overfull_outcome given)) new.first) where
+        lives : map (live_of facts) new.queries.items ≡ queries_behind here place (live_of facts now) (is_overfull_outcome given)
+        lives = ap (map (live_of facts)) queries ∙ states_behind (is_overfull_outcome given)
 
         pub ready_behind : IsReady node width facts spent new
         ready_behind =
@@ -135,12 +130,14 @@ module _ {A : Type 0} (node : A → Node) (width : A → ℕ) (facts : A → Lis
               state = record {
                 next_high = rw next ready.state.next_high;
                 timed = rw (next, items) ready.state.timed;
+                arrival = rw (next, items, arrived) ready.state.arrival;
+                store = rw stored ready.state.store;
                 firsts = rw (lives, items) (firsts_behind (is_overfull_outcome given));
                 names = rw lives (names_behind (is_overfull_outcome given));
-                waits = rw (next, items, arrived) (waits_at (test_in (state_of e)) (registrations_in (state_of new)) (next_in (state_of e)) place.at (place_behind place (is_overfull_outcome given)) new.first
-                    (fixed_left new.queries.items (test_in (state_of e)) (next_in (state_of e)) place.at (place_behind place (is_overfull_outcome given)) new.first left));
+                waits = rw (next, items, arrived) (waits_at name_in (test_in here) (registrations_in (state_of facts new)) (next_in here) place.at (place_behind place (is_overfull_outcome given)) new.first
+                    (fixed_left facts new.queries.items (test_in here) (next_in here) place.at (place_behind place (is_overfull_outcome given)) new.first left));
               };
               held = rw (held, items) ready.held;
-              answers = rw queries (answers_behind given reported);
+              answers = rw queries answers_behind;
               watching = rw (queries, items) (watching_behind (is_overfull_outcome given));
             }

@@ -1,56 +1,76 @@
 -- What an engine's state says of the world for which it stands.
-use Rattle.std.proofs.Common.{◌≡◌, ℕ, zero, suc, ◌||◌, bytes_eq, slice_get, Bool, true, false, List, [], ◌∷◌, Option, None, Some, refl, sym, ◌∙◌, ap, map, not}
-use Rattle.std.specs.Option.{is_some, option_map_or}
+use Rattle.std.proofs.Common.{◌≡◌, ◌↔◌, ℕ, zero, suc, ◌||◌, bytes_eq, slice_get, Bool, true, false, List, [], ◌∷◌, length, Option, None, Some, not, refl, sym, ◌∙◌, ap, map}
+use Rattle.std.specs.Option.{ForSome, is_some, option_map_or}
+use Rattle.std.proofs.lemmas.List.{length-map}
 use Rattle.std.proofs.lemmas.Simd.{map-map}
 use Rattle.std.specs.List.{list_any}
-use Rattle.rsp_engine.specs.declared.finding.Pending.{Pending}
-use Rattle.rsp_engine.specs.World.{Query, Registration, World, registrations}
-use Rattle.rsp_engine.specs.Accept.{has_name, is_live}
-use Rattle.rsp_engine.specs.Left.{left_from}
-use Rattle.rsp_engine.specs.Moments.{Moment}
 use Rattle.std.specs.Prelude.{MatchOption}
+use Rattle.rsp_terms.specs.declared.statement.Fact.{Fact}
+use Rattle.rsp_engine.specs.declared.finding.Pending.{Pending}
 use Rattle.rsp_engine.specs.declared.live_query.LiveQuery.{LiveQuery}
+use Rattle.rsp_engine.specs.World.{Query, World, registrations}
+use Rattle.rsp_engine.specs.Accept.{has_name, is_live}
 use Rattle.rsp_engine.specs.Inside.{fixed, live_of}
+use Rattle.rsp_engine.specs.Left.{IsFirstLeft, IsWaiting, left_from, name_in}
+use Rattle.rsp_engine.specs.Moments.{Moment}
+use Rattle.rsp_engine.specs.Stands.{IsHead, Live, Stands, State, left_at, left_in, next_in, registration_of, registrations_in, test_in}
+use Rattle.rsp_engine.proofs.Left.{first_left_is, waiting_head, waiting_some, waits_at}
 use Rattle.rsp_engine.proofs.Named.{get_map, same_name}
-use Rattle.rsp_engine.proofs.Left.{waiting_some}
-use Rattle.rsp_engine.specs.Stands.{IsState, Live, Stands, State, moments_left, next_in, query_of, registration_of, registrations_in, test_in}
 
--- the queries as registration fixed them
-pub fixed_of : (lives : List Live) → map (λ (query : Query). query.registration) (map query_of lives) ≡ map registration_of lives
-fixed_of lives = map-map (λ (query : Query). query.registration) query_of lives
+pub same_live : (e : State) (world : World) (name : List ℕ) → registrations_in e ≡ registrations world → is_live world name ≡ list_any (has_name name) (registrations_in e)
+same_live e world name is = ap (list_any (has_name name)) (sym is)
 
-pub same_registrations : (lives : List Live) (world : World) → map query_of lives ≡ world.queries → registrations world ≡ map registration_of lives
-same_registrations lives world is = ap (map (λ (query : Query). query.registration)) (sym is) ∙ fixed_of lives
+-- so many queries
+pub same_count : (e : State) (world : World) → registrations_in e ≡ registrations world → length world.queries ≡ length e.queries
+same_count e world is =
+    sym (length-map world.queries (λ (query : Query). query.registration)) ∙ (ap length (sym is) ∙ length-map e.queries registration_of)
 
-pub same_live : (e : State) (world : World) (name : List ℕ) → map query_of e.queries ≡ world.queries → is_live world name ≡ list_any (has_name name) (registrations_in e)
-same_live e world name is = ap (list_any (has_name name)) (same_registrations e.queries world is)
-
--- the moments that are left, by the engine's own fields
+-- the moments that are left at a place that is set
 pub left_here : (e : State) (world : World) (left : List Moment) → Stands e world left → (place : Pending) → e.first ≡ Some place
-    → left ≡ left_from (test_in e) (registrations_in e) (next_in e) place.at place.query
-left_here e world left stands place is =
-    let regs = same_registrations e.queries world stands.queries in
-    let here : moments_left world e.arrived e.first ≡ left_from (test_in e) (registrations_in e) (next_in e) place.at place.query =
-    rw (is, regs, ← stands.items, ← stands.next) refl in
-    stands.moments ∙ here
+    → left ≡ left_at e place
+left_here e world left stands place is = stands.moments ∙ ap (λ first. option_map_or (left_at e) first []) is
 
--- the moments that are left from a place on, by the engine's fields
-pub left_as : (e : State) (after : World) (queries : List Registration) (first : Option Pending) → e.next ≡ after.next → e.items ≡ after.items → registrations after ≡ queries
-    → moments_left after e.arrived first ≡ option_map_or (λ (place : Pending). left_from (test_in e) queries (next_in e) place.at place.query) first []
-left_as e after queries first next items regs = rw (regs, ← items, ← next) refl
+-- ---- the first of the moments that are left
+
+module _ (e : State) (left : List Moment) (moments : left ≡ left_in e) where
+  -- it stands at a place that waits
+  pub head_is : ForSome e.first (IsWaiting (test_in e) (registrations_in e) (next_in e)) → ForSome e.first (IsHead e left)
+  head_is waits place is =
+      let waiting = waits place is in
+      let first = waiting_head name_in (test_in e) (registrations_in e) (next_in e) place waiting.query waiting waiting.listed in
+      let whole : left ≡ left_at e place = moments ∙ ap (λ first. option_map_or (left_at e) first []) is in
+      record { query = waiting.query; listed = waiting.listed; head = ap (λ ms. slice_get ms 0) (whole ∙ first) }
+
+  -- none is left exactly where no place is set
+  pub none_is : ForSome e.first (IsWaiting (test_in e) (registrations_in e) (next_in e)) → (e.first ≡ None) ↔ (left ≡ [])
+  none_is waits = (λ none. moments ∙ ap (λ first. option_map_or (left_at e) first []) none, by e.first refl)
+    where
+      by : (first : Option Pending) → e.first ≡ first → left ≡ [] → first ≡ None
+      by None is nothing = refl
+      by (Some place) is nothing =
+          let whole : left ≡ left_at e place = moments ∙ ap (λ first. option_map_or (left_at e) first []) is in
+          absurd (waiting_some name_in (test_in e) (registrations_in e) (next_in e) place (waits place is) (sym whole ∙ nothing))
 
 -- nothing is left exactly where no place is set
-pub idle_left : (e : State) (world : World) (left : List Moment) (is_none : Bool) → IsState e → is_some e.first ≡ not is_none → Stands e world left → (is_none ≡ true → left ≡ []) × (left ≡ [] → is_none ≡ true)
-idle_left e world left is_none state is stands = by e.first refl is_none is
+pub idle_left : (e : State) (world : World) (left : List Moment) (b : Bool) → is_some e.first ≡ not b → Stands e world left → (b ≡ true → left ≡ []) × (left ≡ [] → b ≡ true)
+idle_left e world left b is stands = (λ none. stands.none.0 (unset e.first (is ∙ ap not none)), λ nothing. set b (sym is ∙ ap is_some (stands.none.1 nothing)))
   where
-    by : (first : Option Pending) → e.first ≡ first → (b : Bool) → is_some first ≡ not b → (b ≡ true → left ≡ []) × (left ≡ [] → b ≡ true)
-    by None none true is = (λ _. stands.moments ∙ ap (moments_left world e.arrived) none, λ _. refl)
-    by None none false is = cc
-    by (Some place) some true is = cc
-    by (Some place) some false is = (
-      λ none. cc,
-      λ none. absurd (waiting_some (test_in e) (registrations_in e) (next_in e) place (state.waits place some) (sym (left_here e world left stands place some) ∙ none)),
-    )
+    unset : (first : Option Pending) → is_some first ≡ false → first ≡ None
+    unset None none = refl
+    unset (Some place) none = cc
+
+    set : (b : Bool) → not b ≡ false → b ≡ true
+    set true h = refl
+    set false h = cc
+
+-- an engine with other queries, by the same items and instants
+module _ (old new : State) (items : new.items ≡ old.items) (next : new.next ≡ old.next) (arrived : new.arrived ≡ old.arrived) (t i : ℕ)
+    (first : IsFirstLeft name_in (test_in old) (registrations_in new) (next_in old) t i new.first) where
+  pub left_renamed : left_in new ≡ left_from name_in (test_in old) (registrations_in new) (next_in old) t i
+  left_renamed = rw (items, next, arrived) (first_left_is name_in (test_in old) (registrations_in new) (next_in old) t i new.first first)
+
+  pub waits_renamed : ForSome new.first (IsWaiting (test_in new) (registrations_in new) (next_in new))
+  waits_renamed = rw (items, next, arrived) (waits_at name_in (test_in old) (registrations_in new) (next_in old) t i new.first first)
 
 -- ---- queries by name
 
@@ -66,8 +86,9 @@ any_named (l ∷ ls) zero live name listed is =
     rw found refl
 any_named (l ∷ ls) (suc place) live name listed is = rw (any_named ls place live name listed is) (or_true (bytes_eq l.name name))
 
-pub named_place : {A : Type 0} (queries : List (LiveQuery A)) (name : List ℕ) (r : Option ℕ)
+pub named_place : {A : Type 0} (facts : A → List Fact) (queries : List (LiveQuery A)) (name : List ℕ) (r : Option ℕ)
     → MatchOption r (list_any (has_name name) (map fixed queries) ≡ false) (λ place. (live : LiveQuery A) × (slice_get queries place ≡ Some live) × (live.name ≡ name))
-    → MatchOption r (list_any (has_name name) (map registration_of (map live_of queries)) ≡ false) (λ place. (live : Live) × (slice_get (map live_of queries) place ≡ Some live) × (live.name ≡ name))
-named_place queries name None free = rw (map-map registration_of live_of queries) free
-named_place queries name (Some place) found = (live_of found.0, get_map live_of queries place found.0 found.1, found.2)
+    → MatchOption r (list_any (has_name name) (map registration_of (map (live_of facts) queries)) ≡ false)
+    (λ place. (live : Live) × (slice_get (map (live_of facts) queries) place ≡ Some live) × (live.name ≡ name))
+named_place facts queries name None free = rw (map-map registration_of (live_of facts) queries) free
+named_place facts queries name (Some place) found = (live_of facts found.0, get_map (live_of facts) queries place found.0 found.1, found.2)

@@ -1,8 +1,8 @@
 -- What a live query watches: times that don't fall, the newest item's as the last of the windows that are fresh.
-use Rattle.std.proofs.Common.{◌≡◌, inl, inr, ℕ, zero, suc, ◌+◌, ◌-◌, ◌≤◌, ◌^◌, true, false, List, [], ◌∷◌, ◌++◌, map, filter, drop, length, Some, slice_get, refl, sym, ap, subst, ◌∙◌, arith}
+use Rattle.std.proofs.Common.{◌≡◌, inl, inr, ℕ, zero, suc, ◌+◌, ◌-◌, ◌≤◌, ◌^◌, true, false, List, [], ◌∷◌, ◌++◌, map, filter, drop, length, Option, None, Some, slice_get, refl, sym, ap, subst, ◌∙◌, arith}
 use Rattle.std.specs.List.{All}
 use Rattle.std.specs.List.Sorted.{IsNonDecreasing, IsNonDecreasingBy}
-use Rattle.std.specs.Option.{option_map_or}
+use Rattle.std.specs.Option.{ForSome, is_some, option_map_or}
 use Rattle.std.proofs.lemmas.Bool.{cases_lt}
 use Rattle.std.proofs.lemmas.List.{drop-append-le, drop_all, get_or-map, length-map, length_push, map_push, nil_from_length}
 use Rattle.std.proofs.lemmas.List.Elements.{All-drop, All-filter, All-map, All-weaker, filter-append}
@@ -16,8 +16,12 @@ use Rattle.rsp_engine.specs.declared.item.Item.{Item}
 use Rattle.rsp_engine.specs.declared.live_query.LiveQuery.{LiveQuery}
 use Rattle.rsp_engine.specs.declared.live_query.StreamWindow.{StreamWindow}
 use Rattle.rsp_engine.specs.Due.{is_over, newest, watched_window}
-use Rattle.rsp_engine.specs.Inside.{IsWatching, fixed}
-use Rattle.rsp_engine.specs.Stands.{IsTimed}
+use Rattle.rsp_engine.specs.declared.finding.Pending.{Pending}
+use Rattle.rsp_engine.specs.Inside.{IsWatching, fixed, name_of}
+use Rattle.rsp_engine.specs.Left.{IsFirstLeft, name_in, reports_at}
+use Rattle.rsp_engine.specs.Stands.{HasArrived, IsTimed}
+use Rattle.rsp_engine.specs.Watching.{IsPrompt, reports_by}
+use Rattle.rsp_engine.proofs.Left.{read_first, same_first}
 use Rattle.rsp_engine.proofs.Named.{last_of}
 
 -- ---- times in order
@@ -112,14 +116,47 @@ all_windows : (P : Watched → Type 0) (items : List Item) (windows : List Strea
 all_windows P items windows each = All-map P (watched_window items) windows (λ k d within. each _)
 
 module _ {A : Type 0} (live : LiveQuery A) (items : List Item) (watching : IsWatching items live) where
-  pub all_watched : (next : ℕ) → IsTimed items next → next ≤ last_instant + 1 → All IsWatched live.watched.items
+  all_watched : (next : ℕ) → IsTimed items next → next ≤ last_instant + 1 → All IsWatched live.watched.items
   all_watched next timed high =
       rw watching.watched
       (all_windows IsWatched (drop live.first items) (fixed live).reading.windows
       (λ w. watched_window_is items live.first next w timed high))
 
-  pub all_fresh : (item : Item) → newest items ≡ Some item → All (IsFreshAt item.time) live.watched.items
+  all_fresh : (item : Item) → newest items ≡ Some item → All (IsFreshAt item.time) live.watched.items
   all_fresh item last =
       rw watching.watched
       (all_windows (IsFreshAt item.time) (drop live.first items) (fixed live).reading.windows
       (λ w. fresh_window items live.first item w last))
+
+  -- it watches in order
+  prompt : (next : ℕ) (arrived : Option (List ℕ)) → IsTimed items next → next ≤ last_instant + 1
+      → ForSome arrived (HasArrived items next) → IsPrompt next arrived live
+  prompt next arrived timed high came = record {
+    policy = watching.policy;
+    watched = all_watched next timed high;
+    fresh = by arrived came;
+  }
+    where
+      by : (o : Option (List ℕ)) → ForSome o (HasArrived items next) → is_some o ≡ true → All (IsFreshAt next) live.watched.items
+      by None came is = cc
+      by (Some stream) came is =
+          let last = came stream refl in
+          subst (λ t. All (IsFreshAt t) live.watched.items) last.time_is (all_fresh last.item last.last)
+
+  -- and reports as the items say
+  reports_same : (next : ℕ) (arrived : Option (List ℕ)) (t : ℕ) → reports_by next arrived t live ≡ reports_at items next arrived t (fixed live)
+  reports_same next arrived t = rw watching.watched refl
+
+-- all live queries
+module _ {A : Type 0} (queries : List (LiveQuery A)) (items : List Item) (watching : All (IsWatching items) queries) (next : ℕ) (arrived : Option (List ℕ)) where
+  pub all_prompt : IsTimed items next → next ≤ last_instant + 1 → ForSome arrived (HasArrived items next) → All (IsPrompt next arrived) queries
+  all_prompt timed high came = All-weaker (IsWatching items) (IsPrompt next arrived) (λ live is. prompt live items is next arrived timed high came) queries watching
+
+  -- the first place by what they watch is that by the items
+  pub first_by_items : (t i : ℕ) (r : Option Pending) → t ≤ next → IsFirstLeft name_of (reports_by next arrived) queries next t i r
+      → IsFirstLeft name_in (reports_at items next arrived) (map fixed queries) next t i r
+  first_by_items t i r low first =
+      read_first fixed name_in (reports_at items next arrived) queries next t i r
+      (same_first name_of (reports_by next arrived) (λ t live. reports_at items next arrived t (fixed live)) queries next t i r low
+      (λ s late early. All-weaker (IsWatching items) (λ live. reports_by next arrived s live ≡ reports_at items next arrived s (fixed live)) (λ live is. reports_same live items is next arrived s) queries watching)
+      first)

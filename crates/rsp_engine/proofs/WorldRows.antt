@@ -1,5 +1,5 @@
 -- Worked rows: small worlds with short windows, whose instants can be walked over by hand.
-use Rattle.std.specs.Prelude.{◌≡◌, refl, ℕ, ◌+◌, true, false, Option, None, Some, Ok, Err, List, [], ◌∷◌, ◌++◌, map, codes}
+use Rattle.std.specs.Prelude.{◌≡◌, refl, ℕ, ◌+◌, Bool, true, false, if◌then◌else◌, Option, None, Some, Ok, Err, List, [], ◌∷◌, ◌++◌, map, codes}
 use Rattle.std.specs.List.{range_with_len}
 use Rattle.std.specs.Option.{option_map, option_map_or}
 use Rattle.std.specs.Result.{result_ok}
@@ -7,6 +7,7 @@ use Rattle.rsp_terms.specs.declared.term.Term.{Term}
 use Rattle.rsp_terms.specs.declared.term.Term.TheVariants.{Iri}
 use Rattle.rsp_terms.specs.declared.statement.Triple.{Triple}
 use Rattle.rsp_terms.specs.declared.statement.Fact.{Fact}
+use Rattle.rsp_terms.specs.declared.statement.Quad.{Quad}
 use Rattle.rsp_terms.specs.declared.statement.Spot.TheVariants as spot
 use Rattle.rsp_events.specs.declared.event.Event.{Event}
 use Rattle.rsp_events.specs.declared.event.Event.TheVariants.{Register, Cancel, Item, Tick, Insert, Delete}
@@ -21,7 +22,7 @@ use Rattle.rsp_query.specs.declared.query.WindowClause.{WindowClause}
 use Rattle.rsp_query.specs.Queries.{Registered}
 use Rattle.rsp_query.specs.Groups as words
 use Rattle.rsp_query.specs.Paths.{step}
-use Rattle.rsp_algebra.specs.declared.tree.Place.TheVariants.{Window}
+use Rattle.rsp_algebra.specs.declared.tree.Place.TheVariants.{Default, Window}
 use Rattle.rsp_algebra.specs.Nodes.{Node, join, pattern, project}
 use Rattle.rsp_translation.specs.declared.shape.Shape.TheVariants as shape
 use Rattle.rsp_translation.specs.Translation.{first_fault}
@@ -35,10 +36,10 @@ use Rattle.rsp_engine.specs.Refusals.{Refusal, left_out, late, scope, policy_mix
 use Rattle.rsp_engine.specs.World.{World, Query, Reading, Registration}
 use Rattle.rsp_engine.specs.Readings.{is_rstream, reading_of}
 use Rattle.rsp_engine.specs.Accept.{accept, accept_reading, is_live, new_query, starts_overfull}
-use Rattle.rsp_engine.specs.Contents.{content, facts}
+use Rattle.rsp_engine.specs.Contents.{content}
 use Rattle.rsp_engine.specs.Moments.{Moment, moments}
-use Rattle.rsp_engine.specs.Reports.{reports, world_behind, is_overfull, after_report, moments_behind}
-use Rattle.rsp_engine.specs.Kept.{kept_items, triples_of}
+use Rattle.rsp_engine.specs.Reports.{facts, reports, world_behind, is_overfull, after_report, moments_behind}
+use Rattle.rsp_engine.specs.Kept.{Sight, kept_items, triples_of}
 
 -- ---- what the rows speak of
 
@@ -108,7 +109,7 @@ abbrev from : ℕ → Query → Query
 from first query = record query { registration = record query.registration { first = first } }
 
 abbrev world : Option ℕ → List item.Item → List Query → World
-world next items queries = record { next = next; items = items; queries = queries }
+world next items queries = record { next = next; items = items; stored = []; queries = queries }
 
 abbrev at_of : List ℕ → ℕ → Moment
 at_of name t = record { at = t; query = name }
@@ -208,8 +209,8 @@ module _ (text : List ℕ) (q : Registered) (is : parse text ≡ Ok q) (sound : 
 -- ---- which other events are accepted
 
 -- the last tick's instant is complete already
-refusals : map (accept ticked) (Insert [] ∷ Delete [] ∷ Cancel (codes "r") ∷ arrives 10 5 ∷ Tick 9 ∷ Tick 10 ∷ [])
-    ≡ Err unbuilt ∷ Err unbuilt ∷ Err no_query ∷ Err (late 10 11) ∷ Err (late 9 11) ∷ Ok ticked ∷ []
+refusals : map (accept ticked) (Cancel (codes "r") ∷ arrives 10 5 ∷ Tick 9 ∷ Tick 10 ∷ [])
+    ≡ Err no_query ∷ Err (late 10 11) ∷ Err (late 9 11) ∷ Ok ticked ∷ []
 refusals = refl
 
 cancelled_query_is_gone : accept (world (Some 4) [] (at_tens (codes "q") ∷ at_tens (codes "r") ∷ [])) (Cancel (codes "q"))
@@ -229,6 +230,43 @@ late_items_may_be_unbuilt = refl
 late_graphs_may_be_unbuilt : map (λ n. accept waiting (Item (codes "s:a") 3 (map (λ _. triple 1) (range_with_len 0 n))))
     (1000 ∷ 1001 ∷ []) ≡ Err (late 3 4) ∷ Err unbuilt ∷ []
 late_graphs_may_be_unbuilt = refl
+
+-- ---- stored quads
+
+-- of the default graph, or of <a:7>
+abbrev quad : Bool → ℕ → Quad
+quad named n = record { triple = triple n; graph = if named then Some (iri 7) else None }
+
+abbrev stored : Bool → ℕ → Fact
+stored named n = record { spot = if named then spot.Named (iri 7) else spot.Default; triple = triple n }
+
+-- a quad that is named twice is stored once; one triple in two graphs is two quads
+quads_are_stored_once : accept (record waiting { stored = stored false 1 ∷ [] }) (Insert (quad true 1 ∷ quad false 1 ∷ quad true 1 ∷ []))
+    ≡ Ok (record waiting { stored = stored false 1 ∷ stored true 1 ∷ [] })
+quads_are_stored_once = refl
+
+-- what isn't stored isn't missed, and a graph may be left empty
+quads_are_deleted : accept (record waiting { stored = stored false 1 ∷ stored true 1 ∷ [] }) (Delete (quad true 1 ∷ quad true 2 ∷ []))
+    ≡ Ok (record waiting { stored = stored false 1 ∷ [] })
+quads_are_deleted = refl
+
+inserts_move_no_instant : map (moments_of waiting) (Insert (quad true 1 ∷ []) ∷ Delete [] ∷ []) ≡ Some [] ∷ Some [] ∷ []
+inserts_move_no_instant = refl
+
+-- the subjects of the default graph, at the closings of (0, 10], (10, 20], ..
+abbrev of_store : Query
+of_store =
+    new_query
+    (codes "q")
+    (subjects (at_instants (Close ∷ [])) (on_a 10 10)
+    (pattern Default (record { subject = Variable 0; predicate = Constant (Iri (codes "p:v")); object = Variable 1 })))
+    0
+
+-- the store is that of the moment at which a report is worked off: the item at 11 completes 10
+reports_see_the_store_of_their_moment : said_of of_store
+    (arrives 9 3 ∷ Insert (quad false 1 ∷ quad true 2 ∷ []) ∷ arrives 11 3 ∷ Delete (quad false 1 ∷ []) ∷ Tick 20 ∷ Insert (quad false 4 ∷ []) ∷ [])
+    ≡ report 10 (1 ∷ []) ∷ report 20 [] ∷ []
+reports_see_the_store_of_their_moment = refl
 
 -- ---- which instants an event makes complete, and who reports at them
 
@@ -321,6 +359,11 @@ facts_of_two_windows : map (facts (world (Some 9) (item_at 1 1 ∷ record (item_
     (4 ∷ 8 ∷ []) ≡ (fact 0 1 ∷ fact 1 2 ∷ []) ∷ (fact 0 1 ∷ []) ∷ []
 facts_of_two_windows = refl
 
+-- beside the stored quads
+stored_quads_are_seen : facts (record (world (Some 9) (item_at 1 1 ∷ []) []) { stored = stored true 1 ∷ [] }) (query (at_instants []) (on_a 10 10)).registration 4
+    ≡ stored true 1 ∷ fact 0 1 ∷ []
+stored_quads_are_seen = refl
+
 -- ---- what is reported
 
 -- the subjects of the triples that both windows have
@@ -408,13 +451,13 @@ module _ (reading : Reading) (full : is_overfull (between reading) (ending readi
 
 -- until (0, 10] and (5, 15] have closed
 items_are_kept_to_the_closing : map
-    (λ next. kept_items (world (Some next) (item_at 4 1 ∷ item_at 6 2 ∷ []) (query (at_instants []) (on_a 10 5) ∷ [])))
+    (λ next. kept_items (Some next) (record { first = 0; windows = on_a 10 5 } ∷ []) (item_at 4 1 ∷ item_at 6 2 ∷ []))
     (10 ∷ 11 ∷ 15 ∷ 16 ∷ []) ≡ (item_at 4 1 ∷ item_at 6 2 ∷ []) ∷ (item_at 6 2 ∷ []) ∷ (item_at 6 2 ∷ []) ∷ [] ∷ []
 items_are_kept_to_the_closing = refl
 
--- `q` sees the second and the third item, `r` the third alone, whose stream is no window's
-seen_items_are_kept : kept_items (world (Some 4) (two_items ++ record (item_at 4 2) { stream = codes "s:b" } ∷ [])
-    (from 1 (at_tens (codes "q")) ∷ from 2 (at_tens (codes "r")) ∷ [])) ≡ item_at 4 1 ∷ []
+-- one query sees the second and the third item, another the third alone, whose stream is no window's
+seen_items_are_kept : kept_items (Some 4) (record { first = 1; windows = on_a 10 10 } ∷ record { first = 2; windows = on_a 10 10 } ∷ [])
+    (two_items ++ record (item_at 4 2) { stream = codes "s:b" } ∷ []) ≡ item_at 4 1 ∷ []
 seen_items_are_kept = refl
 
 triples_are_counted_as_listed : triples_of (record (item_at 1 1) { graph = triple 1 ∷ triple 1 ∷ [] } ∷ two_items) ≡ 4

@@ -2,6 +2,9 @@
 use Rattle.std.specs.Prelude.{ℕ, ◌+◌, Bool, not, nat_lt, nat_le, ◌||◌, if◌then◌else◌, Some, Result, Ok, Err, List, [], ◌∷◌, ◌++◌, length, filter, bytes_eq}
 use Rattle.std.specs.List.{list_any}
 use Rattle.std.specs.Option.{unwrap_or, option_map_or}
+use Rattle.rsp_terms.specs.declared.statement.Fact.{Fact}
+use Rattle.rsp_terms.specs.declared.statement.Quad.{Quad}
+use Rattle.rsp_scope.specs.Quads.{stored_with, stored_without}
 use Rattle.rsp_events.specs.declared.event.Event.{Event}
 use Rattle.rsp_events.specs.declared.event.Event.TheVariants.{Register, Cancel, Item, Tick, Insert, Delete}
 use Rattle.rsp_engine.specs.declared.item.Item as item
@@ -9,7 +12,7 @@ use Rattle.rsp_query.specs.Queries.{Registered}
 use Rattle.rsp_algebra.specs.Overfull.{overfull}
 use Rattle.rsp_syntax.specs.Parsing.{parse}
 use Rattle.rsp_syntax.specs.declared.fault.SyntaxFault.{SyntaxFault}
-use Rattle.rsp_engine.specs.Refusals.{Refusal, late, name_taken, no_query, queries_full, start_overfull, unbuilt, text_fault}
+use Rattle.rsp_engine.specs.Refusals.{Refusal, late, name_taken, no_query, queries_full, start_overfull, store_full, unbuilt, text_fault}
 use Rattle.rsp_engine.specs.Readings.{is_rstream, reading_of}
 use Rattle.rsp_engine.specs.World.{World, Query, Reading, Registration, registrations}
 
@@ -23,6 +26,10 @@ most_items = 1000
 
 abbrev pub most_triples : ℕ
 most_triples = 1000
+
+-- the most quads that are stored
+abbrev pub most_quads : ℕ
+most_quads = 1000000
 
 -- the most queries that are live at once
 abbrev pub most_queries : ℕ
@@ -99,11 +106,24 @@ accept_tick world time =
     then Err (late time (next_of world))
     else Ok (record world { next = Some (time + 1) })
 
+-- so many quads are stored at most
+abbrev pub accept_stored : World → List Fact → Result World Refusal
+accept_stored world stored =
+    if nat_lt most_quads (length stored) then Err (store_full (length stored)) else Ok (record world { stored = stored })
+
+-- the quads that aren't stored become stored
+abbrev pub accept_insert : World → List Quad → Result World Refusal
+accept_insert world quads = accept_stored world (stored_with world.stored quads)
+
+-- the named quads are no longer stored
+abbrev pub accept_delete : World → List Quad → Result World Refusal
+accept_delete world quads = Ok (record world { stored = stored_without world.stored quads })
+
 -- the first refusal that holds, or the new world
 abbrev pub accept : World → Event → Result World Refusal
 accept world (Register name text) = accept_register world name text
 accept world (Cancel name) = accept_cancel world name
 accept world (Item stream time graph) = accept_item world (record { stream = stream; time = time; graph = graph })
 accept world (Tick time) = accept_tick world time
-accept world (Insert quads) = Err unbuilt
-accept world (Delete quads) = Err unbuilt
+accept world (Insert quads) = accept_insert world quads
+accept world (Delete quads) = accept_delete world quads

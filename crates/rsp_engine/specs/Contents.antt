@@ -10,7 +10,6 @@ use Rattle.rsp_terms.specs.declared.statement.Spot.TheVariants as spot
 use Rattle.rsp_terms.specs.contracts.statement.TriplePartialEq.TheImpl.{ghosts as triple}
 use Rattle.rsp_engine.specs.declared.item.Item.{Item}
 use Rattle.rsp_engine.specs.declared.live_query.StreamWindow.{StreamWindow}
-use Rattle.rsp_engine.specs.World.{World, Registration}
 
 -- the item is in the window's content at t: its stream is the window's, and its time lies in the active window, up to t
 abbrev pub in_content : StreamWindow → ℕ → Item → Bool
@@ -45,14 +44,10 @@ abbrev pub facts_from : List Item → ℕ → ℕ → List StreamWindow → List
 facts_from items t k [] = []
 facts_from items t k (w ∷ ws) = facts_of k (graph items w t) ++ facts_from items t (k + 1) ws
 
--- the items that a query may see: those accepted since it was registered
-abbrev pub visible_items : List Item → Registration → List Item
-visible_items items query = drop query.first items
+-- the items that a query may see: those from number `first` on, the items that were accepted since it was registered
+abbrev pub visible_items : List Item → ℕ → List Item
+visible_items items first = drop first items
 
--- the facts that a query sees at t, of these accepted items: the graphs of all its windows
-abbrev pub facts_over : List Item → Registration → ℕ → List Fact
-facts_over items query t = facts_from (visible_items items query) t 0 query.reading.windows
-
--- the facts that it sees in the world
-abbrev pub facts : World → Registration → ℕ → List Fact
-facts world query t = facts_over world.items query t
+-- what a query with these windows sees of the accepted items at t: the graphs of all its windows
+abbrev pub facts_over : List Item → ℕ → List StreamWindow → ℕ → List Fact
+facts_over items first windows t = facts_from (visible_items items first) t 0 windows

@@ -28,16 +28,19 @@ watched_window items w =
 
 -- a query's windows, of these accepted items
 abbrev pub watched_of : List Item → Registration → List Watched
-watched_of items query = map (watched_window (visible_items items query)) query.reading.windows
+watched_of items query = map (watched_window (visible_items items query.first)) query.reading.windows
 
 -- a query that looks at instants is due at t
 abbrev pub is_due : List Item → Registration → ℕ → Bool
 is_due items query t =
     not query.reading.policy.tuple && windows.is_due query.reading.policy (watched_of items query) t
 
--- a query that looks at items is due on the newest item, over one of its streams
-abbrev pub is_due_on : List Item → Registration → Item → Bool
-is_due_on items query item =
+-- a query that looks at items is due at t on the newest item, which came over this stream, where that is one of its streams
+abbrev pub is_due_over : List Item → Registration → List ℕ → ℕ → Bool
+is_due_over items query stream t =
     query.reading.policy.tuple
-    && (list_any (λ w. is_over w item) query.reading.windows
-    && windows.is_due_on_item query.reading.policy (watched_of items query) item.time)
+    && (list_any (λ w. bytes_eq stream w.stream) query.reading.windows
+    && windows.is_due_on_item query.reading.policy (watched_of items query) t)
+
+abbrev pub is_due_on : List Item → Registration → Item → Bool
+is_due_on items query item = is_due_over items query item.stream item.time

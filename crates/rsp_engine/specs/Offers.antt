@@ -20,8 +20,8 @@ TakesMemory (Register name text) = ⊤
 TakesMemory (Cancel name) = ⊥
 TakesMemory (Item stream time graph) = ⊤
 TakesMemory (Tick time) = ⊥
-TakesMemory (Insert quads) = ⊥
-TakesMemory (Delete quads) = ⊥
+TakesMemory (Insert quads) = ⊤
+TakesMemory (Delete quads) = ⊤
 
 -- the event was accepted: the engine stands for the world that the event makes, and for the event's moments
 pub record Accepts (old : State) (event : Event) (new : State) : Type 0 where
@@ -47,8 +47,8 @@ MayTakeMemory world (Register name text) = is_live world name ≡ false
 MayTakeMemory world (Cancel name) = ⊥
 MayTakeMemory world (Item stream time graph) = IsOk (accept world (Item stream time graph))
 MayTakeMemory world (Tick time) = ⊥
-MayTakeMemory world (Insert quads) = ⊥
-MayTakeMemory world (Delete quads) = ⊥
+MayTakeMemory world (Insert quads) = ⊤
+MayTakeMemory world (Delete quads) = ⊤
 
 -- memory was refused; the engine is broken
 pub record Breaks (old : State) (event : Event) (new : State) : Type 0 where

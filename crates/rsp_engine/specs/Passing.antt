@@ -1,7 +1,9 @@
 -- Words of the way: what the engine's calls do to its state.
-use Rattle.std.specs.Prelude.{◌≡◌, ◌⊎◌, ℕ, ◌+◌, Option, Bool, if◌then◌else◌, true, false, None, Some, List, map, remove, slice_get, slice_set, unwrap_or}
+use Rattle.std.specs.Prelude.{◌≡◌, ℕ, ◌+◌, Option, Bool, if◌then◌else◌, true, false, None, Some, List, [], map, remove, slice_get, slice_set, unwrap_or}
 use Rattle.std.specs.Option.{is_some}
 use Rattle.rsp_terms.specs.declared.statement.Fact.{Fact}
+use Rattle.rsp_terms.specs.Same.{fact_eq}
+use Rattle.rsp_multiset.specs.Weights.{IsSameMultiset}
 use Rattle.rsp_query.specs.Queries.{Registered}
 use Rattle.rsp_algebra.specs.Nodes.{Node}
 use Rattle.rsp_algebra.specs.Solutions.{eval}
@@ -15,28 +17,24 @@ use Rattle.rsp_engine.specs.declared.report.Outcome.{Outcome}
 use Rattle.rsp_engine.specs.declared.report.Outcome.TheVariants as outcomes
 use Rattle.rsp_engine.specs.declared.report.Report.{Report}
 use Rattle.rsp_engine.specs.Accept.{new_query, starts_overfull}
-use Rattle.rsp_engine.specs.Contents.{facts_over}
-use Rattle.rsp_engine.specs.Inside.{Answers}
-use Rattle.rsp_engine.specs.Left.{IsFirstLeft, reports_at}
+use Rattle.rsp_engine.specs.Inside.{Answers, fixed}
+use Rattle.rsp_engine.specs.Left.{IsFirstLeft, name_in, reports_at}
 use Rattle.rsp_engine.specs.Readings.{reading_of}
 use Rattle.rsp_engine.specs.Refusals.{Refusal, refusal_of}
 use Rattle.rsp_engine.specs.Reports.{IsOutcome, cells_at}
-use Rattle.rsp_engine.specs.Stands.{State, Live, next_in, query_of, reading_in, registration_of, registrations_in, test_in}
+use Rattle.rsp_engine.specs.Stands.{State, Live, facts_in, next_in, reading_in, registration_of, registrations_in, test_in}
 use Rattle.rsp_engine.specs.World.{Reading}
 
--- every instant before `to` is complete, and these items are kept, of which the newest just came, or not; the moments left are
--- those of the instants that became complete, and of what came; nothing else has changed
-pub record Passes (old : State) (kept : List Item) (came : Bool) (to : ℕ) (new : State) : Type 0 where
+-- every instant before `to` is complete, and these items are kept, of which the newest just came over this stream, where one did;
+-- the moments left are those of the instants that became complete, and of what came; nothing else has changed
+pub record Passes (old : State) (kept : List Item) (came : Option (List ℕ)) (to : ℕ) (new : State) : Type 0 where
   pub next : new.next ≡ Some to
   pub queries : new.queries ≡ old.queries
   pub items : new.items ≡ kept
+  pub stored : new.stored ≡ old.stored
   pub arrived : new.arrived ≡ came
   pub broken : new.broken ≡ false
-  pub first : IsFirstLeft (reports_at kept to came) (registrations_in old) to (unwrap_or old.next to) 0 new.first
-
--- the live query once it has seen the facts of t
-abbrev pub seeing : Live → List Item → ℕ → Live
-seeing live items t = record live { seen = facts_over items (registration_of live) t }
+  pub first : IsFirstLeft name_in (reports_at kept to came) (registrations_in old) to (unwrap_or old.next to) 0 new.first
 
 -- that a report is overfull
 abbrev pub is_overfull_outcome : Outcome → Bool
@@ -50,47 +48,59 @@ outcome_over reading facts =
     then outcomes.Overfull
     else outcomes.Rows (in_order (map (cells_at reading.shown) (eval reading.width reading.node facts)))
 
--- a live query reported at t, and stands for the facts of t where it is still live
-pub record IsReported {A : Type 0} (node : A → Node) (width : A → ℕ) (facts : A → List Fact) (spent : A → Bool)
-    (live : Live) (items : List Item) (t : ℕ) (new : LiveQuery A) (given : Outcome) : Type 0 where
-  pub outcome : IsOutcome given (outcome_over (reading_in live) (facts_over items (registration_of live) t))
-  pub answers : (given ≡ outcomes.Overfull) ⊎ Answers node width facts spent new
+-- the outcome over these facts, and over any others that are the same multiset
+abbrev pub IsOutcomeOver : Outcome → Reading → List Fact → Type 0
+IsOutcomeOver given reading now = (facts : List Fact) → IsSameMultiset fact_eq now facts → IsOutcome given (outcome_over reading facts)
 
--- the live queries behind a report of the one at this place: it has seen the facts, or is no longer live
+-- a live query reported over these facts at t, and its answer stands for them where it is still live
+pub record IsReported {A : Type 0} (node : A → Node) (width : A → ℕ) (facts : A → List Fact) (spent : A → Bool)
+    (live : LiveQuery A) (now : List Fact) (new : LiveQuery A) (given : Outcome) : Type 0 where
+  pub outcome : IsOutcomeOver given (fixed live).reading now
+  pub same : fixed new ≡ fixed live
+  pub answers : is_overfull_outcome given ≡ false
+      → Answers node width facts spent new × IsSameMultiset fact_eq (facts new.answer) now
+
+-- the live queries behind a report of the one at this place, which is then this: or is no longer live
 abbrev pub queries_behind : State → Pending → Live → Bool → List Live
-queries_behind old place live true = remove old.queries place.query
-queries_behind old place live false = slice_set old.queries place.query (seeing live old.items place.at)
+queries_behind old place now true = remove old.queries place.query
+queries_behind old place now false = slice_set old.queries place.query now
 
 -- the query's place behind the report
 abbrev pub place_behind : Pending → Bool → ℕ
 place_behind place true = place.query
 place_behind place false = place.query + 1
 
--- the report at the first place left was given; the query is live where it isn't overfull, and those behind are left
+-- the report at the first place left was given; the query's answer stands for what it saw where it isn't overfull, and the
+-- moments behind are left
 pub record ReportsFirst (old : State) (report : Report) (new : State) : Type 0 where
   pub place : Pending
   pub live : Live
+  pub now : Live
   pub first : old.first ≡ Some place
   pub listed : slice_get old.queries place.query ≡ Some live
   pub query : report.query ≡ live.name
   pub at : report.at ≡ place.at
   pub variables : report.variables ≡ live.variables
-  pub outcome : IsOutcome report.outcome
-      (outcome_over (reading_in live) (facts_over old.items (registration_of live) place.at))
+  pub outcome : IsOutcomeOver report.outcome (reading_in live) (facts_in old live place.at)
+  pub same : registration_of now ≡ registration_of live
+  pub seen : is_overfull_outcome report.outcome ≡ false → IsSameMultiset fact_eq now.seen (facts_in old live place.at)
   pub next : new.next ≡ old.next
   pub items : new.items ≡ old.items
+  pub stored : new.stored ≡ old.stored
   pub arrived : new.arrived ≡ old.arrived
   pub broken : new.broken ≡ old.broken
-  pub queries : new.queries ≡ queries_behind old place live (is_overfull_outcome report.outcome)
-  pub left : IsFirstLeft (test_in old) (registrations_in new) (next_in old) place.at
+  pub queries : new.queries ≡ queries_behind old place now (is_overfull_outcome report.outcome)
+  pub left : IsFirstLeft name_in (test_in old) (registrations_in new) (next_in old) place.at
       (place_behind place (is_overfull_outcome report.outcome)) new.first
 
 -- the answer names this refusal
 abbrev pub IsFaultOf : Refused → Option Refusal → Type 0
 IsFaultOf why fault = (fault ≡ refusal_of why) × (is_some (refusal_of why) ≡ true)
 
--- the live query of a query's text, or none where it has too many rows over no facts
-abbrev pub IsBegun : List ℕ → Registered → ℕ → Option Live → Type 0
-IsBegun name q first None = starts_overfull (reading_of q) ≡ true
-IsBegun name q first (Some live) =
-    (starts_overfull (reading_of q) ≡ false) × (query_of live ≡ new_query name (reading_of q) first)
+-- the live query of a query's text, as registration fixes it and over no facts; or none where it has too many rows over none
+abbrev pub IsBegun : {A : Type 0} → (A → List Fact) → List ℕ → Registered → ℕ → Option (LiveQuery A) → Type 0
+IsBegun facts name q first None = starts_overfull (reading_of q) ≡ true
+IsBegun facts name q first (Some live) =
+    (starts_overfull (reading_of q) ≡ false)
+    × (fixed live ≡ (new_query name (reading_of q) first).registration)
+    × (facts live.answer ≡ [])

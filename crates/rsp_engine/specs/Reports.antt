@@ -1,8 +1,9 @@
 -- Definitions: what is reported at a moment (RSP-QL, RStream), and working off the moments of an event.
-use Rattle.std.specs.Prelude.{◌≡◌, ℕ, zero, suc, Bool, not, if◌then◌else◌, Option, None, Some, List, [], ◌∷◌, length, map, filter, slice_index_or, bytes_eq}
+use Rattle.std.specs.Prelude.{◌≡◌, ℕ, zero, suc, Bool, not, if◌then◌else◌, Option, None, Some, List, [], ◌∷◌, ◌++◌, length, map, filter, slice_index_or, bytes_eq}
 use Rattle.std.specs.List.{find}
 use Rattle.std.specs.Option.{option_map_or}
 use Rattle.rsp_terms.specs.declared.term.Term.{Term}
+use Rattle.rsp_terms.specs.declared.statement.Fact.{Fact}
 use Rattle.rsp_terms.specs.Same.{term_eq}
 use Rattle.rsp_multiset.specs.Weights.{times}
 use Rattle.rsp_multiset.specs.Rows.{Cells, row_eq}
@@ -13,9 +14,13 @@ use Rattle.rsp_engine.specs.declared.report.Report.{Report}
 use Rattle.rsp_engine.specs.declared.report.Outcome.{Outcome}
 use Rattle.rsp_engine.specs.declared.report.Outcome.TheVariants as outcome
 use Rattle.rsp_engine.specs.World.{World, Registration, Query, registrations}
-use Rattle.rsp_engine.specs.Contents.{facts}
+use Rattle.rsp_engine.specs.Contents.{facts_over}
 use Rattle.rsp_engine.specs.Moments.{Moment}
 use Rattle.rsp_engine.specs.Accept.{has_name, without}
+
+-- the facts that a query sees in the world at t: the stored quads, and the graphs of its windows
+abbrev pub facts : World → Registration → ℕ → List Fact
+facts world query t = world.stored ++ facts_over world.items query.first query.reading.windows t
 
 -- the cells of a row at these places, in their order
 abbrev pub cells_at : List ℕ → Cells Term → Cells Term

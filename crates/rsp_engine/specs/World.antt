@@ -30,11 +30,12 @@ pub record Query : Type 0 where
   pub registration : Registration
   pub seen : List Fact
 
--- the first instant that isn't complete, where one is set; all accepted items, in order, numbered from 0; the live
--- queries in order of registration
+-- the first instant that isn't complete, where one is set; all accepted items, in order, numbered from 0; the stored quads, as
+-- distinct facts; the live queries in order of registration
 pub record World : Type 0 where
   pub next : Option ℕ
   pub items : List Item
+  pub stored : List Fact
   pub queries : List Query
 
 -- what registration fixed of the live queries, in order
@@ -42,4 +43,4 @@ abbrev pub registrations : World → List Registration
 registrations world = map (λ (query : Query). query.registration) world.queries
 
 abbrev pub empty_world : World
-empty_world = record { next = None; items = []; queries = [] }
+empty_world = record { next = None; items = []; stored = []; queries = [] }

@@ -1,26 +1,29 @@
 // The engine's calls.
-ghost use Rattle.std.specs.Prelude.{◌≡◌, ◌≤◌, ◌<◌, ◌+◌, ◌++◌, ◌∷◌, [], MatchOption, OnOk, Some, false, if◌then◌else◌, length, map, remove, slice_get, unwrap_or};
+ghost use Rattle.std.specs.Prelude.{◌≡◌, ◌≤◌, ◌<◌, ◌+◌, ◌++◌, ◌∷◌, [], MatchOption, OnOk};
+ghost use Rattle.std.specs.Prelude.{None, Some, false, if◌then◌else◌, length, map, remove, slice_get, unwrap_or};
 ghost use Rattle.std.specs.List.{All, list_any};
 ghost use Rattle.rsp_spec.specs.Windows.{last_instant};
 ghost use Rattle.rsp_engine.specs.Accept.{has_name};
-ghost use Rattle.rsp_engine.specs.Inside.{IsWatching, fixed, live_of};
-ghost use Rattle.rsp_engine.specs.Left.{IsFirstLeft, reports_at};
+ghost use Rattle.rsp_engine.specs.Inside.{IsWatching, fixed, live_of, name_of};
+ghost use Rattle.rsp_engine.specs.Left.{IsFirstLeft};
 ghost use Rattle.rsp_engine.specs.Passing.{is_overfull_outcome};
+ghost use Rattle.rsp_engine.specs.Watching.{IsPrompt, reports_by};
 ghost use Rattle.rsp_engine.specs.declared.live_query.LiveQuery.{LiveQuery};
-ghost use Rattle.rsp_engine.specs.Stands.{IsTimed};
 
 use crate::finding::{Pending, first_left};
 use crate::live_query::LiveQuery;
 use crate::registering::{begun, chosen, is_rstream, parsed, translated};
 use crate::seeing::report_at;
-use crate::watching::keep;
+use crate::storing::{put, take_out};
+use crate::watching::{Arrival, keep};
 use crate::{EngineFault, Item, Outcome, Refused, Report};
 use rsp_algebra::{Answer, Translated};
 use rsp_events::Event;
 use rsp_query::Query;
 use rsp_report::Chosen;
+use rsp_scope::{Stored, StoredFault};
 use rsp_steps::Steps;
-use rsp_terms::Text;
+use rsp_terms::{Quad, Text};
 use std::alloc::{AllocError, Global};
 use std::marker::Model;
 use std::sync::ledger::Ledger;
@@ -42,10 +45,12 @@ pub struct Engine<A: Answer> {
     // in order of registration
     queries: Vec<LiveQuery<A>>,
     items: Vec<Item>,
+    // the stored quads
+    stored: Stored,
     // the triples of the items, as listed
     held: u64,
-    // whether the event that set `next` was an item, which is then the newest
-    arrived: bool,
+    // the stream of the newest item, where the event that set `next` was this item
+    arrived: Option<Text>,
     // the place of the first moment left
     first: Option<Pending>,
     broken: bool,
@@ -63,7 +68,7 @@ impl<A: Answer> Model for Engine<A> {
 
     ghost use Rattle.rsp_engine.specs.Inside.{state_of, IsEngine};
 
-    ghost view = { state_of };
+    ghost view = { state_of A.facts };
 
     ghost invariant = { IsEngine A.node A.width A.facts A.spent };
 }
@@ -102,8 +107,9 @@ impl<A: Answer> Engine<A> {
             next: None,
             queries: Vec::new(alloc),
             items: Vec::new(alloc),
+            stored: Stored::new(alloc),
             held: 0,
-            arrived: false,
+            arrived: None,
             first: None,
             broken: false,
         }
@@ -144,7 +150,7 @@ impl<A: Answer> Engine<A> {
     /// Refused as `Broken` exactly where memory was refused before; with the definition's refusal, which changes nothing,
     /// only where the definition refuses the event so; as `OutOfMemory` where memory is refused, which breaks the engine:
     /// never for a tick or a cancellation, never for an item that the definition refuses, never for a registration under
-    /// a name that is taken. Any other registration that the definition refuses may be answered so.
+    /// a name that is taken. Any other registration, and any insert, that the definition refuses may be answered so.
     pub fn offer(&mut self, event: Event) -> Result<(), Refused>
         requires idle { IsTrue (is_idle self.old) }
         requires instant { IsInstant event }
@@ -166,7 +172,8 @@ impl<A: Answer> Engine<A> {
                 graph,
             }),
             Event::Tick { time } => self.tick(time),
-            Event::Insert { .. } | Event::Delete { .. } => Err(Refused::Unbuilt),
+            Event::Insert { quads } => self.insert(quads.as_slice()),
+            Event::Delete { quads } => self.delete(quads.as_slice()),
         }
     }
 
@@ -300,7 +307,7 @@ impl<A: Answer> Engine<A> {
         requires first { query.first ≡ length self.old.items }
         requires watching { IsWatching self.old.items query }
         requires answers { Answers A.node A.width A.facts A.spent query }
-        ensures ok { OnOk result (self.new ≡ record self.old { queries = self.old.queries ++ live_of query ∷ [] }) }
+        ensures ok { OnOk result (self.new ≡ record self.old { queries = self.old.queries ++ live_of A.facts query ∷ [] }) }
         ensures err { IfErr result (λ why. (why ≡ OutOfMemory) × (self.new.broken ≡ true)) }
     {
         match add(&mut self.queries, query) {
@@ -342,6 +349,31 @@ impl<A: Answer> Engine<A> {
     {
         self.broken = true;
         Refused::OutOfMemory
+    }
+
+    // ---- stored quads
+
+    fn insert(&mut self, quads: &[Quad]) -> Result<(), Refused>
+        requires idle { IsTrue (is_idle self.old) }
+        requires ready { self.old.broken ≡ false }
+        ensures { Offers self.old (Event.Insert quads.now) result self.new }
+    {
+        match put(&mut self.stored, quads) {
+            Ok(()) => Ok(()),
+            Err(StoredFault::StoreFull { quads }) => Err(Refused::StoreFull { quads }),
+            Err(StoredFault::OutOfMemory) => Err(self.break_off()),
+        }
+    }
+
+    fn delete(&mut self, quads: &[Quad]) -> Result<(), Refused>
+        requires idle { IsTrue (is_idle self.old) }
+        requires ready { self.old.broken ≡ false }
+        ensures { Offers self.old (Event.Delete quads.now) result self.new }
+    {
+        match take_out(&mut self.stored, quads) {
+            Ok(()) => Ok(()),
+            Err(AllocError) => Err(self.break_off()),
+        }
     }
 
     // ---- time
@@ -410,16 +442,17 @@ impl<A: Answer> Engine<A> {
         requires ready { self.old.broken ≡ false }
         requires later { next_in self.old ≤ item.time }
         requires instant { item.time ≤ last_instant }
-        ensures ok { OnOk result (Passes self.old (self.old.items ++ item ∷ []) true item.time self.new) }
+        ensures ok { OnOk result (Passes self.old (self.old.items ++ item ∷ []) (Some item.stream) item.time self.new) }
         ensures err { OnErr result (self.new.broken ≡ true) }
     {
         let time = item.time;
         match keep(&mut self.queries, &mut self.items, item, self.held) {
-            Ok(held) => {
+            Ok(Arrival { stream, held }) => {
                 self.held = held;
+                let arrived = Some(stream);
                 let queries = self.queries.as_slice();
-                self.first = first_moment(queries, self.items.as_slice(), true, self.next, time);
-                self.arrived = true;
+                self.first = first_moment(queries, &arrived, self.next, time);
+                self.arrived = arrived;
                 self.next = Some(time);
                 Ok(())
             }
@@ -436,11 +469,11 @@ impl<A: Answer> Engine<A> {
         requires ready { self.old.broken ≡ false }
         requires later { next_in self.old ≤ to }
         requires instant { to ≤ last_instant + 1 }
-        ensures { Passes self.old self.old.items false to self.new }
+        ensures { Passes self.old self.old.items None to self.new }
     {
         let queries = self.queries.as_slice();
-        self.first = first_moment(queries, self.items.as_slice(), false, self.next, to);
-        self.arrived = false;
+        self.first = first_moment(queries, &None, self.next, to);
+        self.arrived = None;
         self.next = Some(to);
     }
 
@@ -484,6 +517,7 @@ impl<A: Answer> Engine<A> {
         match report_at(
             self.alloc,
             &mut self.queries[place.query],
+            &self.stored,
             items,
             place.at,
             steps,
@@ -495,7 +529,7 @@ impl<A: Answer> Engine<A> {
                     query,
                 };
                 let queries = self.queries.as_slice();
-                self.first = first_left(queries, items, self.arrived, next, from);
+                self.first = first_left(queries, &self.arrived, next, from);
                 Ok(report)
             }
             Err(AllocError) => {
@@ -516,22 +550,20 @@ fn add<A: Drop>(queries: &mut Vec<LiveQuery<A>>, query: LiveQuery<A>) -> Result<
 // the place of the first moment once every instant before `to` is complete, where those before `next` are worked off
 fn first_moment<A>(
     queries: &[LiveQuery<A>],
-    items: &[Item],
-    arrived: bool,
+    arrived: &Option<Text>,
     next: Option<u64>,
     to: u64,
 ) -> Option<Pending>
-    requires watching { All (IsWatching items.now) queries.now }
-    requires timed { IsTimed items.now to }
+    requires prompt { All (IsPrompt to arrived.now) queries.now }
     requires later { unwrap_or next to ≤ to }
     requires instant { to ≤ last_instant + 1 }
-    ensures { IsFirstLeft (reports_at items.now to arrived) (map fixed queries.now) to (unwrap_or next to) 0 result }
+    ensures { IsFirstLeft name_of (reports_by to arrived.now) queries.now to (unwrap_or next to) 0 result }
 {
     let from = Pending {
         at: next.unwrap_or(to),
         query: 0,
     };
-    first_left(queries, items, arrived, to, from)
+    first_left(queries, arrived, to, from)
 }
 
 // takes out a query whose report is overfull; gives the place of the query behind it

@@ -17,6 +17,7 @@ mod registering;
 mod report;
 mod rows;
 mod seeing;
+mod storing;
 mod watching;
 
 pub use engine::Engine;

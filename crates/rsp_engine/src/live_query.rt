@@ -1,5 +1,6 @@
 // Live queries.
 use rsp_algebra::Translated;
+use rsp_multiset::Changes;
 use rsp_query::Operator;
 use rsp_report::{Chosen, Watched};
 use rsp_terms::{Fact, Listed, Text};
@@ -26,7 +27,8 @@ pub(crate) struct LiveQuery<A> {
     /// The names of the variables that are shown.
     pub variables: Listed<Text>,
     pub first: usize,
-    pub seen: Listed<Fact>,
+    /// The facts of its last report, each once; none before the first.
+    pub seen: Changes<Fact>,
     /// Each window with the times of the items over its stream that the query may see.
     pub watched: Vec<Watched>,
     pub answer: A,

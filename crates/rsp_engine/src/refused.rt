@@ -50,8 +50,11 @@ pub enum Refused {
     /// 256 queries are live.
     #[error("as many queries are live as can be")]
     QueriesFull,
-    /// The event is of a kind that isn't built yet: a query without fault whose operator isn't RSTREAM, an insert, a delete, an
-    /// item of more than a thousand triples, or an item after a thousand.
+    /// So many quads would be stored, more than 1,000,000.
+    #[error("the store is full: {quads} quads")]
+    StoreFull { quads: u64 },
+    /// The event is of a kind that isn't built yet: a query without fault whose operator isn't RSTREAM, an item of more than a
+    /// thousand triples, or an item after a thousand.
     #[error("not built yet")]
     Unbuilt,
     /// Some subtree of the query has more than 1,000,000 solutions over no facts at all.

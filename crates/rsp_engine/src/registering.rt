@@ -1,6 +1,6 @@
 // What a text asks for, and queries that become live.
 ghost use Rattle.std.specs.Prelude.{◌≡◌, [], List, IfErr, IfOk, IfSome, MatchResult, Err, Ok, Result};
-ghost use Rattle.std.specs.Prelude.{false, length, map, option_map, true};
+ghost use Rattle.std.specs.Prelude.{false, length, map, true};
 ghost use Rattle.rsp_report.specs.Policies.{choice_of, is_mixed};
 ghost use Rattle.rsp_query.specs.Queries.{Registered, registered};
 ghost use Rattle.rsp_algebra.specs.Nodes.{IsPlaced, node_of};
@@ -13,17 +13,17 @@ ghost use Rattle.rsp_syntax.specs.declared.fault.SyntaxFault as fault;
 ghost use Rattle.rsp_translation.specs.Translation.{IsTranslated, first_fault};
 ghost use Rattle.rsp_engine.specs.Accept.{new_query};
 ghost use Rattle.rsp_engine.specs.Due.{watched_window};
-ghost use Rattle.rsp_engine.specs.Inside.{Answers, IsPolicy, IsWatching, live_of};
+ghost use Rattle.rsp_engine.specs.Inside.{Answers, IsPolicy, IsWatching, fixed};
 ghost use Rattle.rsp_engine.specs.declared.item.Item.{Item};
 ghost use Rattle.rsp_engine.specs.Passing.{IsBegun, IsFaultOf};
 ghost use Rattle.rsp_engine.specs.Readings as readings;
 ghost use Rattle.rsp_engine.specs.Refusals.{shape_fault, text_fault};
-ghost use Rattle.rsp_engine.specs.Stands.{query_of};
 ghost use Rattle.rsp_engine.specs.declared.refused.Refused.TheVariants as refusals;
 
 use crate::Refused;
 use crate::live_query::{LiveQuery, StreamWindow};
 use rsp_algebra::{Answer, Translated};
+use rsp_multiset::Changes;
 use rsp_query::{Operator, PolicyWords, Query, WindowClause};
 use rsp_report::{Chosen, PolicyMix, Watched, policy};
 use rsp_syntax::{SyntaxFault, parse};
@@ -177,7 +177,7 @@ pub(crate) fn begun<A: Answer>(
     requires asked { IsPolicy policy }
     requires translated { IsTranslated (registered query.now) made.value }
     requires placed { IsPlaced made.value }
-    ensures query { IfOk result (λ live. IsBegun name (registered query.now) first (option_map live_of live)) }
+    ensures query { IfOk result (IsBegun A.facts name (registered query.now) first) }
     ensures watching { IfOk result (λ live. IfSome live (λ live.
         (items : List Item) → length items ≡ first → IsWatching items live)) }
     ensures answers { IfOk result (λ live. IfSome live (Answers A.node A.width A.facts A.spent)) }
@@ -204,8 +204,8 @@ fn live_query<A: Answer>(
     requires width { A.width answer ≡ made.value.width }
     requires facts { A.facts answer ≡ [] }
     requires ready { A.spent answer ≡ false }
-    ensures query { IfOk result (λ live.
-        query_of (live_of live) ≡ new_query name (readings.reading_of (registered query.now)) first) }
+    ensures query { IfOk result (λ live. fixed live ≡ (new_query name (readings.reading_of (registered query.now)) first).registration) }
+    ensures answer { IfOk result (λ live. live.answer ≡ answer) }
     ensures watching { IfOk result (λ live. (items : List Item) → length items ≡ first → IsWatching items live) }
     ensures answers { IfOk result (Answers A.node A.width A.facts A.spent) }
 {
@@ -221,7 +221,7 @@ fn live_query<A: Answer>(
         query: made,
         variables,
         first,
-        seen: Listed::new(alloc),
+        seen: Changes::new(alloc),
         watched,
         answer,
     })

@@ -1,44 +1,50 @@
 // What a live query reports at an instant.
-ghost use Rattle.std.specs.Prelude.{◌≡◌, ◌≤◌, ◌+◌, ◌+ℤ◌, false, List, map, IfOk, OnOk, length};
+ghost use Rattle.std.specs.Prelude.{◌≡◌, ◌≤◌, ◌+◌, ◌++◌, ◌+ℤ◌, false, List, map, IfOk, OnOk, length};
 ghost use Rattle.rsp_spec.specs.Windows.{last_instant};
 ghost use Rattle.rsp_terms.specs.Same.{fact_eq};
-ghost use Rattle.rsp_multiset.specs.Weights.{IsChanged, times, weight};
+ghost use Rattle.rsp_multiset.specs.Weights.{times, weight};
 ghost use Rattle.rsp_algebra.specs.Solutions.{eval};
 ghost use Rattle.rsp_terms.specs.declared.statement.Fact.{Fact};
 ghost use Rattle.rsp_streams_out.specs.Rows.{in_order};
 ghost use Rattle.rsp_engine.specs.declared.report.Outcome.TheVariants as outcomes;
-ghost use Rattle.rsp_engine.specs.Inside.{Answers, live_of};
-ghost use Rattle.rsp_engine.specs.Passing.{IsReported, seeing};
+ghost use Rattle.rsp_engine.specs.Contents.{facts_over};
+ghost use Rattle.rsp_engine.specs.Inside.{Answers};
+ghost use Rattle.rsp_engine.specs.Passing.{IsReported};
 ghost use Rattle.rsp_engine.specs.Reports.{IsOutcome, cells_at};
+ghost use Rattle.rsp_engine.specs.Stands.{IsStore};
 
 use crate::contents::facts;
 use crate::rows::shown_rows;
 use crate::{Item, LiveQuery, Outcome, Report};
 use rsp_algebra::{Answer, Turn};
 use rsp_multiset::Changes;
+use rsp_scope::Stored;
 use rsp_steps::Steps;
 use rsp_terms::{Fact, Listed, Text};
 use std::alloc::{AllocError, Global};
 use std::sync::ledger::Ledger;
 
-// The outcome of a live query at `at`, in ms since 1970, over these items. Where it isn't overfull, the query has then
+// The outcome of a live query at `at`, in ms since 1970, over the stored quads and these items. Where it isn't overfull, the query has then
 // seen the facts of that instant. Fails only where memory is refused; the query is then only to be dropped.
 fn outcome_at<A: Answer, L: Ledger>(
     alloc: Global,
     live: &mut LiveQuery<A>,
+    stored: &Stored,
     items: &[Item],
     at: u64,
     steps: &mut Steps<L>,
 ) -> Result<Outcome, AllocError>
     requires instant { at ≤ last_instant + 1 }
+    requires store { IsStore stored.now }
     requires first { live.old.first ≤ length items.now }
     requires answers { Answers A.node A.width A.facts A.spent live.old }
-    ensures seen { OnOk result (live_of live.new ≡ seeing (live_of live.old) items.now at) }
     ensures watched { OnOk result (live.new.watched.items ≡ live.old.watched.items) }
-    ensures reported { IfOk result (IsReported A.node A.width A.facts A.spent (live_of live.old) items.now at live.new) }
+    ensures reported { IfOk result (IsReported A.node A.width A.facts A.spent live.old
+        (stored.now ++ facts_over items.now live.old.first live.old.windows at) live.new) }
 {
-    let now = facts(alloc, live.windows.as_slice(), live.first, items, at)?;
-    let changes = changes(alloc, live.seen.as_slice(), now.as_slice())?;
+    let windows = facts(alloc, live.windows.as_slice(), live.first, items, at)?;
+    let now = all_facts(stored, windows.as_slice())?;
+    let changes = difference(alloc, &now, &live.seen)?;
     let turn = live.answer.change(&changes, steps)?;
     live.seen = now;
     match turn {
@@ -51,24 +57,25 @@ fn outcome_at<A: Answer, L: Ledger>(
 pub(crate) fn report_at<A: Answer, L: Ledger>(
     alloc: Global,
     live: &mut LiveQuery<A>,
+    stored: &Stored,
     items: &[Item],
     at: u64,
     steps: &mut Steps<L>,
 ) -> Result<Report, AllocError>
     requires instant { at ≤ last_instant + 1 }
+    requires store { IsStore stored.now }
     requires first { live.old.first ≤ length items.now }
     requires answers { Answers A.node A.width A.facts A.spent live.old }
-    ensures seen { OnOk result (live_of live.new ≡ seeing (live_of live.old) items.now at) }
     ensures watched { OnOk result (live.new.watched.items ≡ live.old.watched.items) }
     ensures query { IfOk result (λ report. report.query ≡ live.old.name) }
     ensures at { IfOk result (λ report. report.at ≡ at) }
     ensures variables { IfOk result (λ report. report.variables ≡ live.old.variables) }
-    ensures reported { IfOk result (λ report.
-        IsReported A.node A.width A.facts A.spent (live_of live.old) items.now at live.new report.outcome) }
+    ensures reported { IfOk result (λ report. IsReported A.node A.width A.facts A.spent live.old
+        (stored.now ++ facts_over items.now live.old.first live.old.windows at) live.new report.outcome) }
 {
     let query = live.name.share()?;
     let variables = shared(alloc, live.variables.as_slice())?;
-    let outcome = outcome_at(alloc, live, items, at, steps)?;
+    let outcome = outcome_at(alloc, live, stored, items, at, steps)?;
     Ok(Report {
         query,
         at,
@@ -98,18 +105,19 @@ fn rows_of<A: Answer>(alloc: Global, live: &LiveQuery<A>) -> Result<Outcome, All
     Ok(Outcome::Rows(shown_rows(alloc, &solutions, live.query.shown.as_slice())?))
 }
 
-// the change from one list of facts to another
-fn changes(alloc: Global, seen: &[Fact], now: &[Fact]) -> Result<Changes<Fact>, AllocError>
-    ensures { IfOk result (λ changes. IsChanged fact_eq seen.now changes now.now) }
+// the stored quads and the facts of windows
+fn all_facts(stored: &Stored, windows: &[Fact]) -> Result<Changes<Fact>, AllocError>
+    ensures { IfOk result (λ all. (q : Fact)
+        → weight fact_eq all q ≡ times fact_eq stored.now q +ℤ times fact_eq windows.now q) }
 {
-    let mut changes = Changes::new(alloc);
-    add_each(&mut changes, now)?;
-    take_each(&mut changes, seen)?;
-    Ok(changes)
+    let mut all = stored.facts()?;
+    add_each(&mut all, windows)?;
+    Ok(all)
 }
 
 fn add_each(changes: &mut Changes<Fact>, facts: &[Fact]) -> Result<(), AllocError>
-    ensures { OnOk result ((q : _) → weight fact_eq changes.new q ≡ weight fact_eq changes.old q +ℤ times fact_eq facts.now q) }
+    ensures { OnOk result ((q : Fact)
+        → weight fact_eq changes.new q ≡ weight fact_eq changes.old q +ℤ times fact_eq facts.now q) }
 {
     for fact in facts {
         changes.alter(fact.share()?, 1)?;
@@ -117,11 +125,29 @@ fn add_each(changes: &mut Changes<Fact>, facts: &[Fact]) -> Result<(), AllocErro
     Ok(())
 }
 
-fn take_each(changes: &mut Changes<Fact>, facts: &[Fact]) -> Result<(), AllocError>
-    ensures { OnOk result ((q : _) → weight fact_eq changes.old q ≡ weight fact_eq changes.new q +ℤ times fact_eq facts.now q) }
+// what leads from the facts seen to those of now
+fn difference(
+    alloc: Global,
+    now: &Changes<Fact>,
+    seen: &Changes<Fact>,
+) -> Result<Changes<Fact>, AllocError>
+    ensures { IfOk result (λ changes. (q : Fact)
+        → weight fact_eq now.now q ≡ weight fact_eq seen.now q +ℤ weight fact_eq changes q) }
 {
-    for fact in facts {
-        changes.alter(fact.share()?, -1)?;
+    let mut changes = Changes::new(alloc);
+    add_all(&mut changes, seen)?;
+    changes.negate();
+    add_all(&mut changes, now)?;
+    Ok(changes)
+}
+
+fn add_all(changes: &mut Changes<Fact>, others: &Changes<Fact>) -> Result<(), AllocError>
+    ensures { OnOk result ((q : Fact)
+        → weight fact_eq changes.new q ≡ weight fact_eq changes.old q +ℤ weight fact_eq others.now q) }
+{
+    for index in 0..others.distinct() {
+        let (fact, count) = others.counted_at(index);
+        changes.add(fact.share()?, count)?;
     }
     Ok(())
 }

@@ -12,27 +12,35 @@ use rsp_report::Watched;
 use rsp_terms::Text;
 use std::alloc::{AllocError, Global};
 
-/// Keeps an item as the newest, and adds its time to what each query watches. Gives the number of triples of all items, of which
-/// there were `held`. Fails only where memory is refused; some queries may then watch it and others not.
+/// The stream of an item that was kept, and the number of triples of all items.
+pub(crate) struct Arrival {
+    pub stream: Text,
+    pub held: u64,
+}
+
+/// Keeps an item as the newest, and adds its time to what each query watches. The items before it have `held` triples. Fails only
+/// where memory is refused; some queries may then watch it and others not.
 pub(crate) fn keep<A>(
     queries: &mut [LiveQuery<A>],
     items: &mut Vec<Item>,
     item: Item,
     held: u64,
-) -> Result<u64, AllocError>
+) -> Result<Arrival, AllocError>
     requires watching { All (IsWatching items.old.items) queries.old }
     requires firsts { All (λ live. live.first ≤ length items.old.items) queries.old }
     requires held { held ≡ triples_of items.old.items }
     ensures items { OnOk result (items.new.items ≡ items.old.items ++ item ∷ []) }
-    ensures held { IfOk result (λ held. held ≡ triples_of items.new.items) }
+    ensures stream { IfOk result (λ arrival. arrival.stream ≡ item.stream) }
+    ensures held { IfOk result (λ arrival. arrival.held ≡ triples_of items.new.items) }
     ensures parts { OnOk result (map parts_of queries.new ≡ map parts_of queries.old) }
     ensures watching { OnOk result (All (IsWatching items.new.items) queries.new) }
 {
     let triples = item.graph.as_slice().len() as u64;
     let held = held.checked_add(triples).ok_or(AllocError)?;
+    let stream = item.stream.share()?;
     watch(queries, items.as_slice(), &item)?;
     items.push(item)?;
-    Ok(held)
+    Ok(Arrival { stream, held })
 }
 
 // each query watches the items with this one as the newest

@@ -1,7 +1,7 @@
 use Rattle.std.proofs.Common.{◌∙◌, ap, bytes_eq, sym}
 use Rattle.rsp_engine.specs.declared.live_query.LiveQuery.{LiveQuery}
 use Rattle.std.specs.Cmp.Lexicographic.{bytes_decides}
-use Rattle.rsp_engine.proofs.Reporting.{get_index}
+use Rattle.rsp_engine.proofs.Named.{get_index}
 use Rattle.rsp_engine.proofs.engine.place_of.Goals as goal
 
 pub returns-then-eq : goal.returns-then-eq

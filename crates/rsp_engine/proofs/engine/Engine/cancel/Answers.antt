@@ -11,8 +11,8 @@ use Rattle.rsp_engine.proofs.engine.Engine.cancel.Goals as goal
 pub invariant_of-self : goal.invariant_of-self
 invariant_of-self g c = λ _.
     let sound : IsReady g.A.Answer.node g.A.Answer.width g.A.Answer.facts g.A.Answer.spent c.self.inside = c.self.invariant (rw (← c.self.view_is) at c.requires.ready) in
-    let idle = idle_first (state_of c.self.inside) (rw (← c.self.view_is) at c.requires.ready) (rw (← c.self.view_is) at c.requires.idle) in
-    ready_without _ _ _ _ _ sound _ refl refl refl refl idle c.in-Some.place c.remove.ensures.items
+    let idle = idle_first (state_of g.A.Answer.facts c.self.inside) (rw (← c.self.view_is) at c.requires.ready) (rw (← c.self.view_is) at c.requires.idle) in
+    ready_without _ _ _ _ _ sound _ refl refl refl refl refl idle c.in-Some.place c.remove.ensures.items
 
 pub returns-in-Some : goal.returns-in-Some
 returns-in-Some g c =
@@ -21,13 +21,13 @@ returns-in-Some g c =
     let sound : IsReady g.A.Answer.node g.A.Answer.width g.A.Answer.facts g.A.Answer.spent c.self.inside = c.self.invariant (rw (← c.self.view_is) at c.requires.ready) in
     let names : IsDistinct bytes_eq (map (λ (l : Live). l.name) old.queries) = rw (← c.self.view_is) sound.state.names in
     let idle = idle_first old c.requires.ready c.requires.idle in
-    let lives = ap (map live_of) c.remove.ensures.items ∙ remove_map live_of c.self.inside.queries.items c.in-Some.place in
+    let lives = ap (map (live_of g.A.Answer.facts)) c.remove.ensures.items ∙ remove_map (live_of g.A.Answer.facts) c.self.inside.queries.items c.in-Some.place in
     record {
       was_ready = c.requires.ready;
       ready = rw (← c.self.view_is) at c.requires.ready;
       stands = λ world stands.
           let inside = rw (← c.self.view_is) at (cancel_leads old c.args.name.now c.in-Some.place found.0 world idle names found.1 found.2 stands) in
-          subst (λ qs. Leads world (Cancel c.args.name.now) (record (state_of c.self.inside) { queries = qs })) (sym lives) inside;
+          subst (λ qs. Leads world (Cancel c.args.name.now) (record (state_of g.A.Answer.facts c.self.inside) { queries = qs })) (sym lives) inside;
     }
 
 pub returns-in-None : goal.returns-in-None

@@ -6,5 +6,5 @@ use Rattle.rsp_engine.proofs.engine.Engine.go_live.Goals as goal
 pub invariant_of-self : goal.invariant_of-self
 invariant_of-self g c = λ _.
     let sound : IsReady g.A.Answer.node g.A.Answer.width g.A.Answer.facts g.A.Answer.spent c.self.inside = c.self.invariant (rw (← c.self.view_is) at c.requires.ready) in
-    let idle = idle_first (state_of c.self.inside) (rw (← c.self.view_is) at c.requires.ready) (rw (← c.self.view_is) at c.requires.idle) in
-    ready_more _ _ _ _ _ sound _ refl refl refl refl idle c.args.query c.in-Ok.ensures (rw (← c.self.view_is) at c.requires.first) (rw (← c.self.view_is) at c.requires.free) (rw (← c.self.view_is) at c.requires.watching) c.requires.answers
+    let idle = idle_first (state_of g.A.Answer.facts c.self.inside) (rw (← c.self.view_is) at c.requires.ready) (rw (← c.self.view_is) at c.requires.idle) in
+    ready_more _ _ _ _ _ sound _ refl refl refl refl refl idle c.args.query c.in-Ok.ensures (rw (← c.self.view_is) at c.requires.first) (rw (← c.self.view_is) at c.requires.free) (rw (← c.self.view_is) at c.requires.watching) c.requires.answers
