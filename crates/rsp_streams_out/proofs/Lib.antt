@@ -1,5 +1,10 @@
 pub mod Copies
 pub mod InOrder
+pub mod JsonData
+mod JsonRows
+pub mod Less
 pub mod SameTexts
 pub mod Sorted
+mod StreamRows
 pub mod Tabs
+pub mod Turned

@@ -1,11 +1,13 @@
 -- Definitions: rows of a report (SPARQL 1.1 Query Results TSV Format, section 4) and their order.
-use Rattle.std.specs.Prelude.{ℕ, Bool, if◌then◌else◌, List, [], ◌∷◌, Option, Some, None, map}
+use Rattle.std.specs.Prelude.{◌≡◌, ℕ, Bool, if◌then◌else◌, List, [], ◌∷◌, Option, Some, None, map}
 use Rattle.std.specs.List.{join_with_byte}
 use Rattle.std.specs.Str.{byte}
 use Rattle.std.specs.Ordering.{nat_cmp, is_gt}
 use Rattle.std.specs.Cmp.Lexicographic.{slice_cmp}
-use Rattle.rsp_multiset.specs.Rows.{Cells}
+use Rattle.rsp_multiset.specs.Rows.{Cells, row_eq}
+use Rattle.rsp_multiset.specs.Weights.{times}
 use Rattle.rsp_terms.specs.declared.term.Term.{Term}
+use Rattle.rsp_terms.specs.Same.{term_eq}
 use Rattle.rsp_terms.specs.Terms.{term_text}
 
 -- the printed term; an unbound variable has no text
@@ -30,3 +32,8 @@ put_in row (first ∷ rows) = if stands_behind row first then first ∷ put_in r
 abbrev pub in_order : List (Cells Term) → List (Cells Term)
 in_order [] = []
 in_order (row ∷ rows) = put_in row (in_order rows)
+
+-- the same rows as a multiset, in an order of the same texts: rows of equal texts may stand in any order
+pub record AreRows (rows wanted : List (Cells Term)) : Type 0 where
+  pub same : (q : Cells Term) → times (row_eq term_eq) rows q ≡ times (row_eq term_eq) wanted q
+  pub texts : map row_text rows ≡ map row_text wanted

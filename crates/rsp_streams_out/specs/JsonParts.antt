@@ -1,0 +1,19 @@
+-- Words of the way: the parts in which a report's JSON text is written.
+use Rattle.std.specs.Prelude.{ℕ, List, ◌++◌, map, codes}
+use Rattle.std.specs.Fmt.{decimal}
+use Rattle.serde_json.specs.Data.{string, array, Items}
+use Rattle.serde_json.specs.View.{items_of}
+use Rattle.serde_json.specs.Written.{compact_text}
+use Rattle.rsp_terms.specs.declared.term.Term.{Term}
+use Rattle.rsp_multiset.specs.Rows.{Cells}
+use Rattle.rsp_streams_out.specs.Json.{row_data}
+
+-- up to the bracket that opens the rows
+abbrev pub json_head : List ℕ → ℕ → List (List ℕ) → List ℕ
+json_head name at variables =
+    codes "{\"at\":" ++ (decimal at ++ (codes ",\"head\":{\"vars\":" ++ (compact_text (array (items_of (map string variables)))
+    ++ (codes "},\"query\":" ++ (compact_text (string name) ++ codes ",\"results\":{\"bindings\":[")))))
+
+-- the rows, one by one
+abbrev pub rows_items : List (List ℕ) → List (Cells Term) → Items
+rows_items variables rows = items_of (map (row_data variables) rows)

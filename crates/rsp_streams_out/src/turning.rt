@@ -1,0 +1,44 @@
+// What a stream operator reports.
+ghost use Rattle.std.specs.Prelude.{◌≡◌, List, IfOk};
+ghost use Rattle.rsp_multiset.specs.Rows.{Cells, row_eq};
+ghost use Rattle.rsp_multiset.specs.Weights.{Holds, times, weight};
+ghost use Rattle.rsp_terms.specs.declared.term.Term.{Term};
+ghost use Rattle.rsp_terms.specs.Same.{term_eq};
+ghost use Rattle.rsp_streams_out.specs.Rows.{AreRows, in_order};
+ghost use Rattle.rsp_streams_out.specs.Streams.{reported, times_reported, StandsFor};
+
+use crate::{Operator, ordered, rows_of};
+use rsp_multiset::{Bag, Changes, Row, negative, positive};
+use rsp_terms::{Listed, Term};
+use std::alloc::{AllocError, Global};
+
+/// The rows that the operator reports, in the byte order of their texts. RSTREAM reads `solutions` alone, which are those of
+/// now; ISTREAM and DSTREAM read `change` alone, by which the solutions of now differ from those of the preceding report.
+/// Fails only where memory is refused or a number is out of range.
+pub fn turn(
+    alloc: Global,
+    operator: Operator,
+    change: &Changes<Row<Term>>,
+    solutions: &Bag<Term>,
+) -> Result<Listed<Row<Term>>, AllocError>
+    ensures rows { IfOk result (λ rows. (preceding present : List (Cells Term))
+        → StandsFor operator change.now solutions.now preceding present → AreRows rows (reported operator preceding present)) }
+    ensures counts { IfOk result (λ rows. (preceding present : List (Cells Term))
+        → StandsFor operator change.now solutions.now preceding present
+        → (q : Cells Term) → times (row_eq term_eq) rows q ≡ times_reported operator preceding present q) }
+{
+    match operator {
+        Operator::Rstream => in_order_of(alloc, solutions),
+        Operator::Istream => in_order_of(alloc, &positive(alloc, change)?),
+        Operator::Dstream => in_order_of(alloc, &negative(alloc, change)?),
+    }
+}
+
+// the rows of a bag, in order
+fn in_order_of(alloc: Global, bag: &Bag<Term>) -> Result<Listed<Row<Term>>, AllocError>
+    ensures rows { IfOk result (λ rows. (wanted : List (Cells Term))
+        → Holds (row_eq term_eq) bag.now wanted → AreRows rows (in_order wanted)) }
+    ensures counts { IfOk result (λ rows. (q : Cells Term) → times (row_eq term_eq) rows q ≡ weight (row_eq term_eq) bag.now q) }
+{
+    ordered(alloc, rows_of(alloc, bag)?)
+}
