@@ -14,21 +14,8 @@ use Rattle.rsp_terms.specs.declared.term.Term.{Term}
 use Rattle.rsp_terms.specs.Same.{term_eq, term_same}
 use Rattle.rsp_streams_out.specs.Rows.{AreRows, in_order, put_in, row_text, stands_behind}
 use Rattle.rsp_algebra.proofs.SameFacts.{SameRows, same_mapped}
+use Rattle.rsp_streams_out.proofs.Turned.{in_order-times}
 use Rattle.rsp_engine.specs.Reports.{cells_at}
-
--- putting a row in adds it, wherever it stands
-put_times : (row : Cells Term) (rows : List (Cells Term)) (q : Cells Term) → times (row_eq term_eq) (put_in row rows) q ≡ times (row_eq term_eq) (row ∷ rows) q
-put_times row [] q = refl
-put_times row (first ∷ rows) q =
-    let rest = put_times row rows q in
-    elim (stands_behind row first) as (λ v. times (row_eq term_eq) (cond v (first ∷ put_in row rows) (row ∷ (first ∷ rows))) q ≡ times (row_eq term_eq) (row ∷ (first ∷ rows)) q) [
-      | true ↦ omega (arith, ints, rest)
-      | false ↦ refl
-    ]
-
-pub in_order_times : (rows : List (Cells Term)) → SameRows (in_order rows) rows
-in_order_times [] q = refl
-in_order_times (row ∷ rows) q = put_times row (in_order rows) q ∙ ap (λ n. only (row_eq term_eq q row) (pos 1) +ℤ n) (in_order_times rows q)
 
 pub ordered_rows : (rows wanted cut_rows out : List (Cells Term)) (shown : List ℕ) → SameRows rows wanted → cut_rows ≡ map (cells_at shown) rows
     → out ≡ in_order cut_rows → ((other : List (Cells Term)) → SameRows other cut_rows → map row_text (in_order other) ≡ map row_text out)
@@ -36,7 +23,7 @@ pub ordered_rows : (rows wanted cut_rows out : List (Cells Term)) (shown : List 
 ordered_rows rows wanted cut_rows out shown same cut_is out_is texts =
     let mapped : SameRows cut_rows (map (cells_at shown) wanted) = λ q. ap (λ rs. times (row_eq term_eq) rs q) cut_is ∙ same_mapped (cells_at shown) rows wanted same q in
     record {
-      same = λ q. ap (λ rs. times (row_eq term_eq) rs q) out_is ∙ (in_order_times cut_rows q ∙ (mapped q ∙ sym (in_order_times (map (cells_at shown) wanted) q)));
+      same = λ q. ap (λ rs. times (row_eq term_eq) rs q) out_is ∙ (in_order-times cut_rows q ∙ (mapped q ∙ sym (in_order-times (map (cells_at shown) wanted) q)));
       texts = sym (texts (map (cells_at shown) wanted) (λ q. sym (mapped q)));
     }
 
