@@ -185,7 +185,7 @@ module _ (old new : State) (report : Report) (world : World) (left : List Moment
   pub first_given : GivesOf world left report new
   first_given =
       record {
-        step = record { report = report_of world found.0 place.at; after = after_report world query place.at; left = moments_behind world query place.at rest };
+        step = record { report = report_of world found.0 place.at; after = after_report world found.0.registration place.at; left = moments_behind world found.0.registration place.at rest };
         is_next = ap (next_step world) is_first ∙ rw live_is refl;
         is_report = record {
           query = given.query ∙ sym called;
@@ -193,7 +193,8 @@ module _ (old new : State) (report : Report) (world : World) (left : List Moment
           variables = given.variables ∙ ap (λ (r : Registration). r.reading.variables) (sym found.2);
           outcome = outcome_is;
         };
-        stands = stands_behind (is_overfull_outcome report.outcome) (sym full) given.told given.seen given.queries given.left;
+        stands = subst (λ (r : Registration). Stands new (after_report world r place.at) (moments_behind world r place.at rest)) (sym found.2)
+            (stands_behind (is_overfull_outcome report.outcome) (sym full) given.told given.seen given.queries given.left);
       }
 
 -- ---- fewer places are left

@@ -1,5 +1,5 @@
 -- The rows of a report are the solutions, in order.
-use Rattle.std.proofs.Common.{◌≡◌, ◌≢◌, ◌*ℤ◌, ℕ, Bool, List, true, false, cond, [], ◌∷◌, ℤ, pos, ◌+ℤ◌, map, refl, sym, ◌∙◌, ap, arith}
+use Rattle.std.proofs.Common.{◌≡◌, ◌≢◌, ◌*ℤ◌, ℕ, Bool, List, true, false, [], ◌∷◌, ℤ, pos, ◌+ℤ◌, map, refl, sym, ◌∙◌, ap, arith}
 use Rattle.std.proofs.lemmas.Int.{ints}
 use Rattle.std.specs.Prelude.{Result, Ok, Err, IfOk}
 use Rattle.rsp_multiset.specs.Weights.{IsChanged, only, times, total, weight}
@@ -12,7 +12,7 @@ use Rattle.rsp_streams_out.specs.declared.operator.Operator.TheVariants.{Rstream
 use Rattle.rsp_multiset.specs.Rows.{Cells, row_eq}
 use Rattle.rsp_terms.specs.declared.term.Term.{Term}
 use Rattle.rsp_terms.specs.Same.{term_eq, term_same}
-use Rattle.rsp_streams_out.specs.Rows.{AreRows, in_order, put_in, row_text, stands_behind}
+use Rattle.rsp_streams_out.specs.Rows.{AreRows, in_order, row_text}
 use Rattle.rsp_algebra.proofs.SameFacts.{SameRows, same_mapped}
 use Rattle.rsp_streams_out.proofs.Turned.{in_order-times}
 use Rattle.rsp_engine.specs.Reports.{cells_at}

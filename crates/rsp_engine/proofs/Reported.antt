@@ -10,7 +10,6 @@ use Rattle.rsp_multiset.specs.Rows.{Cells}
 use Rattle.rsp_streams_out.specs.Rows.{AreRows}
 use Rattle.rsp_streams_out.specs.Streams.{reported}
 use Rattle.rsp_engine.specs.declared.live_query.LiveQuery.{LiveQuery}
-use Rattle.rsp_engine.specs.declared.report.Outcome.{Outcome}
 use Rattle.rsp_engine.specs.declared.report.Outcome.TheVariants as outcomes
 use Rattle.rsp_engine.specs.Inside.{Answers, fixed}
 use Rattle.rsp_engine.specs.Reports.{cells_at}

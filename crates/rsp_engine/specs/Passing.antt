@@ -1,10 +1,10 @@
 -- Words of the way: what the engine's calls do to its state.
-use Rattle.std.specs.Prelude.{◌≡◌, ℕ, ◌+◌, Option, Bool, if◌then◌else◌, true, false, None, Some, List, [], map, remove, slice_get, slice_set, unwrap_or}
+use Rattle.std.specs.Prelude.{◌≡◌, ℕ, ◌+◌, Option, Bool, if◌then◌else◌, true, false, None, Some, List, remove, slice_get, slice_set, unwrap_or}
 use Rattle.std.specs.Option.{is_some}
 use Rattle.rsp_terms.specs.declared.term.Term.{Term}
 use Rattle.rsp_terms.specs.declared.statement.Fact.{Fact}
-use Rattle.rsp_multiset.specs.Rows.{Cells, row_eq}
-use Rattle.rsp_terms.specs.Same.{fact_eq, term_eq}
+use Rattle.rsp_multiset.specs.Rows.{Cells}
+use Rattle.rsp_terms.specs.Same.{fact_eq}
 use Rattle.rsp_multiset.specs.Weights.{IsSameMultiset}
 use Rattle.rsp_query.specs.Queries.{Registered}
 use Rattle.rsp_algebra.specs.Nodes.{Node}

@@ -44,7 +44,9 @@ pub(crate) fn changed_rows(
         → AreRows rows (reported operator preceding present)) }
 {
     let change = change_cut(alloc, net, shown)?;
-    turn(alloc, operator, &change, &Bag::new(alloc))
+    let unread = Bag::new(alloc);
+    let rows = turn(alloc, operator, &change, &unread)?;
+    Ok(rows)
 }
 
 // the change of the rows with these places alone; where several fall together, their counts are added
