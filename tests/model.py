@@ -5,7 +5,7 @@
 import os
 import re
 import sys
-from collections import namedtuple
+from collections import Counter, namedtuple
 
 import query_model
 from algebra_model import DEFAULT, Overfull, solutions, translated
@@ -261,7 +261,15 @@ NUMBERS = {
     "BadToken": 7, "Syntax": 8, "LeftOut": 9, "Limit": 10, "GraphShape": 11, "ExistsShape": 12, "Scope": 13, "PolicyMix": 14,
 }
 KEYS = {"Limit": ["what"], "Scope": ["variable"]}
-Query = namedtuple("Query", "name translated policy windows first")
+
+
+class Query:
+    """A live query, with the rows of its last report, as texts with their counts: none before the first."""
+
+    def __init__(self, name, operator, translated, policy, windows, first):
+        self.name, self.operator, self.translated = name, operator, translated
+        self.policy, self.windows, self.first = policy, windows, first
+        self.preceding = Counter()
 
 
 def text_refusal(name, *details):
@@ -330,7 +338,10 @@ class World:
         except Overfull:
             self.queries.remove(query)
             return b"# overfull %s %d\n" % (query.name, at)
-        texts = sorted(b"\t".join(printed(row[v]) if v in row else b"" for v in shown) for row in rows)
+        present = Counter(b"\t".join(printed(row[v]) if v in row else b"" for v in shown) for row in rows)
+        told = {"RSTREAM": present, "ISTREAM": present - query.preceding, "DSTREAM": query.preceding - present}
+        texts = sorted(told[query.operator].elements())
+        query.preceding = present
         lines = [b"# report %s %d %d" % (query.name, at, len(texts)), b"\t".join(b"?" + name for name in names), *texts]
         return b"".join(line + b"\n" for line in lines)
 
@@ -356,15 +367,13 @@ class World:
         if name in self.names():
             raise Refused("16 NameTaken")
         query = good_query(text)
-        if query["operator"] != "RSTREAM":
-            raise Refused("22 Unbuilt")
         if len(self.queries) == MOST_QUERIES:
             raise Refused("18 QueriesFull")
         made, words = translated(query), query["policy"]
         if not has_start(made):
             raise Refused("25 StartOverfull")
         windows = [window_of(clause, words) for clause in query["windows"]]
-        self.queries.append(Query(name, made, policy_of(words), windows, len(self.items)))
+        self.queries.append(Query(name, query["operator"], made, policy_of(words), windows, len(self.items)))
 
     def cancel(self, name):
         if name not in self.names():

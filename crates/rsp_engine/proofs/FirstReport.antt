@@ -5,30 +5,32 @@ use Rattle.std.proofs.lemmas.List.{length-map, length-set}
 use Rattle.std.proofs.lemmas.Option.{get_or_from_slice_get, slice_get_within}
 use Rattle.std.proofs.lemmas.Simd.{map-map}
 use Rattle.std.specs.List.{IsDistinct}
-use Rattle.rsp_multiset.specs.Rows.{Cells}
+use Rattle.rsp_multiset.specs.Rows.{Cells, row_eq}
 use Rattle.rsp_terms.specs.declared.term.Term.{Term}
 use Rattle.rsp_terms.specs.declared.statement.Fact.{Fact}
-use Rattle.rsp_terms.specs.Same.{fact_eq, fact_same}
+use Rattle.rsp_terms.specs.Same.{fact_eq, fact_same, term_eq}
 use Rattle.rsp_multiset.specs.Weights.{IsSameMultiset, times}
 use Rattle.rsp_multiset.proofs.SameLists.{same-append}
+use Rattle.rsp_algebra.specs.Solutions.{eval}
+use Rattle.rsp_algebra.proofs.SameFacts.{same_mapped, same_solutions}
 use Rattle.rsp_engine.specs.declared.finding.Pending.{Pending}
 use Rattle.rsp_engine.specs.declared.report.Outcome.{Outcome}
 use Rattle.rsp_engine.specs.declared.report.Outcome.TheVariants as outcomes
 use Rattle.rsp_engine.specs.declared.report.Report.{Report}
-use Rattle.rsp_engine.specs.World.{Query, Registration, World, registrations}
+use Rattle.rsp_engine.specs.World.{Query, Reading, Registration, World, registrations}
 use Rattle.rsp_engine.specs.Accept.{without}
 use Rattle.rsp_engine.specs.Contents.{facts_over}
 use Rattle.rsp_engine.specs.Left.{IsFirstLeft, left_from, name_in}
 use Rattle.rsp_engine.specs.Moments.{Moment}
-use Rattle.rsp_engine.specs.Reports.{IsOutcome, after_report, facts, is_overfull, live_query, moments_behind, next_step, query_after_report, report_of}
-use Rattle.rsp_engine.specs.Stands.{HaveSeen, IsState, Live, Stands, State, facts_in, left_in, next_in, places_left, registration_of, registrations_in, test_in}
+use Rattle.rsp_engine.specs.Reports.{IsOutcome, after_report, cells_at, facts, is_overfull, live_query, moments_behind, next_step, query_after_report, report_of, rows_over, solutions}
+use Rattle.rsp_engine.specs.Stands.{Behind, HaveSeen, IsState, Live, Precede, Stands, State, facts_in, left_in, next_in, places_left, registration_of, registrations_in, test_in}
 use Rattle.rsp_engine.specs.Offers.{GivesOf}
-use Rattle.rsp_engine.specs.Passing.{ReportsFirst, is_overfull_outcome, place_behind, queries_behind}
+use Rattle.rsp_engine.specs.Passing.{ReportsFirst, is_overfull_outcome, outcome_over, place_behind, queries_behind}
 use Rattle.rsp_engine.proofs.Left.{gone, waiting_head}
 use Rattle.rsp_engine.proofs.Places.{nearer, nearer_gone}
 use Rattle.rsp_engine.proofs.Named.{drop_named, find_named, get_map, remove_map, remove_named, set_map, set_named, set_same}
 use Rattle.rsp_engine.proofs.Sees.{sees}
-use Rattle.rsp_engine.proofs.Seen.{name_of_query, seen_removed, seen_set, world_at, world_names}
+use Rattle.rsp_engine.proofs.Seen.{name_of_query, seen_at, seen_removed, seen_set, world_at, world_names}
 use Rattle.rsp_engine.proofs.Standing.{head_is, left_here, left_renamed, none_is, waits_renamed}
 
 -- by what was reported
@@ -37,6 +39,11 @@ full_or_rows true outcomes.Overfull rows is = refl
 full_or_rows true (outcomes.Rows _) rows is = absurd is
 full_or_rows false outcomes.Overfull rows is = cc
 full_or_rows false (outcomes.Rows _) rows is = refl
+
+-- the rows over the same facts are the same
+rows_alike : (reading : Reading) (xs ys : List Fact) → IsSameMultiset fact_eq xs ys → IsSameMultiset (row_eq term_eq) (rows_over reading xs) (rows_over reading ys)
+rows_alike reading xs ys alike =
+    same_mapped (cells_at reading.shown) (eval reading.width reading.node xs) (eval reading.width reading.node ys) (same_solutions reading.width reading.node xs ys alike)
 
 -- one is taken out
 shorter : {X : Type 0} (xs : List X) (i : ℕ) → i < length xs → length (remove xs i) + 1 ≡ length xs
@@ -88,14 +95,16 @@ module _ (old new : State) (report : Report) (world : World) (left : List Moment
   seen =
       same-append fact_same old.stored world.stored (facts_over old.items live.first live.windows place.at) (facts_over world.items live.first live.windows place.at) stands.stored (λ q. ap (λ fs. times fact_eq fs q) in_windows)
 
+  -- and the rows of its last report are those of the world's
+  precedes : Precede live found.0.preceding
+  precedes = seen_at old.queries world.queries place.query live found.0 stands.seen given.listed found.1
+
   full : is_overfull_outcome report.outcome ≡ is_overfull world query place.at
-  full = full_or_rows _ report.outcome _ (given.outcome (facts world query place.at) seen)
+  full = full_or_rows _ report.outcome _ (given.outcome (facts world query place.at) found.0.preceding seen precedes)
 
   -- it is the live query of its name
-  live_is : live_query world live.name ≡ Some query
-  live_is = find_named (registrations world) (λ (q : Registration). q.name) place.query query
-      (rw (map-map (λ (q : Registration). q.name) (λ (q : Query). q.registration) world.queries) names)
-      (ap (λ qs. slice_get qs place.query) (sym stands.queries) ∙ get_map registration_of old.queries place.query live given.listed)
+  live_is : live_query world live.name ≡ Some found.0
+  live_is = subst (λ n. live_query world n ≡ Some found.0) called (find_named world.queries name_of_query place.query found.0 names found.1)
 
   -- ---- the world behind it
 
@@ -143,39 +152,49 @@ module _ (old new : State) (report : Report) (world : World) (left : List Moment
       behind true (without live.name world.queries) queries regs have first _ struck
 
   -- any other report has shown the query the facts of its instant
-  went_on : new.queries ≡ queries_behind old place given.now false → IsSameMultiset fact_eq given.now.seen seen_now → IsFirstLeft name_in (test_in old) (registrations_in new) (next_in old) place.at (place.query + 1) new.first
+  went_on : new.queries ≡ queries_behind old place given.now false → given.now.reported ≡ true → IsSameMultiset fact_eq given.now.seen seen_now → IsFirstLeft name_in (test_in old) (registrations_in new) (next_in old) place.at (place.query + 1) new.first
       → Stands new (record world { queries = map (query_after_report world place.at live.name) world.queries }) rest
-  went_on queries stood first =
-      let told : Query = record found.0 { seen = facts world found.0.registration place.at } in
+  went_on queries has_told stood first =
+      let told : Query = record found.0 { preceding = solutions world found.0.registration place.at } in
       let set_is : map (query_after_report world place.at live.name) world.queries ≡ slice_set world.queries place.query told =
       subst (λ n. map (query_after_report world place.at n) world.queries ≡ slice_set world.queries place.query told) called
-      (set_named world.queries name_of_query place.query found.0 (λ q. record q { seen = facts world q.registration place.at }) names found.1) in
+      (set_named world.queries name_of_query place.query found.0 (λ q. record q { preceding = solutions world q.registration place.at }) names found.1) in
       let regs_old : registrations_in new ≡ registrations_in old = ap (map registration_of) queries ∙ (set_map registration_of old.queries place.query given.now ∙ (ap (slice_set (registrations_in old) place.query) given.same ∙ set_same (registrations_in old) place.query query (get_map registration_of old.queries place.query live given.listed))) in
       let regs_world : map (λ (q : Query). q.registration) (slice_set world.queries place.query told) ≡ registrations world = set_map (λ (q : Query). q.registration) world.queries place.query told ∙ set_same (registrations world) place.query found.0.registration (get_map (λ (q : Query). q.registration) world.queries place.query found.0 found.1) in
       let regs : registrations_in new ≡ map (λ (q : Query). q.registration) (map (query_after_report world place.at live.name) world.queries) = regs_old ∙ (stands.queries ∙ (sym regs_world ∙ ap (map (λ (q : Query). q.registration)) (sym set_is))) in
-      let seen_told : IsSameMultiset fact_eq seen_now told.seen = subst (λ r. IsSameMultiset fact_eq seen_now (facts world r place.at)) (sym found.2) seen in
+      let rows : IsSameMultiset (row_eq term_eq) (rows_over (registration_of given.now).reading given.now.seen) (solutions world query place.at) =
+      subst (λ (r : Registration). IsSameMultiset (row_eq term_eq) (rows_over r.reading given.now.seen) (solutions world query place.at)) (sym given.same)
+      (rows_alike query.reading given.now.seen (facts world query place.at) (λ f. stood f ∙ seen f)) in
+      let told_rows : IsSameMultiset (row_eq term_eq) (rows_over (registration_of given.now).reading given.now.seen) told.preceding = subst (λ r. IsSameMultiset (row_eq term_eq) (rows_over (registration_of given.now).reading given.now.seen) (solutions world r place.at)) (sym found.2) rows in
+      let behind_told : Precede given.now told.preceding = subst (λ b. Behind b (rows_over (registration_of given.now).reading given.now.seen) told.preceding) (sym has_told) told_rows in
       let have : HaveSeen new.queries (map (query_after_report world place.at live.name) world.queries) = subst (λ ls. HaveSeen ls (map (query_after_report world place.at live.name) world.queries)) (sym queries)
-      (subst (λ qs. HaveSeen (slice_set old.queries place.query given.now) qs) (sym set_is) (seen_set old.queries world.queries place.query given.now told stands.seen (λ f. stood f ∙ seen_told f))) in
+      (subst (λ qs. HaveSeen (slice_set old.queries place.query given.now) qs) (sym set_is) (seen_set old.queries world.queries place.query given.now told stands.seen behind_told)) in
       behind false (map (query_after_report world place.at live.name) world.queries) queries regs have first rest (ap (λ qs. left_from name_in (test_in old) qs (next_in old) place.at (place.query + 1)) regs_old)
 
-  stands_behind : (ends : Bool) → is_overfull world query place.at ≡ ends → (ends ≡ false → IsSameMultiset fact_eq given.now.seen seen_now) → new.queries ≡ queries_behind old place given.now ends
+  stands_behind : (ends : Bool) → is_overfull world query place.at ≡ ends → (ends ≡ false → given.now.reported ≡ true) → (ends ≡ false → IsSameMultiset fact_eq given.now.seen seen_now) → new.queries ≡ queries_behind old place given.now ends
       → IsFirstLeft name_in (test_in old) (registrations_in new) (next_in old) place.at (place_behind place ends) new.first
       → Stands new (after_report world query place.at) (moments_behind world query place.at rest)
-  stands_behind true ends stood queries first = rw ends (ended queries first)
-  stands_behind false ends stood queries first = rw ends (went_on queries (stood refl) first)
+  stands_behind true ends told stood queries first = rw ends (ended queries first)
+  stands_behind false ends told stood queries first = rw ends (went_on queries (told refl) (stood refl) first)
+
+  -- what the world's query reports
+  outcome_is : IsOutcome report.outcome (report_of world found.0 place.at).outcome
+  outcome_is = subst (λ (r : Registration). IsOutcome report.outcome (outcome_over r.reading found.0.preceding (facts world r place.at))) (sym found.2)
+      (given.outcome (facts world query place.at) found.0.preceding seen precedes)
 
   pub first_given : GivesOf world left report new
   first_given =
       record {
-        step = record { report = report_of world query place.at; after = after_report world query place.at; left = moments_behind world query place.at rest };
+        step = record { report = report_of world found.0 place.at; after = after_report world found.0.registration place.at; left = moments_behind world found.0.registration place.at rest };
         is_next = ap (next_step world) is_first ∙ rw live_is refl;
         is_report = record {
-          query = given.query;
+          query = given.query ∙ sym called;
           at = given.at;
-          variables = given.variables;
-          outcome = given.outcome (facts world query place.at) seen;
+          variables = given.variables ∙ ap (λ (r : Registration). r.reading.variables) (sym found.2);
+          outcome = outcome_is;
         };
-        stands = stands_behind (is_overfull_outcome report.outcome) (sym full) given.seen given.queries given.left;
+        stands = subst (λ (r : Registration). Stands new (after_report world r place.at) (moments_behind world r place.at rest)) (sym found.2)
+            (stands_behind (is_overfull_outcome report.outcome) (sym full) given.told given.seen given.queries given.left);
       }
 
 -- ---- fewer places are left

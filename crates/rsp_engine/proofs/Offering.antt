@@ -7,7 +7,7 @@ use Rattle.std.specs.List.{IsDistinct, flat_map, list_any, range_with_len}
 use Rattle.std.specs.Option.{is_some, option_map_or}
 use Rattle.std.specs.Cmp.Lexicographic.{bytes_decides}
 use Rattle.rsp_terms.specs.Same.{fact_eq}
-use Rattle.rsp_multiset.specs.Weights.{IsSameMultiset, times}
+use Rattle.rsp_multiset.specs.Weights.{IsSameMultiset}
 use Rattle.rsp_terms.specs.declared.statement.Fact.{Fact}
 use Rattle.rsp_terms.specs.declared.statement.Quad.{Quad}
 use Rattle.rsp_scope.specs.declared.stored.StoredFault.TheVariants.{StoreFull}
@@ -27,7 +27,7 @@ use Rattle.rsp_engine.specs.declared.refused.Refused.{Refused}
 use Rattle.rsp_engine.specs.Offers.{Answers, Offers, Refuses}
 use Rattle.rsp_engine.specs.Refusals.{Refusal, refusal_of, shape_fault, text_fault}
 use Rattle.rsp_engine.specs.World.{Query, Registration, World, registrations}
-use Rattle.rsp_engine.specs.Readings.{is_rstream, reading_of}
+use Rattle.rsp_engine.specs.Readings.{reading_of}
 use Rattle.rsp_engine.specs.Accept.{accept, has_name, is_live, most_items, most_quads, most_queries, most_triples, new_query, next_of, starts_overfull, without}
 use Rattle.rsp_engine.specs.Due.{is_due_over}
 use Rattle.rsp_engine.specs.Left.{IsFirstLeft, left_from, name_in, reports_at}
@@ -37,7 +37,7 @@ use Rattle.rsp_engine.specs.Stands.{HaveSeen, Live, Sees, Stands, State, left_in
 use Rattle.rsp_engine.proofs.Left.{first_left_is, instants, same_left, waits_at}
 use Rattle.rsp_engine.proofs.Named.{remove_map, remove_named}
 use Rattle.rsp_engine.proofs.Sees.{sees}
-use Rattle.rsp_engine.proofs.Seen.{name_of_query, seen_more, seen_removed, world_at, world_names}
+use Rattle.rsp_engine.proofs.Seen.{name_of_query, precede_new, seen_more, seen_removed, world_at, world_names}
 use Rattle.rsp_engine.proofs.Standing.{any_named, head_is, none_is, same_count, same_live}
 
 pub same_bytes : (name : List ℕ) → bytes_eq name name ≡ true
@@ -173,10 +173,10 @@ other_queries old lives world after queries idle stands is regs seen =
     })
 
 -- a query that became live
-pub register_leads : (old : State) (name text : List ℕ) (q : Registered) (kept : Live) (world : World) → registration_of kept ≡ (new_query name (reading_of q) (length old.items)).registration → kept.seen ≡ []
-    → old.first ≡ None → list_any (has_name name) (registrations_in old) ≡ false → parse text ≡ Ok q → first_fault q ≡ None → is_mixed q.policy ≡ false → is_rstream q.operator ≡ true → length old.queries < most_queries → starts_overfull (reading_of q) ≡ false → Stands old world []
+pub register_leads : (old : State) (name text : List ℕ) (q : Registered) (kept : Live) (world : World) → registration_of kept ≡ (new_query name (reading_of q) (length old.items)).registration → kept.reported ≡ false
+    → old.first ≡ None → list_any (has_name name) (registrations_in old) ≡ false → parse text ≡ Ok q → first_fault q ≡ None → is_mixed q.policy ≡ false → length old.queries < most_queries → starts_overfull (reading_of q) ≡ false → Stands old world []
     → Leads world (Register name text) (record old { queries = old.queries ++ kept ∷ [] })
-register_leads old name text q kept world made nothing idle free is good unmixed rstream few starts stands =
+register_leads old name text q kept world made nothing idle free is good unmixed few starts stands =
     let new : Query = new_query name (reading_of q) (length world.items) in
     let after : World = record world { queries = world.queries ++ new ∷ [] } in
     let none_live : is_live world name ≡ false = same_live old world name stands.queries ∙ free in
@@ -187,9 +187,9 @@ register_leads old name text q kept world made nothing idle free is good unmixed
     let regs : map registration_of (old.queries ++ kept ∷ []) ≡ map (λ (query : Query). query.registration) (world.queries ++ new ∷ []) =
     map_push registration_of old.queries kept ∙ (ap (λ qs. qs ++ registration_of kept ∷ []) stands.queries
     ∙ (ap (λ r. registrations world ++ r ∷ []) made_is ∙ sym (map_push (λ (query : Query). query.registration) world.queries new))) in
-    let seen = seen_more old.queries world.queries kept new stands.seen (λ f. ap (λ fs. times fact_eq fs f) nothing) in (
+    let seen = seen_more old.queries world.queries kept new stands.seen (precede_new kept nothing) in (
       after,
-      rw (none_live, is, good, unmixed, rstream, room, starts) refl,
+      rw (none_live, is, good, unmixed, room, starts) refl,
       other_queries old (old.queries ++ kept ∷ []) world after (world.queries ++ new ∷ []) idle stands refl regs seen,
     )
 
@@ -304,40 +304,36 @@ module _ (old : State) (name text : List ℕ) (q : Registered) (ready : old.brok
   mixed_refuses mixed = record { was_ready = ready; unchanged = refl; refused = λ world stands. rw (none_live world stands, is, good, mixed) refl }
 
   module _ (unmixed : is_mixed q.policy ≡ false) where
-    pub unbuilt_refuses : is_rstream q.operator ≡ false → Refuses old (Register name text) answer.Unbuilt old
-    unbuilt_refuses other = record { was_ready = ready; unchanged = refl; refused = λ world stands. rw (none_live world stands, is, good, unmixed, other) refl }
+    count : (world : World) → Stands old world [] → length world.queries ≡ length old.queries
+    count world stands = same_count old world stands.queries
 
-    module _ (rstream : is_rstream q.operator ≡ true) where
-      count : (world : World) → Stands old world [] → length world.queries ≡ length old.queries
-      count world stands = same_count old world stands.queries
+    pub full_refuses : most_queries ≤ length old.queries → Refuses old (Register name text) answer.QueriesFull old
+    full_refuses many = record {
+      was_ready = ready;
+      unchanged = refl;
+      refused = λ world stands.
+          let full : nat_le most_queries (length world.queries) ≡ true = rw (count world stands) (le-leb _ _ many) in
+          rw (none_live world stands, is, good, unmixed, full) refl;
+    }
 
-      pub full_refuses : most_queries ≤ length old.queries → Refuses old (Register name text) answer.QueriesFull old
-      full_refuses many = record {
-        was_ready = ready;
-        unchanged = refl;
-        refused = λ world stands.
-            let full : nat_le most_queries (length world.queries) ≡ true = rw (count world stands) (le-leb _ _ many) in
-            rw (none_live world stands, is, good, unmixed, rstream, full) refl;
-      }
-
-      pub overfull_refuses : length old.queries < most_queries → starts_overfull (reading_of q) ≡ true → Refuses old (Register name text) answer.StartOverfull old
-      overfull_refuses few starts = record {
-        was_ready = ready;
-        unchanged = refl;
-        refused = λ world stands.
-            let room : nat_le most_queries (length world.queries) ≡ false = rw (count world stands) (lt-leb _ _ few) in
-            rw (none_live world stands, is, good, unmixed, rstream, room, starts) refl;
-      }
+    pub overfull_refuses : length old.queries < most_queries → starts_overfull (reading_of q) ≡ true → Refuses old (Register name text) answer.StartOverfull old
+    overfull_refuses few starts = record {
+      was_ready = ready;
+      unchanged = refl;
+      refused = λ world stands.
+          let room : nat_le most_queries (length world.queries) ≡ false = rw (count world stands) (lt-leb _ _ few) in
+          rw (none_live world stands, is, good, unmixed, room, starts) refl;
+    }
 
 -- a query that has begun becomes live, or memory is refused
-pub begun_offers : (old new : State) (name text : List ℕ) (q : Registered) (kept : Live) (result : Result (Unit {0}) Refused) → old.broken ≡ false → registration_of kept ≡ (new_query name (reading_of q) (length old.items)).registration → kept.seen ≡ [] → old.first ≡ None
-    → list_any (has_name name) (registrations_in old) ≡ false → parse text ≡ Ok q → first_fault q ≡ None → is_mixed q.policy ≡ false → is_rstream q.operator ≡ true → length old.queries < most_queries → starts_overfull (reading_of q) ≡ false
+pub begun_offers : (old new : State) (name text : List ℕ) (q : Registered) (kept : Live) (result : Result (Unit {0}) Refused) → old.broken ≡ false → registration_of kept ≡ (new_query name (reading_of q) (length old.items)).registration → kept.reported ≡ false → old.first ≡ None
+    → list_any (has_name name) (registrations_in old) ≡ false → parse text ≡ Ok q → first_fault q ≡ None → is_mixed q.policy ≡ false → length old.queries < most_queries → starts_overfull (reading_of q) ≡ false
     → OnOk result (new ≡ record old { queries = old.queries ++ kept ∷ [] }) → IfErr result (λ why. (why ≡ answer.OutOfMemory) × (new.broken ≡ true)) → Offers old (Register name text) result new
-begun_offers old new name text q kept (Ok done) ready made nothing idle free is good unmixed rstream few starts went failed =
+begun_offers old new name text q kept (Ok done) ready made nothing idle free is good unmixed few starts went failed =
     let became : new ≡ record old { queries = old.queries ++ kept ∷ [] } = went in
     rw became (record {
       was_ready = ready;
       ready = ready;
-      stands = λ world stands. register_leads old name text q kept world made nothing idle free is good unmixed rstream few starts stands;
+      stands = λ world stands. register_leads old name text q kept world made nothing idle free is good unmixed few starts stands;
     })
-begun_offers old new name text q kept (Err why) ready made nothing idle free is good unmixed rstream few starts went failed = breaks old name text why new ready free failed.0 failed.1
+begun_offers old new name text q kept (Err why) ready made nothing idle free is good unmixed few starts went failed = breaks old name text why new ready free failed.0 failed.1

@@ -1,28 +1,21 @@
 -- The rows of a report are the solutions, in order.
-use Rattle.std.proofs.Common.{◌≡◌, ℕ, List, true, false, cond, [], ◌∷◌, ℤ, pos, ◌+ℤ◌, map, refl, sym, ◌∙◌, ap, arith}
+use Rattle.std.proofs.Common.{◌≡◌, ◌≢◌, ◌*ℤ◌, ℕ, Bool, List, true, false, [], ◌∷◌, ℤ, pos, ◌+ℤ◌, map, refl, sym, ◌∙◌, ap, arith}
 use Rattle.std.proofs.lemmas.Int.{ints}
 use Rattle.std.specs.Prelude.{Result, Ok, Err, IfOk}
-use Rattle.rsp_multiset.specs.Weights.{only, times, weight}
+use Rattle.rsp_multiset.specs.Weights.{IsChanged, only, times, total, weight}
+use Rattle.rsp_multiset.specs.RowSame.{row_decides}
+use Rattle.rsp_multiset.proofs.Linear.{sum-changed}
+use Rattle.rsp_multiset.proofs.Sums.{sum_z-map}
+use Rattle.rsp_streams_out.specs.Streams.{StandsFor, less, reported}
+use Rattle.rsp_streams_out.specs.declared.operator.Operator.{Operator}
+use Rattle.rsp_streams_out.specs.declared.operator.Operator.TheVariants.{Rstream, Istream, Dstream}
 use Rattle.rsp_multiset.specs.Rows.{Cells, row_eq}
 use Rattle.rsp_terms.specs.declared.term.Term.{Term}
-use Rattle.rsp_terms.specs.Same.{term_eq}
-use Rattle.rsp_streams_out.specs.Rows.{in_order, put_in, row_text, stands_behind}
+use Rattle.rsp_terms.specs.Same.{term_eq, term_same}
+use Rattle.rsp_streams_out.specs.Rows.{AreRows, in_order, row_text}
 use Rattle.rsp_algebra.proofs.SameFacts.{SameRows, same_mapped}
-use Rattle.rsp_engine.specs.Reports.{AreRows, cells_at}
-
--- putting a row in adds it, wherever it stands
-put_times : (row : Cells Term) (rows : List (Cells Term)) (q : Cells Term) → times (row_eq term_eq) (put_in row rows) q ≡ times (row_eq term_eq) (row ∷ rows) q
-put_times row [] q = refl
-put_times row (first ∷ rows) q =
-    let rest = put_times row rows q in
-    elim (stands_behind row first) as (λ v. times (row_eq term_eq) (cond v (first ∷ put_in row rows) (row ∷ (first ∷ rows))) q ≡ times (row_eq term_eq) (row ∷ (first ∷ rows)) q) [
-      | true ↦ omega (arith, ints, rest)
-      | false ↦ refl
-    ]
-
-pub in_order_times : (rows : List (Cells Term)) → SameRows (in_order rows) rows
-in_order_times [] q = refl
-in_order_times (row ∷ rows) q = put_times row (in_order rows) q ∙ ap (λ n. only (row_eq term_eq q row) (pos 1) +ℤ n) (in_order_times rows q)
+use Rattle.rsp_streams_out.proofs.Turned.{in_order-times}
+use Rattle.rsp_engine.specs.Reports.{cells_at}
 
 pub ordered_rows : (rows wanted cut_rows out : List (Cells Term)) (shown : List ℕ) → SameRows rows wanted → cut_rows ≡ map (cells_at shown) rows
     → out ≡ in_order cut_rows → ((other : List (Cells Term)) → SameRows other cut_rows → map row_text (in_order other) ≡ map row_text out)
@@ -30,7 +23,7 @@ pub ordered_rows : (rows wanted cut_rows out : List (Cells Term)) (shown : List 
 ordered_rows rows wanted cut_rows out shown same cut_is out_is texts =
     let mapped : SameRows cut_rows (map (cells_at shown) wanted) = λ q. ap (λ rs. times (row_eq term_eq) rs q) cut_is ∙ same_mapped (cells_at shown) rows wanted same q in
     record {
-      same = λ q. ap (λ rs. times (row_eq term_eq) rs q) out_is ∙ (in_order_times cut_rows q ∙ (mapped q ∙ sym (in_order_times (map (cells_at shown) wanted) q)));
+      same = λ q. ap (λ rs. times (row_eq term_eq) rs q) out_is ∙ (in_order-times cut_rows q ∙ (mapped q ∙ sym (in_order-times (map (cells_at shown) wanted) q)));
       texts = sym (texts (map (cells_at shown) wanted) (λ q. sym (mapped q)));
     }
 
@@ -42,3 +35,51 @@ pub ordered_ok : {E : Type 0} (result : Result (List (Cells Term)) E) (rows cut_
 ordered_ok (Ok out) rows cut_rows shown bag held cut_is value texts =
     λ wanted same. ordered_rows rows wanted cut_rows out shown (λ q. held q ∙ same q) cut_is value texts
 ordered_ok (Err why) rows cut_rows shown bag held cut_is value texts = tt
+
+-- ---- changes of rows
+
+scaled : (b : Bool) (n : ℤ) → n *ℤ only b (pos 1) ≡ only b n
+scaled true n = omega (arith, ints)
+scaled false n = omega (arith, ints)
+
+-- one entry more, with the cells that are shown
+pub cut_more : (before after left rest : List (Cells Term × ℤ)) (row cut : Cells Term) (n : ℤ) (whole : ℤ) (shown : List ℕ) (q : Cells Term) → left ≡ (row, n) ∷ rest → cut ≡ cells_at shown row
+    → weight (row_eq term_eq) after q ≡ weight (row_eq term_eq) before q +ℤ only (row_eq term_eq q cut) n
+    → weight (row_eq term_eq) before q +ℤ total (λ row. only (row_eq term_eq q (cells_at shown row)) (pos 1)) left ≡ whole
+    → weight (row_eq term_eq) after q +ℤ total (λ row. only (row_eq term_eq q (cells_at shown row)) (pos 1)) rest ≡ whole
+cut_more before after left rest row cut n whole shown q is same altered whole_is =
+    let front = ap (total (λ row. only (row_eq term_eq q (cells_at shown row)) (pos 1))) is in
+    let there = ap (λ c. only (row_eq term_eq q c) n) same in
+    let once = scaled (row_eq term_eq q (cells_at shown row)) n in
+    omega (arith, ints, front, there, once, altered, whole_is)
+
+-- a change of rows, with the cells that are shown, is one of the rows with these cells
+pub cut_changed : (shown : List ℕ) (before after : List (Cells Term)) (net cut : List (Cells Term × ℤ))
+    → ((q : Cells Term) → weight (row_eq term_eq) cut q ≡ total (λ row. only (row_eq term_eq q (cells_at shown row)) (pos 1)) net)
+    → IsChanged (row_eq term_eq) before net after → IsChanged (row_eq term_eq) (map (cells_at shown) before) cut (map (cells_at shown) after)
+cut_changed shown before after net cut is changed q =
+    let now = sum_z-map (λ y. only (row_eq term_eq q y) (pos 1)) (cells_at shown) after in
+    let then = sum_z-map (λ y. only (row_eq term_eq q y) (pos 1)) (cells_at shown) before in
+    let by = sum-changed (row_decides term_same) (λ row. only (row_eq term_eq q (cells_at shown row)) (pos 1)) before after net changed in
+    now ∙ (by ∙ (ap (λ n. n +ℤ total (λ row. only (row_eq term_eq q (cells_at shown row)) (pos 1)) net) (sym then)
+    ∙ ap (λ n. times (row_eq term_eq) (map (cells_at shown) before) q +ℤ n) (sym (is q))))
+
+-- by other lists of the same rows
+pub changed_same : (before before' after after' : List (Cells Term)) (cut : List (Cells Term × ℤ)) → IsChanged (row_eq term_eq) before cut after
+    → SameRows before before' → SameRows after after' → IsChanged (row_eq term_eq) before' cut after'
+changed_same before before' after after' cut changed first second q =
+    sym (second q) ∙ (changed q ∙ ap (λ n. n +ℤ weight (row_eq term_eq) cut q) (first q))
+
+pub stands_for : (operator : Operator) (change : List (Cells Term × ℤ)) (solutions : List (Cells Term × ℤ)) (preceding present : List (Cells Term))
+    → operator ≢ Rstream → IsChanged (row_eq term_eq) preceding change present → StandsFor operator change solutions preceding present
+stands_for Rstream change solutions preceding present other changed = absurd (other refl)
+stands_for Istream change solutions preceding present other changed = changed
+stands_for Dstream change solutions preceding present other changed = changed
+
+-- nothing less something is nothing
+less_nothing : (ys : List (Cells Term)) → less (row_eq term_eq) [] ys ≡ []
+less_nothing [] = refl
+less_nothing (y ∷ ys) = less_nothing ys
+
+pub none_gone : (present : List (Cells Term)) → AreRows [] (reported Dstream [] present)
+none_gone present = rw (less_nothing present) (record { same = λ q. refl; texts = refl })

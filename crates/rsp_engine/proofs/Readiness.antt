@@ -127,6 +127,7 @@ live_as facts p =
       query = p.translated;
       variables = p.query.reading.variables;
       first = p.query.first;
+      reported = p.reported;
       seen = facts p.answer;
     }
 

@@ -2,7 +2,7 @@
 use Rattle.std.proofs.Common.{◌≡◌, ℕ, zero, suc, ◌≤◌, Bool, true, false, List, [], ◌∷◌, length, filter, Option, None, Some, refl, ◌∙◌, ap, arith}
 use Rattle.std.specs.Prelude.{if◌then◌else◌, not, bytes_eq}
 use Rattle.std.specs.Option.{option_map_or}
-use Rattle.rsp_engine.specs.World.{World, Registration}
+use Rattle.rsp_engine.specs.World.{World, Query}
 use Rattle.rsp_engine.specs.Moments.{Moment}
 use Rattle.rsp_engine.specs.Reports.{ReportStep, after_report, is_overfull, live_query, moments_behind, next_step, report_of, reports, reports_within, world_behind, world_within}
 
@@ -22,15 +22,15 @@ struck_fewer true test left = filtered test left
 struck_fewer false test left = omega arith
 
 -- the step of a moment, by its live query
-abbrev step_of : World → Moment → List Moment → Option Registration → Option ReportStep
+abbrev step_of : World → Moment → List Moment → Option Query → Option ReportStep
 step_of world moment left query =
     option_map_or
-    (λ query.
+    (λ (query : Query).
     Some
     (record {
       report = report_of world query moment.at;
-      after = after_report world query moment.at;
-      left = moments_behind world query moment.at left;
+      after = after_report world query.registration moment.at;
+      left = moments_behind world query.registration moment.at left;
     }))
     query
     (next_step world left)
@@ -39,11 +39,11 @@ fewer : (world : World) (left : List Moment) (step : ReportStep) → next_step w
 fewer world [] step is = cc
 fewer world (moment ∷ left) step is = by (live_query world moment.query) (fewer world left step) is
   where
-    by : (query : Option Registration) → (next_step world left ≡ Some step → suc (length step.left) ≤ length left) → step_of world moment left query ≡ Some step → suc (length step.left) ≤ suc (length left)
+    by : (query : Option Query) → (next_step world left ≡ Some step → suc (length step.left) ≤ length left) → step_of world moment left query ≡ Some step → suc (length step.left) ≤ suc (length left)
     by None later is = let less = later is in omega (arith, less)
     by (Some query) later is =
-        let behind : moments_behind world query moment.at left ≡ step.left = cc in
-        let less = struck_fewer (is_overfull world query moment.at) (λ (m : Moment). not (bytes_eq m.query query.name)) left in
+        let behind : moments_behind world query.registration moment.at left ≡ step.left = cc in
+        let less = struck_fewer (is_overfull world query.registration moment.at) (λ (m : Moment). not (bytes_eq m.query query.registration.name)) left in
         rw (← behind) (omega (arith, less))
 
 -- ---- enough steps

@@ -17,13 +17,14 @@ use Rattle.rsp_report.specs.declared.words.Strategy.{Strategy}
 use Rattle.rsp_report.specs.declared.words.Strategy.TheVariants.{Close, Change, NonEmpty, Every}
 use Rattle.rsp_report.specs.declared.words.PolicyWords.TheVariants.{Absent, Listed}
 use Rattle.rsp_report.specs.declared.chosen.Chosen.{Chosen}
-use Rattle.rsp_streams_out.specs.declared.operator.Operator.TheVariants.{Rstream}
+use Rattle.rsp_streams_out.specs.declared.operator.Operator.TheVariants.{Rstream, Istream, Dstream}
+use Rattle.rsp_streams_out.specs.declared.operator.Operator.{Operator}
 use Rattle.rsp_query.specs.declared.query.WindowClause.{WindowClause}
 use Rattle.rsp_query.specs.Queries.{Registered}
 use Rattle.rsp_query.specs.Groups as words
 use Rattle.rsp_query.specs.Paths.{step}
 use Rattle.rsp_algebra.specs.declared.tree.Place.TheVariants.{Default, Window}
-use Rattle.rsp_algebra.specs.Nodes.{Node, join, pattern, project}
+use Rattle.rsp_algebra.specs.Nodes.{Node, join, pattern, project, unit}
 use Rattle.rsp_translation.specs.declared.shape.Shape.TheVariants as shape
 use Rattle.rsp_translation.specs.Translation.{first_fault}
 use Rattle.rsp_syntax.specs.Parsing.{parse}
@@ -34,7 +35,7 @@ use Rattle.rsp_engine.specs.declared.report.Report.{Report}
 use Rattle.rsp_engine.specs.declared.report.Outcome.TheVariants.{Rows, Overfull}
 use Rattle.rsp_engine.specs.Refusals.{Refusal, left_out, late, scope, policy_mix, name_taken, no_query, queries_full, start_overfull, unbuilt, text_fault}
 use Rattle.rsp_engine.specs.World.{World, Query, Reading, Registration}
-use Rattle.rsp_engine.specs.Readings.{is_rstream, reading_of}
+use Rattle.rsp_engine.specs.Readings.{reading_of}
 use Rattle.rsp_engine.specs.Accept.{accept, accept_reading, is_live, new_query, starts_overfull}
 use Rattle.rsp_engine.specs.Contents.{content}
 use Rattle.rsp_engine.specs.Moments.{Moment, moments}
@@ -176,10 +177,10 @@ shape_is_looked_at_before_the_policy : (q : Registered) → first_fault q ≡ So
     → is_mixed q.policy ≡ true → text_fault (Ok q) ≡ Some (scope (codes "x"))
 shape_is_looked_at_before_the_policy q is mixed = rw is refl
 
-policy_is_looked_at_before_the_operator : (text : List ℕ) (q : Registered) → parse text ≡ Ok q
-    → first_fault q ≡ None → is_mixed q.policy ≡ true → is_rstream q.operator ≡ false
-    → accept ticked (Register (codes "r") text) ≡ Err policy_mix
-policy_is_looked_at_before_the_operator text q is sound mixed other = rw (is, sound, mixed) refl
+policy_is_looked_at_before_the_number : (text : List ℕ) (q : Registered) → parse text ≡ Ok q
+    → first_fault q ≡ None → is_mixed q.policy ≡ true
+    → accept (so_many 256) (Register (codes "r2") text) ≡ Err policy_mix
+policy_is_looked_at_before_the_number text q is sound mixed = rw (is, sound, mixed) refl
 
 overfull_start_is_refused : (w : World) (reading : Reading) → starts_overfull reading ≡ true
     → accept_reading w (codes "q") reading ≡ Err start_overfull
@@ -188,23 +189,19 @@ overfull_start_is_refused w reading starts = rw starts refl
 -- a text without fault
 module _ (text : List ℕ) (q : Registered) (is : parse text ≡ Ok q) (sound : first_fault q ≡ None)
     (unmixed : is_mixed q.policy ≡ false) where
-  operator_is_looked_at_before_the_number : is_rstream q.operator ≡ false
-      → accept (so_many 256) (Register (codes "r2") text) ≡ Err unbuilt
-  operator_is_looked_at_before_the_number other = rw (is, sound, unmixed, other) refl
-
-  number_is_looked_at_before_the_start : is_rstream q.operator ≡ true → starts_overfull (reading_of q) ≡ true
+  number_is_looked_at_before_the_start : starts_overfull (reading_of q) ≡ true
       → accept (so_many 256) (Register (codes "r2") text) ≡ Err queries_full
-  number_is_looked_at_before_the_start built starts = rw (is, sound, unmixed, built) refl
+  number_is_looked_at_before_the_start starts = rw (is, sound, unmixed) refl
 
-  last_place_is_given : is_rstream q.operator ≡ true → accept (so_many 255) (Register (codes "r2") text)
+  last_place_is_given : accept (so_many 255) (Register (codes "r2") text)
       ≡ accept_reading (so_many 255) (codes "r2") (reading_of q)
-  last_place_is_given built = rw (is, sound, unmixed, built) refl
+  last_place_is_given = rw (is, sound, unmixed) refl
 
   -- last in order, beside one that is live; it sees the items from the third on
-  query_is_registered : is_rstream q.operator ≡ true → starts_overfull (reading_of q) ≡ false
+  query_is_registered : starts_overfull (reading_of q) ≡ false
       → accept ticked (Register (codes "r") text)
       ≡ Ok (world (Some 11) two_items (at_tens (codes "q") ∷ new_query (codes "r") (reading_of q) 2 ∷ []))
-  query_is_registered built starts = rw (is, sound, unmixed, built, starts) refl
+  query_is_registered starts = rw (is, sound, unmixed, starts) refl
 
 -- ---- which other events are accepted
 
@@ -407,9 +404,36 @@ item_is_reported_by_both_windows : said_of (query (at_instants (Close ∷ [])) (
     ≡ report 10 (1 ∷ []) ∷ report 15 (1 ∷ []) ∷ report 20 [] ∷ []
 item_is_reported_by_both_windows = refl
 
-report_leaves_its_facts : world_behind ticked (at 10 ∷ [])
-    ≡ record ticked { queries = record (at_tens (codes "q")) { seen = fact 0 3 ∷ fact 0 1 ∷ [] } ∷ [] }
-report_leaves_its_facts = refl
+report_leaves_its_rows : world_behind ticked (at 10 ∷ [])
+    ≡ record ticked { queries = record (at_tens (codes "q")) { preceding = (Some (iri 3) ∷ []) ∷ (Some (iri 1) ∷ []) ∷ [] } ∷ [] }
+report_leaves_its_rows = refl
+
+-- the query under another stream operator
+abbrev under : Operator → Query → Query
+under operator query =
+    record query { registration = record query.registration { reading = record query.registration.reading { operator = operator } } }
+
+-- what is new at 10 isn't at 15, and is gone at 20
+operators_look_at_the_preceding_report : map (λ operator. said_of (under operator (query (at_instants (Close ∷ [])) (on_a 10 5))) (arrives 6 1 ∷ Tick 20 ∷ []))
+    (Istream ∷ Dstream ∷ [])
+    ≡ (report 10 (1 ∷ []) ∷ report 15 [] ∷ report 20 [] ∷ [])
+    ∷ (report 10 [] ∷ report 15 [] ∷ report 20 (1 ∷ []) ∷ []) ∷ []
+operators_look_at_the_preceding_report = refl
+
+-- the preceding report is the last one, wherever it lies: where nothing is reported over the empty window, nothing is compared with it
+empty_windows_are_passed_over : said_of (under Istream (query (at_instants (Close ∷ NonEmpty ∷ [])) (on_a 10 10))) (arrives 6 1 ∷ arrives 25 1 ∷ Tick 30 ∷ [])
+    ≡ report 10 (1 ∷ []) ∷ report 30 [] ∷ []
+empty_windows_are_passed_over = refl
+
+-- a query that has one row over no facts
+abbrev always : Query
+always = new_query (codes "q") (record (subjects (at_instants (Close ∷ [])) (on_a 10 10) unit) { node = unit; shown = []; variables = [] }) 0
+
+-- a first report over no facts has no preceding one
+first_report_is_all_new : map (λ operator. map (λ (r : Report). r.outcome) (said_of (under operator always) (Tick 5 ∷ Tick 20 ∷ [])))
+    (Rstream ∷ Istream ∷ Dstream ∷ [])
+    ≡ (Rows ([] ∷ []) ∷ Rows ([] ∷ []) ∷ []) ∷ (Rows ([] ∷ []) ∷ Rows [] ∷ []) ∷ (Rows [] ∷ Rows [] ∷ []) ∷ []
+first_report_is_all_new = refl
 
 no_report_of_an_ended_query : reports (record ticked { queries = at_tens (codes "r") ∷ [] }) (at 10 ∷ at_of (codes "r") 10 ∷ [])
     ≡ report_of (codes "r") 10 (1 ∷ 3 ∷ []) ∷ []
@@ -423,7 +447,7 @@ ending reading = record { name = codes "q"; reading = reading; first = 0 }
 abbrev between : Reading → World
 between reading =
     world (Some 21) two_items
-    (at_tens (codes "p") ∷ record { registration = ending reading; seen = [] } ∷ at_tens (codes "r") ∷ [])
+    (at_tens (codes "p") ∷ record { registration = ending reading; preceding = [] } ∷ at_tens (codes "r") ∷ [])
 
 -- the moments of all at t
 abbrev all_at : ℕ → List Moment

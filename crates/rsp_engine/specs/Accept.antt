@@ -13,7 +13,7 @@ use Rattle.rsp_algebra.specs.Overfull.{overfull}
 use Rattle.rsp_syntax.specs.Parsing.{parse}
 use Rattle.rsp_syntax.specs.declared.fault.SyntaxFault.{SyntaxFault}
 use Rattle.rsp_engine.specs.Refusals.{Refusal, late, name_taken, no_query, queries_full, start_overfull, store_full, unbuilt, text_fault}
-use Rattle.rsp_engine.specs.Readings.{is_rstream, reading_of}
+use Rattle.rsp_engine.specs.Readings.{reading_of}
 use Rattle.rsp_engine.specs.World.{World, Query, Reading, Registration, registrations}
 
 -- the first instant that isn't complete, or 0 where none is set
@@ -48,7 +48,7 @@ without name queries = filter (λ (query : Query). not (has_name name query.regi
 
 -- a query that has not reported
 abbrev pub new_query : List ℕ → Reading → ℕ → Query
-new_query name reading first = record { registration = record { name = name; reading = reading; first = first }; seen = [] }
+new_query name reading first = record { registration = record { name = name; reading = reading; first = first }; preceding = [] }
 
 -- a query that has too many rows over no facts can't begin
 abbrev pub starts_overfull : Reading → Bool
@@ -61,15 +61,10 @@ accept_reading world name reading =
     then Err start_overfull
     else Ok (record world { queries = world.queries ++ new_query name reading (length world.items) ∷ [] })
 
--- by now a query is built that reports all its rows
+-- so many queries are live at most
 abbrev pub accept_query : World → List ℕ → Registered → Result World Refusal
 accept_query world name q =
-    if not (is_rstream q.operator)
-    then Err unbuilt
-    else
-    (if nat_le most_queries (length world.queries)
-    then Err queries_full
-    else accept_reading world name (reading_of q))
+    if nat_le most_queries (length world.queries) then Err queries_full else accept_reading world name (reading_of q)
 
 -- what the text is, where it has no fault
 abbrev pub accept_parsed : World → List ℕ → Result Registered SyntaxFault → Result World Refusal

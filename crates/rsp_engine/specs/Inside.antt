@@ -28,6 +28,7 @@ live_of facts live =
       query = live.query.value;
       variables = live.variables;
       first = live.first;
+      reported = live.reported;
       seen = facts live.answer;
     }
 
@@ -64,16 +65,17 @@ state_of facts e =
       broken = e.broken;
     }
 
--- what registration fixed of a live query, what it has seen, and its answer
+-- what registration fixed of a live query, whether it has reported, what it has seen, and its answer
 pub record Parts (A : Type 0) : Type 0 where
   pub query : Registration
   pub translated : Translated
+  pub reported : Bool
   pub seen : List (Fact × ℤ)
   pub answer : A
 
 -- all of a live query but the times that it watches
 abbrev pub parts_of : {A : Type 0} → LiveQuery A → Parts A
-parts_of live = record { query = fixed live; translated = live.query.value; seen = live.seen; answer = live.answer }
+parts_of live = record { query = fixed live; translated = live.query.value; reported = live.reported; seen = live.seen; answer = live.answer }
 
 -- a period is at least 1 ms, and a policy that looks at items asks for no closing and no period
 pub record IsPolicy (policy : Chosen) : Type 0 where

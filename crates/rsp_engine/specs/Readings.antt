@@ -1,8 +1,6 @@
 -- Definitions: what a query's text says, where it has no fault.
-use Rattle.std.specs.Prelude.{ℕ, Bool, true, false, List, map}
+use Rattle.std.specs.Prelude.{ℕ, List, map}
 use Rattle.rsp_report.specs.Policies.{choice_of}
-use Rattle.rsp_streams_out.specs.declared.operator.Operator.{Operator}
-use Rattle.rsp_streams_out.specs.declared.operator.Operator.TheVariants as operator
 use Rattle.rsp_query.specs.declared.query.WindowClause.{WindowClause}
 use Rattle.rsp_query.specs.Queries.{Registered}
 use Rattle.rsp_shapes.specs.Visible.{name_of}
@@ -10,11 +8,6 @@ use Rattle.rsp_translation.specs.Selects.{projected}
 use Rattle.rsp_translation.specs.Translation.{tree_of, width_of}
 use Rattle.rsp_engine.specs.declared.live_query.StreamWindow.{StreamWindow}
 use Rattle.rsp_engine.specs.World.{Reading}
-
--- by now queries are built that report all rows of what they see
-abbrev pub is_rstream : Operator → Bool
-is_rstream operator.Rstream = true
-is_rstream _ = false
 
 abbrev pub window_of : WindowClause → StreamWindow
 window_of clause = record { stream = clause.stream; shape = clause.window }

@@ -1,19 +1,18 @@
--- Definitions: what is reported at a moment (RSP-QL, RStream), and working off the moments of an event.
+-- Definitions: what is reported at a moment (RSP-QL), and working off the moments of an event.
 use Rattle.std.specs.Prelude.{◌≡◌, ℕ, zero, suc, Bool, not, if◌then◌else◌, Option, None, Some, List, [], ◌∷◌, ◌++◌, length, map, filter, slice_index_or, bytes_eq}
 use Rattle.std.specs.List.{find}
 use Rattle.std.specs.Option.{option_map_or}
 use Rattle.rsp_terms.specs.declared.term.Term.{Term}
 use Rattle.rsp_terms.specs.declared.statement.Fact.{Fact}
-use Rattle.rsp_terms.specs.Same.{term_eq}
-use Rattle.rsp_multiset.specs.Weights.{times}
-use Rattle.rsp_multiset.specs.Rows.{Cells, row_eq}
+use Rattle.rsp_multiset.specs.Rows.{Cells}
 use Rattle.rsp_algebra.specs.Solutions.{eval}
 use Rattle.rsp_algebra.specs.Overfull.{overfull}
-use Rattle.rsp_streams_out.specs.Rows.{in_order, row_text}
+use Rattle.rsp_streams_out.specs.Rows.{AreRows}
+use Rattle.rsp_streams_out.specs.Streams.{reported}
 use Rattle.rsp_engine.specs.declared.report.Report.{Report}
 use Rattle.rsp_engine.specs.declared.report.Outcome.{Outcome}
 use Rattle.rsp_engine.specs.declared.report.Outcome.TheVariants as outcome
-use Rattle.rsp_engine.specs.World.{World, Registration, Query, registrations}
+use Rattle.rsp_engine.specs.World.{World, Reading, Registration, Query}
 use Rattle.rsp_engine.specs.Contents.{facts_over}
 use Rattle.rsp_engine.specs.Moments.{Moment}
 use Rattle.rsp_engine.specs.Accept.{has_name, without}
@@ -26,31 +25,31 @@ facts world query t = world.stored ++ facts_over world.items query.first query.r
 abbrev pub cells_at : List ℕ → Cells Term → Cells Term
 cells_at places row = map (λ place. slice_index_or row place None) places
 
--- the solutions of a query at t, each with its shown variables alone
+-- the rows of a query over some facts: its solutions, each with its shown variables alone
+abbrev pub rows_over : Reading → List Fact → List (Cells Term)
+rows_over reading facts = map (cells_at reading.shown) (eval reading.width reading.node facts)
+
 abbrev pub solutions : World → Registration → ℕ → List (Cells Term)
-solutions world query t =
-    map (cells_at query.reading.shown) (eval query.reading.width query.reading.node (facts world query t))
+solutions world query t = rows_over query.reading (facts world query t)
 
 abbrev pub is_overfull : World → Registration → ℕ → Bool
 is_overfull world query t = overfull query.reading.width query.reading.node (facts world query t)
 
--- the query's report at t: that it is overfull, or all its solutions, in the byte order of their texts
-abbrev pub report_of : World → Registration → ℕ → Report
+-- the query's report at t: that it is overfull, or what its stream operator gives of the preceding rows and those of now, in the
+-- byte order of their texts
+abbrev pub report_of : World → Query → ℕ → Report
 report_of world query t =
     record {
-      query = query.name;
+      query = query.registration.name;
       at = t;
-      variables = query.reading.variables;
+      variables = query.registration.reading.variables;
       outcome =
-          if is_overfull world query t
+          if is_overfull world query.registration t
           then outcome.Overfull
-          else outcome.Rows (in_order (solutions world query t));
+          else
+          outcome.Rows
+          (reported query.registration.reading.operator query.preceding (solutions world query.registration t));
     }
-
--- the same rows as a multiset, in an order of the same texts: rows of equal texts may stand in any order
-pub record AreRows (rows wanted : List (Cells Term)) : Type 0 where
-  pub same : (q : Cells Term) → times (row_eq term_eq) rows q ≡ times (row_eq term_eq) wanted q
-  pub texts : map row_text rows ≡ map row_text wanted
 
 abbrev pub IsOutcome : Outcome → Outcome → Type 0
 IsOutcome outcome.Overfull wanted = wanted ≡ outcome.Overfull
@@ -64,14 +63,14 @@ pub record IsReport (report wanted : Report) : Type 0 where
   pub variables : report.variables ≡ wanted.variables
   pub outcome : IsOutcome report.outcome wanted.outcome
 
--- the live query of a name, as it was registered
-abbrev pub live_query : World → List ℕ → Option Registration
-live_query world name = find (has_name name) (registrations world)
+-- the live query of a name
+abbrev pub live_query : World → List ℕ → Option Query
+live_query world name = find (λ (query : Query). has_name name query.registration) world.queries
 
--- the query of this name with the facts of its report at t as those of its last report
+-- the query of this name with the rows of its report at t as those of its last report
 abbrev pub query_after_report : World → ℕ → List ℕ → Query → Query
 query_after_report world t name query =
-    if has_name name query.registration then record query { seen = facts world query.registration t } else query
+    if has_name name query.registration then record query { preceding = solutions world query.registration t } else query
 
 -- the world after a query's report: an overfull one ends the query
 abbrev pub after_report : World → Registration → ℕ → World
@@ -96,12 +95,12 @@ abbrev pub next_step : World → List Moment → Option ReportStep
 next_step world [] = None
 next_step world (moment ∷ left) =
     option_map_or
-    (λ query.
+    (λ (query : Query).
     Some
     (record {
       report = report_of world query moment.at;
-      after = after_report world query moment.at;
-      left = moments_behind world query moment.at left;
+      after = after_report world query.registration moment.at;
+      left = moments_behind world query.registration moment.at left;
     }))
     (live_query world moment.query)
     (next_step world left)

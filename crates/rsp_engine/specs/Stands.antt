@@ -1,5 +1,5 @@
 -- Words of the way: what an engine's state is, and which world and which moments left it stands for.
-use Rattle.std.specs.Prelude.{◌≡◌, ℕ, ◌+◌, ◌-◌, ◌*◌, ◌≤◌, ◌↔◌, Bool, false, ◌||◌, not, Option, None, Some, List, [], ◌∷◌, ◌++◌, ⊤, length, map, slice_get, bytes_eq, pos, unwrap_or}
+use Rattle.std.specs.Prelude.{◌≡◌, ℕ, ◌+◌, ◌-◌, ◌*◌, ◌≤◌, ◌↔◌, Bool, true, false, ◌||◌, not, Option, None, Some, List, [], ◌∷◌, ◌++◌, ⊤, length, map, slice_get, bytes_eq, pos, unwrap_or}
 use Rattle.std.specs.List.{All, IsDistinct}
 use Rattle.std.specs.List.Sorted.{IsNonDecreasing}
 use Rattle.std.specs.Option.{is_some, option_map_or, ForSome}
@@ -7,7 +7,9 @@ use Rattle.rsp_spec.specs.Windows.{last_instant}
 use Rattle.rsp_terms.specs.declared.statement.Fact.{Fact}
 use Rattle.rsp_terms.specs.declared.statement.Triple.{Triple}
 use Rattle.rsp_terms.specs.declared.statement.Spot.TheVariants as spot
-use Rattle.rsp_terms.specs.Same.{fact_eq}
+use Rattle.rsp_terms.specs.Same.{fact_eq, term_eq}
+use Rattle.rsp_terms.specs.declared.term.Term.{Term}
+use Rattle.rsp_multiset.specs.Rows.{Cells, row_eq}
 use Rattle.rsp_multiset.specs.Weights.{IsSameMultiset, times}
 use Rattle.rsp_report.specs.declared.chosen.Chosen.{Chosen}
 use Rattle.rsp_streams_out.specs.declared.operator.Operator.{Operator}
@@ -22,8 +24,9 @@ use Rattle.rsp_engine.specs.Contents.{facts_over}
 use Rattle.rsp_engine.specs.Due.{newest}
 use Rattle.rsp_engine.specs.Left.{IsWaiting, left_from, name_in, reports_at}
 use Rattle.rsp_engine.specs.Moments.{Moment}
+use Rattle.rsp_engine.specs.Reports.{rows_over}
 
--- what an engine keeps of a live query, and the facts for which its answer stands
+-- what an engine keeps of a live query, whether it has reported, and the facts for which its answer stands
 pub record Live : Type 0 where
   pub name : List ℕ
   pub operator : Operator
@@ -33,6 +36,7 @@ pub record Live : Type 0 where
   pub query : Translated
   pub variables : List (List ℕ)
   pub first : ℕ
+  pub reported : Bool
   pub seen : List Fact
 
 -- what an engine keeps: `next`; its live queries, in order of registration; its items; the stored quads; the stream of the newest
@@ -97,10 +101,19 @@ pub record IsHead (engine : State) (left : List Moment) (place : Pending) : Type
 
 -- ---- the world
 
--- query by query, the answer of the live query stands for what the world's query has seen
+-- these are the preceding rows of a live query: none before its first report, else those of the last one, over the facts for
+-- which its answer stands
+abbrev pub Behind : Bool → List (Cells Term) → List (Cells Term) → Type 0
+Behind false before preceding = preceding ≡ []
+Behind true before preceding = IsSameMultiset (row_eq term_eq) before preceding
+
+abbrev pub Precede : Live → List (Cells Term) → Type 0
+Precede live preceding = Behind live.reported (rows_over (reading_in live) live.seen) preceding
+
+-- query by query, the preceding rows are those of the world's query
 abbrev pub HaveSeen : List Live → List Query → Type 0
 HaveSeen [] [] = ⊤
-HaveSeen (live ∷ lives) (query ∷ queries) = IsSameMultiset fact_eq live.seen query.seen × HaveSeen lives queries
+HaveSeen (live ∷ lives) (query ∷ queries) = Precede live query.preceding × HaveSeen lives queries
 HaveSeen _ _ = ⊥
 
 -- the engine stands for this world, and for these moments as those that are left

@@ -1,6 +1,8 @@
 -- Definitions: the world: what every event that was accepted has made, kept for ever. All times are in milliseconds since 1970.
 use Rattle.std.specs.Prelude.{ℕ, Option, None, List, [], map}
+use Rattle.rsp_terms.specs.declared.term.Term.{Term}
 use Rattle.rsp_terms.specs.declared.statement.Fact.{Fact}
+use Rattle.rsp_multiset.specs.Rows.{Cells}
 use Rattle.rsp_report.specs.declared.chosen.Chosen.{Chosen}
 use Rattle.rsp_streams_out.specs.declared.operator.Operator.{Operator}
 use Rattle.rsp_algebra.specs.Nodes.{Node}
@@ -25,10 +27,10 @@ pub record Registration : Type 0 where
   pub reading : Reading
   pub first : ℕ
 
--- a live query, with what its reports change: the facts of its last report, none before the first
+-- a live query, with what its reports change: the rows of its last report's solutions, none before the first
 pub record Query : Type 0 where
   pub registration : Registration
-  pub seen : List Fact
+  pub preceding : List (Cells Term)
 
 -- the first instant that isn't complete, where one is set; all accepted items, in order, numbered from 0; the stored quads, as
 -- distinct facts; the live queries in order of registration

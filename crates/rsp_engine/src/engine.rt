@@ -12,7 +12,7 @@ ghost use Rattle.rsp_engine.specs.declared.live_query.LiveQuery.{LiveQuery};
 
 use crate::finding::{Pending, first_left};
 use crate::live_query::LiveQuery;
-use crate::registering::{begun, chosen, is_rstream, parsed, translated};
+use crate::registering::{begun, chosen, parsed, translated};
 use crate::seeing::report_at;
 use crate::storing::{put, take_out};
 use crate::watching::{Arrival, keep};
@@ -90,7 +90,6 @@ impl<A: Answer> Engine<A> {
     ghost use Rattle.rsp_engine.specs.Accept.{has_name};
     ghost use Rattle.rsp_engine.specs.Inside.{Answers, IsPolicy, IsWatching, live_of};
     ghost use Rattle.rsp_engine.specs.Passing.{Passes, ReportsFirst};
-    ghost use Rattle.rsp_engine.specs.Readings as readings;
     ghost use Rattle.rsp_engine.specs.World.{World, empty_world};
     ghost use Rattle.rsp_engine.specs.Moments.{Moment};
     ghost use Rattle.rsp_engine.specs.Kept.{triples_of};
@@ -262,16 +261,13 @@ impl<A: Answer> Engine<A> {
         ensures { (text : List ℕ) → parse text ≡ Ok (registered query.now)
             → Offers self.old (Event.Register name text) result self.new }
     {
-        if !is_rstream(&query.operator) {
-            return Err(Refused::Unbuilt);
-        }
         if self.live() >= MOST_QUERIES {
             return Err(Refused::QueriesFull);
         }
         self.begin(name, query, policy, made)
     }
 
-    // registers a query that is built, if it has not too many rows over no facts
+    // registers a query, if it has not too many rows over no facts
     fn begin(
         &mut self,
         name: Text,
@@ -286,7 +282,6 @@ impl<A: Answer> Engine<A> {
         requires policy { policy ≡ choice_of (registered query.now).policy }
         requires unmixed { is_mixed (registered query.now).policy ≡ false }
         requires asked { IsPolicy policy }
-        requires rstream { readings.is_rstream (registered query.now).operator ≡ true }
         requires translated { IsTranslated (registered query.now) made.value }
         requires placed { IsPlaced made.value }
         ensures { (text : List ℕ) → parse text ≡ Ok (registered query.now)

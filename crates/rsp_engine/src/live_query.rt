@@ -27,6 +27,8 @@ pub(crate) struct LiveQuery<A> {
     /// The names of the variables that are shown.
     pub variables: Listed<Text>,
     pub first: usize,
+    /// Whether it has reported.
+    pub reported: bool,
     /// The facts of its last report, each once; none before the first.
     pub seen: Changes<Fact>,
     /// Each window with the times of the items over its stream that the query may see.

@@ -53,8 +53,7 @@ pub enum Refused {
     /// So many quads would be stored, more than 1,000,000.
     #[error("the store is full: {quads} quads")]
     StoreFull { quads: u64 },
-    /// The event is of a kind that isn't built yet: a query without fault whose operator isn't RSTREAM, an item of more than a
-    /// thousand triples, or an item after a thousand.
+    /// The event is of a kind that isn't built yet: an item of more than a thousand triples, or an item after a thousand.
     #[error("not built yet")]
     Unbuilt,
     /// Some subtree of the query has more than 1,000,000 solutions over no facts at all.

@@ -24,7 +24,7 @@ use crate::Refused;
 use crate::live_query::{LiveQuery, StreamWindow};
 use rsp_algebra::{Answer, Translated};
 use rsp_multiset::Changes;
-use rsp_query::{Operator, PolicyWords, Query, WindowClause};
+use rsp_query::{PolicyWords, Query, WindowClause};
 use rsp_report::{Chosen, PolicyMix, Watched, policy};
 use rsp_syntax::{SyntaxFault, parse};
 use rsp_terms::{Listed, Text};
@@ -86,16 +86,6 @@ pub(crate) fn chosen(words: &PolicyWords) -> Result<Chosen, Refused>
     match policy(words) {
         Ok(chosen) => Ok(chosen),
         Err(PolicyMix) => Err(Refused::PolicyMix),
-    }
-}
-
-/// Whether a query is built by now: it reports all its rows.
-pub(crate) fn is_rstream(operator: &Operator) -> bool
-    ensures { result ≡ readings.is_rstream operator.now }
-{
-    match operator {
-        Operator::Rstream => true,
-        _ => false,
     }
 }
 
@@ -177,7 +167,7 @@ pub(crate) fn begun<A: Answer>(
     requires asked { IsPolicy policy }
     requires translated { IsTranslated (registered query.now) made.value }
     requires placed { IsPlaced made.value }
-    ensures query { IfOk result (IsBegun A.facts name (registered query.now) first) }
+    ensures query { IfOk result (IsBegun name (registered query.now) first) }
     ensures watching { IfOk result (λ live. IfSome live (λ live.
         (items : List Item) → length items ≡ first → IsWatching items live)) }
     ensures answers { IfOk result (λ live. IfSome live (Answers A.node A.width A.facts A.spent)) }
@@ -205,7 +195,7 @@ fn live_query<A: Answer>(
     requires facts { A.facts answer ≡ [] }
     requires ready { A.spent answer ≡ false }
     ensures query { IfOk result (λ live. fixed live ≡ (new_query name (readings.reading_of (registered query.now)) first).registration) }
-    ensures answer { IfOk result (λ live. live.answer ≡ answer) }
+    ensures reported { IfOk result (λ live. live.reported ≡ false) }
     ensures watching { IfOk result (λ live. (items : List Item) → length items ≡ first → IsWatching items live) }
     ensures answers { IfOk result (Answers A.node A.width A.facts A.spent) }
 {
@@ -221,6 +211,7 @@ fn live_query<A: Answer>(
         query: made,
         variables,
         first,
+        reported: false,
         seen: Changes::new(alloc),
         watched,
         answer,

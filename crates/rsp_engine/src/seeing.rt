@@ -1,26 +1,29 @@
 // What a live query reports at an instant.
-ghost use Rattle.std.specs.Prelude.{◌≡◌, ◌≤◌, ◌+◌, ◌++◌, ◌+ℤ◌, false, List, map, IfOk, OnOk, length};
+ghost use Rattle.std.specs.Prelude.{◌≡◌, ◌≤◌, ◌+◌, ◌++◌, ◌+ℤ◌, [], false, List, map, IfOk, OnOk, length};
 ghost use Rattle.rsp_spec.specs.Windows.{last_instant};
-ghost use Rattle.rsp_terms.specs.Same.{fact_eq};
-ghost use Rattle.rsp_multiset.specs.Weights.{times, weight};
-ghost use Rattle.rsp_algebra.specs.Solutions.{eval};
+ghost use Rattle.rsp_terms.specs.Same.{fact_eq, term_eq};
+ghost use Rattle.rsp_terms.specs.declared.term.Term.{Term};
 ghost use Rattle.rsp_terms.specs.declared.statement.Fact.{Fact};
-ghost use Rattle.rsp_streams_out.specs.Rows.{in_order};
-ghost use Rattle.rsp_engine.specs.declared.report.Outcome.TheVariants as outcomes;
+ghost use Rattle.rsp_multiset.specs.Rows.{Cells, row_eq};
+ghost use Rattle.rsp_multiset.specs.Weights.{IsChanged, IsSameMultiset, times, weight};
+ghost use Rattle.rsp_algebra.specs.Solutions.{eval};
+ghost use Rattle.rsp_streams_out.specs.Rows.{AreRows, in_order};
+ghost use Rattle.rsp_streams_out.specs.Streams.{reported};
 ghost use Rattle.rsp_engine.specs.Contents.{facts_over};
 ghost use Rattle.rsp_engine.specs.Inside.{Answers};
 ghost use Rattle.rsp_engine.specs.Passing.{IsReported};
-ghost use Rattle.rsp_engine.specs.Reports.{IsOutcome, cells_at};
-ghost use Rattle.rsp_engine.specs.Stands.{IsStore};
+ghost use Rattle.rsp_engine.specs.Reports.{cells_at};
+ghost use Rattle.rsp_engine.specs.Stands.{Behind, IsStore};
 
 use crate::contents::facts;
-use crate::rows::shown_rows;
+use crate::rows::{changed_rows, shown_rows};
 use crate::{Item, LiveQuery, Outcome, Report};
 use rsp_algebra::{Answer, Turn};
-use rsp_multiset::Changes;
+use rsp_multiset::{Changes, Row};
+use rsp_query::Operator;
 use rsp_scope::Stored;
 use rsp_steps::Steps;
-use rsp_terms::{Fact, Listed, Text};
+use rsp_terms::{Fact, Listed, Term, Text};
 use std::alloc::{AllocError, Global};
 use std::sync::ledger::Ledger;
 
@@ -49,7 +52,11 @@ fn outcome_at<A: Answer, L: Ledger>(
     live.seen = now;
     match turn {
         Turn::Overfull => Ok(Outcome::Overfull),
-        Turn::Net(_) => rows_of(alloc, live),
+        Turn::Net(net) => {
+            let rows = told_rows(alloc, live, &net)?;
+            live.reported = true;
+            Ok(Outcome::Rows(rows))
+        }
     }
 }
 
@@ -94,15 +101,79 @@ fn shared(alloc: Global, texts: &[Text]) -> Result<Listed<Text>, AllocError>
     Ok(shared)
 }
 
-fn rows_of<A: Answer>(alloc: Global, live: &LiveQuery<A>) -> Result<Outcome, AllocError>
+// what the stream operator of a live query gives, where its solutions changed so since the last report
+fn told_rows<A: Answer>(
+    alloc: Global,
+    live: &LiveQuery<A>,
+    net: &Changes<Row<Term>>,
+) -> Result<Listed<Row<Term>>, AllocError>
     requires { A.spent live.now.answer ≡ false }
-    ensures { IfOk result (λ outcome. (facts : List Fact)
-        → ((q : _) → times fact_eq (A.facts live.now.answer) q ≡ times fact_eq facts q)
-        → IsOutcome outcome (outcomes.Rows (in_order (map (cells_at live.now.query.value.shown)
-        (eval (A.width live.now.answer) (A.node live.now.answer) facts))))) }
+    ensures { IfOk result (λ rows. (facts : List Fact) (before preceding : List (Cells Term))
+        → IsSameMultiset fact_eq (A.facts live.now.answer) facts
+        → IsChanged (row_eq term_eq) before net.now (eval (A.width live.now.answer) (A.node live.now.answer) (A.facts live.now.answer))
+        → Behind live.now.reported (map (cells_at live.now.query.value.shown) before) preceding
+        → AreRows rows (reported live.now.operator preceding (map (cells_at live.now.query.value.shown)
+        (eval (A.width live.now.answer) (A.node live.now.answer) facts)))) }
+{
+    if live.reported {
+        later_rows(alloc, live, net)
+    } else {
+        first_rows(alloc, live)
+    }
+}
+
+// at its first report: nothing has gone, and all is new
+fn first_rows<A: Answer>(
+    alloc: Global,
+    live: &LiveQuery<A>,
+) -> Result<Listed<Row<Term>>, AllocError>
+    requires { A.spent live.now.answer ≡ false }
+    ensures { IfOk result (λ rows. (facts : List Fact)
+        → IsSameMultiset fact_eq (A.facts live.now.answer) facts
+        → AreRows rows (reported live.now.operator [] (map (cells_at live.now.query.value.shown)
+        (eval (A.width live.now.answer) (A.node live.now.answer) facts)))) }
+{
+    match live.operator {
+        Operator::Rstream | Operator::Istream => all_rows(alloc, live),
+        Operator::Dstream => Ok(Listed::new(alloc)),
+    }
+}
+
+// at a later report
+fn later_rows<A: Answer>(
+    alloc: Global,
+    live: &LiveQuery<A>,
+    net: &Changes<Row<Term>>,
+) -> Result<Listed<Row<Term>>, AllocError>
+    requires { A.spent live.now.answer ≡ false }
+    ensures { IfOk result (λ rows. (facts : List Fact) (before preceding : List (Cells Term))
+        → IsSameMultiset fact_eq (A.facts live.now.answer) facts
+        → IsChanged (row_eq term_eq) before net.now (eval (A.width live.now.answer) (A.node live.now.answer) (A.facts live.now.answer))
+        → IsSameMultiset (row_eq term_eq) (map (cells_at live.now.query.value.shown) before) preceding
+        → AreRows rows (reported live.now.operator preceding (map (cells_at live.now.query.value.shown)
+        (eval (A.width live.now.answer) (A.node live.now.answer) facts)))) }
+{
+    let shown = live.query.shown.as_slice();
+    match live.operator {
+        Operator::Rstream => all_rows(alloc, live),
+        Operator::Istream => changed_rows(alloc, Operator::Istream, net, shown),
+        Operator::Dstream => changed_rows(alloc, Operator::Dstream, net, shown),
+    }
+}
+
+// all rows of now
+fn all_rows<A: Answer>(
+    alloc: Global,
+    live: &LiveQuery<A>,
+) -> Result<Listed<Row<Term>>, AllocError>
+    requires { A.spent live.now.answer ≡ false }
+    ensures { IfOk result (λ rows. (facts : List Fact)
+        → IsSameMultiset fact_eq (A.facts live.now.answer) facts
+        → AreRows rows (in_order (map (cells_at live.now.query.value.shown)
+        (eval (A.width live.now.answer) (A.node live.now.answer) facts)))) }
 {
     let solutions = live.answer.solutions()?;
-    Ok(Outcome::Rows(shown_rows(alloc, &solutions, live.query.shown.as_slice())?))
+    shown_rows(alloc, &solutions, live.query.shown.as_slice())
 }
 
 // the stored quads and the facts of windows

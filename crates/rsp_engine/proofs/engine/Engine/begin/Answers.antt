@@ -15,12 +15,12 @@ returns-in-Ok-Some g c = λ text is.
     let begun = rw c.in-Ok-Some.field-0-is at c.in-Ok-Some.ensures.query in
     let made = begun.1 ∙ ap (λ n. (new_query c.args.name (reading_of q) n).registration) c.accepted.ensures in
     let idle = idle_first old c.requires.ready c.requires.idle in
-    begun_offers old c.go_live.new.self c.args.name text q (live_of g.A.Answer.facts c.in-Ok-Some.query) c.go_live.result c.requires.ready made begun.2 idle c.requires.free is c.requires.translated.sound c.requires.unmixed c.requires.rstream c.requires.few begun.0 c.go_live.ensures.ok c.go_live.ensures.err
+    begun_offers old c.go_live.new.self c.args.name text q (live_of g.A.Answer.facts c.in-Ok-Some.query) c.go_live.result c.requires.ready made begun.2 idle c.requires.free is c.requires.translated.sound c.requires.unmixed c.requires.few begun.0 c.go_live.ensures.ok c.go_live.ensures.err
 
 pub returns-in-Ok-None : goal.returns-in-Ok-None
 returns-in-Ok-None g c = λ text is.
     let starts = rw c.in-Ok-None.field-0-is at c.in-Ok-None.ensures.query in
-    overfull_refuses c.args.self.now c.args.name text (registered c.args.query.now) c.requires.ready c.requires.free is c.requires.translated.sound c.requires.unmixed c.requires.rstream c.requires.few starts
+    overfull_refuses c.args.self.now c.args.name text (registered c.args.query.now) c.requires.ready c.requires.free is c.requires.translated.sound c.requires.unmixed c.requires.few starts
 
 pub returns-in-Err : goal.returns-in-Err
 returns-in-Err g c = λ text is.

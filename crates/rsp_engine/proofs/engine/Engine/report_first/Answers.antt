@@ -104,6 +104,7 @@ returns-in-Ok-clause-ok g c =
       variables = c.in-Ok.ensures.variables;
       outcome = reported.outcome;
       same = reported.same;
+      told = reported.told;
       seen = λ rows. (reported.answers rows).1;
       next = refl;
       items = refl;
