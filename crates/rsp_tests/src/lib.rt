@@ -14,6 +14,8 @@ mod engine;
 #[cfg(test)]
 mod events;
 #[cfg(test)]
+mod modes;
+#[cfg(test)]
 mod multisets;
 #[cfg(test)]
 mod nquads;
