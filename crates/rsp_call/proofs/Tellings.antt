@@ -5,7 +5,7 @@ use Rattle.std.specs.Option.{is_some, option_map}
 use Rattle.std.proofs.lemmas.List.{append-nil}
 use Rattle.rsp_multiset.specs.Rows.{Cells}
 use Rattle.rsp_terms.specs.declared.term.Term.{Term}
-use Rattle.rsp_streams_out.specs.Rows.{row_text}
+use Rattle.rsp_streams_out.specs.Rows.{AreRows, row_text}
 use Rattle.rsp_streams_out.specs.Reports.{report_head, report_text, rows_text, variables_line}
 use Rattle.rsp_engine.specs.declared.report.Report.{Report}
 use Rattle.rsp_engine.specs.declared.report.Outcome.{Outcome}
@@ -16,7 +16,7 @@ use Rattle.rsp_engine.specs.World.{World}
 use Rattle.rsp_engine.specs.Refusals.{Refusal, refusal_of}
 use Rattle.rsp_engine.specs.Accept.{accept}
 use Rattle.rsp_engine.specs.Moments.{Moment, moments}
-use Rattle.rsp_engine.specs.Reports.{AreRows, IsOutcome, IsReport, reports, world_behind}
+use Rattle.rsp_engine.specs.Reports.{IsOutcome, IsReport, reports, world_behind}
 use Rattle.rsp_engine.specs.Stands.{State, Stands, is_idle}
 use Rattle.rsp_engine.specs.Offers.{Answers, GivesFirst, GivesOf, HasNone, Refuses}
 use Rattle.rsp_engine.proofs.ReportSteps.{reports_step, world_step}

@@ -111,6 +111,7 @@ fn kind(answered: &Answered) -> Option<(u64, &'static str)>
         Answered::Event(Refused::NameTaken) => Some((16, "NameTaken")),
         Answered::Event(Refused::NoQuery) => Some((17, "NoQuery")),
         Answered::Event(Refused::QueriesFull) => Some((18, "QueriesFull")),
+        Answered::Event(Refused::StoreFull { .. }) => Some((20, "StoreFull")),
         Answered::Event(Refused::Unbuilt) => Some((22, "Unbuilt")),
         Answered::Event(Refused::StartOverfull) => Some((25, "StartOverfull")),
         Answered::Event(Refused::Broken) | Answered::Event(Refused::OutOfMemory) => None,
@@ -141,6 +142,7 @@ fn details(alloc: Global, answered: &Answered) -> Result<String, AllocError>
         Answered::Event(Refused::Late { time, next }) => {
             format!(in alloc; " time={time} next={next}")
         }
+        Answered::Event(Refused::StoreFull { quads }) => format!(in alloc; " quads={quads}"),
         _ => Ok(String::new(alloc)),
     }
 }

@@ -9,7 +9,7 @@ ghost use Rattle.std.specs.Process.{exit_status};
 ghost use Rattle.rsp_call.specs.Statuses.{code_of};
 
 use rsp_call::{Status, rsp, words_behind_name};
-use rsp_io::{StdSink, StdSource, SteadyShelf};
+use rsp_io::{DirShelf, StdSink, StdSource};
 use rsp_steps::Steps;
 use rsp_terms::{Listed, Text};
 use std::alloc::{AllocError, Global};
@@ -30,7 +30,7 @@ fn exit_code(status: Status) -> ExitCode
 }
 
 // Makes the words and the objects over the runtime, and works.
-fn run<R: Input + Print + Env + AllocGlobal, L: Ledger>(rt: &R, blank: Blank) -> Status
+fn run<R: Input + Print + Files + Env + AllocGlobal, L: Ledger>(rt: &R, blank: Blank) -> Status
     requires name { blank.name ≡ L.name }
     requires parts { blank.parts ≡ L.parts }
     requires some { 0 < blank.parts }
@@ -40,7 +40,7 @@ fn run<R: Input + Print + Env + AllocGlobal, L: Ledger>(rt: &R, blank: Blank) ->
         return Status::OutOfMemory;
     };
     let mut input = StdSource::new(rt);
-    let mut shelf = SteadyShelf::new(Vec::new(rt.alloc()), 1);
+    let mut shelf = DirShelf::new(rt);
     let mut out = StdSink::new(rt);
     rsp(
         rt.alloc(),

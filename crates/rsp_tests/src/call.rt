@@ -57,7 +57,7 @@ fn whole_log(alloc: Global) -> Result<String, AllocError> {
     format!(in alloc; "{REGISTER}{FIRST}{SECOND}{TICK}")
 }
 
-fn texts_of(alloc: Global, words: &[&str]) -> Result<Vec<Text>, AllocError> {
+pub(crate) fn texts_of(alloc: Global, words: &[&str]) -> Result<Vec<Text>, AllocError> {
     let mut texts = Vec::new(alloc);
     for word in words {
         texts.push(Text::new(alloc, word)?)?;
@@ -65,7 +65,7 @@ fn texts_of(alloc: Global, words: &[&str]) -> Result<Vec<Text>, AllocError> {
     Ok(texts)
 }
 
-fn only(alloc: Global, call: u64) -> Result<Vec<u64>, AllocError> {
+pub(crate) fn only(alloc: Global, call: u64) -> Result<Vec<u64>, AllocError> {
     let mut calls = Vec::new(alloc);
     calls.push(call)?;
     Ok(calls)
