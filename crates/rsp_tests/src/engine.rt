@@ -17,7 +17,7 @@ const SUBJECTS: &str = "@register q\nREGISTER RSTREAM <q:o> REPORT CLOSE TICK TI
      FROM NAMED WINDOW <w:1> ON <s:a> [RANGE PT10S STEP PT5S] \
      WHERE { WINDOW <w:1> { ?s <p:v> ?o } }\n@end";
 
-// a query that is to report what is new, and one whose strategies don't go together
+// a query that reports what is new, and one whose strategies don't go together
 const NEW_ROWS: &str =
     "@register r\nREGISTER ISTREAM <q:o> AS SELECT ?s FROM NAMED WINDOW <w:1> ON <s:a> [RANGE PT10S] \
      WHERE { WINDOW <w:1> { ?s <p:v> ?o } }\n@end";
@@ -208,11 +208,15 @@ Late { time: 3, next: 5 }; held 1
 }
 
 #[test]
-fn what_is_not_built_is_refused(rt: HostRuntime) -> Result<(), Fail> {
-    let events = [NEW_ROWS, "@insert\n@end", "@delete\n@end"];
-    let answers = "Unbuilt; held 0
-Unbuilt; held 0
-Unbuilt; held 0
+fn new_rows_and_quads_are_taken(rt: HostRuntime) -> Result<(), Fail> {
+    let events = [
+        NEW_ROWS,
+        "@insert\n<a:1> <p:v> <a:0> .\n@end",
+        "@delete\n<a:1> <p:v> <a:0> .\n@end",
+    ];
+    let answers = "taken; held 0
+taken; held 0
+taken; held 0
 ";
     assert_eq!(rt; said(rt.alloc(), &events)?.as_slice(), answers.as_bytes());
     Ok(())
