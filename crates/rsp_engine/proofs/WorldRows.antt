@@ -40,7 +40,7 @@ use Rattle.rsp_engine.specs.Accept.{accept, accept_reading, is_live, new_query, 
 use Rattle.rsp_engine.specs.Contents.{content}
 use Rattle.rsp_engine.specs.Moments.{Moment, moments}
 use Rattle.rsp_engine.specs.Reports.{facts, reports, world_behind, is_overfull, after_report, moments_behind}
-use Rattle.rsp_engine.specs.Kept.{Sight, kept_items, triples_of}
+use Rattle.rsp_engine.specs.Kept.{kept_items, triples_of}
 
 -- ---- what the rows speak of
 

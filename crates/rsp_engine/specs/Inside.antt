@@ -75,7 +75,14 @@ pub record Parts (A : Type 0) : Type 0 where
 
 -- all of a live query but the times that it watches
 abbrev pub parts_of : {A : Type 0} → LiveQuery A → Parts A
-parts_of live = record { query = fixed live; translated = live.query.value; reported = live.reported; seen = live.seen; answer = live.answer }
+parts_of live =
+    record {
+      query = fixed live;
+      translated = live.query.value;
+      reported = live.reported;
+      seen = live.seen;
+      answer = live.answer;
+    }
 
 -- a period is at least 1 ms, and a policy that looks at items asks for no closing and no period
 pub record IsPolicy (policy : Chosen) : Type 0 where

@@ -39,9 +39,9 @@ pub record Live : Type 0 where
   pub reported : Bool
   pub seen : List Fact
 
--- what an engine keeps: `next`; its live queries, in order of registration; its items; the stored quads; the stream of the newest
--- item, where the event that set `next` was an item; the place of the first moment left, if one is; and whether memory was refused
--- to it
+-- what an engine keeps: `next`; its live queries, in order of registration; its items; the stored quads; the stream of the
+-- newest item, where the event that set `next` was an item; the place of the first moment left, if one is; and whether memory
+-- was refused to it
 pub record State : Type 0 where
   pub next : Option ℕ
   pub queries : List Live
@@ -133,9 +133,13 @@ pub record Stands (engine : State) (world : World) (left : List Moment) : Type 0
 pub record Sees (engine : State) (world : World) (from : ℕ) : Type 0 where
   pub accepted : length engine.items ≡ length world.items
   pub windows : (t : ℕ) → from ≤ t → t ≤ next_in engine
-      → All (λ live. facts_over engine.items live.first live.windows t ≡ facts_over world.items live.first live.windows t) engine.queries
+      → All
+      (λ live. facts_over engine.items live.first live.windows t ≡ facts_over world.items live.first live.windows t)
+      engine.queries
   pub due : (t : ℕ) → from ≤ t → t ≤ next_in engine
-      → All (λ query. test_in engine t query ≡ reports_at world.items (next_of world) engine.arrived t query) (registrations_in engine)
+      → All
+      (λ query. test_in engine t query ≡ reports_at world.items (next_of world) engine.arrived t query)
+      (registrations_in engine)
 
 -- no moment is left, or memory was refused
 abbrev pub is_idle : State → Bool

@@ -1,4 +1,4 @@
--- Definitions: the world: what every event that was accepted has made, kept for ever. All times are in milliseconds since 1970.
+-- Definitions: the world: what the accepted events have made; every item is kept for ever. All times are in milliseconds since 1970.
 use Rattle.std.specs.Prelude.{ℕ, Option, None, List, [], map}
 use Rattle.rsp_terms.specs.declared.term.Term.{Term}
 use Rattle.rsp_terms.specs.declared.statement.Fact.{Fact}

@@ -174,12 +174,7 @@ fn is_over_some(windows: &[StreamWindow], stream: &Text) -> bool
 }
 
 // the first instant from `from` to `next` at which a query reports
-fn next_of<A>(
-    live: &LiveQuery<A>,
-    arrived: &Option<Text>,
-    next: u64,
-    from: u64,
-) -> Option<u64>
+fn next_of<A>(live: &LiveQuery<A>, arrived: &Option<Text>, next: u64, from: u64) -> Option<u64>
     requires prompt { IsPrompt next arrived.now live.now }
     requires next { next ≤ last_instant + 1 }
     ensures { IsLeastIn (λ t. reports_by next arrived.now t live.now ≡ true) from next result }
@@ -194,12 +189,7 @@ fn next_of<A>(
 }
 
 // `next`, where a query that looks at items reports on the newest item
-fn on_arrival<A>(
-    live: &LiveQuery<A>,
-    arrived: &Option<Text>,
-    next: u64,
-    from: u64,
-) -> Option<u64>
+fn on_arrival<A>(live: &LiveQuery<A>, arrived: &Option<Text>, next: u64, from: u64) -> Option<u64>
     requires tuple { live.now.policy.tuple ≡ true }
     requires prompt { IsPrompt next arrived.now live.now }
     requires next { next ≤ last_instant + 1 }

@@ -194,7 +194,8 @@ fn live_query<A: Answer>(
     requires width { A.width answer ≡ made.value.width }
     requires facts { A.facts answer ≡ [] }
     requires ready { A.spent answer ≡ false }
-    ensures query { IfOk result (λ live. fixed live ≡ (new_query name (readings.reading_of (registered query.now)) first).registration) }
+    ensures query { IfOk result (λ live.
+        fixed live ≡ (new_query name (readings.reading_of (registered query.now)) first).registration) }
     ensures reported { IfOk result (λ live. live.reported ≡ false) }
     ensures watching { IfOk result (λ live. (items : List Item) → length items ≡ first → IsWatching items live) }
     ensures answers { IfOk result (Answers A.node A.width A.facts A.spent) }

@@ -110,7 +110,8 @@ fn told_rows<A: Answer>(
     requires { A.spent live.now.answer ≡ false }
     ensures { IfOk result (λ rows. (facts : List Fact) (before preceding : List (Cells Term))
         → IsSameMultiset fact_eq (A.facts live.now.answer) facts
-        → IsChanged (row_eq term_eq) before net.now (eval (A.width live.now.answer) (A.node live.now.answer) (A.facts live.now.answer))
+        → IsChanged (row_eq term_eq) before net.now
+        (eval (A.width live.now.answer) (A.node live.now.answer) (A.facts live.now.answer))
         → Behind live.now.reported (map (cells_at live.now.query.value.shown) before) preceding
         → AreRows rows (reported live.now.operator preceding (map (cells_at live.now.query.value.shown)
         (eval (A.width live.now.answer) (A.node live.now.answer) facts)))) }
@@ -148,7 +149,8 @@ fn later_rows<A: Answer>(
     requires { A.spent live.now.answer ≡ false }
     ensures { IfOk result (λ rows. (facts : List Fact) (before preceding : List (Cells Term))
         → IsSameMultiset fact_eq (A.facts live.now.answer) facts
-        → IsChanged (row_eq term_eq) before net.now (eval (A.width live.now.answer) (A.node live.now.answer) (A.facts live.now.answer))
+        → IsChanged (row_eq term_eq) before net.now
+        (eval (A.width live.now.answer) (A.node live.now.answer) (A.facts live.now.answer))
         → IsSameMultiset (row_eq term_eq) (map (cells_at live.now.query.value.shown) before) preceding
         → AreRows rows (reported live.now.operator preceding (map (cells_at live.now.query.value.shown)
         (eval (A.width live.now.answer) (A.node live.now.answer) facts)))) }
@@ -162,10 +164,7 @@ fn later_rows<A: Answer>(
 }
 
 // all rows of now
-fn all_rows<A: Answer>(
-    alloc: Global,
-    live: &LiveQuery<A>,
-) -> Result<Listed<Row<Term>>, AllocError>
+fn all_rows<A: Answer>(alloc: Global, live: &LiveQuery<A>) -> Result<Listed<Row<Term>>, AllocError>
     requires { A.spent live.now.answer ≡ false }
     ensures { IfOk result (λ rows. (facts : List Fact)
         → IsSameMultiset fact_eq (A.facts live.now.answer) facts
