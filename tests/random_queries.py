@@ -369,7 +369,7 @@ class QueryWriter:
     def text(self):
         depth = self.dice.choice([0, 1, 1, 1, 2, 2, 3])
         head, body = self.whole() if self.chance(0.3) else self.parts_of_select(depth, False)[:2]
-        operator = self.dice.choice(["ISTREAM", "DSTREAM"]) if self.slips(2) else "RSTREAM"
+        operator = self.dice.choice(["RSTREAM", "RSTREAM", "ISTREAM", "DSTREAM"])
         clauses = " ".join(map(self.clause, self.windows))
         if self.slips():
             clauses += f" FROM NAMED WINDOW {self.dice.choice(self.elsewhere())} ON <s:a> [RANGE {self.steps[0]}]"
