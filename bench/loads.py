@@ -155,6 +155,7 @@ def arrivals(size):
 # ---- what is stored
 
 MOST_STORED = 100_000
+OPERATORS = ["RSTREAM", "ISTREAM", "DSTREAM"]
 JOINED = "WINDOW <w:1> { ?x <p:v> ?y } GRAPH <g:1> { ?y <p:m> ?z }"
 
 
@@ -166,21 +167,37 @@ def joining():
     return block("@register q", [QUERY.replace("WINDOW <w:1> { %s }", "%s") % ("?x ?z", JOINED) + "\n"])
 
 
+def stored(size):
+    """So many quads that are stored, a thousand a block."""
+    return b"".join(block("@insert", map(quad, range(at, min(at + 1000, size)))) for at in range(0, size, 1000))
+
+
 def inserts(size):
-    """So many quads that are stored, a thousand a block, under a query that joins a window with them, and one report."""
-    blocks = [block("@insert", map(quad, range(at, min(at + 1000, size)))) for at in range(0, size, 1000)]
-    return joining() + b"".join(blocks) + block("@item <s:a> 1000", ["<a:1> <p:v> <b:1> .\n"]) + b"@tick 10000\n"
+    """So many quads that are stored under a query that joins a window with them, and one report."""
+    return joining() + stored(size) + block("@item <s:a> 1000", ["<a:1> <p:v> <b:1> .\n"]) + b"@tick 10000\n"
 
 
-def changes(size):
-    """Twenty reports over so many stored quads, of which ten go and ten others come before each of them."""
+def rounds(size):
+    """Twenty ticks, before each of which ten quads of the first so many go and ten others come."""
     rounds = []
     for number in range(20):
         gone, come = 10 * number, size + 10 * number
         rounds.append(block("@delete", map(quad, range(gone, gone + 10))) + block("@insert", map(quad, range(come, come + 10))))
         rounds.append(block(f"@item <s:a> {10_000 * number + 1000}", [f"<a:{number}> <p:v> <b:{come}> .\n"]))
         rounds.append(b"@tick %d\n" % (10_000 * number + 10_000))
-    return inserts(size).rsplit(b"@item", 1)[0] + b"".join(rounds)
+    return b"".join(rounds)
+
+
+def changes(size):
+    """Twenty reports of a join with so many stored quads, of which ten go and ten others come before each of them."""
+    return joining() + stored(size) + rounds(size)
+
+
+def operators(operator):
+    """Loads of twenty reports of as many rows as quads are stored, of which ten go and ten come, under this operator."""
+    clause = "FROM NAMED WINDOW <w:1> ON <s:a> [RANGE PT10S]"
+    text = f"REGISTER {operator} <q:o> REPORT CLOSE TICK TIME AS SELECT ?y ?z {clause} WHERE {{ GRAPH <g:1> {{ ?y <p:m> ?z }} }}\n"
+    return lambda size: block("@register q", [text]) + stored(size) + rounds(size)
 
 
 # ---- ticks far apart
