@@ -196,7 +196,8 @@ def changes(size):
 def operators(operator):
     """Loads of twenty reports of as many rows as quads are stored, of which ten go and ten come, under this operator."""
     clause = "FROM NAMED WINDOW <w:1> ON <s:a> [RANGE PT10S]"
-    text = f"REGISTER {operator} <q:o> REPORT CLOSE TICK TIME AS SELECT ?y ?z {clause} WHERE {{ GRAPH <g:1> {{ ?y <p:m> ?z }} }}\n"
+    head = f"REGISTER {operator} <q:o> REPORT CLOSE TICK TIME AS SELECT ?y ?z {clause}"
+    text = f"{head} WHERE {{ GRAPH <g:1> {{ ?y <p:m> ?z }} }}\n"
     return lambda size: block("@register q", [text]) + stored(size) + rounds(size)
 
 
