@@ -7,25 +7,23 @@ use Rattle.rsp_terms.specs.declared.statement.Quad.{Quad}
 use Rattle.rsp_scope.specs.Quads.{stored_with, stored_without}
 use Rattle.rsp_events.specs.declared.event.Event.{Event}
 use Rattle.rsp_events.specs.declared.event.Event.TheVariants.{Register, Cancel, Item, Tick, Insert, Delete}
-use Rattle.rsp_engine.specs.declared.item.Item as item
+use Rattle.rsp_scope.specs.Contents.{Accepted}
 use Rattle.rsp_query.specs.Queries.{Registered}
 use Rattle.rsp_algebra.specs.Overfull.{overfull}
 use Rattle.rsp_syntax.specs.Parsing.{parse}
 use Rattle.rsp_syntax.specs.declared.fault.SyntaxFault.{SyntaxFault}
-use Rattle.rsp_engine.specs.Refusals.{Refusal, late, name_taken, no_query, queries_full, start_overfull, store_full, unbuilt, text_fault}
+use Rattle.rsp_engine.specs.Refusals.{Refusal, held_full, item_too_large, late, name_taken, no_query, queries_full, start_overfull, store_full, text_fault}
 use Rattle.rsp_engine.specs.Readings.{reading_of}
-use Rattle.rsp_engine.specs.World.{World, Query, Reading, Registration, registrations}
+use Rattle.rsp_engine.specs.World.{World, Query, Reading, Registration, next_of, registrations}
+use Rattle.rsp_engine.specs.Kept.{held}
 
--- the first instant that isn't complete, or 0 where none is set
-abbrev pub next_of : World → ℕ
-next_of world = unwrap_or world.next 0
-
--- the most items that are accepted by now, and the most triples of an item
-abbrev pub most_items : ℕ
-most_items = 1000
-
+-- the most triples of an item, as listed
 abbrev pub most_triples : ℕ
-most_triples = 1000
+most_triples = 100000
+
+-- the most triples of all items that are kept
+abbrev pub most_held : ℕ
+most_held = 1000000
 
 -- the most quads that are stored
 abbrev pub most_quads : ℕ
@@ -66,10 +64,10 @@ abbrev pub accept_query : World → List ℕ → Registered → Result World Ref
 accept_query world name q =
     if nat_le most_queries (length world.queries) then Err queries_full else accept_reading world name (reading_of q)
 
--- what the text is, where it has no fault
+-- what the text is, where it has no fault; want of memory, which is no text, would change nothing
 abbrev pub accept_parsed : World → List ℕ → Result Registered SyntaxFault → Result World Refusal
 accept_parsed world name (Ok q) = accept_query world name q
-accept_parsed world name (Err fault) = Err unbuilt
+accept_parsed world name (Err fault) = Ok world
 
 -- a text with a fault is refused for it
 abbrev pub accept_text : World → List ℕ → List ℕ → Result World Refusal
@@ -85,14 +83,21 @@ accept_cancel world name =
     if is_live world name then Ok (record world { queries = without name world.queries }) else Err no_query
 
 -- an item is appended, and every instant before its time is complete
-abbrev pub accept_item : World → item.Item → Result World Refusal
+abbrev pub with_item : World → Accepted → World
+with_item world item = record world { next = Some item.time; items = world.items ++ item ∷ [] }
+
+-- the triples of the items that would then be kept are so many at most
+abbrev pub accept_held : World → Result World Refusal
+accept_held after = if nat_lt most_held (held after) then Err (held_full (held after)) else Ok after
+
+abbrev pub accept_item : World → Accepted → Result World Refusal
 accept_item world item =
-    if nat_lt most_triples (length item.graph) || nat_le most_items (length world.items)
-    then Err unbuilt
-    else
-    (if nat_lt item.time (next_of world)
+    if nat_lt item.time (next_of world)
     then Err (late item.time (next_of world))
-    else Ok (record world { next = Some item.time; items = world.items ++ item ∷ [] }))
+    else
+    (if nat_lt most_triples (length item.graph)
+    then Err (item_too_large (length item.graph))
+    else accept_held (with_item world item))
 
 -- every instant up to the tick's is complete
 abbrev pub accept_tick : World → ℕ → Result World Refusal

@@ -2,14 +2,14 @@
 use Rattle.std.specs.Prelude.{◌≡◌, ℕ, ◌+◌, ◌-◌, ◌≤◌, Bool, true, false, nat_lt, if◌then◌else◌, Option, None, Some, List, [], ◌++◌, drop, filter, map, slice_get}
 use Rattle.std.specs.List.{flat_map, range_with_len}
 use Rattle.std.specs.Option.{option_map_or}
-use Rattle.rsp_engine.specs.declared.item.Item.{Item}
+use Rattle.rsp_scope.specs.Contents.{Accepted}
 use Rattle.rsp_engine.specs.declared.finding.Pending.{Pending}
 use Rattle.rsp_engine.specs.World.{Registration}
 use Rattle.rsp_engine.specs.Due.{is_due, is_due_over}
 use Rattle.rsp_engine.specs.Moments.{Moment}
 
 -- whether a query reports at t: below `next` by the instant, at `next` itself by an item that just arrived over this stream
-abbrev pub reports_at : List Item → ℕ → Option (List ℕ) → ℕ → Registration → Bool
+abbrev pub reports_at : List Accepted → ℕ → Option (List ℕ) → ℕ → Registration → Bool
 reports_at items next arrived t query =
     if nat_lt t next
     then is_due items query t

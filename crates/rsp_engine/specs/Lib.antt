@@ -15,3 +15,4 @@ pub mod Stands
 pub mod Inside
 pub mod Passing
 pub mod Watching
+pub mod Keeping

@@ -1,5 +1,6 @@
 -- Words of the way: what the engine's calls do to its state.
-use Rattle.std.specs.Prelude.{◌≡◌, ℕ, ◌+◌, Option, Bool, if◌then◌else◌, true, false, None, Some, List, remove, slice_get, slice_set, unwrap_or}
+use Rattle.std.specs.Prelude.{◌≡◌, ℕ, ◌+◌, Option, Bool, if◌then◌else◌, true, false, None, Some, List, [], ◌++◌, length, map, remove, slice_get, slice_set, unwrap_or}
+use Rattle.std.specs.List.{All}
 use Rattle.std.specs.Option.{is_some}
 use Rattle.rsp_terms.specs.declared.term.Term.{Term}
 use Rattle.rsp_terms.specs.declared.statement.Fact.{Fact}
@@ -9,33 +10,48 @@ use Rattle.rsp_multiset.specs.Weights.{IsSameMultiset}
 use Rattle.rsp_query.specs.Queries.{Registered}
 use Rattle.rsp_algebra.specs.Nodes.{Node}
 use Rattle.rsp_algebra.specs.Overfull.{overfull}
+use Rattle.rsp_scope.specs.Contents.{Accepted, HasContent, Watch}
+use Rattle.rsp_scope.specs.Ends.{IsKept}
+use Rattle.rsp_scope.specs.Kept.{Kept}
+use Rattle.rsp_scope.specs.declared.pieces.Piece.{Piece}
+use Rattle.rsp_scope.specs.Moves.{Followed}
 use Rattle.rsp_streams_out.specs.Streams.{reported}
 use Rattle.rsp_engine.specs.declared.finding.Pending.{Pending}
-use Rattle.rsp_engine.specs.declared.item.Item.{Item}
 use Rattle.rsp_engine.specs.declared.live_query.LiveQuery.{LiveQuery}
 use Rattle.rsp_engine.specs.declared.refused.Refused.{Refused}
 use Rattle.rsp_engine.specs.declared.report.Outcome.{Outcome}
 use Rattle.rsp_engine.specs.declared.report.Outcome.TheVariants as outcomes
 use Rattle.rsp_engine.specs.declared.report.Report.{Report}
 use Rattle.rsp_engine.specs.Accept.{new_query, starts_overfull}
+use Rattle.rsp_engine.specs.Contents.{facts_over, watches}
 use Rattle.rsp_engine.specs.Inside.{Answers, fixed, live_of}
-use Rattle.rsp_engine.specs.Left.{IsFirstLeft, name_in, reports_at}
+use Rattle.rsp_engine.specs.Left.{IsFirstLeft}
 use Rattle.rsp_engine.specs.Readings.{reading_of}
 use Rattle.rsp_engine.specs.Refusals.{Refusal, refusal_of}
 use Rattle.rsp_engine.specs.Reports.{IsOutcome, rows_over}
-use Rattle.rsp_engine.specs.Stands.{Precede, State, Live, facts_in, next_in, reading_in, registration_of, registrations_in, test_in}
+use Rattle.rsp_engine.specs.Stands.{Follows, Precede, State, Live, asked_in, cut_of, next_in, reading_in, registration_of, test_in, watches_in}
+use Rattle.rsp_engine.specs.Watching.{Tells, name_of, reports_by}
 use Rattle.rsp_engine.specs.World.{Reading}
 
--- every instant before `to` is complete, and these items are kept, of which the newest just came over this stream, where one did;
--- the moments left are those of the instants that became complete, and of what came; nothing else has changed
-pub record Passes (old : State) (kept : List Item) (came : Option (List ℕ)) (to : ℕ) (new : State) : Type 0 where
+-- all of a live query but the times that it watches
+abbrev pub unwatched : Live → Live
+unwatched live = record live { watched = [] }
+
+-- every instant before `to` is complete, and these items were accepted, of which the newest just came over this stream, where one
+-- did; the moments left are those of the instants that became complete, and of what came; what is still needed is kept
+pub record Passes (old : State) (more : List Accepted) (came : Option (List ℕ)) (to : ℕ) (new : State) : Type 0 where
   pub next : new.next ≡ Some to
-  pub queries : new.queries ≡ old.queries
-  pub items : new.items ≡ kept
+  pub queries : map unwatched new.queries ≡ map unwatched old.queries
   pub stored : new.stored ≡ old.stored
+  pub log : new.log ≡ old.log
   pub arrived : new.arrived ≡ came
   pub broken : new.broken ≡ false
-  pub first : IsFirstLeft name_in (reports_at kept to came) (registrations_in old) to (unwrap_or old.next to) 0 new.first
+  pub first : IsFirstLeft name_of (reports_by to came) (asked_in new) to (unwrap_or old.next to) 0 new.first
+  pub kept : (items : List Accepted) → IsKept (next_in old) (watches_in old) items old.kept
+      → IsKept (cut_of new) (watches_in new) (items ++ more) new.kept
+  pub told : (items : List Accepted) → length items ≡ old.kept.accepted
+      → All (λ (live : Live). Tells items (next_in old) (registration_of live) live.watched) old.queries
+      → All (λ (live : Live). Tells (items ++ more) (next_in old) (registration_of live) live.watched) new.queries
 
 -- that a report is overfull
 abbrev pub is_overfull_outcome : Outcome → Bool
@@ -55,14 +71,31 @@ IsOutcomeOver given live now =
     (facts : List Fact) (preceding : List (Cells Term))
     → IsSameMultiset fact_eq now facts → Precede live preceding → IsOutcome given (outcome_over (reading_in live) preceding facts)
 
--- a live query reported over these facts at t, and its answer stands for them where it is still live
+-- each item in a content of the query at t is kept
+abbrev pub HasContents : List Accepted → Kept → ℕ → List Watch → Type 0
+HasContents items kept t watched = All (λ (watch : Watch). HasContent watch t kept items) watched
+
+-- what a live query sees at t, of the stored quads and of these items
+abbrev pub facts_at : List Accepted → List Fact → Live → ℕ → List Fact
+facts_at items stored live t = stored ++ facts_over items live.first live.windows t
+
+-- a live query reported at t, over the stored quads and what its windows see of the accepted items; where it is still live, its
+-- answer stands for that, and it has seen all of the log
 pub record IsReported {A : Type 0} (node : A → Node) (width : A → ℕ) (facts : A → List Fact) (spent : A → Bool)
-    (live : LiveQuery A) (now : List Fact) (new : LiveQuery A) (given : Outcome) : Type 0 where
-  pub outcome : IsOutcomeOver given (live_of facts live) now
+    (kept : Kept) (stored : List Fact) (log : List Piece) (t : ℕ) (live new : LiveQuery A) (given : Outcome) : Type 0 where
+  pub outcome : (items : List Accepted) → Follows items stored log (live_of facts live)
+      → HasContents items kept t (watches live.first live.windows)
+      → IsOutcomeOver given (live_of facts live) (facts_at items stored (live_of facts live) t)
   pub same : fixed new ≡ fixed live
+  pub watched : new.watched.items ≡ live.watched.items
+  pub watches : map (λ (seen : Followed). seen.watch) new.contents.items ≡ map (λ (seen : Followed). seen.watch) live.contents.items
+  pub at : All (λ (seen : Followed). seen.at ≡ Some t) new.contents.items
   pub told : is_overfull_outcome given ≡ false → new.reported ≡ true
-  pub answers : is_overfull_outcome given ≡ false
-      → Answers node width facts spent new × IsSameMultiset fact_eq (facts new.answer) now
+  pub answers : is_overfull_outcome given ≡ false → Answers node width facts spent new
+  pub follows : is_overfull_outcome given ≡ false → (items : List Accepted) → Follows items stored log (live_of facts live)
+      → HasContents items kept t (watches live.first live.windows)
+      → Follows items stored log (live_of facts new)
+      × IsSameMultiset fact_eq (facts new.answer) (facts_at items stored (live_of facts live) t)
 
 -- the live queries behind a report of the one at this place, which is then this: or is no longer live
 abbrev pub queries_behind : State → Pending → Live → Bool → List Live
@@ -75,7 +108,7 @@ place_behind place true = place.query
 place_behind place false = place.query + 1
 
 -- the report at the first place left was given; the query's answer stands for what it saw where it isn't overfull, and the
--- moments behind are left
+-- moments behind are left, with the items that they need
 pub record ReportsFirst (old : State) (report : Report) (new : State) : Type 0 where
   pub place : Pending
   pub live : Live
@@ -85,18 +118,25 @@ pub record ReportsFirst (old : State) (report : Report) (new : State) : Type 0 w
   pub query : report.query ≡ live.name
   pub at : report.at ≡ place.at
   pub variables : report.variables ≡ live.variables
-  pub outcome : IsOutcomeOver report.outcome live (facts_in old live place.at)
+  pub outcome : (items : List Accepted) → Follows items old.stored old.log live
+      → HasContents items old.kept place.at (watches live.first live.windows)
+      → IsOutcomeOver report.outcome live (facts_at items old.stored live place.at)
   pub same : registration_of now ≡ registration_of live
+  pub watched : now.watched ≡ live.watched
   pub told : is_overfull_outcome report.outcome ≡ false → now.reported ≡ true
-  pub seen : is_overfull_outcome report.outcome ≡ false → IsSameMultiset fact_eq now.seen (facts_in old live place.at)
+  pub follows : is_overfull_outcome report.outcome ≡ false → (items : List Accepted) → Follows items old.stored old.log live
+      → HasContents items old.kept place.at (watches live.first live.windows)
+      → Follows items old.stored old.log now × IsSameMultiset fact_eq now.seen (facts_at items old.stored live place.at)
   pub next : new.next ≡ old.next
-  pub items : new.items ≡ old.items
   pub stored : new.stored ≡ old.stored
+  pub log : new.log ≡ old.log
   pub arrived : new.arrived ≡ old.arrived
   pub broken : new.broken ≡ old.broken
   pub queries : new.queries ≡ queries_behind old place now (is_overfull_outcome report.outcome)
-  pub left : IsFirstLeft name_in (test_in old) (registrations_in new) (next_in old) place.at
+  pub left : IsFirstLeft name_of (test_in old) (asked_in new) (next_in old) place.at
       (place_behind place (is_overfull_outcome report.outcome)) new.first
+  pub kept : (items : List Accepted) → IsKept place.at (watches_in old) items old.kept
+      → IsKept (cut_of new) (watches_in new) items new.kept
 
 -- the answer names this refusal
 abbrev pub IsFaultOf : Refused → Option Refusal → Type 0

@@ -17,8 +17,8 @@ use Rattle.rsp_engine.specs.declared.refused.Refused.TheVariants as answer
 -- where it is left out, or the limit that is passed; or the place of a window, a graph or an EXISTS of no shape that can be
 -- translated, or the variable that is out of scope, or strategies that don't go together; its time lies in what is complete:
 -- the time, and the first instant that isn't complete; a live query has its name, or none has; as many queries are live as can
--- be; more quads would be stored than can be: how many; it is of a kind that isn't built; or its query has too many rows before
--- it sees a fact
+-- be; more triples would be kept than can be, or more quads stored: how many; it has more triples than an item may have: how
+-- many; or its query has too many rows before it sees a fact
 pub data Refusal : Type 0 where
   bad_token : ℕ → Refusal
   syntax : ℕ → Refusal
@@ -32,8 +32,9 @@ pub data Refusal : Type 0 where
   name_taken : Refusal
   no_query : Refusal
   queries_full : Refusal
+  held_full : ℕ → Refusal
   store_full : ℕ → Refusal
-  unbuilt : Refusal
+  item_too_large : ℕ → Refusal
   start_overfull : Refusal
 
 -- the fault of a query that has no translation; want of memory is none
@@ -73,7 +74,8 @@ refusal_of answer.NameTaken = Some name_taken
 refusal_of answer.NoQuery = Some no_query
 refusal_of answer.QueriesFull = Some queries_full
 refusal_of (answer.StoreFull quads) = Some (store_full quads)
-refusal_of answer.Unbuilt = Some unbuilt
+refusal_of (answer.HeldFull held) = Some (held_full held)
+refusal_of (answer.ItemTooLarge triples) = Some (item_too_large triples)
 refusal_of answer.StartOverfull = Some start_overfull
 refusal_of answer.Broken = None
 refusal_of answer.OutOfMemory = None

@@ -1,7 +1,6 @@
 -- Words of the way: what an engine's state is, and which world and which moments left it stands for.
-use Rattle.std.specs.Prelude.{◌≡◌, ℕ, ◌+◌, ◌-◌, ◌*◌, ◌≤◌, ◌↔◌, Bool, true, false, ◌||◌, not, Option, None, Some, List, [], ◌∷◌, ◌++◌, ⊤, length, map, slice_get, bytes_eq, pos, unwrap_or}
-use Rattle.std.specs.List.{All, IsDistinct}
-use Rattle.std.specs.List.Sorted.{IsNonDecreasing}
+use Rattle.std.specs.Prelude.{◌≡◌, ℕ, ℤ, pos, ◌+◌, ◌+ℤ◌, ◌-◌, ◌*◌, ◌≤◌, ◌↔◌, Bool, true, false, ◌||◌, not, if◌then◌else◌, Option, None, Some, List, [], ◌∷◌, ◌++◌, ⊤, length, map, slice_get, take, bytes_eq, unwrap_or}
+use Rattle.std.specs.List.{All, IsDistinct, flat_map}
 use Rattle.std.specs.Option.{is_some, option_map_or, ForSome}
 use Rattle.rsp_spec.specs.Windows.{last_instant}
 use Rattle.rsp_terms.specs.declared.statement.Fact.{Fact}
@@ -12,21 +11,30 @@ use Rattle.rsp_terms.specs.declared.term.Term.{Term}
 use Rattle.rsp_multiset.specs.Rows.{Cells, row_eq}
 use Rattle.rsp_multiset.specs.Weights.{IsSameMultiset, times}
 use Rattle.rsp_report.specs.declared.chosen.Chosen.{Chosen}
+use Rattle.rsp_report.specs.declared.contents.Watched.{Watched}
 use Rattle.rsp_streams_out.specs.declared.operator.Operator.{Operator}
 use Rattle.rsp_algebra.specs.Nodes.{node_of}
 use Rattle.rsp_algebra.specs.declared.tree.Translated.{Translated}
-use Rattle.rsp_engine.specs.declared.item.Item.{Item}
+use Rattle.rsp_scope.specs.Contents.{Accepted, Watch, window_facts}
+use Rattle.rsp_scope.specs.Ends.{IsKept}
+use Rattle.rsp_scope.specs.Kept.{Kept}
+use Rattle.rsp_scope.specs.Moves.{Followed, HasSeen, IsReached}
+use Rattle.rsp_scope.specs.Logged.{since}
+use Rattle.rsp_scope.specs.declared.pieces.Piece.{Piece}
 use Rattle.rsp_engine.specs.declared.finding.Pending.{Pending}
 use Rattle.rsp_engine.specs.declared.live_query.StreamWindow.{StreamWindow}
 use Rattle.rsp_engine.specs.World.{World, Query, Reading, Registration, registrations}
-use Rattle.rsp_engine.specs.Accept.{next_of}
-use Rattle.rsp_engine.specs.Contents.{facts_over}
-use Rattle.rsp_engine.specs.Due.{newest}
-use Rattle.rsp_engine.specs.Left.{IsWaiting, left_from, name_in, reports_at}
+use Rattle.rsp_engine.specs.Contents.{watches}
+use Rattle.rsp_scope.specs.declared.item.Item.{Item}
+use Rattle.rsp_engine.specs.Accept.{most_held}
+use Rattle.rsp_engine.specs.Kept.{held, watches_of}
+use Rattle.rsp_engine.specs.Left.{IsWaiting, left_from}
 use Rattle.rsp_engine.specs.Moments.{Moment}
 use Rattle.rsp_engine.specs.Reports.{rows_over}
+use Rattle.rsp_engine.specs.Watching.{Asked, IsPrompt, Tells, name_of, reports_by}
 
--- what an engine keeps of a live query, whether it has reported, and the facts for which its answer stands
+-- what an engine keeps of a live query: whether it has reported; its place in the log of what came to and went from the stored
+-- quads; the facts for which its answer stands; what it watches; and its windows as of the last report
 pub record Live : Type 0 where
   pub name : List ℕ
   pub operator : Operator
@@ -37,16 +45,20 @@ pub record Live : Type 0 where
   pub variables : List (List ℕ)
   pub first : ℕ
   pub reported : Bool
+  pub place : ℕ
   pub seen : List Fact
+  pub watched : List Watched
+  pub contents : List Followed
 
--- what an engine keeps: `next`; its live queries, in order of registration; its items; the stored quads; the stream of the
--- newest item, where the event that set `next` was an item; the place of the first moment left, if one is; and whether memory
--- was refused to it
+-- what an engine keeps: `next`; its live queries, in order of registration; the kept items; the stored quads, and the log of
+-- their changes; the stream of the newest item, where the event that set `next` was an item; the place of the first moment
+-- left, if one is; and whether memory was refused to it
 pub record State : Type 0 where
   pub next : Option ℕ
   pub queries : List Live
-  pub items : List Item
+  pub kept : Kept
   pub stored : List Fact
+  pub log : List Piece
   pub arrived : Option (List ℕ)
   pub first : Option Pending
   pub broken : Bool
@@ -75,29 +87,38 @@ registrations_in engine = map registration_of engine.queries
 abbrev pub next_in : State → ℕ
 next_in engine = unwrap_or engine.next 0
 
--- what a live query sees at t, of the stored quads and of the kept items
-abbrev pub facts_in : State → Live → ℕ → List Fact
-facts_in engine live t = engine.stored ++ facts_over engine.items live.first live.windows t
+-- when a live query reports
+abbrev pub asked_of : Live → Asked
+asked_of live = record { name = live.name; policy = live.policy; windows = live.windows; watched = live.watched }
+
+abbrev pub asked_in : State → List Asked
+asked_in engine = map asked_of engine.queries
 
 -- ---- the moments that are left
 
 -- whether a query of the engine reports at an instant
-abbrev pub test_in : State → ℕ → Registration → Bool
-test_in engine = reports_at engine.items (next_in engine) engine.arrived
+abbrev pub test_in : State → ℕ → Asked → Bool
+test_in engine = reports_by (next_in engine) engine.arrived
 
 -- those from a place on
 abbrev pub left_at : State → Pending → List Moment
-left_at engine place =
-    left_from name_in (test_in engine) (registrations_in engine) (next_in engine) place.at place.query
+left_at engine place = left_from name_of (test_in engine) (asked_in engine) (next_in engine) place.at place.query
 
 abbrev pub left_in : State → List Moment
 left_in engine = option_map_or (left_at engine) engine.first []
 
 -- the moment at a place is the first of those that are left
 pub record IsHead (engine : State) (left : List Moment) (place : Pending) : Type 0 where
-  pub query : Registration
-  pub listed : slice_get (registrations_in engine) place.query ≡ Some query
+  pub query : Asked
+  pub listed : slice_get (asked_in engine) place.query ≡ Some query
   pub head : slice_get left 0 ≡ Some (record { at = place.at; query = query.name })
+
+-- the instant of the first moment left, and `next` where none is left: no report is to come of an instant before
+abbrev pub cut_of : State → ℕ
+cut_of engine = option_map_or (λ (place : Pending). place.at) engine.first (next_in engine)
+
+abbrev pub watches_in : State → List Watch
+watches_in engine = watches_of (registrations_in engine)
 
 -- ---- the world
 
@@ -116,30 +137,36 @@ HaveSeen [] [] = ⊤
 HaveSeen (live ∷ lives) (query ∷ queries) = Precede live query.preceding × HaveSeen lives queries
 HaveSeen _ _ = ⊥
 
+-- what windows saw of these items at their last move
+abbrev pub facts_followed : List Accepted → List Followed → List Fact
+facts_followed items contents =
+    flat_map (λ (seen : Followed). window_facts seen.watch seen.at (take seen.accepted items)) contents
+
+-- what a live query hasn't seen of the stored quads: what came and went since its last report, and all before the first
+abbrev pub unseen : List Fact → List Piece → Live → Fact → ℤ
+unseen stored log live q = if live.reported then since log live.place q else times fact_eq stored q
+
+-- a live query's answer stands for what it saw at its last report: what it hasn't seen of the stored quads leads from there to
+-- the stored quads and what its windows saw
+pub record Follows (items : List Accepted) (stored : List Fact) (log : List Piece) (live : Live) : Type 0 where
+  pub contents : All (λ (seen : Followed). HasSeen seen (take seen.accepted items)) live.contents
+  pub seen : (q : Fact) → times fact_eq live.seen q +ℤ unseen stored log live q
+      ≡ times fact_eq stored q +ℤ times fact_eq (facts_followed items live.contents) q
+
 -- the engine stands for this world, and for these moments as those that are left
 pub record Stands (engine : State) (world : World) (left : List Moment) : Type 0 where
   pub ready : engine.broken ≡ false
   pub next : engine.next ≡ world.next
-  pub kept : engine.items ≡ world.items
+  pub kept : IsKept (cut_of engine) (watches_in engine) world.items engine.kept
+  pub few : held world ≤ most_held
   pub stored : IsSameMultiset fact_eq engine.stored world.stored
   pub queries : registrations_in engine ≡ registrations world
   pub seen : HaveSeen engine.queries world.queries
+  pub told : All (λ (live : Live). Tells world.items (cut_of engine) (registration_of live) live.watched) engine.queries
+  pub follows : All (Follows world.items engine.stored engine.log) engine.queries
   pub moments : left ≡ left_in engine
   pub head : ForSome engine.first (IsHead engine left)
   pub none : (engine.first ≡ None) ↔ (left ≡ [])
-
--- all that the engine needs of the items: from an instant on each live query sees in its windows by the kept items what it sees
--- there in the world, and reports exactly where it does there
-pub record Sees (engine : State) (world : World) (from : ℕ) : Type 0 where
-  pub accepted : length engine.items ≡ length world.items
-  pub windows : (t : ℕ) → from ≤ t → t ≤ next_in engine
-      → All
-      (λ live. facts_over engine.items live.first live.windows t ≡ facts_over world.items live.first live.windows t)
-      engine.queries
-  pub due : (t : ℕ) → from ≤ t → t ≤ next_in engine
-      → All
-      (λ query. test_in engine t query ≡ reports_at world.items (next_of world) engine.arrived t query)
-      (registrations_in engine)
 
 -- no moment is left, or memory was refused
 abbrev pub is_idle : State → Bool
@@ -156,28 +183,22 @@ places_left engine =
 
 -- ---- what holds of every engine's state
 
--- the times of items don't fall, and none is behind `next`
-pub record IsTimed (items : List Item) (next : ℕ) : Type 0 where
-  pub sorted : IsNonDecreasing (map (λ (item : Item). item.time) items)
-  pub high : All (λ (item : Item). item.time ≤ next) items
-
--- the newest item came over this stream at this time
-pub record HasArrived (items : List Item) (time : ℕ) (stream : List ℕ) : Type 0 where
-  pub item : Item
-  pub last : newest items ≡ Some item
-  pub stream_is : item.stream ≡ stream
-  pub time_is : item.time ≡ time
-
 -- the stored quads are distinct, and none is a fact of a window
 pub record IsStore (stored : List Fact) : Type 0 where
   pub once : IsDistinct fact_eq stored
   pub graphs : (k : ℕ) (triple : Triple) → times fact_eq stored (record { spot = spot.Window k; triple = triple }) ≡ pos 0
 
+-- a live query watches and follows its windows, which haven't seen what is later than the first moment left
+pub record IsLive (next : ℕ) (arrived : Option (List ℕ)) (accepted cut : ℕ) (live : Live) : Type 0 where
+  pub prompt : IsPrompt next arrived (asked_of live)
+  pub watches : map (λ (seen : Followed). seen.watch) live.contents ≡ watches live.first live.windows
+  pub reached : All (λ (seen : Followed). IsReached seen.at cut) live.contents
+  pub first : live.first ≤ accepted
+
 pub record IsState (engine : State) : Type 0 where
   pub next_high : next_in engine ≤ last_instant + 1
-  pub timed : IsTimed engine.items (next_in engine)
-  pub arrival : ForSome engine.arrived (HasArrived engine.items (next_in engine))
-  pub firsts : All (λ (live : Live). live.first ≤ length engine.items) engine.queries
+  pub lives : All (IsLive (next_in engine) engine.arrived engine.kept.accepted (cut_of engine)) engine.queries
+  pub timed : All (λ (item : Item). item.time ≤ next_in engine) engine.kept.items
   pub store : IsStore engine.stored
   pub names : IsDistinct bytes_eq (map (λ (live : Live). live.name) engine.queries)
-  pub waits : ForSome engine.first (IsWaiting (test_in engine) (registrations_in engine) (next_in engine))
+  pub waits : ForSome engine.first (IsWaiting (test_in engine) (asked_in engine) (next_in engine))

@@ -1,12 +1,25 @@
 -- Words of the way: what a live query watches: the times of the items over the streams of its windows, and when it reports by them.
-use Rattle.std.specs.Prelude.{◌≡◌, ℕ, Bool, true, false, ◌&&◌, not, nat_lt, if◌then◌else◌, Option, List, [], ◌∷◌, ◌++◌, bytes_eq}
+use Rattle.std.specs.Prelude.{◌≡◌, ℕ, ◌<◌, ◌≤◌, Bool, true, false, ◌&&◌, not, nat_lt, if◌then◌else◌, Option, None, List, [], ◌∷◌, ◌++◌, map, bytes_eq}
 use Rattle.std.specs.List.{All, list_any}
-use Rattle.std.specs.Option.{is_some, option_map_or}
+use Rattle.std.specs.Option.{ForSome, is_some, option_map_or}
+use Rattle.rsp_scope.specs.Contents.{Accepted}
+use Rattle.rsp_report.specs.declared.chosen.Chosen.{Chosen}
 use Rattle.rsp_report.specs.declared.contents.Watched.{Watched}
-use Rattle.rsp_report.specs.Due.{IsFreshAt, IsWatched}
+use Rattle.rsp_report.specs.Due.{IsFreshAt, IsWatched, seen_at}
 use Rattle.rsp_report.specs.Due as windows
-use Rattle.rsp_engine.specs.declared.live_query.LiveQuery.{LiveQuery}
-use Rattle.rsp_engine.specs.Inside.{IsPolicy}
+use Rattle.rsp_engine.specs.declared.live_query.StreamWindow.{StreamWindow}
+use Rattle.rsp_engine.specs.Due.{watched_of}
+use Rattle.rsp_engine.specs.World.{Registration}
+
+-- what decides when a live query reports
+pub record Asked : Type 0 where
+  pub name : List ℕ
+  pub policy : Chosen
+  pub windows : List StreamWindow
+  pub watched : List Watched
+
+abbrev pub name_of : Asked → List ℕ
+name_of asked = asked.name
 
 -- a window with the time of a new item, where that is over its stream
 abbrev pub with_time : Bool → ℕ → Watched → Watched
@@ -18,25 +31,47 @@ with_time over time w =
     }
 
 -- a query that looks at instants is due at t
-abbrev pub is_due_by : {A : Type 0} → LiveQuery A → ℕ → Bool
-is_due_by live t = not live.policy.tuple && windows.is_due live.policy live.watched.items t
+abbrev pub is_due_by : Asked → ℕ → Bool
+is_due_by asked t = not asked.policy.tuple && windows.is_due asked.policy asked.watched t
 
 -- a query that looks at items is due at t on the newest item, which came over this stream
-abbrev pub is_due_over_by : {A : Type 0} → LiveQuery A → List ℕ → ℕ → Bool
-is_due_over_by live stream t =
-    live.policy.tuple
-    && (list_any (λ w. bytes_eq stream w.stream) live.windows
-    && windows.is_due_on_item live.policy live.watched.items t)
+abbrev pub is_due_over_by : Asked → List ℕ → ℕ → Bool
+is_due_over_by asked stream t =
+    asked.policy.tuple
+    && (list_any (λ w. bytes_eq stream w.stream) asked.windows
+    && windows.is_due_on_item asked.policy asked.watched t)
 
 -- whether a query reports at t: below `next` by the instant, at `next` itself by an item that just arrived over this stream
-abbrev pub reports_by : {A : Type 0} → ℕ → Option (List ℕ) → ℕ → LiveQuery A → Bool
-reports_by next arrived t live =
+abbrev pub reports_by : ℕ → Option (List ℕ) → ℕ → Asked → Bool
+reports_by next arrived t asked =
     if nat_lt t next
-    then is_due_by live t
-    else option_map_or (λ stream. is_due_over_by live stream next) arrived false
+    then is_due_by asked t
+    else option_map_or (λ stream. is_due_over_by asked stream next) arrived false
 
--- the times that a query watches are in order, and those of a window that is fresh end with `next`, where an item arrived
-pub record IsPrompt {A : Type 0} (next : ℕ) (arrived : Option (List ℕ)) (live : LiveQuery A) : Type 0 where
-  pub policy : IsPolicy live.policy
-  pub watched : All IsWatched live.watched.items
-  pub fresh : is_some arrived ≡ true → All (IsFreshAt next) live.watched.items
+-- a period is at least 1 ms, and a policy that looks at items asks for no closing and no period
+pub record IsPolicy (policy : Chosen) : Type 0 where
+  pub period : ForSome policy.period (λ period. 0 < period)
+  pub close_on_items : policy.tuple ≡ true → policy.close ≡ false
+  pub period_on_items : policy.tuple ≡ true → policy.period ≡ None
+
+-- times in order, of which none is behind `next`
+pub record IsTimed (next : ℕ) (watched : Watched) : Type 0 where
+  pub watched : IsWatched watched
+  pub high : All (λ time. time ≤ next) watched.times
+
+-- a live query watches each of its windows
+pub record IsWatching (next : ℕ) (asked : Asked) : Type 0 where
+  pub policy : IsPolicy asked.policy
+  pub shapes : map (λ (watched : Watched). watched.window) asked.watched ≡ map (λ (w : StreamWindow). w.shape) asked.windows
+  pub timed : All (IsTimed next) asked.watched
+
+-- and the times of a window that is fresh end with `next`, where an item arrived
+pub record IsPrompt (next : ℕ) (arrived : Option (List ℕ)) (asked : Asked) : Type 0 where
+  pub watching : IsWatching next asked
+  pub fresh : is_some arrived ≡ true → All (IsFreshAt next) asked.watched
+
+-- from an instant on, of the times that a query watches there stand in the contents at t and at the instant before those of
+-- these items
+abbrev pub Tells : List Accepted → ℕ → Registration → List Watched → Type 0
+Tells items from query watched =
+    (t : ℕ) → from ≤ t → map (seen_at t) watched ≡ map (seen_at t) (watched_of items query)

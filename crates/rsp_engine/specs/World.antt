@@ -1,12 +1,14 @@
--- Definitions: the world: what the accepted events have made; every item is kept for ever. All times are in milliseconds since 1970.
+-- Definitions: the world: what the accepted events have made; every item stays in it for ever. All times are in milliseconds
+-- since 1970.
 use Rattle.std.specs.Prelude.{ℕ, Option, None, List, [], map}
+use Rattle.std.specs.Option.{unwrap_or}
 use Rattle.rsp_terms.specs.declared.term.Term.{Term}
 use Rattle.rsp_terms.specs.declared.statement.Fact.{Fact}
 use Rattle.rsp_multiset.specs.Rows.{Cells}
 use Rattle.rsp_report.specs.declared.chosen.Chosen.{Chosen}
 use Rattle.rsp_streams_out.specs.declared.operator.Operator.{Operator}
 use Rattle.rsp_algebra.specs.Nodes.{Node}
-use Rattle.rsp_engine.specs.declared.item.Item.{Item}
+use Rattle.rsp_scope.specs.Contents.{Accepted}
 use Rattle.rsp_engine.specs.declared.live_query.StreamWindow.{StreamWindow}
 
 -- what a query's text says: its stream operator and output stream, when it reports, over which windows, its tree over rows of
@@ -36,7 +38,7 @@ pub record Query : Type 0 where
 -- distinct facts; the live queries in order of registration
 pub record World : Type 0 where
   pub next : Option ℕ
-  pub items : List Item
+  pub items : List Accepted
   pub stored : List Fact
   pub queries : List Query
 
@@ -46,3 +48,7 @@ registrations world = map (λ (query : Query). query.registration) world.queries
 
 abbrev pub empty_world : World
 empty_world = record { next = None; items = []; stored = []; queries = [] }
+
+-- the first instant that isn't complete, or 0 where none is set
+abbrev pub next_of : World → ℕ
+next_of world = unwrap_or world.next 0

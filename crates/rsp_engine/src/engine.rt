@@ -11,19 +11,19 @@ ghost use Rattle.rsp_engine.specs.Watching.{IsPrompt, reports_by};
 ghost use Rattle.rsp_engine.specs.declared.live_query.LiveQuery.{LiveQuery};
 
 use crate::finding::{Pending, first_left};
+use crate::keeping::{Arrival, cut_at, end_of, let_go, lower, take, too_many};
 use crate::live_query::LiveQuery;
 use crate::registering::{begun, chosen, parsed, translated};
 use crate::seeing::report_at;
-use crate::storing::{put, take_out};
-use crate::watching::{Arrival, keep};
-use crate::{EngineFault, Item, Outcome, Refused, Report};
+use crate::storing::{delete, insert};
+use crate::{EngineFault, Outcome, Refused, Report};
 use rsp_algebra::{Answer, Translated};
 use rsp_events::Event;
 use rsp_query::Query;
 use rsp_report::Chosen;
-use rsp_scope::{Stored, StoredFault};
+use rsp_scope::{StoreLog, Stored, StoredFault, Streams};
 use rsp_steps::Steps;
-use rsp_terms::{Quad, Text};
+use rsp_terms::{Listed, Quad, Text, Triple};
 use std::alloc::{AllocError, Global};
 use std::marker::Model;
 use std::sync::ledger::Ledger;
@@ -31,11 +31,8 @@ use std::sync::ledger::Ledger;
 // The most queries that are live at once.
 const MOST_QUERIES: usize = 256;
 
-// The most items that are accepted by now.
-const MOST_ITEMS: usize = 1000;
-
-// The most triples of an item by now.
-const MOST_TRIPLES: usize = 1000;
+// The most triples of an item, as listed.
+const MOST_TRIPLES: u64 = 100_000;
 
 /// Takes events, one at a time, and gives the reports of each.
 #[derive(Drop)]
@@ -44,11 +41,13 @@ pub struct Engine<A: Answer> {
     next: Option<u64>,
     // in order of registration
     queries: Vec<LiveQuery<A>>,
-    items: Vec<Item>,
-    // the stored quads
+    // the items that some window still needs
+    streams: Streams,
+    // room for the ends of the kept items, once a query is gone
+    ends: Vec<Option<u64>>,
+    // the stored quads, and what came and went
     stored: Stored,
-    // the triples of the items, as listed
-    held: u64,
+    log: StoreLog,
     // the stream of the newest item, where the event that set `next` was this item
     arrived: Option<Text>,
     // the place of the first moment left
@@ -105,9 +104,10 @@ impl<A: Answer> Engine<A> {
             alloc,
             next: None,
             queries: Vec::new(alloc),
-            items: Vec::new(alloc),
+            streams: Streams::new(alloc),
+            ends: Vec::new(alloc),
             stored: Stored::new(alloc),
-            held: 0,
+            log: StoreLog::new(alloc),
             arrived: None,
             first: None,
             broken: false,
@@ -129,12 +129,12 @@ impl<A: Answer> Engine<A> {
         self.next
     }
 
-    /// The number of triples of the items that are kept, as listed; nothing is said of it where memory was refused. By now every
-    /// accepted item is kept.
+    /// The number of triples of the items that are kept, as listed: where no report is left, of those that a window of some
+    /// live query contains that closes at `next` or later. Nothing is said of it where memory was refused.
     pub fn held(&self) -> u64
-        ensures { (world : World) (left : List Moment) → Stands self.now world left → result ≡ triples_of world.items }
+        ensures { (world : World) → Stands self.now world [] → result ≡ held world }
     {
-        self.held
+        self.streams.held()
     }
 
     /// Whether memory was refused to some call.
@@ -165,11 +165,7 @@ impl<A: Answer> Engine<A> {
                 stream,
                 time,
                 graph,
-            } => self.take_item(Item {
-                stream,
-                time,
-                graph,
-            }),
+            } => self.take_item(stream, time, graph),
             Event::Tick { time } => self.tick(time),
             Event::Insert { quads } => self.insert(quads.as_slice()),
             Event::Delete { quads } => self.delete(quads.as_slice()),
@@ -287,7 +283,7 @@ impl<A: Answer> Engine<A> {
         ensures { (text : List ℕ) → parse text ≡ Ok (registered query.now)
             → Offers self.old (Event.Register name text) result self.new }
     {
-        match begun(self.alloc, name, query, policy, made, self.accepted()) {
+        match begun(self.alloc, name, query, policy, made, self.streams.accepted()) {
             Ok(Some(query)) => self.go_live(query),
             Ok(None) => Err(Refused::StartOverfull),
             Err(AllocError) => Err(self.break_off()),
@@ -299,8 +295,10 @@ impl<A: Answer> Engine<A> {
         requires idle { IsTrue (is_idle self.old) }
         requires ready { self.old.broken ≡ false }
         requires free { list_any (has_name query.name) (registrations_in self.old) ≡ false }
-        requires first { query.first ≡ length self.old.items }
-        requires watching { IsWatching self.old.items query }
+        requires first { query.first ≡ self.old.kept.accepted }
+        requires watching { IsWatching (next_in self.old) (asked query) }
+        requires watches { watches_followed query.contents.items ≡ watches query.first query.windows }
+        requires unmoved { All IsUnmoved query.contents.items }
         requires answers { Answers A.node A.width A.facts A.spent query }
         ensures ok { OnOk result (self.new ≡ record self.old { queries = self.old.queries ++ live_of A.facts query ∷ [] }) }
         ensures err { IfErr result (λ why. (why ≡ OutOfMemory) × (self.new.broken ≡ true)) }
@@ -322,6 +320,13 @@ impl<A: Answer> Engine<A> {
         match self.place_of(name) {
             Some(place) => {
                 self.queries.remove(place);
+                let cut = self.first_incomplete();
+                lower(
+                    self.queries.as_slice(),
+                    &mut self.streams,
+                    &mut self.ends,
+                    cut,
+                );
                 Ok(())
             }
             None => Err(Refused::NoQuery),
@@ -353,7 +358,13 @@ impl<A: Answer> Engine<A> {
         requires ready { self.old.broken ≡ false }
         ensures { Offers self.old (Event.Insert quads.now) result self.new }
     {
-        match put(&mut self.stored, quads) {
+        match insert(
+            self.alloc,
+            self.queries.as_slice(),
+            &mut self.stored,
+            &mut self.log,
+            quads,
+        ) {
             Ok(()) => Ok(()),
             Err(StoredFault::StoreFull { quads }) => Err(Refused::StoreFull { quads }),
             Err(StoredFault::OutOfMemory) => Err(self.break_off()),
@@ -365,7 +376,13 @@ impl<A: Answer> Engine<A> {
         requires ready { self.old.broken ≡ false }
         ensures { Offers self.old (Event.Delete quads.now) result self.new }
     {
-        match take_out(&mut self.stored, quads) {
+        match delete(
+            self.alloc,
+            self.queries.as_slice(),
+            &mut self.stored,
+            &mut self.log,
+            quads,
+        ) {
             Ok(()) => Ok(()),
             Err(AllocError) => Err(self.break_off()),
         }
@@ -373,26 +390,55 @@ impl<A: Answer> Engine<A> {
 
     // ---- time
 
-    fn take_item(&mut self, item: Item) -> Result<(), Refused>
+    fn take_item(
+        &mut self,
+        stream: Text,
+        time: u64,
+        graph: Listed<Triple>,
+    ) -> Result<(), Refused>
         requires idle { IsTrue (is_idle self.old) }
         requires ready { self.old.broken ≡ false }
-        requires instant { item.time ≤ last_instant }
-        ensures { Offers self.old (Event.Item item.stream item.time item.graph) result self.new }
+        requires instant { time ≤ last_instant }
+        ensures { Offers self.old (Event.Item stream time graph) result self.new }
     {
-        if MOST_TRIPLES < item.graph.as_slice().len() {
-            return Err(Refused::Unbuilt);
-        }
-        if self.accepted() >= MOST_ITEMS {
-            return Err(Refused::Unbuilt);
-        }
-        let time = item.time;
         let next = self.first_incomplete();
         if time < next {
             return Err(Refused::Late { time, next });
         }
-        match self.store(item) {
-            Ok(()) => Ok(()),
-            Err(AllocError) => Err(Refused::OutOfMemory),
+        let triples = graph.as_slice().len() as u64;
+        if MOST_TRIPLES < triples {
+            return Err(Refused::ItemTooLarge { triples });
+        }
+        let end = self.end_of(&stream, time);
+        match self.too_many(end, time, triples) {
+            Some(held) => Err(Refused::HeldFull { held }),
+            None => self.keep(Arrival {
+                stream,
+                time,
+                graph,
+                end,
+            }),
+        }
+    }
+
+    // until when the next item is needed
+    fn end_of(&self, stream: &Text, time: u64) -> Option<u64>
+        requires ready { self.now.broken ≡ false }
+        requires instant { time ≤ last_instant }
+        ensures { (graph : List Triple) → EndsAt (watches_in self.now) (record { number = self.now.kept.accepted;
+            item = record { stream = stream.now; time = time; graph = graph } }) result }
+    {
+        end_of(self.queries.as_slice(), self.streams.accepted(), stream, time)
+    }
+
+    // how many triples would be kept with the next item, where that is more than can be; an item that no window needs adds none
+    fn too_many(&self, end: Option<u64>, time: u64, triples: u64) -> Option<u64>
+        requires few { triples ≤ 100000 }
+        ensures { result ≡ option_map_or (λ _. excess self.now.kept time triples) end None }
+    {
+        match end {
+            Some(_) => too_many(&self.streams, time, triples),
+            None => None,
         }
     }
 
@@ -417,13 +463,6 @@ impl<A: Answer> Engine<A> {
         self.queries.len()
     }
 
-    // how many items were accepted
-    fn accepted(&self) -> usize
-        ensures { result ≡ length self.now.items }
-    {
-        self.items.len()
-    }
-
     // the first instant that isn't complete, or 0
     fn first_incomplete(&self) -> u64
         ensures { result ≡ next_in self.now }
@@ -431,30 +470,37 @@ impl<A: Answer> Engine<A> {
         self.next.unwrap_or(0)
     }
 
-    // Keeps an item, and passes to its time.
-    fn store(&mut self, item: Item) -> Result<(), AllocError>
+    // Keeps an item up to its end, and passes to its time.
+    fn keep(&mut self, arrival: Arrival) -> Result<(), Refused>
         requires idle { IsTrue (is_idle self.old) }
         requires ready { self.old.broken ≡ false }
-        requires later { next_in self.old ≤ item.time }
-        requires instant { item.time ≤ last_instant }
-        ensures ok { OnOk result (Passes self.old (self.old.items ++ item ∷ []) (Some item.stream) item.time self.new) }
-        ensures err { OnErr result (self.new.broken ≡ true) }
+        requires later { next_in self.old ≤ arrival.time }
+        requires instant { arrival.time ≤ last_instant }
+        requires end { EndsAt (watches_in self.old)
+            (record { number = self.old.kept.accepted; item = accepted_of arrival }) arrival.end }
+        ensures ok { OnOk result (Passes self.old (accepted_of arrival ∷ []) (Some arrival.stream) arrival.time self.new) }
+        ensures err { IfErr result (λ why. (why ≡ OutOfMemory) × (self.new.broken ≡ true)) }
     {
-        let time = item.time;
-        match keep(&mut self.queries, &mut self.items, item, self.held) {
-            Ok(Arrival { stream, held }) => {
-                self.held = held;
+        let from = self.next.unwrap_or(0);
+        let time = arrival.time;
+        match take(
+            self.alloc,
+            &mut self.queries,
+            &mut self.streams,
+            &mut self.ends,
+            arrival,
+            from,
+        ) {
+            Ok(stream) => {
                 let arrived = Some(stream);
                 let queries = self.queries.as_slice();
                 self.first = first_moment(queries, &arrived, self.next, time);
                 self.arrived = arrived;
                 self.next = Some(time);
+                self.streams.drop_before(cut_at(self.first, time));
                 Ok(())
             }
-            Err(AllocError) => {
-                self.broken = true;
-                Err(AllocError)
-            }
+            Err(AllocError) => Err(self.break_off()),
         }
     }
 
@@ -464,12 +510,13 @@ impl<A: Answer> Engine<A> {
         requires ready { self.old.broken ≡ false }
         requires later { next_in self.old ≤ to }
         requires instant { to ≤ last_instant + 1 }
-        ensures { Passes self.old self.old.items None to self.new }
+        ensures { Passes self.old [] None to self.new }
     {
         let queries = self.queries.as_slice();
         self.first = first_moment(queries, &None, self.next, to);
         self.arrived = None;
         self.next = Some(to);
+        self.streams.drop_before(cut_at(self.first, to));
     }
 
     // ---- reports
@@ -508,12 +555,12 @@ impl<A: Answer> Engine<A> {
         ensures err { OnErr result (self.new.broken ≡ true) }
     {
         let next = self.next.unwrap_or(0);
-        let items = self.items.as_slice();
         match report_at(
             self.alloc,
             &mut self.queries[place.query],
+            &self.streams,
             &self.stored,
-            items,
+            &self.log,
             place.at,
             steps,
         ) {
@@ -525,6 +572,13 @@ impl<A: Answer> Engine<A> {
                 };
                 let queries = self.queries.as_slice();
                 self.first = first_left(queries, &self.arrived, next, from);
+                let_go(
+                    queries,
+                    &mut self.streams,
+                    &mut self.ends,
+                    cut_at(self.first, next),
+                    &report.outcome,
+                );
                 Ok(report)
             }
             Err(AllocError) => {

@@ -6,9 +6,9 @@ ghost use Rattle.rsp_spec.specs.Instants.{IsLeastIn};
 ghost use Rattle.rsp_spec.specs.Windows.{last_instant};
 ghost use Rattle.rsp_report.specs.Searches.{sooner};
 ghost use Rattle.rsp_report.specs.Due.{IsWatched};
-ghost use Rattle.rsp_engine.specs.Inside.{IsPolicy, name_of};
+ghost use Rattle.rsp_engine.specs.Inside.{asked};
 ghost use Rattle.rsp_engine.specs.Left.{IsFirstAt, IsFirstLeft};
-ghost use Rattle.rsp_engine.specs.Watching.{IsPrompt, is_due_by, is_due_over_by, reports_by};
+ghost use Rattle.rsp_engine.specs.Watching.{IsPolicy, IsPrompt, is_due_by, is_due_over_by, name_of, reports_by};
 
 use crate::live_query::{LiveQuery, StreamWindow};
 use rsp_report::{due, due_on_item, next_due};
@@ -29,10 +29,10 @@ pub(crate) fn first_left<A>(
     next: u64,
     from: Pending,
 ) -> Option<Pending>
-    requires prompt { All (IsPrompt next arrived.now) queries.now }
+    requires prompt { All (λ live. IsPrompt next arrived.now (asked live)) queries.now }
     requires next { next ≤ last_instant + 1 }
     requires from { from.at ≤ next }
-    ensures { IsFirstLeft name_of (reports_by next arrived.now) queries.now next from.at from.query result }
+    ensures { IsFirstLeft (λ live. name_of (asked live)) (λ t live. reports_by next arrived.now t (asked live)) queries.now next from.at from.query result }
 {
     match first_at(queries, arrived, next, from) {
         Some(query) => Some(Pending { at: from.at, query }),
@@ -48,10 +48,10 @@ fn first_from<A>(
     next: u64,
     at: u64,
 ) -> Option<Pending>
-    requires prompt { All (IsPrompt next arrived.now) queries.now }
+    requires prompt { All (λ live. IsPrompt next arrived.now (asked live)) queries.now }
     requires next { next ≤ last_instant + 1 }
     requires from { at ≤ next }
-    ensures { IsFirstLeft name_of (reports_by next arrived.now) queries.now next at 0 result }
+    ensures { IsFirstLeft (λ live. name_of (asked live)) (λ t live. reports_by next arrived.now t (asked live)) queries.now next at 0 result }
 {
     let at = next_instant(queries, arrived, next, at)?;
     let query = first_at(queries, arrived, next, Pending { at, query: 0 })?;
@@ -65,10 +65,10 @@ fn first_at<A>(
     next: u64,
     from: Pending,
 ) -> Option<usize>
-    requires prompt { All (IsPrompt next arrived.now) queries.now }
+    requires prompt { All (λ live. IsPrompt next arrived.now (asked live)) queries.now }
     requires next { next ≤ last_instant + 1 }
     requires from { from.at ≤ next }
-    ensures { IsFirstAt (reports_by next arrived.now from.at) queries.now from.query result }
+    ensures { IsFirstAt (λ live. reports_by next arrived.now from.at (asked live)) queries.now from.query result }
 {
     for query in from.query..queries.len() {
         if reports_at(&queries[query], arrived, next, from.at) {
@@ -85,9 +85,9 @@ fn next_instant<A>(
     next: u64,
     from: u64,
 ) -> Option<u64>
-    requires prompt { All (IsPrompt next arrived.now) queries.now }
+    requires prompt { All (λ live. IsPrompt next arrived.now (asked live)) queries.now }
     requires next { next ≤ last_instant + 1 }
-    ensures { IsLeastIn (λ t. list_any (reports_by next arrived.now t) queries.now ≡ true) from next result }
+    ensures { IsLeastIn (λ t. list_any (λ live. reports_by next arrived.now t (asked live)) queries.now ≡ true) from next result }
 {
     let mut best = None;
     for live in queries {
@@ -111,10 +111,10 @@ fn sooner(a: Option<u64>, b: Option<u64>) -> Option<u64>
 
 // whether a query reports at an instant
 fn reports_at<A>(live: &LiveQuery<A>, arrived: &Option<Text>, next: u64, at: u64) -> bool
-    requires prompt { IsPrompt next arrived.now live.now }
+    requires prompt { IsPrompt next arrived.now (asked live.now) }
     requires next { next ≤ last_instant + 1 }
     requires at { at ≤ next }
-    ensures { result ≡ reports_by next arrived.now at live.now }
+    ensures { result ≡ reports_by next arrived.now at (asked live.now) }
 {
     if at < next {
         is_due(live, at)
@@ -127,7 +127,7 @@ fn is_due<A>(live: &LiveQuery<A>, at: u64) -> bool
     requires policy { IsPolicy live.now.policy }
     requires watched { All IsWatched live.now.watched.items }
     requires at { at ≤ last_instant + 1 }
-    ensures { result ≡ is_due_by live.now at }
+    ensures { result ≡ is_due_by (asked live.now) at }
 {
     if live.policy.tuple {
         return false;
@@ -136,9 +136,9 @@ fn is_due<A>(live: &LiveQuery<A>, at: u64) -> bool
 }
 
 fn is_due_on_arrival<A>(live: &LiveQuery<A>, arrived: &Option<Text>, next: u64) -> bool
-    requires prompt { IsPrompt next arrived.now live.now }
+    requires prompt { IsPrompt next arrived.now (asked live.now) }
     requires next { next ≤ last_instant + 1 }
-    ensures { result ≡ option_map_or (λ stream. is_due_over_by live.now stream next) arrived.now false }
+    ensures { result ≡ option_map_or (λ stream. is_due_over_by (asked live.now) stream next) arrived.now false }
 {
     match arrived {
         Some(stream) => is_due_over(live, stream, next),
@@ -148,9 +148,9 @@ fn is_due_on_arrival<A>(live: &LiveQuery<A>, arrived: &Option<Text>, next: u64) 
 
 // whether a query is due on the newest item, which came over this stream at `next`
 fn is_due_over<A>(live: &LiveQuery<A>, stream: &Text, next: u64) -> bool
-    requires prompt { IsPrompt next (Some stream.now) live.now }
+    requires prompt { IsPrompt next (Some stream.now) (asked live.now) }
     requires next { next ≤ last_instant + 1 }
-    ensures { result ≡ is_due_over_by live.now stream.now next }
+    ensures { result ≡ is_due_over_by (asked live.now) stream.now next }
 {
     if !live.policy.tuple {
         return false;
@@ -175,9 +175,9 @@ fn is_over_some(windows: &[StreamWindow], stream: &Text) -> bool
 
 // the first instant from `from` to `next` at which a query reports
 fn next_of<A>(live: &LiveQuery<A>, arrived: &Option<Text>, next: u64, from: u64) -> Option<u64>
-    requires prompt { IsPrompt next arrived.now live.now }
+    requires prompt { IsPrompt next arrived.now (asked live.now) }
     requires next { next ≤ last_instant + 1 }
-    ensures { IsLeastIn (λ t. reports_by next arrived.now t live.now ≡ true) from next result }
+    ensures { IsLeastIn (λ t. reports_by next arrived.now t (asked live.now) ≡ true) from next result }
 {
     if live.policy.tuple {
         return on_arrival(live, arrived, next, from);
@@ -191,9 +191,9 @@ fn next_of<A>(live: &LiveQuery<A>, arrived: &Option<Text>, next: u64, from: u64)
 // `next`, where a query that looks at items reports on the newest item
 fn on_arrival<A>(live: &LiveQuery<A>, arrived: &Option<Text>, next: u64, from: u64) -> Option<u64>
     requires tuple { live.now.policy.tuple ≡ true }
-    requires prompt { IsPrompt next arrived.now live.now }
+    requires prompt { IsPrompt next arrived.now (asked live.now) }
     requires next { next ≤ last_instant + 1 }
-    ensures { IsLeastIn (λ t. reports_by next arrived.now t live.now ≡ true) from next result }
+    ensures { IsLeastIn (λ t. reports_by next arrived.now t (asked live.now) ≡ true) from next result }
 {
     if from > next {
         return None;

@@ -3,14 +3,13 @@
 //! An [`Engine`] *stands for* a world, in which every accepted event is kept, and for the moments of the last event that
 //! aren't worked off. `offer` accepts an event exactly where the definition accepts it, and refuses it by name else;
 //! `next_report` gives exactly the reports of the moments, one at a time, for every kind of answer. The engine goes from due
-//! instant to due instant; by now it keeps every item.
+//! instant to due instant, keeps the items that some window still needs, and hands each answer what came and went.
 //! Above: the program. Below: events, query texts and their trees, answers, windows, terms and the order of rows.
 #![tactic(auto)]
 
-mod contents;
 mod engine;
 mod finding;
-mod item;
+mod keeping;
 mod live_query;
 mod refused;
 mod registering;
@@ -21,7 +20,6 @@ mod storing;
 mod watching;
 
 pub use engine::Engine;
-use item::Item;
 use live_query::LiveQuery;
 pub use refused::{EngineFault, Refused};
 pub use report::{Outcome, Report};

@@ -1,9 +1,9 @@
 // Live queries.
 use rsp_algebra::Translated;
-use rsp_multiset::Changes;
 use rsp_query::Operator;
 use rsp_report::{Chosen, Watched};
-use rsp_terms::{Fact, Listed, Text};
+use rsp_scope::Contents;
+use rsp_terms::{Listed, Text};
 use rsp_windows::Window;
 
 /// A window over a stream, by its IRI.
@@ -16,7 +16,7 @@ pub(crate) struct StreamWindow {
 /// A query that is live. It sees the items from number `first` on, counted from 0 in the order of acceptance. Its answer
 /// stands for the facts of its last report.
 #[derive(Drop)]
-pub(crate) struct LiveQuery<A> {
+pub struct LiveQuery<A> {
     pub name: Text,
     pub operator: Operator,
     /// The IRI of its output stream.
@@ -26,12 +26,14 @@ pub(crate) struct LiveQuery<A> {
     pub query: Box<Translated>,
     /// The names of the variables that are shown.
     pub variables: Listed<Text>,
-    pub first: usize,
+    pub first: u64,
     /// Whether it has reported.
     pub reported: bool,
-    /// The facts of its last report, each once; none before the first.
-    pub seen: Changes<Fact>,
+    /// Its place in the log of the stored quads, as of its last report.
+    pub place: u64,
     /// Each window with the times of the items over its stream that the query may see.
     pub watched: Vec<Watched>,
+    /// Each window with its content as of the last report.
+    pub contents: Vec<Contents>,
     pub answer: A,
 }

@@ -50,12 +50,15 @@ pub enum Refused {
     /// 256 queries are live.
     #[error("as many queries are live as can be")]
     QueriesFull,
+    /// So many triples of items would be kept, as listed, more than 1,000,000.
+    #[error("too much would be kept: {held} triples")]
+    HeldFull { held: u64 },
     /// So many quads would be stored, more than 1,000,000.
     #[error("the store is full: {quads} quads")]
     StoreFull { quads: u64 },
-    /// The event is of a kind that isn't built yet: an item of more than a thousand triples, or an item after a thousand.
-    #[error("not built yet")]
-    Unbuilt,
+    /// The item has so many triples, as listed, more than 100,000.
+    #[error("the item is too large: {triples} triples")]
+    ItemTooLarge { triples: u64 },
     /// Some subtree of the query has more than 1,000,000 solutions over no facts at all.
     #[error("too many rows at the start")]
     StartOverfull,

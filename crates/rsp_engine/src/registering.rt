@@ -1,6 +1,7 @@
 // What a text asks for, and queries that become live.
 ghost use Rattle.std.specs.Prelude.{◌≡◌, [], List, IfErr, IfOk, IfSome, MatchResult, Err, Ok, Result};
-ghost use Rattle.std.specs.Prelude.{false, length, map, true};
+ghost use Rattle.std.specs.Prelude.{false, length, map, true, ℕ};
+ghost use Rattle.std.specs.List.{All};
 ghost use Rattle.rsp_report.specs.Policies.{choice_of, is_mixed};
 ghost use Rattle.rsp_query.specs.Queries.{Registered, registered};
 ghost use Rattle.rsp_algebra.specs.Nodes.{IsPlaced, node_of};
@@ -13,8 +14,11 @@ ghost use Rattle.rsp_syntax.specs.declared.fault.SyntaxFault as fault;
 ghost use Rattle.rsp_translation.specs.Translation.{IsTranslated, first_fault};
 ghost use Rattle.rsp_engine.specs.Accept.{new_query};
 ghost use Rattle.rsp_engine.specs.Due.{watched_window};
-ghost use Rattle.rsp_engine.specs.Inside.{Answers, IsPolicy, IsWatching, fixed};
-ghost use Rattle.rsp_engine.specs.declared.item.Item.{Item};
+ghost use Rattle.rsp_engine.specs.Inside.{Answers, asked, fixed};
+ghost use Rattle.rsp_engine.specs.Contents.{watches, watches_from};
+ghost use Rattle.rsp_engine.specs.Keeping.{IsUnmoved, watches_followed};
+ghost use Rattle.rsp_engine.specs.Watching.{IsPolicy, IsWatching, Tells};
+ghost use Rattle.rsp_scope.specs.Contents.{Accepted};
 ghost use Rattle.rsp_engine.specs.Passing.{IsBegun, IsFaultOf};
 ghost use Rattle.rsp_engine.specs.Readings as readings;
 ghost use Rattle.rsp_engine.specs.Refusals.{shape_fault, text_fault};
@@ -23,9 +27,9 @@ ghost use Rattle.rsp_engine.specs.declared.refused.Refused.TheVariants as refusa
 use crate::Refused;
 use crate::live_query::{LiveQuery, StreamWindow};
 use rsp_algebra::{Answer, Translated};
-use rsp_multiset::Changes;
 use rsp_query::{PolicyWords, Query, WindowClause};
 use rsp_report::{Chosen, PolicyMix, Watched, policy};
+use rsp_scope::Contents;
 use rsp_syntax::{SyntaxFault, parse};
 use rsp_terms::{Listed, Text};
 use rsp_translation::{Shape, translate};
@@ -153,6 +157,21 @@ fn unwatched_window(alloc: Global, clause: &WindowClause) -> Watched
     }
 }
 
+// the windows of a query that has seen no item, nor moved to an instant; it sees the items from number `first` on
+fn unmoved(alloc: Global, clauses: &[WindowClause], first: u64) -> Result<Vec<Contents>, AllocError>
+    ensures unmoved { IfOk result (λ contents. All IsUnmoved contents.items) }
+    ensures watches { IfOk result (λ contents. watches_followed contents.items ≡ watches first (map readings.window_of clauses.now)) }
+{
+    let mut contents = Vec::new(alloc);
+    let mut spot: u32 = 0;
+    for clause in clauses {
+        let stream = clause.stream.share()?;
+        contents.push(Contents::new(alloc, clause.window, spot, stream, first))?;
+        spot = spot.checked_add(1).ok_or(AllocError)?;
+    }
+    Ok(contents)
+}
+
 /// The live query of a query whose words choose this policy, over no facts; None exactly where it has too many rows over none.
 /// It sees the items from number `first` on. Fails only where memory is refused.
 pub(crate) fn begun<A: Answer>(
@@ -161,15 +180,18 @@ pub(crate) fn begun<A: Answer>(
     query: &Query,
     policy: Chosen,
     made: Box<Translated>,
-    first: usize,
+    first: u64,
 ) -> Result<Option<LiveQuery<A>>, AllocError>
     requires policy { policy ≡ choice_of (registered query.now).policy }
     requires asked { IsPolicy policy }
     requires translated { IsTranslated (registered query.now) made.value }
     requires placed { IsPlaced made.value }
     ensures query { IfOk result (IsBegun name (registered query.now) first) }
-    ensures watching { IfOk result (λ live. IfSome live (λ live.
-        (items : List Item) → length items ≡ first → IsWatching items live)) }
+    ensures watching { IfOk result (λ live. IfSome live (λ live. (next : ℕ) → IsWatching next (asked live))) }
+    ensures told { IfOk result (λ live. IfSome live (λ live. (items : List Accepted) (from : ℕ) → length items ≡ first
+        → Tells items from (fixed live) live.watched.items)) }
+    ensures unmoved { IfOk result (λ live. IfSome live (λ live. All IsUnmoved live.contents.items)) }
+    ensures watches { IfOk result (λ live. IfSome live (λ live. watches_followed live.contents.items ≡ watches first live.windows)) }
     ensures answers { IfOk result (λ live. IfSome live (Answers A.node A.width A.facts A.spent)) }
 {
     match A::start(alloc, &made)? {
@@ -184,7 +206,7 @@ fn live_query<A: Answer>(
     query: &Query,
     policy: Chosen,
     made: Box<Translated>,
-    first: usize,
+    first: u64,
     answer: A,
 ) -> Result<LiveQuery<A>, AllocError>
     requires policy { policy ≡ choice_of (registered query.now).policy }
@@ -197,12 +219,17 @@ fn live_query<A: Answer>(
     ensures query { IfOk result (λ live.
         fixed live ≡ (new_query name (readings.reading_of (registered query.now)) first).registration) }
     ensures reported { IfOk result (λ live. live.reported ≡ false) }
-    ensures watching { IfOk result (λ live. (items : List Item) → length items ≡ first → IsWatching items live) }
+    ensures watching { IfOk result (λ live. (next : ℕ) → IsWatching next (asked live)) }
+    ensures told { IfOk result (λ live. (items : List Accepted) (from : ℕ) → length items ≡ first
+        → Tells items from (fixed live) live.watched.items) }
+    ensures unmoved { IfOk result (λ live. All IsUnmoved live.contents.items) }
+    ensures watches { IfOk result (λ live. watches_followed live.contents.items ≡ watches first live.windows) }
     ensures answers { IfOk result (Answers A.node A.width A.facts A.spent) }
 {
     let variables = names_of(alloc, &query.variables, made.shown.as_slice())?;
     let windows = stream_windows(alloc, &query.windows)?;
     let watched = unwatched(alloc, &query.windows)?;
+    let contents = unmoved(alloc, &query.windows, first)?;
     Ok(LiveQuery {
         name,
         operator: query.operator,
@@ -213,8 +240,9 @@ fn live_query<A: Answer>(
         variables,
         first,
         reported: false,
-        seen: Changes::new(alloc),
+        place: 0,
         watched,
+        contents,
         answer,
     })
 }

@@ -1,5 +1,6 @@
 // What a live query reports at an instant.
-ghost use Rattle.std.specs.Prelude.{◌≡◌, ◌≤◌, ◌+◌, ◌++◌, ◌+ℤ◌, [], false, List, map, IfOk, OnOk, length};
+ghost use Rattle.std.specs.Prelude.{◌≡◌, ◌≤◌, ◌+◌, ◌++◌, ◌+ℤ◌, [], false, List, ℕ, map, IfOk, OnOk, length, take};
+ghost use Rattle.std.specs.List.{All};
 ghost use Rattle.rsp_spec.specs.Windows.{last_instant};
 ghost use Rattle.rsp_terms.specs.Same.{fact_eq, term_eq};
 ghost use Rattle.rsp_terms.specs.declared.term.Term.{Term};
@@ -7,50 +8,83 @@ ghost use Rattle.rsp_terms.specs.declared.statement.Fact.{Fact};
 ghost use Rattle.rsp_multiset.specs.Rows.{Cells, row_eq};
 ghost use Rattle.rsp_multiset.specs.Weights.{IsChanged, IsSameMultiset, times, weight};
 ghost use Rattle.rsp_algebra.specs.Solutions.{eval};
+ghost use Rattle.rsp_scope.specs.Contents.{Accepted};
+ghost use Rattle.rsp_scope.specs.Moves.{Followed, HasSeen, IsReached};
 ghost use Rattle.rsp_streams_out.specs.Rows.{AreRows, in_order};
 ghost use Rattle.rsp_streams_out.specs.Streams.{reported};
-ghost use Rattle.rsp_engine.specs.Contents.{facts_over};
-ghost use Rattle.rsp_engine.specs.Inside.{Answers};
-ghost use Rattle.rsp_engine.specs.Passing.{IsReported};
+ghost use Rattle.rsp_engine.specs.Contents.{watches};
+ghost use Rattle.rsp_engine.specs.Inside.{Answers, live_of};
+ghost use Rattle.rsp_engine.specs.Keeping.{watches_followed};
+ghost use Rattle.rsp_engine.specs.Passing.{HasContents, IsReported};
 ghost use Rattle.rsp_engine.specs.Reports.{cells_at};
-ghost use Rattle.rsp_engine.specs.Stands.{Behind, IsStore};
+ghost use Rattle.rsp_engine.specs.Stands.{Behind, IsStore, facts_followed, unseen};
 
-use crate::contents::facts;
 use crate::rows::{changed_rows, shown_rows};
-use crate::{Item, LiveQuery, Outcome, Report};
+use crate::{LiveQuery, Outcome, Report};
 use rsp_algebra::{Answer, Turn};
 use rsp_multiset::{Changes, Row};
 use rsp_query::Operator;
-use rsp_scope::Stored;
+use rsp_scope::{Contents, StoreLog, Stored, Streams};
 use rsp_steps::Steps;
 use rsp_terms::{Fact, Listed, Term, Text};
 use std::alloc::{AllocError, Global};
 use std::sync::ledger::Ledger;
 
-// The outcome of a live query at `at`, in ms since 1970, over the stored quads and these items. Where it isn't overfull, the query has then
-// seen the facts of that instant. Fails only where memory is refused; the query is then only to be dropped.
+/// The report of a live query at `at`, in ms since 1970, over the stored quads and the kept items. Where it isn't overfull, the
+/// query has then seen what is logged, and its windows the contents of that instant. Fails only where memory is refused; the
+/// query is then only to be dropped.
+pub(crate) fn report_at<A: Answer, L: Ledger>(
+    alloc: Global,
+    live: &mut LiveQuery<A>,
+    streams: &Streams,
+    stored: &Stored,
+    log: &StoreLog,
+    at: u64,
+    steps: &mut Steps<L>,
+) -> Result<Report, AllocError>
+    requires instant { at ≤ last_instant + 1 }
+    requires store { IsStore stored.now }
+    requires watches { watches_followed live.old.contents.items ≡ watches live.old.first live.old.windows }
+    requires reached { All (λ (seen : Followed). IsReached seen.at at) live.old.contents.items }
+    requires answers { Answers A.node A.width A.facts A.spent live.old }
+    ensures query { IfOk result (λ report. report.query ≡ live.old.name) }
+    ensures at { IfOk result (λ report. report.at ≡ at) }
+    ensures variables { IfOk result (λ report. report.variables ≡ live.old.variables) }
+    ensures reported { IfOk result (λ report. IsReported A.node A.width A.facts A.spent
+        streams.now stored.now log.now at live.old live.new report.outcome) }
+{
+    let query = live.name.share()?;
+    let variables = shared(alloc, live.variables.as_slice())?;
+    let outcome = outcome_at(alloc, live, streams, stored, log, at, steps)?;
+    Ok(Report {
+        query,
+        at,
+        variables,
+        outcome,
+    })
+}
+
 fn outcome_at<A: Answer, L: Ledger>(
     alloc: Global,
     live: &mut LiveQuery<A>,
+    streams: &Streams,
     stored: &Stored,
-    items: &[Item],
+    log: &StoreLog,
     at: u64,
     steps: &mut Steps<L>,
 ) -> Result<Outcome, AllocError>
     requires instant { at ≤ last_instant + 1 }
     requires store { IsStore stored.now }
-    requires first { live.old.first ≤ length items.now }
+    requires watches { watches_followed live.old.contents.items ≡ watches live.old.first live.old.windows }
+    requires reached { All (λ (seen : Followed). IsReached seen.at at) live.old.contents.items }
     requires answers { Answers A.node A.width A.facts A.spent live.old }
-    ensures watched { OnOk result (live.new.watched.items ≡ live.old.watched.items) }
-    ensures reported { IfOk result (IsReported A.node A.width A.facts A.spent live.old
-        (stored.now ++ facts_over items.now live.old.first live.old.windows at) live.new) }
+    ensures reported { IfOk result (IsReported A.node A.width A.facts A.spent
+        streams.now stored.now log.now at live.old live.new) }
 {
-    let windows = facts(alloc, live.windows.as_slice(), live.first, items, at)?;
-    let now = all_facts(stored, windows.as_slice())?;
-    let changes = difference(alloc, &now, &live.seen)?;
-    let turn = live.answer.change(&changes, steps)?;
-    live.seen = now;
-    match turn {
+    let mut changes = unseen(live, stored, log)?;
+    move_windows(&mut live.contents, streams, at, &mut changes)?;
+    live.place = log.mark();
+    match live.answer.change(&changes, steps)? {
         Turn::Overfull => Ok(Outcome::Overfull),
         Turn::Net(net) => {
             let rows = told_rows(alloc, live, &net)?;
@@ -60,35 +94,77 @@ fn outcome_at<A: Answer, L: Ledger>(
     }
 }
 
-/// The report of a live query at `at`, with its outcome. Fails as [`outcome_at`] does.
-pub(crate) fn report_at<A: Answer, L: Ledger>(
-    alloc: Global,
-    live: &mut LiveQuery<A>,
+// what a query hasn't seen of the stored quads
+fn unseen<A: Answer>(
+    live: &LiveQuery<A>,
     stored: &Stored,
-    items: &[Item],
-    at: u64,
-    steps: &mut Steps<L>,
-) -> Result<Report, AllocError>
-    requires instant { at ≤ last_instant + 1 }
-    requires store { IsStore stored.now }
-    requires first { live.old.first ≤ length items.now }
-    requires answers { Answers A.node A.width A.facts A.spent live.old }
-    ensures watched { OnOk result (live.new.watched.items ≡ live.old.watched.items) }
-    ensures query { IfOk result (λ report. report.query ≡ live.old.name) }
-    ensures at { IfOk result (λ report. report.at ≡ at) }
-    ensures variables { IfOk result (λ report. report.variables ≡ live.old.variables) }
-    ensures reported { IfOk result (λ report. IsReported A.node A.width A.facts A.spent live.old
-        (stored.now ++ facts_over items.now live.old.first live.old.windows at) live.new report.outcome) }
+    log: &StoreLog,
+) -> Result<Changes<Fact>, AllocError>
+    ensures { IfOk result (λ changes. (q : Fact) → weight fact_eq changes q ≡ unseen stored.now log.now (live_of A.facts live.now) q) }
 {
-    let query = live.name.share()?;
-    let variables = shared(alloc, live.variables.as_slice())?;
-    let outcome = outcome_at(alloc, live, stored, items, at, steps)?;
-    Ok(Report {
-        query,
-        at,
-        variables,
-        outcome,
-    })
+    if live.reported {
+        log.since(live.place)
+    } else {
+        stored.facts()
+    }
+}
+
+// Moves the windows of a query to an instant, and adds what their graphs gain and lose to the changes.
+fn move_windows(
+    contents: &mut [Contents],
+    streams: &Streams,
+    at: u64,
+    changes: &mut Changes<Fact>,
+) -> Result<(), AllocError>
+    requires instant { at ≤ last_instant + 1 }
+    requires reached { All (λ (seen : Followed). IsReached seen.at at) contents.old }
+    ensures watches { OnOk result (watches_followed contents.new ≡ watches_followed contents.old) }
+    ensures at { OnOk result (All (λ (seen : Followed). seen.at ≡ Some at) contents.new) }
+    ensures moved { OnOk result ((items : List Accepted)
+        → All (λ (seen : Followed). HasSeen seen (take seen.accepted items)) contents.old
+        → HasContents items streams.now at (watches_followed contents.old)
+        → All (λ (seen : Followed). HasSeen seen (take seen.accepted items)) contents.new
+        × ((q : Fact) → weight fact_eq changes.new q +ℤ times fact_eq (facts_followed items contents.old) q
+        ≡ weight fact_eq changes.old q +ℤ times fact_eq (facts_followed items contents.new) q)
+        × All (λ (seen : Followed). seen.accepted ≡ length items) contents.new) }
+{
+    for window in 0..contents.len() {
+        move_window(&mut contents[window], streams, at, changes)?;
+    }
+    Ok(())
+}
+
+fn move_window(
+    window: &mut Contents,
+    streams: &Streams,
+    at: u64,
+    changes: &mut Changes<Fact>,
+) -> Result<(), AllocError>
+    requires instant { at ≤ last_instant + 1 }
+    requires reached { IsReached window.old.at at }
+    ensures watch { OnOk result (window.new.watch ≡ window.old.watch) }
+    ensures at { OnOk result (window.new.at ≡ Some at) }
+    ensures moved { OnOk result ((items : List Accepted)
+        → HasSeen window.old (take window.old.accepted items)
+        → HasContent window.old.watch at streams.now items
+        → HasSeen window.new (take window.new.accepted items)
+        × ((q : Fact) → weight fact_eq changes.new q +ℤ times fact_eq (facts_followed items (window.old ∷ [])) q
+        ≡ weight fact_eq changes.old q +ℤ times fact_eq (facts_followed items (window.new ∷ [])) q)
+        × (window.new.accepted ≡ length items)) }
+{
+    let moved = window.move_to(streams, at)?;
+    add_all(changes, &moved)
+}
+
+fn add_all(changes: &mut Changes<Fact>, others: &Changes<Fact>) -> Result<(), AllocError>
+    ensures { OnOk result ((q : Fact)
+        → weight fact_eq changes.new q ≡ weight fact_eq changes.old q +ℤ weight fact_eq others.now q) }
+{
+    for index in 0..others.distinct() {
+        let (fact, count) = others.counted_at(index);
+        changes.add(fact.share()?, count)?;
+    }
+    Ok(())
 }
 
 fn shared(alloc: Global, texts: &[Text]) -> Result<Listed<Text>, AllocError>
@@ -173,51 +249,4 @@ fn all_rows<A: Answer>(alloc: Global, live: &LiveQuery<A>) -> Result<Listed<Row<
 {
     let solutions = live.answer.solutions()?;
     shown_rows(alloc, &solutions, live.query.shown.as_slice())
-}
-
-// the stored quads and the facts of windows
-fn all_facts(stored: &Stored, windows: &[Fact]) -> Result<Changes<Fact>, AllocError>
-    ensures { IfOk result (λ all. (q : Fact)
-        → weight fact_eq all q ≡ times fact_eq stored.now q +ℤ times fact_eq windows.now q) }
-{
-    let mut all = stored.facts()?;
-    add_each(&mut all, windows)?;
-    Ok(all)
-}
-
-fn add_each(changes: &mut Changes<Fact>, facts: &[Fact]) -> Result<(), AllocError>
-    ensures { OnOk result ((q : Fact)
-        → weight fact_eq changes.new q ≡ weight fact_eq changes.old q +ℤ times fact_eq facts.now q) }
-{
-    for fact in facts {
-        changes.alter(fact.share()?, 1)?;
-    }
-    Ok(())
-}
-
-// what leads from the facts seen to those of now
-fn difference(
-    alloc: Global,
-    now: &Changes<Fact>,
-    seen: &Changes<Fact>,
-) -> Result<Changes<Fact>, AllocError>
-    ensures { IfOk result (λ changes. (q : Fact)
-        → weight fact_eq now.now q ≡ weight fact_eq seen.now q +ℤ weight fact_eq changes q) }
-{
-    let mut changes = Changes::new(alloc);
-    add_all(&mut changes, seen)?;
-    changes.negate();
-    add_all(&mut changes, now)?;
-    Ok(changes)
-}
-
-fn add_all(changes: &mut Changes<Fact>, others: &Changes<Fact>) -> Result<(), AllocError>
-    ensures { OnOk result ((q : Fact)
-        → weight fact_eq changes.new q ≡ weight fact_eq changes.old q +ℤ weight fact_eq others.now q) }
-{
-    for index in 0..others.distinct() {
-        let (fact, count) = others.counted_at(index);
-        changes.add(fact.share()?, count)?;
-    }
-    Ok(())
 }

@@ -1,70 +1,63 @@
-// What an accepted item adds: its time to the windows over its stream, and itself to the items.
-ghost use Rattle.std.specs.Prelude.{◌≡◌, ◌≤◌, ◌++◌, ◌∷◌, [], false, map, IfOk, OnOk, bytes_eq, length, slice_get};
+// What a new item adds to what live queries watch: its time, to the windows over its stream.
+ghost use Rattle.std.specs.Prelude.{◌≡◌, ◌≤◌, ◌++◌, ◌∷◌, ℕ, [], List, map, OnOk, bytes_eq, length, slice_get, drop};
 ghost use Rattle.std.specs.List.{All};
 ghost use Rattle.std.specs.Option.{option_map_or};
-ghost use Rattle.rsp_engine.specs.Inside.{IsWatching, parts_of};
-ghost use Rattle.rsp_engine.specs.Kept.{triples_of};
-ghost use Rattle.rsp_engine.specs.Watching.{with_time};
+ghost use Rattle.rsp_spec.specs.Windows.{last_instant};
+ghost use Rattle.rsp_terms.specs.declared.statement.Triple.{Triple};
+ghost use Rattle.rsp_scope.specs.Contents.{Accepted};
+ghost use Rattle.rsp_report.specs.Due.{IsFreshAt, seen_at};
+ghost use Rattle.rsp_engine.specs.Inside.{asked, fixed, parts_of};
+ghost use Rattle.rsp_engine.specs.Watching.{IsPrompt, IsTimed, IsWatching, Tells, with_time};
+ghost use Rattle.rsp_engine.specs.Watched.{AreWatchedWith};
 
-use crate::Item;
 use crate::live_query::{LiveQuery, StreamWindow};
 use rsp_report::Watched;
+use rsp_scope::forget_times;
 use rsp_terms::Text;
 use std::alloc::{AllocError, Global};
 
-/// The stream of an item that was kept, and the number of triples of all items.
-pub(crate) struct Arrival {
-    pub stream: Text,
-    pub held: u64,
-}
-
-/// Keeps an item as the newest, and adds its time to what each query watches. The items before it have `held` triples. Fails only
-/// where memory is refused; some queries may then watch it and others not.
-pub(crate) fn keep<A>(
+/// Adds the time of an item over a stream to what each query watches, and lets go of times that are in no content from `from` - 1 ms on.
+/// Fails only where memory is refused; some queries may then watch it and others not.
+pub(crate) fn watch<A>(
+    alloc: Global,
     queries: &mut [LiveQuery<A>],
-    items: &mut Vec<Item>,
-    item: Item,
-    held: u64,
-) -> Result<Arrival, AllocError>
-    requires watching { All (IsWatching items.old.items) queries.old }
-    requires firsts { All (λ live. live.first ≤ length items.old.items) queries.old }
-    requires held { held ≡ triples_of items.old.items }
-    ensures items { OnOk result (items.new.items ≡ items.old.items ++ item ∷ []) }
-    ensures stream { IfOk result (λ arrival. arrival.stream ≡ item.stream) }
-    ensures held { IfOk result (λ arrival. arrival.held ≡ triples_of items.new.items) }
+    stream: &Text,
+    time: u64,
+    from: u64,
+) -> Result<(), AllocError>
+    requires watching { All (λ live. IsWatching from (asked live)) queries.old }
+    requires later { from ≤ time }
+    requires instant { time ≤ last_instant }
     ensures parts { OnOk result (map parts_of queries.new ≡ map parts_of queries.old) }
-    ensures watching { OnOk result (All (IsWatching items.new.items) queries.new) }
-{
-    let triples = item.graph.as_slice().len() as u64;
-    let held = held.checked_add(triples).ok_or(AllocError)?;
-    let stream = item.stream.share()?;
-    watch(queries, items.as_slice(), &item)?;
-    items.push(item)?;
-    Ok(Arrival { stream, held })
-}
-
-// each query watches the items with this one as the newest
-fn watch<A>(queries: &mut [LiveQuery<A>], items: &[Item], item: &Item) -> Result<(), AllocError>
-    requires watching { All (IsWatching items.now) queries.old }
-    requires firsts { All (λ live. live.first ≤ length items.now) queries.old }
-    ensures parts { OnOk result (map parts_of queries.new ≡ map parts_of queries.old) }
-    ensures watching { OnOk result (All (IsWatching (items.now ++ item.now ∷ [])) queries.new) }
+    ensures prompt { OnOk result (All (λ live. IsPrompt time (Some stream.now) (asked live)) queries.new) }
+    ensures told { OnOk result ((items : List Accepted) (graph : List Triple)
+        → All (λ live. live.first ≤ length items) queries.old
+        → All (λ live. Tells items from (fixed live) live.watched.items) queries.old
+        → All (λ live. Tells (items ++ record { stream = stream.now; time = time; graph = graph } ∷ []) from (fixed live) live.watched.items)
+        queries.new) }
 {
     for query in 0..queries.len() {
-        watch_query(&mut queries[query], items, item)?;
+        watch_query(alloc, &mut queries[query], stream, time, from)?;
     }
     Ok(())
 }
 
-fn watch_query<A>(live: &mut LiveQuery<A>, items: &[Item], item: &Item) -> Result<(), AllocError>
-    requires watching { IsWatching items.now live.old }
-    requires first { live.old.first ≤ length items.now }
+fn watch_query<A>(
+    alloc: Global,
+    live: &mut LiveQuery<A>,
+    stream: &Text,
+    time: u64,
+    from: u64,
+) -> Result<(), AllocError>
+    requires watching { IsWatching from (asked live.old) }
+    requires later { from ≤ time }
+    requires instant { time ≤ last_instant }
     ensures parts { OnOk result (parts_of live.new ≡ parts_of live.old) }
-    ensures watching { OnOk result (IsWatching (items.now ++ item.now ∷ []) live.new) }
+    ensures watched { OnOk result (AreWatchedWith stream.now time from live.old.windows live.old.watched.items live.new.watched.items) }
 {
     for window in 0..live.watched.len() {
-        let over = is_over(live.windows.as_slice(), window, &item.stream);
-        watch_window(&mut live.watched[window], over, item.time)?;
+        let over = is_over(live.windows.as_slice(), window, stream);
+        watch_window(alloc, &mut live.watched[window], over, time, from)?;
     }
     Ok(())
 }
@@ -79,9 +72,22 @@ fn is_over(windows: &[StreamWindow], number: usize, stream: &Text) -> bool
     }
 }
 
-fn watch_window(watched: &mut Watched, over: bool, time: u64) -> Result<(), AllocError>
-    ensures { OnOk result (watched.new ≡ with_time over time watched.old) }
+fn watch_window(
+    alloc: Global,
+    watched: &mut Watched,
+    over: bool,
+    time: u64,
+    from: u64,
+) -> Result<(), AllocError>
+    requires timed { IsTimed from watched.old }
+    requires later { from ≤ time }
+    requires instant { time ≤ last_instant }
+    ensures window { watched.new.window ≡ watched.old.window }
+    ensures timed { OnOk result (IsTimed time watched.new) }
+    ensures fresh { OnOk result (IsFreshAt time watched.new) }
+    ensures seen { OnOk result ((t : ℕ) → from ≤ t → seen_at t watched.new ≡ seen_at t (with_time over time watched.old)) }
 {
+    forget_times(alloc, &watched.window, &mut watched.times, from);
     watched.fresh = over;
     if over {
         watched.times.push(time)?;

@@ -6,6 +6,7 @@ ghost use Rattle.rsp_multiset.specs.Weights.{IsChanged};
 ghost use Rattle.rsp_terms.specs.Same.{fact_eq};
 ghost use Rattle.rsp_scope.specs.Contents.{Accepted, HasContent, window_facts};
 ghost use Rattle.rsp_scope.specs.Moves.{HasSeen, IsReached};
+ghost use Rattle.rsp_scope.specs.Ends.{later_end};
 
 use crate::Streams;
 use crate::gate::Gate;
@@ -44,6 +45,9 @@ impl Contents {
     ghost use Rattle.rsp_terms.specs.Same.{fact_eq};
     ghost use Rattle.rsp_scope.specs.Contents.{Accepted, HasContent, window_facts};
     ghost use Rattle.rsp_scope.specs.Moves.{HasSeen, IsReached};
+    ghost use Rattle.rsp_scope.specs.Ends.{EndsAt};
+    ghost use Rattle.rsp_terms.specs.declared.statement.Triple.{Triple};
+    ghost use Rattle.std.specs.Prelude.{◌∷◌};
 
     /// The window over the stream, by its index in its query, before its first move. It sees the items from number `first`
     /// on. Takes no memory.
@@ -97,6 +101,26 @@ impl Contents {
         self.at = Some(t);
         self.accepted = streams.accepted();
         Ok(change)
+    }
+
+    /// Stub.
+    pub fn end_of(&self, number: u64, stream: &Text, time: u64) -> Option<u64>
+        requires { time ≤ 2 ^ 48 }
+        ensures { (graph : List Triple) → EndsAt (self.now.watch ∷ [])
+            (record { number = number; item = record { stream = stream.now; time = time; graph = graph } }) result }
+    {
+        None
+    }
+}
+
+/// The later of two ends.
+pub fn later(a: Option<u64>, b: Option<u64>) -> Option<u64>
+    ensures { result ≡ later_end a b }
+{
+    match (a, b) {
+        (Some(x), Some(y)) => Some(x.max(y)),
+        (Some(x), None) => Some(x),
+        (None, other) => other,
     }
 }
 
