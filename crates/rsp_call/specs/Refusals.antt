@@ -5,7 +5,7 @@ use Rattle.rsp_events.specs.declared.event.BlockFault.{BlockFault}
 use Rattle.rsp_events.specs.declared.event.BlockFault.TheVariants.{BadBody, BadDirective, BlockTooLarge}
 use Rattle.rsp_numbering.specs.declared.limit.LimitName.{LimitName}
 use Rattle.rsp_numbering.specs.declared.limit.LimitName.TheVariants as name
-use Rattle.rsp_engine.specs.Refusals.{Refusal, bad_token, syntax, left_out, limit, graph_shape, exists_shape, scope, policy_mix, late, name_taken, no_query, queries_full, store_full, unbuilt, start_overfull, refusal_of}
+use Rattle.rsp_engine.specs.Refusals.{Refusal, bad_token, syntax, left_out, limit, graph_shape, exists_shape, scope, policy_mix, late, name_taken, no_query, queries_full, held_full, store_full, item_too_large, start_overfull, refusal_of}
 use Rattle.rsp_call.specs.declared.refusing.Place.{Place}
 use Rattle.rsp_call.specs.declared.refusing.Place.TheVariants.{Block, Query}
 use Rattle.rsp_call.specs.declared.refusing.Answered.{Answered}
@@ -33,8 +33,9 @@ kind (of_event (late time next)) = (15, codes "Late")
 kind (of_event name_taken) = (16, codes "NameTaken")
 kind (of_event no_query) = (17, codes "NoQuery")
 kind (of_event queries_full) = (18, codes "QueriesFull")
+kind (of_event (held_full held)) = (19, codes "HeldFull")
 kind (of_event (store_full quads)) = (20, codes "StoreFull")
-kind (of_event unbuilt) = (22, codes "Unbuilt")
+kind (of_event (item_too_large triples)) = (21, codes "ItemTooLarge")
 kind (of_event start_overfull) = (25, codes "StartOverfull")
 
 -- the word of a limit
@@ -60,7 +61,9 @@ details (of_event (graph_shape at)) = codes " at=" ++ decimal at
 details (of_event (exists_shape at)) = codes " at=" ++ decimal at
 details (of_event (scope variable)) = codes " variable=" ++ variable
 details (of_event (late time next)) = codes " time=" ++ (decimal time ++ (codes " next=" ++ decimal next))
+details (of_event (held_full held)) = codes " held=" ++ decimal held
 details (of_event (store_full quads)) = codes " quads=" ++ decimal quads
+details (of_event (item_too_large triples)) = codes " triples=" ++ decimal triples
 details _ = []
 
 -- where: a block by its number, or the query that is checked

@@ -111,8 +111,9 @@ fn kind(answered: &Answered) -> Option<(u64, &'static str)>
         Answered::Event(Refused::NameTaken) => Some((16, "NameTaken")),
         Answered::Event(Refused::NoQuery) => Some((17, "NoQuery")),
         Answered::Event(Refused::QueriesFull) => Some((18, "QueriesFull")),
+        Answered::Event(Refused::HeldFull { .. }) => Some((19, "HeldFull")),
         Answered::Event(Refused::StoreFull { .. }) => Some((20, "StoreFull")),
-        Answered::Event(Refused::Unbuilt) => Some((22, "Unbuilt")),
+        Answered::Event(Refused::ItemTooLarge { .. }) => Some((21, "ItemTooLarge")),
         Answered::Event(Refused::StartOverfull) => Some((25, "StartOverfull")),
         Answered::Event(Refused::Broken) | Answered::Event(Refused::OutOfMemory) => None,
     }
@@ -142,7 +143,11 @@ fn details(alloc: Global, answered: &Answered) -> Result<String, AllocError>
         Answered::Event(Refused::Late { time, next }) => {
             format!(in alloc; " time={time} next={next}")
         }
+        Answered::Event(Refused::HeldFull { held }) => format!(in alloc; " held={held}"),
         Answered::Event(Refused::StoreFull { quads }) => format!(in alloc; " quads={quads}"),
+        Answered::Event(Refused::ItemTooLarge { triples }) => {
+            format!(in alloc; " triples={triples}")
+        }
         _ => Ok(String::new(alloc)),
     }
 }

@@ -1,5 +1,6 @@
 -- Words of the way: the ends of items, and the kept items as those that are still needed.
-use Rattle.std.specs.Prelude.{◌≡◌, ℕ, ◌<◌, false, nat_le, Option, None, Some, max, List, length, map, All, slice_index_or}
+use Rattle.std.specs.Prelude.{◌≡◌, ℕ, false, nat_le, max, Option, None, Some, List, length, map, All}
+use Rattle.std.specs.List.{AllZip}
 use Rattle.std.specs.Option.{option_map_or}
 use Rattle.rsp_scope.specs.Contents.{Accepted, Numbered, Watch, as_accepted}
 use Rattle.rsp_scope.specs.Kept.{Kept}
@@ -10,11 +11,9 @@ use Rattle.rsp_scope.specs.declared.item.Item.{Item}
 abbrev pub EndsAt : List Watch → Numbered → Option ℕ → Type 0
 EndsAt watches entry end = (n : ℕ) → is_needed n watches entry ≡ option_map_or (λ e. nat_le n e) end false
 
--- each of these items has its end
-pub record AreEnds (watches : List Watch) (items : List Item) (untils : List (Option ℕ)) : Type 0 where
-  pub many : length untils ≡ length items
-  pub ends : (i : ℕ) (item : Item) (until : Option ℕ) → i < length items
-      → EndsAt watches (as_accepted (slice_index_or items i item)) (slice_index_or untils i until)
+-- item by item the ends; the lists are as long
+abbrev pub AreEnds : List Watch → List Item → List (Option ℕ) → Type 0
+AreEnds watches items untils = AllZip (λ (item : Item) (until : Option ℕ). EndsAt watches (as_accepted item) until) items untils
 
 -- kept are exactly the items that are needed at `cut`, each with its end
 pub record IsKept (cut : ℕ) (watches : List Watch) (items : List Accepted) (kept : Kept) : Type 0 where
@@ -23,7 +22,7 @@ pub record IsKept (cut : ℕ) (watches : List Watch) (items : List Accepted) (ke
   pub ends : All (λ (item : Item). EndsAt watches (as_accepted item) (Some item.end)) kept.items
 
 -- the later of two ends
-abbrev pub later_end : Option ℕ → Option ℕ → Option ℕ
-later_end None b = b
-later_end (Some a) None = Some a
-later_end (Some a) (Some b) = Some (max a b)
+abbrev pub later : Option ℕ → Option ℕ → Option ℕ
+later None b = b
+later (Some a) None = Some a
+later (Some a) (Some b) = Some (max a b)

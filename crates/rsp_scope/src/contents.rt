@@ -6,7 +6,6 @@ ghost use Rattle.rsp_multiset.specs.Weights.{IsChanged};
 ghost use Rattle.rsp_terms.specs.Same.{fact_eq};
 ghost use Rattle.rsp_scope.specs.Contents.{Accepted, HasContent, window_facts};
 ghost use Rattle.rsp_scope.specs.Moves.{HasSeen, IsReached};
-ghost use Rattle.rsp_scope.specs.Ends.{later_end};
 
 use crate::Streams;
 use crate::gate::Gate;
@@ -40,14 +39,13 @@ impl Model for Contents {
 }
 
 impl Contents {
-    ghost use Rattle.std.specs.Prelude.{◌≡◌, ◌≤◌, ◌^◌, ◌++◌, List, [], Option, None, Some, IfOk, OnOk};
+    ghost use Rattle.std.specs.Prelude.{◌≡◌, ◌≤◌, ◌^◌, ◌++◌, ◌∷◌, List, [], Option, None, Some, IfOk, OnOk};
     ghost use Rattle.rsp_multiset.specs.Weights.{IsChanged};
     ghost use Rattle.rsp_terms.specs.Same.{fact_eq};
+    ghost use Rattle.rsp_terms.specs.declared.statement.Triple.{Triple};
+    ghost use Rattle.rsp_scope.specs.Ends.{EndsAt};
     ghost use Rattle.rsp_scope.specs.Contents.{Accepted, HasContent, window_facts};
     ghost use Rattle.rsp_scope.specs.Moves.{HasSeen, IsReached};
-    ghost use Rattle.rsp_scope.specs.Ends.{EndsAt};
-    ghost use Rattle.rsp_terms.specs.declared.statement.Triple.{Triple};
-    ghost use Rattle.std.specs.Prelude.{◌∷◌};
 
     /// The window over the stream, by its index in its query, before its first move. It sees the items from number `first`
     /// on. Takes no memory.
@@ -69,6 +67,20 @@ impl Contents {
                 counts: Changes::new(alloc),
             },
         }
+    }
+
+    /// The end of an item with this number, stream and time (ms, at most 2^48), as far as this window alone may need it: the
+    /// greatest closing of a window that contains the time. None where the window doesn't see the item, or none contains it.
+    /// Takes no memory.
+    pub fn end_of(&self, number: u64, stream: &Text, time: u64) -> Option<u64>
+        requires { time ≤ 2 ^ 48 }
+        ensures { (graph : List Triple) → EndsAt (self.now.watch ∷ [])
+            (record { number = number; item = record { stream = stream.now; time = time; graph = graph } }) result }
+    {
+        if number < self.first || *stream != self.stream {
+            return None;
+        }
+        self.window.last_needed(time)
     }
 
     /// Moves to the instant `t`, which isn't before that of the last move and at most 2^48. Gives the change of the window's
@@ -101,26 +113,6 @@ impl Contents {
         self.at = Some(t);
         self.accepted = streams.accepted();
         Ok(change)
-    }
-
-    /// Stub.
-    pub fn end_of(&self, number: u64, stream: &Text, time: u64) -> Option<u64>
-        requires { time ≤ 2 ^ 48 }
-        ensures { (graph : List Triple) → EndsAt (self.now.watch ∷ [])
-            (record { number = number; item = record { stream = stream.now; time = time; graph = graph } }) result }
-    {
-        None
-    }
-}
-
-/// The later of two ends.
-pub fn later(a: Option<u64>, b: Option<u64>) -> Option<u64>
-    ensures { result ≡ later_end a b }
-{
-    match (a, b) {
-        (Some(x), Some(y)) => Some(x.max(y)),
-        (Some(x), None) => Some(x),
-        (None, other) => other,
     }
 }
 

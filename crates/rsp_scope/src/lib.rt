@@ -24,8 +24,8 @@ mod streams;
 mod tally;
 mod times;
 
-pub use contents::{Contents, later};
-pub use item::Item;
+pub use contents::Contents;
+pub use item::{Item, later};
 pub use shared::Shared;
 pub use store_log::StoreLog;
 pub use stored::{Stored, StoredFault};
