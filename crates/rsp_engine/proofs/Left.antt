@@ -6,13 +6,12 @@ use Rattle.std.proofs.lemmas.Bool.{lt-ltb, le-ltb}
 use Rattle.std.proofs.lemmas.List.{append-nil, append_assoc, drop-map, drop_more}
 use Rattle.std.proofs.lemmas.List.Elements.{All-drop, filter-append}
 use Rattle.std.proofs.lemmas.Option.{get_or_from_slice_get, same_Some, slice_get_within}
-use Rattle.rsp_engine.specs.declared.item.Item.{Item}
+use Rattle.rsp_scope.specs.Contents.{Accepted}
 use Rattle.rsp_engine.specs.declared.finding.Pending.{Pending}
 use Rattle.rsp_engine.specs.World.{Registration}
 use Rattle.rsp_engine.specs.Due.{is_due, is_due_over, newest}
 use Rattle.rsp_engine.specs.Moments.{Moment, moments_at}
 use Rattle.rsp_engine.specs.Left.{IsFirstLeft, IsWaiting, left_from, moments_of, name_in, reports_at}
-use Rattle.rsp_engine.specs.Accept.{has_name}
 use Rattle.rsp_engine.proofs.Named.{get_map, last_of}
 
 -- ---- one step
@@ -114,7 +113,7 @@ module _ {Q : Type 0} (name : Q → List ℕ) (test : ℕ → Q → Bool) (queri
       ++ moments_of name (test end) queries end) same
 
 -- an event's moments: those of the instants that became complete, then those on the item that arrived
-module _ (items : List Item) (to : ℕ) (arrived : Option (List ℕ)) (queries : List Registration) where
+module _ (items : List Accepted) (to : ℕ) (arrived : Option (List ℕ)) (queries : List Registration) where
   abbrev on_arrival : Registration → Bool
   on_arrival query = option_map_or (λ stream. is_due_over items query stream to) arrived false
 
@@ -223,60 +222,60 @@ module _ {Q R : Type 0} (read : Q → R) (name : R → List ℕ) (test : ℕ →
   )
 
 -- the item that was accepted last
-pub newest_of : (items : List Item) (item : Item) → newest (items ++ item ∷ []) ≡ Some item
+pub newest_of : (items : List Accepted) (item : Accepted) → newest (items ++ item ∷ []) ≡ Some item
 newest_of items item = last_of items item
 
 -- ---- where a query goes
 
-module _ (test : ℕ → Registration → Bool) (name : List ℕ) where
-  abbrev others : List Registration → List Registration
-  others queries = filter (λ query. not (has_name name query)) queries
+module _ {Q : Type 0} (name : Q → List ℕ) (test : ℕ → Q → Bool) (gone_name : List ℕ) where
+  abbrev others : List Q → List Q
+  others queries = filter (λ query. not (bytes_eq (name query) gone_name)) queries
 
   abbrev struck : List Moment → List Moment
-  struck moments = filter (λ (moment : Moment). not (bytes_eq moment.query name)) moments
+  struck moments = filter (λ (moment : Moment). not (bytes_eq moment.query gone_name)) moments
 
-  abbrev Struck : ℕ → List Registration → Type 0
-  Struck t queries = moments_at (test t) (others queries) t ≡ struck (moments_at (test t) queries t)
+  abbrev Struck : ℕ → List Q → Type 0
+  Struck t queries = moments_of name (test t) (others queries) t ≡ struck (moments_of name (test t) queries t)
 
   -- its moments at an instant are struck
-  struck_at : (t : ℕ) (queries : List Registration) → Struck t queries
+  struck_at : (t : ℕ) (queries : List Q) → Struck t queries
   struck_at t [] = refl
   struck_at t (query ∷ queries) =
       elim (test t query) as (λ passes. test t query ≡ passes → Struck t (query ∷ queries)) [
         | true ↦ λ passes.
-            elim (bytes_eq query.name name) as (λ same. bytes_eq query.name name ≡ same → Struck t (query ∷ queries)) [
+            elim (bytes_eq (name query) gone_name) as (λ same. bytes_eq (name query) gone_name ≡ same → Struck t (query ∷ queries)) [
               | true ↦ λ same. rw (passes, same) (struck_at t queries)
               | false ↦ λ same. rw (same, passes, same)
-                  (ap (λ ms. record { at = t; query = query.name } ∷ ms) (struck_at t queries))
+                  (ap (λ ms. record { at = t; query = name query } ∷ ms) (struck_at t queries))
             ] refl
         | false ↦ λ passes.
-            elim (bytes_eq query.name name) as (λ same. bytes_eq query.name name ≡ same → Struck t (query ∷ queries)) [
+            elim (bytes_eq (name query) gone_name) as (λ same. bytes_eq (name query) gone_name ≡ same → Struck t (query ∷ queries)) [
               | true ↦ λ same. rw (passes, same) (struck_at t queries)
               | false ↦ λ same. rw (same, passes) (struck_at t queries)
             ] refl
       ] refl
 
   -- at some instants
-  abbrev moments_over : List Registration → List ℕ → List Moment
-  moments_over queries ts = flat_map (λ t. moments_at (test t) queries t) ts
+  abbrev moments_over : List Q → List ℕ → List Moment
+  moments_over queries ts = flat_map (λ t. moments_of name (test t) queries t) ts
 
-  struck_of : (queries : List Registration) (ts : List ℕ) → moments_over (others queries) ts ≡ struck (moments_over queries ts)
+  struck_of : (queries : List Q) (ts : List ℕ) → moments_over (others queries) ts ≡ struck (moments_over queries ts)
   struck_of queries [] = refl
   struck_of queries (t ∷ ts) =
       ap (λ ms. ms ++ moments_over (others queries) ts) (struck_at t queries)
-      ∙ (ap (λ ms. struck (moments_at (test t) queries t) ++ ms) (struck_of queries ts)
-      ∙ sym (filter-append (λ (moment : Moment). not (bytes_eq moment.query name)) (moments_at (test t) queries t)
+      ∙ (ap (λ ms. struck (moments_of name (test t) queries t) ++ ms) (struck_of queries ts)
+      ∙ sym (filter-append (λ (moment : Moment). not (bytes_eq moment.query gone_name)) (moments_of name (test t) queries t)
       (moments_over queries ts)))
 
   -- those left without it are those left with its name struck
-  pub gone : (queries rest : List Registration) (last t i j : ℕ) → rest ≡ filter (λ query. not (has_name name query)) queries
-      → drop i rest ≡ filter (λ query. not (has_name name query)) (drop j queries)
-      → left_from name_in test rest last t i
-      ≡ filter (λ (moment : Moment). not (bytes_eq moment.query name)) (left_from name_in test queries last t j)
+  pub gone : (queries rest : List Q) (last t i j : ℕ) → rest ≡ filter (λ query. not (bytes_eq (name query) gone_name)) queries
+      → drop i rest ≡ filter (λ query. not (bytes_eq (name query) gone_name)) (drop j queries)
+      → left_from name test rest last t i
+      ≡ filter (λ (moment : Moment). not (bytes_eq moment.query gone_name)) (left_from name test queries last t j)
   gone queries rest last t i j all is =
       let later = range_with_len (t + 1) (last - t) in
       rw (is, all)
       (ap (λ ms. ms ++ moments_over (others queries) later) (struck_at t (drop j queries))
-      ∙ (ap (λ ms. struck (moments_at (test t) (drop j queries) t) ++ ms) (struck_of queries later)
-      ∙ sym (filter-append (λ (moment : Moment). not (bytes_eq moment.query name)) (moments_at (test t) (drop j queries) t)
+      ∙ (ap (λ ms. struck (moments_of name (test t) (drop j queries) t) ++ ms) (struck_of queries later)
+      ∙ sym (filter-append (λ (moment : Moment). not (bytes_eq moment.query gone_name)) (moments_of name (test t) (drop j queries) t)
       (moments_over queries later))))

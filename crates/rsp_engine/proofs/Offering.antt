@@ -65,49 +65,70 @@ abbrev arrivals : World → Option (List ℕ) → ℕ → List Moment
 arrivals world came to =
     moments_at (λ query. option_map_or (λ stream. is_due_over world.items query stream to) came false) (registrations world) to
 
--- an engine that passed to an instant, with items by which it sees those of the world from the old `next` on, stands for the world
--- with the new items, and for the moments of what became complete and arrived
-module _ (old new : State) (items : List item.Item) (came : Option (List ℕ)) (to : ℕ) (world : World) (arrived : List item.Item)
-    (passes : Passes old items came to new) (kept : items ≡ world.items ++ arrived) (stands : Stands old world []) (low : unwrap_or old.next to ≤ to) where
+-- what the queries of a world report by, where nothing but the times that they watch has changed
+seen_alike : (lives news : List Live) (queries : List Query) → map unwatched news ≡ map unwatched lives → HaveSeen lives queries → HaveSeen news queries
+seen_alike [] [] queries is have = have
+seen_alike [] (new ∷ news) queries is have = cc
+seen_alike (live ∷ lives) [] queries is have = cc
+seen_alike (live ∷ lives) (new ∷ news) [] is have = absurd have
+seen_alike (live ∷ lives) (new ∷ news) (query ∷ queries) is have =
+    let first : unwatched live ≡ unwatched new = cc in
+    let rest : map unwatched news ≡ map unwatched lives = cc in
+    (subst (λ (l : Live). Precede l query.preceding) first have.0, seen_alike lives news queries rest have.1)
+
+-- an engine that passed to an instant stands for the world with the new items, and for the moments of what became complete and
+-- arrived
+module _ (old new : State) (more : List Accepted) (came : Option (List ℕ)) (to : ℕ) (world : World)
+    (passes : Passes old more came to new) (stands : Stands old world []) (low : unwrap_or old.next to ≤ to) (high : next_in old ≤ unwrap_or old.next to) where
   abbrev after : World
-  after = record { next = Some to; items = world.items ++ arrived; stored = world.stored; queries = world.queries }
+  after = record { next = Some to; items = world.items ++ more; stored = world.stored; queries = world.queries }
 
   regs : registrations_in new ≡ registrations after
-  regs = ap (map registration_of) passes.queries ∙ stands.queries
+  regs = same_regs old.queries new.queries passes.queries ∙ stands.queries
 
-  sees_after : Sees new after (unwrap_or old.next to)
-  sees_after = sees new after (unwrap_or old.next to) passes.next (passes.items ∙ kept)
+  first_here : IsFirstLeft name_of (test_in new) (asked_in new) (next_in new) (unwrap_or old.next to) 0 new.first
+  first_here = rw (passes.next, passes.arrived) passes.first
 
-  first_here : IsFirstLeft name_in (test_in new) (registrations_in new) (next_in new) (unwrap_or old.next to) 0 new.first
-  first_here = rw (passes.next, passes.items, passes.arrived, passes.queries) passes.first
+  -- by what they watch the queries report as by the world's items
+  alike : (t : ℕ) → unwrap_or old.next to ≤ t → t ≤ next_in new
+      → All (λ (live : Live). test_in new t (asked_of live) ≡ reports_at after.items (next_in new) new.arrived t (registration_of live)) new.queries
+  alike t late early =
+      All-weaker (λ (live : Live). Tells after.items (next_in old) (registration_of live) live.watched)
+      (λ (live : Live). test_in new t (asked_of live) ≡ reports_at after.items (next_in new) new.arrived t (registration_of live))
+      (λ live tells. reports_told live after.items (next_in old) (next_in new) new.arrived tells (rw passes.next (omega (arith, low, high))) t (omega (arith, high, late)) early)
+      new.queries (passes.told world.items stands.fits)
 
-  named : left_from name_in (reports_at after.items to new.arrived) (registrations_in new) (next_in new) (unwrap_or old.next to) 0
+  named : left_from name_in (reports_at after.items (next_in new) new.arrived) (registrations_in new) (next_in new) (unwrap_or old.next to) 0
       ≡ left_from name_in (reports_at after.items to came) (registrations after) to (unwrap_or old.next to) 0
   named = rw (passes.arrived, regs, passes.next) refl
 
   -- the moments left are those of the world
   left_is : left_in new ≡ option_map_or (λ from. moments_from after from) world.next [] ++ arrivals after came to
   left_is =
+      let from : ℕ = unwrap_or old.next to in
       let below : unwrap_or old.next to ≤ next_in new = rw passes.next low in
       let before : unwrap_or old.next to ≡ unwrap_or world.next to = ap (λ n. unwrap_or n to) stands.next in
       let low_world : unwrap_or world.next to ≤ to = subst (λ n. n ≤ to) before low in
-      let whole = first_left_is name_in (test_in new) (registrations_in new) (next_in new) (unwrap_or old.next to) 0 new.first first_here in
-      let by_world = same_left name_in (test_in new) (reports_at after.items (next_of after) new.arrived) (registrations_in new) (next_in new) (unwrap_or old.next to) 0 below sees_after.due in
+      let whole = first_left_is name_of (test_in new) (asked_in new) (next_in new) (unwrap_or old.next to) 0 new.first first_here in
+      let of_lives = read_left asked_of name_of (test_in new) new.queries (next_in new) (unwrap_or old.next to) 0 in
+      let by_world = same_left (λ (live : Live). live.name) (λ t (live : Live). test_in new t (asked_of live)) (λ t (live : Live). reports_at after.items (next_in new) new.arrived t (registration_of live)) new.queries (next_in new) (unwrap_or old.next to) 0 below alike in
+      let of_world = read_left registration_of name_in (reports_at after.items (next_in new) new.arrived) new.queries (next_in new) (unwrap_or old.next to) 0 in
       let split = instants after.items to came (registrations after) (unwrap_or world.next to) low_world in
       let done = complete after to world.next refl low_world in
-      whole ∙ (by_world ∙ (named ∙ (ap (λ from. left_from name_in (reports_at after.items to came) (registrations after) to from 0) before
-      ∙ (split ∙ ap (λ ms. ms ++ arrivals after came to) done))))
+      whole ∙ (sym of_lives ∙ (by_world ∙ (of_world ∙ (named ∙ (ap (λ from. left_from name_in (reports_at after.items to came) (registrations after) to from 0) before
+      ∙ (split ∙ ap (λ ms. ms ++ arrivals after came to) done))))))
 
-  pub passed : Stands new after (option_map_or (λ from. moments_from after from) world.next [] ++ arrivals after came to)
-  passed =
-      let waits = waits_at name_in (test_in new) (registrations_in new) (next_in new) (unwrap_or old.next to) 0 new.first first_here in
+  pub passed : held after ≤ most_held → Stands new after (option_map_or (λ from. moments_from after from) world.next [] ++ arrivals after came to)
+  passed few =
+      let waits = waits_at name_of (test_in new) (asked_in new) (next_in new) (unwrap_or old.next to) 0 new.first first_here in
       record {
         ready = passes.broken;
         next = passes.next;
-        kept = passes.items ∙ kept;
+        fits = passes.fits world.items stands.fits;
+        few = few;
         stored = subst (λ fs. IsSameMultiset fact_eq fs world.stored) (sym passes.stored) stands.stored;
         queries = regs;
-        seen = subst (λ lives. HaveSeen lives world.queries) (sym passes.queries) stands.seen;
+        seen = seen_alike old.queries new.queries world.queries passes.queries stands.seen;
         moments = sym left_is;
         head = head_is new _ (sym left_is) waits;
         none = none_is new _ (sym left_is) waits;
@@ -118,32 +139,155 @@ pub low_of : (next : Option ℕ) (to : ℕ) → unwrap_or next 0 ≤ to → unwr
 low_of None to low = omega arith
 low_of (Some n) to low = low
 
-pub tick_leads : (old new : State) (time : ℕ) (world : World) → next_in old ≤ time + 1 → Passes old old.items None (time + 1) new → Stands old world [] → Leads world (Tick time) new
+pub high_of : (next : Option ℕ) (to : ℕ) → unwrap_or next 0 ≤ unwrap_or next to
+high_of None to = omega arith
+high_of (Some n) to = omega arith
+
+-- ---- what is kept
+
+-- no more passes the one test than the other
+sum_fewer : {X : Type 0} (f : X → ℕ) (p q : X → Bool) → ((x : X) → p x ≡ true → q x ≡ true) → (xs : List X) → sum_by f (filter p xs) ≤ sum_by f (filter q xs)
+sum_fewer f p q implies [] = omega arith
+sum_fewer f p q implies (x ∷ xs) = by (p x) (q x) (implies x) (sum_fewer f p q implies xs)
+  where
+    by : (a b : Bool) → (a ≡ true → b ≡ true) → sum_by f (filter p xs) ≤ sum_by f (filter q xs)
+        → sum_by f (cond a (x ∷ filter p xs) (filter p xs)) ≤ sum_by f (cond b (x ∷ filter q xs) (filter q xs))
+    by true true h rest = let one = sum_by-cons f x (filter p xs) in let two = sum_by-cons f x (filter q xs) in omega (arith, one, two, rest)
+    by true false h rest = absurd (true≢false (sym (h refl)))
+    by false true h rest = let two = sum_by-cons f x (filter q xs) in omega (arith, two, rest)
+    by false false h rest = rest
+
+-- windows that need fewer items hold no more
+pub held_fewer : (one other : ℕ) (fewer ws : List Watch) (items : List Accepted)
+    → ((entry : Numbered) → is_needed one fewer entry ≡ true → is_needed other ws entry ≡ true)
+    → listed_triples (needed_items one fewer items) ≤ listed_triples (needed_items other ws items)
+held_fewer one other fewer ws items implies = sum_fewer (λ (entry : Numbered). length entry.item.graph) (is_needed one fewer) (is_needed other ws) implies (numbered 0 items)
+
+pub idle_cut : (e : State) → e.first ≡ None → cut_of e ≡ next_in e
+idle_cut e idle = rw idle refl
+
+-- where no moment is left, what is kept is what the world holds
+pub held_here : (e : State) (world : World) → e.first ≡ None → Stands e world [] → triples_of e.kept.items ≡ held world
+held_here e world idle stands =
+    held_is (cut_of e) (watches_in e) world.items e.kept stands.fits.kept
+    ∙ ((λ k. listed_triples (needed_items (idle_cut e idle k) (watches_of (stands.queries k)) world.items))
+    ∙ ap (λ n. listed_triples (needed_items (unwrap_or n 0) (watches_of (registrations world)) world.items)) stands.next)
+
+pub tick_leads : (old new : State) (time : ℕ) (world : World) → next_in old ≤ time + 1 → Passes old [] None (time + 1) new → Stands old world [] → Leads world (Tick time) new
 tick_leads old new time world late passes stands =
     let after : World = record world { next = Some (time + 1) } in
-    let in_time : nat_lt (time + 1) (next_of world) ≡ false = le-ltb _ _ (rw stands.next at late) in
-    let there = passed old new old.items None (time + 1) world [] passes (stands.kept ∙ sym (append-nil world.items)) stands (low_of old.next (time + 1) late) in
+    let late_world : next_of world ≤ time + 1 = rw stands.next at late in
+    let in_time : nat_lt (time + 1) (next_of world) ≡ false = le-ltb _ _ late_world in
+    let fewer = held_fewer (time + 1) (next_of world) (watches_of (registrations world)) (watches_of (registrations world)) world.items (λ entry. needed-earlier (next_of world) (time + 1) (watches_of (registrations world)) entry late_world) in
+    let few : held after ≤ most_held = let before = stands.few in omega (arith, fewer, before) in
+    let there = passed old new [] None (time + 1) world passes stands (low_of old.next (time + 1) late) (high_of old.next (time + 1)) (rw (append-nil world.items) few) in
     let nothing : arrivals after None (time + 1) ≡ [] = ap (map _) (none_pass (registrations after)) in (
       after,
       rw in_time refl,
       rw (append-nil world.items, nothing) at there,
     )
 
--- an item that was kept, and time that passed up to it
-pub item_leads : (old new : State) (stream : List ℕ) (time : ℕ) (graph : List Triple) (world : World) → length graph ≤ most_triples → length old.items < most_items → next_in old ≤ time
-    → Passes old (old.items ++ record { stream = stream; time = time; graph = graph } ∷ []) (Some stream) time new → Stands old world [] → Leads world (Item stream time graph) new
-item_leads old new stream time graph world small few late passes stands =
-    let arrived : item.Item = record { stream = stream; time = time; graph = graph } in
-    let after : World = record world { next = Some time; items = world.items ++ arrived ∷ [] } in
-    let accepted : length old.items ≡ length world.items = (sees old world 0 stands.next stands.kept).accepted in
-    let few_items : nat_le most_items (length world.items) ≡ false = lt-leb _ _ (rw accepted at few) in
+-- how many triples would be kept with an item
+module _ (old : State) (world : World) (item : Accepted) (idle : old.first ≡ None) (stands : Stands old world []) (late : next_in old ≤ item.time) where
+  abbrev with_it : ℕ
+  with_it = listed_triples (needed_items item.time (watches_in old) (world.items ++ item ∷ []))
+
+  pub held_in_world : held (with_item world item) ≡ with_it
+  held_in_world = ap (λ rs. listed_triples (needed_items item.time (watches_of rs) (world.items ++ item ∷ []))) (sym stands.queries)
+
+  cut_low : cut_of old ≤ item.time
+  cut_low = rw (idle_cut old idle) late
+
+  pub with_end : (end : ℕ) → EndsAt (watches_in old) (record { number = old.kept.accepted; item = item }) (Some end)
+      → triples_of (needed item.time old.kept.items) + length item.graph ≡ held (with_item world item)
+  with_end end ends =
+      held_with (cut_of old) (watches_in old) world.items old.kept item end stands.fits.kept cut_low
+      (subst (λ n. EndsAt (watches_in old) (record { number = n; item = item }) (Some end)) stands.fits.kept.accepted ends) ∙ sym held_in_world
+
+  without_end : EndsAt (watches_in old) (record { number = old.kept.accepted; item = item }) None → held (with_item world item) ≤ most_held
+  without_end ends =
+      let is = held_without (cut_of old) (watches_in old) world.items old.kept item stands.fits.kept cut_low
+      (subst (λ n. EndsAt (watches_in old) (record { number = n; item = item }) None) stands.fits.kept.accepted ends) in
+      let less = held_falls item.time old.kept.items in
+      let here = held_here old world idle stands in
+      let before = stands.few in
+      let there = held_in_world in
+      omega (arith, is, less, here, before, there)
+
+  -- not too many, where none are said to be
+  pub in_bounds : (end : Option ℕ) → EndsAt (watches_in old) (record { number = old.kept.accepted; item = item }) end
+      → option_map_or (λ _. excess old.kept item.time (length item.graph)) end None ≡ None → held (with_item world item) ≤ most_held
+  in_bounds None ends none = without_end ends
+  in_bounds (Some end) ends none = by (nat_lt 1000000 (triples_of (needed item.time old.kept.items) + length item.graph)) refl none
+    where
+      by : (b : Bool) → nat_lt 1000000 (triples_of (needed item.time old.kept.items) + length item.graph) ≡ b
+          → (if b then Some (min (triples_of (needed item.time old.kept.items) + length item.graph) (2 ^ 64 - 1)) else None) ≡ None → held (with_item world item) ≤ most_held
+      by true is none = cc
+      by false is none = let most = ltb-false 1000000 (triples_of (needed item.time old.kept.items) + length item.graph) is in let whole = with_end end ends in omega (arith, most, whole)
+
+  -- too many, and how many
+  pub out_of_bounds : (end : Option ℕ) (many : ℕ) → EndsAt (watches_in old) (record { number = old.kept.accepted; item = item }) end → length item.graph ≤ most_triples
+      → option_map_or (λ _. excess old.kept item.time (length item.graph)) end None ≡ Some many → (nat_lt most_held (held (with_item world item)) ≡ true) × (held (with_item world item) ≡ many)
+  out_of_bounds None many ends small is = cc
+  out_of_bounds (Some end) many ends small is = by (nat_lt 1000000 (triples_of (needed item.time old.kept.items) + length item.graph)) refl is
+    where
+      by : (b : Bool) → nat_lt 1000000 (triples_of (needed item.time old.kept.items) + length item.graph) ≡ b
+          → (if b then Some (min (triples_of (needed item.time old.kept.items) + length item.graph) (2 ^ 64 - 1)) else None) ≡ Some many
+          → (nat_lt most_held (held (with_item world item)) ≡ true) × (held (with_item world item) ≡ many)
+      by false test is = cc
+      by true test is =
+          let whole = with_end end ends in
+          let over : nat_lt most_held (held (with_item world item)) ≡ true = subst (λ n. nat_lt most_held n ≡ true) whole test in
+          let less = held_falls item.time old.kept.items in
+          let here = held_here old world idle stands in
+          let before = stands.few in
+          let low : min (triples_of (needed item.time old.kept.items) + length item.graph) (2 ^ 64 - 1) ≡ triples_of (needed item.time old.kept.items) + length item.graph = grind (arith, less, here, before, small) in
+          (over, sym whole ∙ (sym low ∙ same_Some _ _ is))
+
+-- an item that was taken, and time that passed up to it
+pub item_leads : (old new : State) (stream : List ℕ) (time : ℕ) (graph : List Triple) (end : Option ℕ) (world : World) → old.first ≡ None → length graph ≤ most_triples → next_in old ≤ time
+    → EndsAt (watches_in old) (record { number = old.kept.accepted; item = record { stream = stream; time = time; graph = graph } }) end
+    → option_map_or (λ _. excess old.kept time (length graph)) end None ≡ None
+    → Passes old (record { stream = stream; time = time; graph = graph } ∷ []) (Some stream) time new → Stands old world [] → Leads world (Item stream time graph) new
+item_leads old new stream time graph end world idle small late ends none passes stands =
+    let item : Accepted = record { stream = stream; time = time; graph = graph } in
+    let few = in_bounds old world item idle stands late end ends none in
+    let in_bounds : nat_lt most_held (held (with_item world item)) ≡ false = le-ltb _ _ few in
     let few_triples : nat_lt most_triples (length graph) ≡ false = le-ltb _ _ small in
     let in_time : nat_lt time (next_of world) ≡ false = le-ltb _ _ (rw stands.next at late) in
-    let there = passed old new (old.items ++ arrived ∷ []) (Some stream) time world (arrived ∷ []) passes (ap (λ items. items ++ arrived ∷ []) stands.kept) stands (low_of old.next time late) in (
-      after,
-      rw (few_triples, few_items, in_time) refl,
+    let there = passed old new (item ∷ []) (Some stream) time world passes stands (low_of old.next time late) (high_of old.next time) few in (
+      with_item world item,
+      rw (in_time, few_triples, in_bounds) refl,
       there,
     )
+
+-- an item whose triples are too many
+pub large_refuses : (old : State) (stream : List ℕ) (time : ℕ) (graph : List Triple) → old.broken ≡ false → next_in old ≤ time → most_triples < length graph
+    → Refuses old (Item stream time graph) (answer.ItemTooLarge (length graph)) old
+large_refuses old stream time graph ready late many = record {
+  was_ready = ready;
+  unchanged = refl;
+  refused = λ world stands.
+      let in_time : nat_lt time (next_of world) ≡ false = le-ltb _ _ (rw stands.next at late) in
+      let over : nat_lt most_triples (length graph) ≡ true = lt-ltb _ _ many in
+      rw (in_time, over) refl;
+}
+
+-- or with which too many would be kept
+pub full_held_refuses : (old : State) (stream : List ℕ) (time : ℕ) (graph : List Triple) (end : Option ℕ) (many : ℕ) → old.broken ≡ false → old.first ≡ None → length graph ≤ most_triples → next_in old ≤ time
+    → EndsAt (watches_in old) (record { number = old.kept.accepted; item = record { stream = stream; time = time; graph = graph } }) end
+    → option_map_or (λ _. excess old.kept time (length graph)) end None ≡ Some many
+    → Refuses old (Item stream time graph) (answer.HeldFull many) old
+full_held_refuses old stream time graph end many ready idle small late ends is = record {
+  was_ready = ready;
+  unchanged = refl;
+  refused = λ world stands.
+      let item : Accepted = record { stream = stream; time = time; graph = graph } in
+      let over = out_of_bounds old world item idle stands late end many ends small is in
+      let few_triples : nat_lt most_triples (length graph) ≡ false = le-ltb _ _ small in
+      let in_time : nat_lt time (next_of world) ≡ false = le-ltb _ _ (rw stands.next at late) in
+      rw (in_time, few_triples, over.0, over.1) refl;
+}
 
 -- ---- registrations and cancellations: no moment
 

@@ -11,9 +11,10 @@ use Rattle.rsp_engine.specs.declared.live_query.LiveQuery.{LiveQuery}
 use Rattle.rsp_engine.specs.World.{Query, World, registrations}
 use Rattle.rsp_engine.specs.Accept.{has_name, is_live}
 use Rattle.rsp_engine.specs.Inside.{fixed, live_of}
-use Rattle.rsp_engine.specs.Left.{IsFirstLeft, IsWaiting, left_from, name_in}
+use Rattle.rsp_engine.specs.Left.{IsFirstLeft, IsWaiting, left_from}
+use Rattle.rsp_engine.specs.Watching.{name_of}
 use Rattle.rsp_engine.specs.Moments.{Moment}
-use Rattle.rsp_engine.specs.Stands.{IsHead, Live, Stands, State, left_at, left_in, next_in, registration_of, registrations_in, test_in}
+use Rattle.rsp_engine.specs.Stands.{IsHead, Live, Stands, State, asked_in, left_at, left_in, next_in, registration_of, registrations_in, test_in}
 use Rattle.rsp_engine.proofs.Left.{first_left_is, waiting_head, waiting_some, waits_at}
 use Rattle.rsp_engine.proofs.Named.{get_map, same_name}
 
@@ -34,22 +35,22 @@ left_here e world left stands place is = stands.moments ∙ ap (λ first. option
 
 module _ (e : State) (left : List Moment) (moments : left ≡ left_in e) where
   -- it stands at a place that waits
-  pub head_is : ForSome e.first (IsWaiting (test_in e) (registrations_in e) (next_in e)) → ForSome e.first (IsHead e left)
+  pub head_is : ForSome e.first (IsWaiting (test_in e) (asked_in e) (next_in e)) → ForSome e.first (IsHead e left)
   head_is waits place is =
       let waiting = waits place is in
-      let first = waiting_head name_in (test_in e) (registrations_in e) (next_in e) place waiting.query waiting waiting.listed in
+      let first = waiting_head name_of (test_in e) (asked_in e) (next_in e) place waiting.query waiting waiting.listed in
       let whole : left ≡ left_at e place = moments ∙ ap (λ first. option_map_or (left_at e) first []) is in
       record { query = waiting.query; listed = waiting.listed; head = ap (λ ms. slice_get ms 0) (whole ∙ first) }
 
   -- none is left exactly where no place is set
-  pub none_is : ForSome e.first (IsWaiting (test_in e) (registrations_in e) (next_in e)) → (e.first ≡ None) ↔ (left ≡ [])
+  pub none_is : ForSome e.first (IsWaiting (test_in e) (asked_in e) (next_in e)) → (e.first ≡ None) ↔ (left ≡ [])
   none_is waits = (λ none. moments ∙ ap (λ first. option_map_or (left_at e) first []) none, by e.first refl)
     where
       by : (first : Option Pending) → e.first ≡ first → left ≡ [] → first ≡ None
       by None is nothing = refl
       by (Some place) is nothing =
           let whole : left ≡ left_at e place = moments ∙ ap (λ first. option_map_or (left_at e) first []) is in
-          absurd (waiting_some name_in (test_in e) (registrations_in e) (next_in e) place (waits place is) (sym whole ∙ nothing))
+          absurd (waiting_some name_of (test_in e) (asked_in e) (next_in e) place (waits place is) (sym whole ∙ nothing))
 
 -- nothing is left exactly where no place is set
 pub idle_left : (e : State) (world : World) (left : List Moment) (b : Bool) → is_some e.first ≡ not b → Stands e world left → (b ≡ true → left ≡ []) × (left ≡ [] → b ≡ true)
@@ -63,14 +64,14 @@ idle_left e world left b is stands = (λ none. stands.none.0 (unset e.first (is 
     set true h = refl
     set false h = cc
 
--- an engine with other queries, by the same items and instants
-module _ (old new : State) (items : new.items ≡ old.items) (next : new.next ≡ old.next) (arrived : new.arrived ≡ old.arrived) (t i : ℕ)
-    (first : IsFirstLeft name_in (test_in old) (registrations_in new) (next_in old) t i new.first) where
-  pub left_renamed : left_in new ≡ left_from name_in (test_in old) (registrations_in new) (next_in old) t i
-  left_renamed = rw (items, next, arrived) (first_left_is name_in (test_in old) (registrations_in new) (next_in old) t i new.first first)
+-- an engine with other queries, by the same instants
+module _ (old new : State) (next : new.next ≡ old.next) (arrived : new.arrived ≡ old.arrived) (t i : ℕ)
+    (first : IsFirstLeft name_of (test_in old) (asked_in new) (next_in old) t i new.first) where
+  pub left_renamed : left_in new ≡ left_from name_of (test_in old) (asked_in new) (next_in old) t i
+  left_renamed = rw (next, arrived) (first_left_is name_of (test_in old) (asked_in new) (next_in old) t i new.first first)
 
-  pub waits_renamed : ForSome new.first (IsWaiting (test_in new) (registrations_in new) (next_in new))
-  waits_renamed = rw (items, next, arrived) (waits_at name_in (test_in old) (registrations_in new) (next_in old) t i new.first first)
+  pub waits_renamed : ForSome new.first (IsWaiting (test_in new) (asked_in new) (next_in new))
+  waits_renamed = rw (next, arrived) (waits_at name_of (test_in old) (asked_in new) (next_in old) t i new.first first)
 
 -- ---- queries by name
 

@@ -11,7 +11,6 @@ use Rattle.rsp_query.specs.Queries.{Registered}
 use Rattle.rsp_algebra.specs.Nodes.{Node}
 use Rattle.rsp_algebra.specs.Overfull.{overfull}
 use Rattle.rsp_scope.specs.Contents.{Accepted, HasContent, Watch}
-use Rattle.rsp_scope.specs.Ends.{IsKept}
 use Rattle.rsp_scope.specs.Kept.{Kept}
 use Rattle.rsp_scope.specs.declared.pieces.Piece.{Piece}
 use Rattle.rsp_scope.specs.Moves.{Followed}
@@ -29,7 +28,7 @@ use Rattle.rsp_engine.specs.Left.{IsFirstLeft}
 use Rattle.rsp_engine.specs.Readings.{reading_of}
 use Rattle.rsp_engine.specs.Refusals.{Refusal, refusal_of}
 use Rattle.rsp_engine.specs.Reports.{IsOutcome, rows_over}
-use Rattle.rsp_engine.specs.Stands.{Follows, Precede, State, Live, asked_in, cut_of, next_in, reading_in, registration_of, test_in, watches_in}
+use Rattle.rsp_engine.specs.Stands.{Fits, Follows, Precede, State, Live, asked_in, next_in, reading_in, registration_of, test_in}
 use Rattle.rsp_engine.specs.Watching.{Tells, name_of, reports_by}
 use Rattle.rsp_engine.specs.World.{Reading}
 
@@ -47,11 +46,9 @@ pub record Passes (old : State) (more : List Accepted) (came : Option (List ℕ)
   pub arrived : new.arrived ≡ came
   pub broken : new.broken ≡ false
   pub first : IsFirstLeft name_of (reports_by to came) (asked_in new) to (unwrap_or old.next to) 0 new.first
-  pub kept : (items : List Accepted) → IsKept (next_in old) (watches_in old) items old.kept
-      → IsKept (cut_of new) (watches_in new) (items ++ more) new.kept
-  pub told : (items : List Accepted) → length items ≡ old.kept.accepted
-      → All (λ (live : Live). Tells items (next_in old) (registration_of live) live.watched) old.queries
+  pub told : (items : List Accepted) → Fits old items
       → All (λ (live : Live). Tells (items ++ more) (next_in old) (registration_of live) live.watched) new.queries
+  pub fits : (items : List Accepted) → Fits old items → Fits new (items ++ more)
 
 -- that a report is overfull
 abbrev pub is_overfull_outcome : Outcome → Bool
@@ -124,9 +121,9 @@ pub record ReportsFirst (old : State) (report : Report) (new : State) : Type 0 w
   pub same : registration_of now ≡ registration_of live
   pub watched : now.watched ≡ live.watched
   pub told : is_overfull_outcome report.outcome ≡ false → now.reported ≡ true
-  pub follows : is_overfull_outcome report.outcome ≡ false → (items : List Accepted) → Follows items old.stored old.log live
+  pub stood : is_overfull_outcome report.outcome ≡ false → (items : List Accepted) → Follows items old.stored old.log live
       → HasContents items old.kept place.at (watches live.first live.windows)
-      → Follows items old.stored old.log now × IsSameMultiset fact_eq now.seen (facts_at items old.stored live place.at)
+      → IsSameMultiset fact_eq now.seen (facts_at items old.stored live place.at)
   pub next : new.next ≡ old.next
   pub stored : new.stored ≡ old.stored
   pub log : new.log ≡ old.log
@@ -135,8 +132,7 @@ pub record ReportsFirst (old : State) (report : Report) (new : State) : Type 0 w
   pub queries : new.queries ≡ queries_behind old place now (is_overfull_outcome report.outcome)
   pub left : IsFirstLeft name_of (test_in old) (asked_in new) (next_in old) place.at
       (place_behind place (is_overfull_outcome report.outcome)) new.first
-  pub kept : (items : List Accepted) → IsKept place.at (watches_in old) items old.kept
-      → IsKept (cut_of new) (watches_in new) items new.kept
+  pub fits : (items : List Accepted) → Fits old items → Fits new items
 
 -- the answer names this refusal
 abbrev pub IsFaultOf : Refused → Option Refusal → Type 0

@@ -153,17 +153,22 @@ pub record Follows (items : List Accepted) (stored : List Fact) (log : List Piec
   pub seen : (q : Fact) → times fact_eq live.seen q +ℤ unseen stored log live q
       ≡ times fact_eq stored q +ℤ times fact_eq (facts_followed items live.contents) q
 
+-- these are the accepted items, as far as the engine needs them: of them it keeps what is needed from the cut on, and from there
+-- on its queries watch their times and follow their contents
+pub record Fits (engine : State) (items : List Accepted) : Type 0 where
+  pub kept : IsKept (cut_of engine) (watches_in engine) items engine.kept
+  pub told : All (λ (live : Live). Tells items (cut_of engine) (registration_of live) live.watched) engine.queries
+  pub follows : All (Follows items engine.stored engine.log) engine.queries
+
 -- the engine stands for this world, and for these moments as those that are left
 pub record Stands (engine : State) (world : World) (left : List Moment) : Type 0 where
   pub ready : engine.broken ≡ false
   pub next : engine.next ≡ world.next
-  pub kept : IsKept (cut_of engine) (watches_in engine) world.items engine.kept
+  pub fits : Fits engine world.items
   pub few : held world ≤ most_held
   pub stored : IsSameMultiset fact_eq engine.stored world.stored
   pub queries : registrations_in engine ≡ registrations world
   pub seen : HaveSeen engine.queries world.queries
-  pub told : All (λ (live : Live). Tells world.items (cut_of engine) (registration_of live) live.watched) engine.queries
-  pub follows : All (Follows world.items engine.stored engine.log) engine.queries
   pub moments : left ≡ left_in engine
   pub head : ForSome engine.first (IsHead engine left)
   pub none : (engine.first ≡ None) ↔ (left ≡ [])
@@ -195,6 +200,11 @@ pub record IsLive (next : ℕ) (arrived : Option (List ℕ)) (accepted cut : ℕ
   pub reached : All (λ (seen : Followed). IsReached seen.at cut) live.contents
   pub first : live.first ≤ accepted
 
+-- some items fit
+pub record History (engine : State) : Type 0 where
+  pub items : List Accepted
+  pub fits : Fits engine items
+
 pub record IsState (engine : State) : Type 0 where
   pub next_high : next_in engine ≤ last_instant + 1
   pub lives : All (IsLive (next_in engine) engine.arrived engine.kept.accepted (cut_of engine)) engine.queries
@@ -202,3 +212,4 @@ pub record IsState (engine : State) : Type 0 where
   pub store : IsStore engine.stored
   pub names : IsDistinct bytes_eq (map (λ (live : Live). live.name) engine.queries)
   pub waits : ForSome engine.first (IsWaiting (test_in engine) (asked_in engine) (next_in engine))
+  pub history : History engine
