@@ -3,12 +3,9 @@ pub mod Kept
 pub mod Contents
 pub mod Quads
 pub mod Faults
-pub mod Needed
-pub mod Logged
 -- Words of the way
 pub mod Inside
 pub mod Moves
 pub mod Lanes
 pub mod Order
 pub mod Runs
-pub mod Ends
