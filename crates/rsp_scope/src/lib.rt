@@ -22,7 +22,7 @@ mod streams;
 mod tally;
 
 pub use contents::Contents;
-pub use item::Item;
+pub use item::{Item, later};
 pub use shared::Shared;
 pub use stored::{Stored, StoredFault};
 pub use streams::Streams;

@@ -1,0 +1,28 @@
+-- Words of the way: the ends of items, and the kept items as those that are still needed.
+use Rattle.std.specs.Prelude.{◌≡◌, ℕ, false, nat_le, max, Option, None, Some, List, length, map, All}
+use Rattle.std.specs.List.{AllZip}
+use Rattle.std.specs.Option.{option_map_or}
+use Rattle.rsp_scope.specs.Contents.{Accepted, Numbered, Watch, as_accepted}
+use Rattle.rsp_scope.specs.Kept.{Kept}
+use Rattle.rsp_scope.specs.Needed.{is_needed, needed_items}
+use Rattle.rsp_scope.specs.declared.item.Item.{Item}
+
+-- the end of an item: it is needed exactly up to there, and never where there is none
+abbrev pub EndsAt : List Watch → Numbered → Option ℕ → Type 0
+EndsAt watches entry end = (n : ℕ) → is_needed n watches entry ≡ option_map_or (λ e. nat_le n e) end false
+
+-- item by item the ends; the lists are as long
+abbrev pub AreEnds : List Watch → List Item → List (Option ℕ) → Type 0
+AreEnds watches items untils = AllZip (λ (item : Item) (until : Option ℕ). EndsAt watches (as_accepted item) until) items untils
+
+-- kept are exactly the items that are needed at `cut`, each with its end
+pub record IsKept (cut : ℕ) (watches : List Watch) (items : List Accepted) (kept : Kept) : Type 0 where
+  pub accepted : kept.accepted ≡ length items
+  pub listed : map as_accepted kept.items ≡ needed_items cut watches items
+  pub ends : All (λ (item : Item). EndsAt watches (as_accepted item) (Some item.end)) kept.items
+
+-- the later of two ends
+abbrev pub later : Option ℕ → Option ℕ → Option ℕ
+later None b = b
+later (Some a) None = Some a
+later (Some a) (Some b) = Some (max a b)
