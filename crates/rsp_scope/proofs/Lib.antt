@@ -2,6 +2,8 @@ mod ContentRows
 pub mod Endings
 pub mod Follows
 pub mod LaneLaws
+pub mod Needed
+pub mod Needs
 pub mod Orders
 pub mod Puts
 pub mod Risings
