@@ -3,6 +3,7 @@ pub mod Endings
 pub mod Follows
 pub mod LaneLaws
 pub mod Needed
+mod NeededRows
 pub mod Needs
 pub mod Orders
 pub mod Puts
