@@ -22,7 +22,7 @@ use Rattle.rsp_scope.specs.declared.item.Item.{Item}
 use Rattle.rsp_scope.proofs.Tallies.{presence-times}
 
 -- numbers of a list in two parts
-numbered-append : (n : ℕ) (xs ys : List Accepted) → numbered n (xs ++ ys) ≡ numbered n xs ++ numbered (n + length xs) ys
+pub numbered-append : (n : ℕ) (xs ys : List Accepted) → numbered n (xs ++ ys) ≡ numbered n xs ++ numbered (n + length xs) ys
 numbered-append n [] ys = let same : n ≡ n + 0 = omega arith in ap (λ m. numbered m ys) same
 numbered-append n (x ∷ xs) ys =
     let next : n + 1 + length xs ≡ n + suc (length xs) = omega arith in

@@ -2,6 +2,9 @@ mod ContentRows
 pub mod Endings
 pub mod Follows
 pub mod LaneLaws
+pub mod Needed
+mod NeededRows
+pub mod Needs
 pub mod Orders
 pub mod Puts
 pub mod Risings

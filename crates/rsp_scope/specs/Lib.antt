@@ -1,9 +1,11 @@
 -- Definitions: what a reader must believe
 pub mod Kept
 pub mod Contents
+pub mod Needed
 pub mod Quads
 pub mod Faults
 -- Words of the way
+pub mod Ends
 pub mod Inside
 pub mod Moves
 pub mod Lanes

@@ -39,9 +39,11 @@ impl Model for Contents {
 }
 
 impl Contents {
-    ghost use Rattle.std.specs.Prelude.{◌≡◌, ◌≤◌, ◌^◌, ◌++◌, List, [], Option, None, Some, IfOk, OnOk};
+    ghost use Rattle.std.specs.Prelude.{◌≡◌, ◌≤◌, ◌^◌, ◌++◌, ◌∷◌, List, [], Option, None, Some, IfOk, OnOk};
     ghost use Rattle.rsp_multiset.specs.Weights.{IsChanged};
     ghost use Rattle.rsp_terms.specs.Same.{fact_eq};
+    ghost use Rattle.rsp_terms.specs.declared.statement.Triple.{Triple};
+    ghost use Rattle.rsp_scope.specs.Ends.{EndsAt};
     ghost use Rattle.rsp_scope.specs.Contents.{Accepted, HasContent, window_facts};
     ghost use Rattle.rsp_scope.specs.Moves.{HasSeen, IsReached};
 
@@ -65,6 +67,20 @@ impl Contents {
                 counts: Changes::new(alloc),
             },
         }
+    }
+
+    /// The end of an item with this number, stream and time (ms, at most 2^48), as far as this window alone may need it: the
+    /// greatest closing of a window that contains the time. None where the window doesn't see the item, or none contains it.
+    /// Takes no memory.
+    pub fn end_of(&self, number: u64, stream: &Text, time: u64) -> Option<u64>
+        requires { time ≤ 2 ^ 48 }
+        ensures { (graph : List Triple) → EndsAt (self.now.watch ∷ [])
+            (record { number = number; item = record { stream = stream.now; time = time; graph = graph } }) result }
+    {
+        if number < self.first || *stream != self.stream {
+            return None;
+        }
+        self.window.last_needed(time)
     }
 
     /// Moves to the instant `t`, which isn't before that of the last move and at most 2^48. Gives the change of the window's

@@ -2,8 +2,9 @@
 //!
 //! Contracts see [`Streams`] as the list of kept items and the number of accepted ones; each call is a filter, an append
 //! or a sum of that list. A move of [`Contents`] gives the facts by which the window's graph then differs, whatever the
-//! order of the items' times. They see [`Stored`] as the list of the stored quads, each once, as facts. Above: the engine.
-//! Below: windows, terms and changes.
+//! order of the items' times. They see [`Stored`] as the list of the stored quads, each once, as facts. The definitions say
+//! which accepted items are needed, and laws that to keep these alone, up to their ends, loses nothing that a window sees.
+//! Above: the engine. Below: windows, terms and changes.
 #![tactic(auto)]
 
 mod contents;
@@ -22,7 +23,7 @@ mod streams;
 mod tally;
 
 pub use contents::Contents;
-pub use item::Item;
+pub use item::{Item, later};
 pub use shared::Shared;
 pub use stored::{Stored, StoredFault};
 pub use streams::Streams;
