@@ -2,6 +2,7 @@ mod ContentRows
 pub mod Endings
 pub mod Follows
 pub mod LaneLaws
+pub mod LogLaws
 pub mod Orders
 pub mod Puts
 pub mod Risings

@@ -3,6 +3,7 @@ pub mod Kept
 pub mod Contents
 pub mod Quads
 pub mod Faults
+pub mod Logged
 -- Words of the way
 pub mod Inside
 pub mod Moves

@@ -1,0 +1,94 @@
+// What came to and went from the stored quads, kept once for all queries.
+ghost use Rattle.std.specs.Prelude.{◌≡◌, ◌+ℤ◌, ℕ, pos, IfOk, OnOk};
+ghost use Rattle.std.specs.List.{Contains};
+ghost use Rattle.rsp_multiset.specs.Weights.{weight};
+ghost use Rattle.rsp_terms.specs.declared.statement.Fact.{Fact};
+ghost use Rattle.rsp_terms.specs.Same.{fact_eq};
+ghost use Rattle.rsp_scope.specs.Logged.{since};
+
+use crate::pieces::{Piece, close_up, end_behind, forget, put, sum_since};
+use rsp_multiset::Changes;
+use rsp_terms::Fact;
+use std::alloc::{AllocError, Global};
+use std::marker::Model;
+
+/// The changes of the stored quads. Each query has a place in it, at which it looked at the quads last.
+//
+// A piece is kept while a place is in front of it, and two neighbours become one where no place stands between them. Each
+// change that is recorded looks at two pairs of neighbours in turn, so there are at most a few pieces for each place.
+#[derive(Drop)]
+pub struct StoreLog {
+    alloc: Global,
+    pieces: Vec<Piece, Global>,
+    // the place behind all pieces
+    end: u64,
+    // the index of the piece to look at next
+    turn: usize,
+}
+
+impl Model for StoreLog {
+    ghost use Rattle.std.specs.Prelude.{List};
+    ghost use Rattle.rsp_scope.specs.Logged.{EndBy};
+    ghost use Rattle.rsp_scope.specs.declared.pieces.Piece.{Piece};
+
+    ghost Value = { List Piece };
+
+    ghost view = { λ l. l.pieces.items };
+
+    ghost invariant = { λ l. EndBy l.end l.pieces.items };
+}
+
+impl StoreLog {
+    ghost use Rattle.std.specs.Prelude.{◌≡◌, ◌+ℤ◌, ℕ, pos, IfOk, OnOk};
+    ghost use Rattle.std.specs.List.{Contains};
+    ghost use Rattle.rsp_multiset.specs.Weights.{weight};
+    ghost use Rattle.rsp_terms.specs.declared.statement.Fact.{Fact};
+    ghost use Rattle.rsp_terms.specs.Same.{fact_eq};
+    ghost use Rattle.rsp_scope.specs.Logged.{since};
+
+    /// Nothing is logged. Takes no memory.
+    pub fn new(alloc: Global) -> StoreLog
+        ensures { (place : ℕ) (q : Fact) → since result place q ≡ pos 0 }
+    {
+        StoreLog {
+            alloc,
+            pieces: Vec::new(alloc),
+            end: 0,
+            turn: 0,
+        }
+    }
+
+    /// Logs a change, which is then seen from each of these places, those of the queries that may still ask. What none of
+    /// them sees is let go. Fails where memory is refused or a number is out of range; what is then left is only to be
+    /// dropped.
+    pub fn record(&mut self, change: Changes<Fact>, places: &[u64]) -> Result<(), AllocError>
+        ensures { OnOk result ((place : ℕ) → Contains places.now place → (q : Fact)
+            → since self.new place q ≡ since self.old place q +ℤ weight fact_eq change q) }
+    {
+        if places.is_empty() {
+            self.pieces.clear();
+            return Ok(());
+        }
+        let end = end_behind(places)?;
+        self.end = self.end.max(end);
+        forget(&mut self.pieces, places);
+        put(&mut self.pieces, change, end)?;
+        let turn = close_up(&mut self.pieces, places, self.turn)?;
+        self.turn = close_up(&mut self.pieces, places, turn)?;
+        Ok(())
+    }
+
+    /// The place behind all that is logged. Takes no memory.
+    pub fn mark(&self) -> u64
+        ensures { (q : Fact) → since self.now result q ≡ pos 0 }
+    {
+        self.end
+    }
+
+    /// The change that was logged from the place on. Fails where memory is refused or a count is out of range.
+    pub fn since(&self, place: u64) -> Result<Changes<Fact>, AllocError>
+        ensures { IfOk result (λ change. (q : Fact) → weight fact_eq change q ≡ since self.now place q) }
+    {
+        sum_since(self.alloc, &self.pieces, place)
+    }
+}
