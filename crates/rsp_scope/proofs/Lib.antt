@@ -1,6 +1,7 @@
 mod ContentRows
 pub mod Endings
 pub mod Follows
+pub mod Forgetting
 pub mod LaneLaws
 pub mod LogLaws
 pub mod Orders

@@ -1,13 +1,15 @@
 -- What is seen of a log from a place.
-use Rattle.std.proofs.Common.{◌≡◌, ℕ, zero, suc, ◌<◌, ◌≤◌, Bool, true, false, cond, nat_lt, List, [], ◌∷◌, ◌++◌, ℤ, pos, ◌+ℤ◌, drop, take, length, filter, slice_index_or, slice_set, refl, sym, ap, ◌∙◌, drop-cons, arith}
+use Rattle.std.proofs.Common.{◌≡◌, ℕ, zero, suc, ◌<◌, ◌≤◌, ◌+◌, Bool, true, false, true≢false, cond, nat_lt, List, [], ◌∷◌, ◌++◌, ℤ, pos, ◌+ℤ◌, drop, take, length, filter, slice_index_or, slice_set, refl, sym, ap, ◌∙◌, drop-cons, arith}
 use Rattle.std.proofs.lemmas.Bool.Decides.{nat_tests}
 use Rattle.std.proofs.lemmas.Int.{ints}
+use Rattle.std.proofs.lemmas.List.{at_drop_more}
 use Rattle.rsp_multiset.specs.Weights.{sum_z, only, weight}
 use Rattle.rsp_multiset.proofs.Sums.{sum_z-alike, sum_z-append, sum_z-filter}
 use Rattle.rsp_terms.specs.declared.statement.Fact.{Fact}
 use Rattle.rsp_terms.specs.Same.{fact_eq}
 use Rattle.rsp_scope.specs.Logged.{since, EndBy}
 use Rattle.rsp_scope.specs.declared.pieces.Piece.{Piece}
+use Rattle.rsp_scope.proofs.Endings.{any-default}
 
 module _ {X : Type 0} (f : X → ℤ) where
   pub sum-set : (xs : List X) (k : ℕ) (y d : X) → k < length xs → sum_z f (slice_set xs k y) +ℤ f (slice_index_or xs k d) ≡ sum_z f xs +ℤ f y
@@ -126,5 +128,41 @@ since-set pieces k old new w place q below is same before gained =
 one-seen : (a b : Bool) (v w : ℤ) → a ≡ b → only a v +ℤ only b w ≡ only b (v +ℤ w)
 one-seen true true v w same = refl
 one-seen false false v w same = refl
-one-seen true false v w same = omega (arith, ints)
-one-seen false true v w same = omega (arith, ints)
+one-seen true false v w same = absurd (true≢false same)
+one-seen false true v w same = absurd (true≢false (sym same))
+
+abbrev seen : ℕ → Fact → Piece → ℤ
+seen place q piece = only (nat_lt place piece.end) (weight fact_eq piece.changes q)
+
+-- two neighbours x and y are taken out, and z comes in their place
+pub since-one : (before less left after : List Piece) (at : ℕ) (x y z d : Piece) (place : ℕ) (q : Fact)
+    → at + 1 < length before → less ≡ take at before ++ drop (suc at) before → x ≡ slice_index_or before at x
+    → at < length less → left ≡ take at less ++ drop (suc at) less → y ≡ slice_index_or less at y
+    → ((e : Piece) → slice_index_or less at e ≡ slice_index_or before (at + 1) e)
+    → after ≡ take at left ++ z ∷ drop at left → z.end ≡ y.end → weight fact_eq z.changes q ≡ weight fact_eq x.changes q +ℤ weight fact_eq y.changes q
+    → nat_lt place (slice_index_or before at d).end ≡ nat_lt place (slice_index_or before (at + 1) d).end
+    → since after place q ≡ since before place q
+since-one before less left after at x y z d place q two is-less is-x one is-left is-y shifted is-after ends joined alike =
+    let first = sum-remove (seen place q) before at x (omega (arith, two)) in
+    let a = ap (λ l. sum_z (seen place q) l) is-less in
+    let hx = ap (seen place q) is-x in
+    let second = sum-remove (seen place q) less at y one in
+    let b = ap (λ l. sum_z (seen place q) l) is-left in
+    let hy = ap (seen place q) is-y in
+    let third = sum-insert (seen place q) left at z in
+    let c = ap (λ l. sum_z (seen place q) l) is-after in
+    let front : nat_lt place x.end ≡ nat_lt place (slice_index_or before at d).end
+    = ap (λ (p : Piece). nat_lt place p.end) (is-x ∙ any-default before at x d (omega (arith, two))) in
+    let back : nat_lt place y.end ≡ nat_lt place (slice_index_or before (at + 1) d).end
+    = ap (λ (p : Piece). nat_lt place p.end) (is-y ∙ (shifted y ∙ any-default before (at + 1) y d two)) in
+    let whole : seen place q x +ℤ seen place q y ≡ seen place q z
+    = one-seen (nat_lt place x.end) (nat_lt place y.end) (weight fact_eq x.changes q) (weight fact_eq y.changes q) (front ∙ (alike ∙ sym back))
+    ∙ (λ i. only (nat_lt place (sym ends i)) (sym joined i)) in
+    omega (arith, ints, first, a, hx, second, b, hy, third, c, whole)
+
+-- a walk over the pieces, one further
+pub since-next : (pieces : List Piece) (i : ℕ) (piece : Piece) (place : ℕ) (q : Fact) → i < length pieces → piece ≡ slice_index_or pieces i piece
+    → since (drop i pieces) place q ≡ seen place q piece +ℤ since (drop (i + 1) pieces) place q
+since-next pieces i piece place q below is =
+    at_drop_more (λ l. since l place q) pieces i piece below
+    ∙ ap (λ (p : Piece). seen place q p +ℤ since (drop (i + 1) pieces) place q) (sym is)
