@@ -1,7 +1,9 @@
 mod ContentRows
 pub mod Endings
 pub mod Follows
+pub mod Forgetting
 pub mod LaneLaws
+pub mod LogLaws
 pub mod Needed
 mod NeededRows
 pub mod Needs

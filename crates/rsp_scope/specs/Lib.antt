@@ -4,6 +4,7 @@ pub mod Contents
 pub mod Needed
 pub mod Quads
 pub mod Faults
+pub mod Logged
 -- Words of the way
 pub mod Ends
 pub mod Inside

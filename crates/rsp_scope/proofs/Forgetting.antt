@@ -1,0 +1,64 @@
+-- Times that are in no content any more.
+use Rattle.std.proofs.Common.{◌≡◌, ℕ, suc, ◌+◌, ◌-◌, ◌<◌, ◌≤◌, Bool, true, false, ◌||◌, cond, nat_lt, List, [], ◌∷◌, drop, filter, slice_index_or, inl, inr, refl, sym, ap, ◌∙◌, arith}
+use Rattle.std.specs.List.Sorted.{IsNonDecreasing}
+use Rattle.std.proofs.Math.Nat.{mul-le-mul_right}
+use Rattle.std.proofs.lemmas.Bool.{cases_lt}
+use Rattle.std.proofs.lemmas.Bool.Decides.{nat_tests}
+use Rattle.rsp_spec.specs.Windows.{Shape, closing, in_content, opening}
+use Rattle.rsp_spec.proofs.ContentLaws.{in_content_is}
+use Rattle.rsp_scope.proofs.Endings.{filter-whole}
+
+opens_no_later : (w : Shape) (k j : ℕ) → k ≤ j → opening w k ≤ opening w j
+opens_no_later w k j before = omega (arith, mul-le-mul_right w.slide before)
+
+-- up to the opening of the first window that closes at s or later: in no content from s on
+pub not_in_content : (w : Shape) (s first : ℕ) → 1 ≤ w.slide → ((k : ℕ) → k < first → closing w k < s)
+    → (t time : ℕ) → s ≤ t → time ≤ opening w first → in_content w t time ≡ false
+not_in_content w s first slide closed t time after early = by (in_content w t time) refl
+  where
+    by : (b : Bool) → in_content w t time ≡ b → b ≡ false
+    by false is = refl
+    by true is =
+        let needed = ((in_content_is w t time slide).0 is).1 in
+        elim (cases_lt needed.number first) [
+          | inl before ↦ absurd (omega (arith, closed needed.number before, needed.late, after))
+          | inr late ↦ absurd (grind (arith, nat_tests, opens_no_later w first needed.number late, needed.inside, early))
+        ]
+
+-- what one test lets go, another doesn't pass either
+filter-past : (p kept : ℕ → Bool) → ((x : ℕ) → kept x ≡ false → p x ≡ false) → (xs : List ℕ) → filter p (filter kept xs) ≡ filter p xs
+filter-past p kept gone [] = refl
+filter-past p kept gone (x ∷ xs) = by (kept x) refl (filter-past p kept gone xs)
+  where
+    by : (b : Bool) → kept x ≡ b → filter p (filter kept xs) ≡ filter p xs
+        → filter p (cond b (x ∷ filter kept xs) (filter kept xs)) ≡ cond (p x) (x ∷ filter p xs) (filter p xs)
+    by true is rest = ap (λ l. cond (p x) (x ∷ l) l) rest
+    by false is rest = rest ∙ sym (ap (λ b. cond b (x ∷ filter p xs) (filter p xs)) (gone x is))
+
+pub forgotten : (w : Shape) (from s first low : ℕ) (times : List ℕ) → 1 ≤ w.slide → s + 1 ≡ from → low ≡ opening w first
+    → ((k : ℕ) → k < first → closing w k < s) → (t : ℕ) → from ≤ t
+    → filter (λ time. in_content w t time || in_content w (t - 1) time) (filter (λ time. nat_lt low time) times)
+    ≡ filter (λ time. in_content w t time || in_content w (t - 1) time) times
+forgotten w from s first low times slide next is closed t after =
+    filter-past (λ time. in_content w t time || in_content w (t - 1) time) (λ time. nat_lt low time)
+    (λ time gone.
+    let early : time ≤ opening w first = grind (arith, nat_tests, gone, is) in
+    let now = not_in_content w s first slide closed t time (omega (arith, next, after)) early in
+    let before = not_in_content w s first slide closed (t - 1) time (omega (arith, next, after)) early in
+    (λ i. now i || before i)) times
+
+-- of sorted times those above a bound stand behind the others
+pub above-last : (low : ℕ) (times : List ℕ) → IsNonDecreasing times → (n : ℕ) × (filter (λ time. nat_lt low time) times ≡ drop n times)
+above-last low [] sorted = (0, refl)
+above-last low (x ∷ times) sorted =
+    by (nat_lt low x) refl (above-last low times (λ i j d before below. sorted (suc i) (suc j) d (omega (arith, before)) (omega (arith, below))))
+  where
+    by : (b : Bool) → nat_lt low x ≡ b → (n : ℕ) × (filter (λ time. nat_lt low time) times ≡ drop n times)
+        → (n : ℕ) × (filter (λ time. nat_lt low time) (x ∷ times) ≡ drop n (x ∷ times))
+    by true is rest = (
+      0,
+      filter-whole (λ time. nat_lt low time) (x ∷ times) (λ k d below.
+          let least : x ≤ slice_index_or (x ∷ times) k d = sorted 0 k d (omega arith) below in
+          grind (arith, nat_tests, least, is)),
+    )
+    by false is (n, rest) = (suc n, ap (λ b. cond b (x ∷ filter (λ time. nat_lt low time) times) (filter (λ time. nat_lt low time) times)) is ∙ rest)
