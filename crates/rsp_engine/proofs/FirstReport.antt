@@ -1,5 +1,5 @@
 -- The first report of the moments that are left leads to a world for which the engine stands.
-use Rattle.std.proofs.Common.{◌≡◌, ℕ, zero, suc, ◌+◌, ◌<◌, Bool, true, false, List, [], ◌∷◌, filter, length, map, remove, slice_get, slice_set, drop, Option, None, Some, refl, sym, ◌∙◌, ap, subst, arith}
+use Rattle.std.proofs.Common.{◌≡◌, ℕ, zero, suc, ◌+◌, ◌<◌, ◌≤◌, Bool, true, false, List, [], ◌∷◌, filter, length, map, remove, slice_get, slice_set, drop, Option, None, Some, refl, sym, ◌∙◌, ap, subst, arith}
 use Rattle.std.specs.Prelude.{if◌then◌else◌, not, bytes_eq}
 use Rattle.std.proofs.lemmas.List.{length-map, length-set}
 use Rattle.std.proofs.lemmas.Option.{get_or_from_slice_get, slice_get_within}
@@ -17,19 +17,25 @@ use Rattle.rsp_engine.specs.declared.finding.Pending.{Pending}
 use Rattle.rsp_engine.specs.declared.report.Outcome.{Outcome}
 use Rattle.rsp_engine.specs.declared.report.Outcome.TheVariants as outcomes
 use Rattle.rsp_engine.specs.declared.report.Report.{Report}
-use Rattle.rsp_engine.specs.World.{Query, Reading, Registration, World, registrations}
-use Rattle.rsp_engine.specs.Accept.{without}
-use Rattle.rsp_engine.specs.Contents.{facts_over}
-use Rattle.rsp_engine.specs.Left.{IsFirstLeft, left_from, name_in}
+use Rattle.rsp_engine.specs.World.{Query, Reading, Registration, World, next_of, registrations}
+use Rattle.rsp_engine.specs.Kept.{held, watches_of}
+use Rattle.rsp_scope.specs.Needed.{listed_triples, needed_items}
+use Rattle.std.specs.Option.{option_map_or}
+use Rattle.rsp_engine.specs.Accept.{most_held, without}
+use Rattle.rsp_engine.specs.Contents.{facts_over, watches}
+use Rattle.rsp_engine.specs.Left.{IsFirstLeft, left_from}
+use Rattle.rsp_engine.specs.Watching.{name_of}
 use Rattle.rsp_engine.specs.Moments.{Moment}
 use Rattle.rsp_engine.specs.Reports.{IsOutcome, after_report, cells_at, facts, is_overfull, live_query, moments_behind, next_step, query_after_report, report_of, rows_over, solutions}
-use Rattle.rsp_engine.specs.Stands.{Behind, HaveSeen, IsState, Live, Precede, Stands, State, facts_in, left_in, next_in, places_left, registration_of, registrations_in, test_in}
+use Rattle.rsp_engine.specs.Stands.{Behind, Follows, HaveSeen, IsState, Live, Precede, Stands, State, asked_in, asked_of, left_in, next_in, places_left, registration_of, registrations_in, test_in}
 use Rattle.rsp_engine.specs.Offers.{GivesOf}
-use Rattle.rsp_engine.specs.Passing.{ReportsFirst, is_overfull_outcome, outcome_over, place_behind, queries_behind}
+use Rattle.rsp_engine.specs.Passing.{HasContents, ReportsFirst, facts_at, is_overfull_outcome, outcome_over, place_behind, queries_behind}
 use Rattle.rsp_engine.proofs.Left.{gone, waiting_head}
 use Rattle.rsp_engine.proofs.Places.{nearer, nearer_gone}
 use Rattle.rsp_engine.proofs.Named.{drop_named, find_named, get_map, remove_map, remove_named, set_map, set_named, set_same}
-use Rattle.rsp_engine.proofs.Sees.{sees}
+use Rattle.rsp_engine.proofs.Fitting.{contents_here}
+use Rattle.rsp_engine.proofs.Offering.{held_fewer, less_needed}
+use Rattle.rsp_engine.proofs.Reporting.{All-get}
 use Rattle.rsp_engine.proofs.Seen.{name_of_query, seen_at, seen_removed, seen_set, world_at, world_names}
 use Rattle.rsp_engine.proofs.Standing.{head_is, left_here, left_renamed, none_is, waits_renamed}
 
@@ -62,10 +68,10 @@ module _ (old new : State) (report : Report) (world : World) (left : List Moment
   query = registration_of live
 
   abbrev rest : List Moment
-  rest = left_from name_in (test_in old) (registrations_in old) (next_in old) place.at (place.query + 1)
+  rest = left_from name_of (test_in old) (asked_in old) (next_in old) place.at (place.query + 1)
 
   abbrev seen_now : List Fact
-  seen_now = facts_in old live place.at
+  seen_now = facts_at world.items old.stored live place.at
 
   found : (q : Query) × (slice_get world.queries place.query ≡ Some q) × (q.registration ≡ query)
   found = world_at old world stands.queries place.query live given.listed
@@ -81,26 +87,32 @@ module _ (old new : State) (report : Report) (world : World) (left : List Moment
   is_first =
       let here = left_here old world left stands place given.first in
       let waits = state.waits place given.first in
-      here ∙ waiting_head name_in (test_in old) (registrations_in old) (next_in old) place query waits (get_map registration_of old.queries place.query live given.listed)
+      here ∙ waiting_head name_of (test_in old) (asked_in old) (next_in old) place (asked_of live) waits (get_map asked_of old.queries place.query live given.listed)
 
-  in_windows : facts_over old.items live.first live.windows place.at ≡ facts_over world.items live.first live.windows place.at
-  in_windows =
-      let waits = state.waits place given.first in
-      let all = (sees old world place.at stands.next stands.kept).windows place.at (omega arith) waits.within in
-      subst (λ (l : Live). facts_over old.items l.first l.windows place.at ≡ facts_over world.items l.first l.windows place.at) (get_or_from_slice_get old.queries place.query live live given.listed)
-      (all place.query live (slice_get_within old.queries place.query live given.listed))
+  -- what it needs of the world's items is kept, and it has seen what it saw there
+  follows : Follows world.items old.stored old.log live
+  follows = All-get (Follows world.items old.stored old.log) old.queries place.query live stands.fits.follows given.listed
+
+  contents : HasContents world.items old.kept place.at (watches live.first live.windows)
+  contents =
+      contents_here old world.items stands.fits place.query live given.listed place.at
+      (subst (λ first. option_map_or (λ (p : Pending). p.at) first (next_in old) ≤ place.at) (sym given.first) (omega arith))
 
   -- what it sees is what it sees in the world
   seen : IsSameMultiset fact_eq seen_now (facts world query place.at)
   seen =
-      same-append fact_same old.stored world.stored (facts_over old.items live.first live.windows place.at) (facts_over world.items live.first live.windows place.at) stands.stored (λ q. ap (λ fs. times fact_eq fs q) in_windows)
+      same-append fact_same old.stored world.stored (facts_over world.items live.first live.windows place.at) (facts_over world.items live.first live.windows place.at) stands.stored (λ q. refl)
 
   -- and the rows of its last report are those of the world's
   precedes : Precede live found.0.preceding
   precedes = seen_at old.queries world.queries place.query live found.0 stands.seen given.listed found.1
 
   full : is_overfull_outcome report.outcome ≡ is_overfull world query place.at
-  full = full_or_rows _ report.outcome _ (given.outcome (facts world query place.at) found.0.preceding seen precedes)
+  full = full_or_rows _ report.outcome _ (given.outcome world.items follows contents (facts world query place.at) found.0.preceding seen precedes)
+
+  -- when it reports next is decided as before
+  asked_same : asked_of given.now ≡ asked_of live
+  asked_same = λ i. record { name = (given.same i).name; policy = (given.same i).reading.policy; windows = (given.same i).reading.windows; watched = given.watched i }
 
   -- it is the live query of its name
   live_is : live_query world live.name ≡ Some found.0
@@ -111,21 +123,23 @@ module _ (old new : State) (report : Report) (world : World) (left : List Moment
   -- the engine behind it stands for a world with these queries
   module _ (ends : Bool) (queries : List Query) (behind_is : new.queries ≡ queries_behind old place given.now ends)
       (regs : registrations_in new ≡ map (λ (q : Query). q.registration) queries) (have : HaveSeen new.queries queries)
-      (first : IsFirstLeft name_in (test_in old) (registrations_in new) (next_in old) place.at (place_behind place ends) new.first) where
+      (few : held (record world { queries = queries }) ≤ most_held)
+      (first : IsFirstLeft name_of (test_in old) (asked_in new) (next_in old) place.at (place_behind place ends) new.first) where
     abbrev after : World
     after = record world { queries = queries }
 
-    left_behind : left_in new ≡ left_from name_in (test_in old) (registrations_in new) (next_in old) place.at (place_behind place ends)
-    left_behind = left_renamed old new given.items given.next given.arrived place.at (place_behind place ends) first
+    left_behind : left_in new ≡ left_from name_of (test_in old) (asked_in new) (next_in old) place.at (place_behind place ends)
+    left_behind = left_renamed old new given.next given.arrived place.at (place_behind place ends) first
 
-    behind : (moments : List Moment) → left_from name_in (test_in old) (registrations_in new) (next_in old) place.at (place_behind place ends) ≡ moments → Stands new after moments
+    behind : (moments : List Moment) → left_from name_of (test_in old) (asked_in new) (next_in old) place.at (place_behind place ends) ≡ moments → Stands new after moments
     behind moments is =
         let all : moments ≡ left_in new = sym (left_behind ∙ is) in
-        let waits = waits_renamed old new given.items given.next given.arrived place.at (place_behind place ends) first in
+        let waits = waits_renamed old new given.next given.arrived place.at (place_behind place ends) first in
         record {
           ready = given.broken ∙ stands.ready;
           next = given.next ∙ stands.next;
-          kept = given.items ∙ stands.kept;
+          fits = given.fits world.items stands.fits;
+          few = few;
           stored = subst (λ fs. IsSameMultiset fact_eq fs world.stored) (sym given.stored) stands.stored;
           queries = regs;
           seen = have;
@@ -135,7 +149,7 @@ module _ (old new : State) (report : Report) (world : World) (left : List Moment
         }
 
   -- an overfull report ends the query
-  ended : new.queries ≡ queries_behind old place given.now true → IsFirstLeft name_in (test_in old) (registrations_in new) (next_in old) place.at place.query new.first
+  ended : new.queries ≡ queries_behind old place given.now true → IsFirstLeft name_of (test_in old) (asked_in new) (next_in old) place.at place.query new.first
       → Stands new (record world { queries = without live.name world.queries }) (filter (λ (m : Moment). not (bytes_eq m.query live.name)) rest)
   ended queries first =
       let gone_is : without live.name world.queries ≡ remove world.queries place.query = subst (λ n. without n world.queries ≡ remove world.queries place.query) called (remove_named world.queries name_of_query place.query found.0 names found.1) in
@@ -143,16 +157,20 @@ module _ (old new : State) (report : Report) (world : World) (left : List Moment
       let regs : registrations_in new ≡ map (λ (q : Query). q.registration) (without live.name world.queries) = regs_old ∙ (ap (λ qs. remove qs place.query) stands.queries ∙ (sym (remove_map (λ (q : Query). q.registration) world.queries place.query) ∙ ap (map (λ (q : Query). q.registration)) (sym gone_is))) in
       let have : HaveSeen new.queries (without live.name world.queries) = subst (λ ls. HaveSeen ls (without live.name world.queries)) (sym queries)
       (subst (λ qs. HaveSeen (remove old.queries place.query) qs) (sym gone_is) (seen_removed old.queries world.queries place.query stands.seen)) in
-      let names_old : IsDistinct bytes_eq (map (λ (q : Registration). q.name) (registrations_in old)) = rw (map-map (λ (q : Registration). q.name) registration_of old.queries) state.names in
-      let listed_old = get_map registration_of old.queries place.query live given.listed in
-      let cut = remove_named (registrations_in old) (λ (q : Registration). q.name) place.query query names_old listed_old in
-      let dropped = drop_named (registrations_in old) (λ (q : Registration). q.name) place.query query names_old listed_old in
-      let struck = gone (test_in old) live.name (registrations_in old) (registrations_in new) (next_in old) place.at place.query (place.query + 1)
-      (regs_old ∙ sym cut) (ap (drop place.query) regs_old ∙ dropped) in
-      behind true (without live.name world.queries) queries regs have first _ struck
+      let fewer : held (record world { queries = without live.name world.queries }) ≤ held world = rw gone_is (held_fewer (next_of world) (next_of world) (watches_of (map (λ (q : Query). q.registration) (remove world.queries place.query))) (watches_of (registrations world)) world.items
+      (λ entry. rw (remove_map (λ (q : Query). q.registration) world.queries place.query) (less_needed (registrations world) place.query (next_of world) entry))) in
+      let few : held (record world { queries = without live.name world.queries }) ≤ most_held = let low = stands.few in omega (arith, fewer, low) in
+      let asked_old : asked_in new ≡ remove (asked_in old) place.query = ap (map asked_of) queries ∙ remove_map asked_of old.queries place.query in
+      let names_old : IsDistinct bytes_eq (map name_of (asked_in old)) = rw (map-map name_of asked_of old.queries) state.names in
+      let listed_old = get_map asked_of old.queries place.query live given.listed in
+      let cut = remove_named (asked_in old) name_of place.query (asked_of live) names_old listed_old in
+      let dropped = drop_named (asked_in old) name_of place.query (asked_of live) names_old listed_old in
+      let struck = gone name_of (test_in old) live.name (asked_in old) (asked_in new) (next_in old) place.at place.query (place.query + 1)
+      (asked_old ∙ sym cut) (ap (drop place.query) asked_old ∙ dropped) in
+      behind true (without live.name world.queries) queries regs have few first _ struck
 
   -- any other report has shown the query the facts of its instant
-  went_on : new.queries ≡ queries_behind old place given.now false → given.now.reported ≡ true → IsSameMultiset fact_eq given.now.seen seen_now → IsFirstLeft name_in (test_in old) (registrations_in new) (next_in old) place.at (place.query + 1) new.first
+  went_on : new.queries ≡ queries_behind old place given.now false → given.now.reported ≡ true → IsSameMultiset fact_eq given.now.seen seen_now → IsFirstLeft name_of (test_in old) (asked_in new) (next_in old) place.at (place.query + 1) new.first
       → Stands new (record world { queries = map (query_after_report world place.at live.name) world.queries }) rest
   went_on queries has_told stood first =
       let told : Query = record found.0 { preceding = solutions world found.0.registration place.at } in
@@ -160,8 +178,11 @@ module _ (old new : State) (report : Report) (world : World) (left : List Moment
       subst (λ n. map (query_after_report world place.at n) world.queries ≡ slice_set world.queries place.query told) called
       (set_named world.queries name_of_query place.query found.0 (λ q. record q { preceding = solutions world q.registration place.at }) names found.1) in
       let regs_old : registrations_in new ≡ registrations_in old = ap (map registration_of) queries ∙ (set_map registration_of old.queries place.query given.now ∙ (ap (slice_set (registrations_in old) place.query) given.same ∙ set_same (registrations_in old) place.query query (get_map registration_of old.queries place.query live given.listed))) in
+      let asked_old : asked_in new ≡ asked_in old = ap (map asked_of) queries ∙ (set_map asked_of old.queries place.query given.now ∙ (ap (slice_set (asked_in old) place.query) asked_same ∙ set_same (asked_in old) place.query (asked_of live) (get_map asked_of old.queries place.query live given.listed))) in
       let regs_world : map (λ (q : Query). q.registration) (slice_set world.queries place.query told) ≡ registrations world = set_map (λ (q : Query). q.registration) world.queries place.query told ∙ set_same (registrations world) place.query found.0.registration (get_map (λ (q : Query). q.registration) world.queries place.query found.0 found.1) in
-      let regs : registrations_in new ≡ map (λ (q : Query). q.registration) (map (query_after_report world place.at live.name) world.queries) = regs_old ∙ (stands.queries ∙ (sym regs_world ∙ ap (map (λ (q : Query). q.registration)) (sym set_is))) in
+      let regs_all : map (λ (q : Query). q.registration) (map (query_after_report world place.at live.name) world.queries) ≡ registrations world = ap (map (λ (q : Query). q.registration)) set_is ∙ regs_world in
+      let regs : registrations_in new ≡ map (λ (q : Query). q.registration) (map (query_after_report world place.at live.name) world.queries) = regs_old ∙ (stands.queries ∙ sym regs_all) in
+      let few : held (record world { queries = map (query_after_report world place.at live.name) world.queries }) ≤ most_held = subst (λ rs. listed_triples (needed_items (next_of world) (watches_of rs) world.items) ≤ most_held) (sym regs_all) stands.few in
       let rows : IsSameMultiset (row_eq term_eq) (rows_over (registration_of given.now).reading given.now.seen) (solutions world query place.at) =
       subst (λ (r : Registration). IsSameMultiset (row_eq term_eq) (rows_over r.reading given.now.seen) (solutions world query place.at)) (sym given.same)
       (rows_alike query.reading given.now.seen (facts world query place.at) (λ f. stood f ∙ seen f)) in
@@ -169,10 +190,10 @@ module _ (old new : State) (report : Report) (world : World) (left : List Moment
       let behind_told : Precede given.now told.preceding = subst (λ b. Behind b (rows_over (registration_of given.now).reading given.now.seen) told.preceding) (sym has_told) told_rows in
       let have : HaveSeen new.queries (map (query_after_report world place.at live.name) world.queries) = subst (λ ls. HaveSeen ls (map (query_after_report world place.at live.name) world.queries)) (sym queries)
       (subst (λ qs. HaveSeen (slice_set old.queries place.query given.now) qs) (sym set_is) (seen_set old.queries world.queries place.query given.now told stands.seen behind_told)) in
-      behind false (map (query_after_report world place.at live.name) world.queries) queries regs have first rest (ap (λ qs. left_from name_in (test_in old) qs (next_in old) place.at (place.query + 1)) regs_old)
+      behind false (map (query_after_report world place.at live.name) world.queries) queries regs have few first rest (ap (λ qs. left_from name_of (test_in old) qs (next_in old) place.at (place.query + 1)) asked_old)
 
   stands_behind : (ends : Bool) → is_overfull world query place.at ≡ ends → (ends ≡ false → given.now.reported ≡ true) → (ends ≡ false → IsSameMultiset fact_eq given.now.seen seen_now) → new.queries ≡ queries_behind old place given.now ends
-      → IsFirstLeft name_in (test_in old) (registrations_in new) (next_in old) place.at (place_behind place ends) new.first
+      → IsFirstLeft name_of (test_in old) (asked_in new) (next_in old) place.at (place_behind place ends) new.first
       → Stands new (after_report world query place.at) (moments_behind world query place.at rest)
   stands_behind true ends told stood queries first = rw ends (ended queries first)
   stands_behind false ends told stood queries first = rw ends (went_on queries (told refl) (stood refl) first)
@@ -180,7 +201,7 @@ module _ (old new : State) (report : Report) (world : World) (left : List Moment
   -- what the world's query reports
   outcome_is : IsOutcome report.outcome (report_of world found.0 place.at).outcome
   outcome_is = subst (λ (r : Registration). IsOutcome report.outcome (outcome_over r.reading found.0.preceding (facts world r place.at))) (sym found.2)
-      (given.outcome (facts world query place.at) found.0.preceding seen precedes)
+      (given.outcome world.items follows contents (facts world query place.at) found.0.preceding seen precedes)
 
   pub first_given : GivesOf world left report new
   first_given =
@@ -194,32 +215,32 @@ module _ (old new : State) (report : Report) (world : World) (left : List Moment
           outcome = outcome_is;
         };
         stands = subst (λ (r : Registration). Stands new (after_report world r place.at) (moments_behind world r place.at rest)) (sym found.2)
-            (stands_behind (is_overfull_outcome report.outcome) (sym full) given.told given.seen given.queries given.left);
+            (stands_behind (is_overfull_outcome report.outcome) (sym full) given.told (λ rows. given.stood rows world.items follows contents) given.queries given.left);
       }
 
 -- ---- fewer places are left
 
 module _ (old new : State) (report : Report) (given : ReportsFirst old report new) where
   less : (ends : Bool) → new.queries ≡ queries_behind old given.place given.now ends
-      → IsFirstLeft name_in (test_in old) (registrations_in new) (next_in old) given.place.at (place_behind given.place ends) new.first → places_left new < places_left old
+      → IsFirstLeft name_of (test_in old) (asked_in new) (next_in old) given.place.at (place_behind given.place ends) new.first → places_left new < places_left old
   less true queries first = by new.first refl first
     where
-      by : (r : Option Pending) → new.first ≡ r → IsFirstLeft name_in (test_in old) (registrations_in new) (next_in old) given.place.at given.place.query r → places_left new < places_left old
+      by : (r : Option Pending) → new.first ≡ r → IsFirstLeft name_of (test_in old) (asked_in new) (next_in old) given.place.at given.place.query r → places_left new < places_left old
       by None is h = rw (is, given.first) (omega arith)
       by (Some later) is h =
-          let few = slice_get_within (registrations_in new) later.query h.0.query h.0.listed in
+          let few = slice_get_within (asked_in new) later.query h.0.query h.0.listed in
           let within_old = slice_get_within old.queries given.place.query given.live given.listed in
           let counts : length new.queries + 1 ≡ length old.queries = ap (λ qs. length qs + 1) queries ∙ shorter old.queries given.place.query within_old in
-          let below : later.query < length new.queries = rw (length-map new.queries registration_of) at few in
+          let below : later.query < length new.queries = rw (length-map new.queries asked_of) at few in
           rw (is, given.first, given.next) (nearer_gone (next_in old) given.place.at given.place.query later.at later.query (length old.queries) (length new.queries) counts h.1 h.2 below h.0.within)
   less false queries first = by new.first refl first
     where
-      by : (r : Option Pending) → new.first ≡ r → IsFirstLeft name_in (test_in old) (registrations_in new) (next_in old) given.place.at (given.place.query + 1) r → places_left new < places_left old
+      by : (r : Option Pending) → new.first ≡ r → IsFirstLeft name_of (test_in old) (asked_in new) (next_in old) given.place.at (given.place.query + 1) r → places_left new < places_left old
       by None is h = rw (is, given.first) (omega arith)
       by (Some later) is h =
-          let few = slice_get_within (registrations_in new) later.query h.0.query h.0.listed in
+          let few = slice_get_within (asked_in new) later.query h.0.query h.0.listed in
           let counts : length new.queries ≡ length old.queries = ap length queries ∙ length-set old.queries given.place.query given.now in
-          let below : later.query < length old.queries = rw (length-map new.queries registration_of, counts) at few in
+          let below : later.query < length old.queries = rw (length-map new.queries asked_of, counts) at few in
           rw (is, given.first, given.next, counts) (nearer (next_in old) given.place.at given.place.query later.at later.query (length old.queries) h.1 h.2 below h.0.within)
 
   pub first_nearer : places_left new < places_left old

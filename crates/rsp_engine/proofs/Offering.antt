@@ -1,44 +1,63 @@
 -- An accepted event leads from an idle engine that stands for a world to one that stands for the next.
-use Rattle.std.proofs.Common.{◌≡◌, ℕ, ◌+◌, ◌-◌, ◌<◌, ◌≤◌, true, false, List, [], ◌∷◌, ◌++◌, length, map, filter, remove, slice_get, Option, None, Some, Result, Ok, Err, refl, sym, ◌∙◌, ap, subst, arith, nat_lt, nat_le, unwrap_or, bytes_eq}
+use Rattle.std.proofs.Common.{◌≡◌, ℕ, zero, suc, ◌+◌, ◌-◌, ◌^◌, ◌+ℤ◌, ◌<◌, ◌≤◌, ◌||◌, Bool, true, false, true≢false, cond, List, [], ◌∷◌, ◌++◌, length, map, filter, remove, slice_get, take, Option, None, Some, Result, Ok, Err, refl, sym, ◌∙◌, ap, subst, arith, nat_lt, nat_le, min, unwrap_or, bytes_eq}
+use Rattle.std.proofs.lemmas.Grind.{flat_map-append}
+use Rattle.std.proofs.lemmas.Int.{ints}
 use Rattle.std.proofs.lemmas.List.{append-nil, map_push}
-use Rattle.std.proofs.lemmas.Bool.{le-leb, le-ltb, lt-leb, lt-ltb}
-use Rattle.std.specs.Prelude.{IfErr, OnOk}
-use Rattle.std.specs.List.{IsDistinct, flat_map, list_any, range_with_len}
+use Rattle.std.proofs.lemmas.List.Elements.{All-append, All-cons, All-weaker, list_any-append}
+use Rattle.std.proofs.lemmas.List.Sums.{sum_by-cons}
+use Rattle.std.proofs.lemmas.Bool.{le-leb, le-ltb, lt-leb, lt-ltb, ltb-false}
+use Rattle.std.proofs.lemmas.Option.{same_Some}
+use Rattle.std.specs.Prelude.{IfErr, OnOk, if◌then◌else◌, slice_index_or}
+use Rattle.std.specs.List.{All, IsDistinct, flat_map, list_any, range_with_len, sum_by}
 use Rattle.std.specs.Option.{is_some, option_map_or}
 use Rattle.std.specs.Cmp.Lexicographic.{bytes_decides}
 use Rattle.rsp_terms.specs.Same.{fact_eq}
-use Rattle.rsp_multiset.specs.Weights.{IsSameMultiset}
+use Rattle.rsp_multiset.specs.Weights.{IsSameMultiset, times}
 use Rattle.rsp_terms.specs.declared.statement.Fact.{Fact}
 use Rattle.rsp_terms.specs.declared.statement.Quad.{Quad}
 use Rattle.rsp_scope.specs.declared.stored.StoredFault.TheVariants.{StoreFull}
+use Rattle.rsp_scope.specs.declared.pieces.Piece.{Piece}
+use Rattle.rsp_scope.specs.Contents.{Accepted, Numbered, Watch, numbered}
+use Rattle.rsp_scope.specs.Ends.{EndsAt, IsKept}
 use Rattle.rsp_scope.specs.Faults.{IsStoredFault}
+use Rattle.rsp_scope.specs.Kept.{needed, triples_of}
+use Rattle.rsp_scope.specs.Logged.{since}
+use Rattle.rsp_scope.specs.Moves.{Followed, HasSeen}
+use Rattle.rsp_scope.specs.Needed.{is_needed, is_needed_by, listed_triples, needed_items}
 use Rattle.rsp_scope.specs.Quads.{stored_with, stored_without}
+use Rattle.rsp_scope.proofs.Needed.{begun, held_falls, held_is, held_with, held_without}
+use Rattle.rsp_scope.proofs.Needs.{fewer_need_less, needed-earlier}
 use Rattle.rsp_scope.proofs.StoredLaws.{as-many-stored_with, same-stored_with, same-stored_without}
 use Rattle.rsp_events.specs.declared.event.Event.{Event}
 use Rattle.rsp_events.specs.declared.event.Event.TheVariants.{Cancel, Delete, Insert, Item, Register, Tick}
 use Rattle.rsp_terms.specs.declared.statement.Triple.{Triple}
-use Rattle.rsp_engine.specs.declared.item.Item as item
 use Rattle.rsp_query.specs.Queries.{Registered}
 use Rattle.rsp_report.specs.Policies.{is_mixed}
 use Rattle.rsp_syntax.specs.Parsing.{parse}
 use Rattle.rsp_translation.specs.Translation.{first_fault}
+use Rattle.rsp_engine.specs.declared.live_query.StreamWindow.{StreamWindow}
 use Rattle.rsp_engine.specs.declared.refused.Refused.TheVariants as answer
 use Rattle.rsp_engine.specs.declared.refused.Refused.{Refused}
 use Rattle.rsp_engine.specs.Offers.{Answers, Offers, Refuses}
 use Rattle.rsp_engine.specs.Refusals.{Refusal, refusal_of, shape_fault, text_fault}
-use Rattle.rsp_engine.specs.World.{Query, Registration, World, registrations}
+use Rattle.rsp_engine.specs.World.{Query, Registration, World, next_of, registrations}
 use Rattle.rsp_engine.specs.Readings.{reading_of}
-use Rattle.rsp_engine.specs.Accept.{accept, has_name, is_live, most_items, most_quads, most_queries, most_triples, new_query, next_of, starts_overfull, without}
+use Rattle.rsp_engine.specs.Accept.{accept, has_name, is_live, most_held, most_quads, most_queries, most_triples, new_query, starts_overfull, with_item, without}
+use Rattle.rsp_engine.specs.Contents.{watches, watches_from}
 use Rattle.rsp_engine.specs.Due.{is_due_over}
+use Rattle.rsp_engine.specs.Keeping.{IsUnmoved, excess}
+use Rattle.rsp_engine.specs.Kept.{held, watches_of}
 use Rattle.rsp_engine.specs.Left.{IsFirstLeft, left_from, name_in, reports_at}
 use Rattle.rsp_engine.specs.Moments.{Moment, due_moments, moments, moments_at, moments_from}
-use Rattle.rsp_engine.specs.Passing.{Passes}
-use Rattle.rsp_engine.specs.Stands.{HaveSeen, Live, Sees, Stands, State, left_in, next_in, registration_of, registrations_in, test_in}
-use Rattle.rsp_engine.proofs.Left.{first_left_is, instants, same_left, waits_at}
+use Rattle.rsp_engine.specs.Passing.{Passes, unwatched}
+use Rattle.rsp_engine.specs.Stands.{Fits, Follows, HaveSeen, Live, Precede, Stands, State, asked_in, asked_of, cut_of, facts_followed, left_in, next_in, registration_of, registrations_in, test_in, watches_in}
+use Rattle.rsp_engine.specs.Watching.{Tells, name_of}
+use Rattle.rsp_engine.proofs.Fitting.{same_regs}
+use Rattle.rsp_engine.proofs.Left.{first_left_is, instants, read_left, same_left, waits_at}
 use Rattle.rsp_engine.proofs.Named.{remove_map, remove_named}
-use Rattle.rsp_engine.proofs.Sees.{sees}
 use Rattle.rsp_engine.proofs.Seen.{name_of_query, precede_new, seen_more, seen_removed, world_at, world_names}
 use Rattle.rsp_engine.proofs.Standing.{any_named, head_is, none_is, same_count, same_live}
+use Rattle.rsp_engine.proofs.Watches.{reports_told}
 
 pub same_bytes : (name : List ℕ) → bytes_eq name name ≡ true
 same_bytes name = (bytes_decides name name).1 refl
@@ -173,6 +192,29 @@ held_here e world idle stands =
     ∙ ((λ k. listed_triples (needed_items (idle_cut e idle k) (watches_of (stands.queries k)) world.items))
     ∙ ap (λ n. listed_triples (needed_items (unwrap_or n 0) (watches_of (registrations world)) world.items)) stands.next)
 
+-- the same of any items that fit
+held_stands : (e : State) (world after : World) → e.first ≡ None → Fits e world.items → registrations_in e ≡ registrations after → e.next ≡ world.next → after ≡ record world { queries = after.queries }
+    → held after ≡ triples_of e.kept.items
+held_stands e world after idle fits regs next is =
+    let times : next_of after ≡ next_in e = ap next_of is ∙ ap (λ n. unwrap_or n 0) (sym next) in
+    let items : after.items ≡ world.items = ap (λ (w : World). w.items) is in
+    let mine = held_is (cut_of e) (watches_in e) world.items e.kept fits.kept in
+    (λ k. listed_triples (needed_items (times k) (watches_of (regs (~ k))) (items k))) ∙ (ap (λ n. listed_triples (needed_items n (watches_in e) world.items)) (sym (idle_cut e idle)) ∙ sym mine)
+
+-- without one of the queries no more is needed
+pub less_needed : (queries : List Registration) (place n : ℕ) (entry : Numbered) → is_needed n (watches_of (remove queries place)) entry ≡ true → is_needed n (watches_of queries) entry ≡ true
+less_needed [] zero n entry needed = needed
+less_needed [] (suc place) n entry needed = needed
+less_needed (query ∷ queries) zero n entry needed = fewer_need_less [] (watches query.first query.reading.windows) (watches_of queries) n entry needed
+less_needed (query ∷ queries) (suc place) n entry needed =
+    list_any-append (is_needed_by n entry) (watches query.first query.reading.windows) (watches_of queries)
+    ∙ by (is_needed n (watches query.first query.reading.windows) entry) (is_needed n (watches_of (remove queries place)) entry) (is_needed n (watches_of queries) entry) (less_needed queries place n entry)
+    (sym (list_any-append (is_needed_by n entry) (watches query.first query.reading.windows) (watches_of (remove queries place))) ∙ needed)
+  where
+    by : (a b c : Bool) → (b ≡ true → c ≡ true) → (a || b) ≡ true → (a || c) ≡ true
+    by true b c h is = refl
+    by false b c h is = h is
+
 pub tick_leads : (old new : State) (time : ℕ) (world : World) → next_in old ≤ time + 1 → Passes old [] None (time + 1) new → Stands old world [] → Leads world (Tick time) new
 tick_leads old new time world late passes stands =
     let after : World = record world { next = Some (time + 1) } in
@@ -297,77 +339,178 @@ none_behind world None = refl
 none_behind world (Some next) = let none : next - next ≡ 0 = omega arith in rw none refl
 
 -- an engine that is idle, with other queries, stands for the world with these
-other_queries : (old : State) (lives : List Live) (world after : World) (queries : List Query) → old.first ≡ None → Stands old world [] → after ≡ record world { queries = queries }
-    → map registration_of lives ≡ map (λ (query : Query). query.registration) queries → HaveSeen lives queries
-    → Stands (record old { queries = lives }) after (option_map_or (λ from. moments_from after from) world.next [] ++ [])
-other_queries old lives world after queries idle stands is regs seen =
+other_queries : (old new : State) (world after : World) (queries : List Query) → old.first ≡ None → Stands old world [] → after ≡ record world { queries = queries }
+    → new.next ≡ old.next → new.stored ≡ old.stored → new.first ≡ old.first → new.broken ≡ old.broken
+    → registrations_in new ≡ map (λ (query : Query). query.registration) queries → HaveSeen new.queries queries → Fits new world.items → held after ≤ most_held
+    → Stands new after (option_map_or (λ from. moments_from after from) world.next [] ++ [])
+other_queries old new world after queries idle stands is next stored first broken regs seen fits few =
     let none : option_map_or (λ from. moments_from (record world { queries = queries }) from) world.next [] ++ [] ≡ [] =
     append-nil _ ∙ none_behind (record world { queries = queries }) world.next in
+    let idle_new : new.first ≡ None = first ∙ idle in
+    let few_here : held (record world { queries = queries }) ≤ most_held = subst (λ w. held w ≤ most_held) is few in
     rw (is, none)
     (record {
-      ready = stands.ready;
-      next = stands.next;
-      kept = stands.kept;
-      stored = stands.stored;
+      ready = broken ∙ stands.ready;
+      next = next ∙ stands.next;
+      fits = fits;
+      few = few_here;
+      stored = subst (λ fs. IsSameMultiset fact_eq fs world.stored) (sym stored) stands.stored;
       queries = regs;
       seen = seen;
-      moments = rw idle refl;
-      head = rw idle (λ place some. cc);
-      none = (λ _. refl, λ _. idle);
+      moments = rw idle_new refl;
+      head = rw idle_new (λ place some. cc);
+      none = (λ _. refl, λ _. idle_new);
     })
 
+-- ---- a query that becomes live
+
+-- its windows see none of the items
+all_later : (first k : ℕ) (windows : List StreamWindow) (n : ℕ) → n ≤ first → All (λ (watch : Watch). n ≤ watch.first) (watches_from first k windows)
+all_later first k [] n low = λ i d below. absurd (omega (arith, below))
+all_later first k (w ∷ ws) n low =
+    All-cons (λ (watch : Watch). n ≤ watch.first) (record { shape = w.shape; spot = k; stream = w.stream; first = first }) (watches_from first (k + 1) ws) low (all_later first (k + 1) ws n low)
+
+watches_push : (queries : List Registration) (query : Registration) → watches_of (queries ++ query ∷ []) ≡ watches_of queries ++ watches query.first query.reading.windows
+watches_push queries query =
+    flat_map-append (λ (q : Registration). watches q.first q.reading.windows) queries (query ∷ [])
+    ∙ ap (λ ws. watches_of queries ++ ws) (append-nil (watches query.first query.reading.windows))
+
+-- windows that haven't moved saw nothing
+none_followed : (items : List Accepted) (contents : List Followed) → All IsUnmoved contents → facts_followed items contents ≡ []
+none_followed items [] all = refl
+none_followed items (seen ∷ contents) all =
+    let first = all 0 seen (omega arith) in
+    rw (first.at, none_followed items contents (λ k d below. all (suc k) d (omega (arith, below)))) refl
+
+pub new_follows : (items : List Accepted) (stored : List Fact) (log : List Piece) (live : Live) → live.reported ≡ false → live.seen ≡ [] → All IsUnmoved live.contents → Follows items stored log live
+new_follows items stored log live unreported unseen unmoved = record {
+  contents = All-weaker IsUnmoved (λ (seen : Followed). HasSeen seen (take seen.accepted items))
+      (λ (seen : Followed) (new : IsUnmoved seen). let none : seen.accepted ≡ 0 = new.seen.accepted in rw none new.seen) live.contents unmoved;
+  seen = λ q. rw (unreported, unseen, none_followed items live.contents unmoved) (omega (arith, ints));
+}
+
+module _ (old new : State) (live : Live) (items : List Accepted) (same : new ≡ record old { queries = old.queries ++ live ∷ [] }) (fits : Fits old items)
+    (first : live.first ≡ old.kept.accepted) (told : (from : ℕ) → Tells items from (registration_of live) live.watched)
+    (unreported : live.reported ≡ false) (unseen : live.seen ≡ []) (unmoved : All IsUnmoved live.contents) where
+  watches_more : watches_in (record old { queries = old.queries ++ live ∷ [] }) ≡ watches_in old ++ watches live.first live.windows
+  watches_more = ap watches_of (map_push registration_of old.queries live) ∙ watches_push (registrations_in old) (registration_of live)
+
+  pub kept_more : IsKept (cut_of old) (watches_in old ++ watches live.first live.windows) items old.kept
+  kept_more = begun (cut_of old) (watches_in old) (watches live.first live.windows) items old.kept fits.kept
+      (all_later live.first 0 live.windows (length items) (let many = fits.kept.accepted in omega (arith, first, many)))
+
+  pub fits_more : Fits new items
+  fits_more = rw same
+      (record {
+        kept = subst (λ ws. IsKept (cut_of old) ws items old.kept) (sym watches_more) kept_more;
+        told = All-append (λ (l : Live). Tells items (cut_of old) (registration_of l) l.watched) old.queries (live ∷ []) fits.told
+            (All-cons (λ (l : Live). Tells items (cut_of old) (registration_of l) l.watched) live [] (told (cut_of old)) (λ k d below. absurd (omega (arith, below))));
+        follows = All-append (Follows items old.stored old.log) old.queries (live ∷ []) fits.follows
+            (All-cons (Follows items old.stored old.log) live [] (new_follows items old.stored old.log live unreported unseen unmoved) (λ k d below. absurd (omega (arith, below))));
+      })
+
+-- what holds of a query that has just begun
+pub record Begins (old : State) (live : Live) : Type 0 where
+  first : live.first ≡ old.kept.accepted
+  told : (items : List Accepted) (from : ℕ) → length items ≡ live.first → Tells items from (registration_of live) live.watched
+  unreported : live.reported ≡ false
+  unseen : live.seen ≡ []
+  unmoved : All IsUnmoved live.contents
+
+pub fits_begun : (old : State) (live : Live) (items : List Accepted) → Begins old live → Fits old items → Fits (record old { queries = old.queries ++ live ∷ [] }) items
+fits_begun old live items begins fits =
+    fits_more old (record old { queries = old.queries ++ live ∷ [] }) live items refl fits begins.first
+    (λ from. begins.told items from (sym fits.kept.accepted ∙ sym begins.first)) begins.unreported begins.unseen begins.unmoved
+
 -- a query that became live
-pub register_leads : (old : State) (name text : List ℕ) (q : Registered) (kept : Live) (world : World) → registration_of kept ≡ (new_query name (reading_of q) (length old.items)).registration → kept.reported ≡ false
+pub register_leads : (old : State) (name text : List ℕ) (q : Registered) (live : Live) (world : World) → registration_of live ≡ (new_query name (reading_of q) old.kept.accepted).registration → Begins old live
     → old.first ≡ None → list_any (has_name name) (registrations_in old) ≡ false → parse text ≡ Ok q → first_fault q ≡ None → is_mixed q.policy ≡ false → length old.queries < most_queries → starts_overfull (reading_of q) ≡ false → Stands old world []
-    → Leads world (Register name text) (record old { queries = old.queries ++ kept ∷ [] })
-register_leads old name text q kept world made nothing idle free is good unmixed few starts stands =
+    → Leads world (Register name text) (record old { queries = old.queries ++ live ∷ [] })
+register_leads old name text q live world made begins idle free is good unmixed few starts stands =
     let new : Query = new_query name (reading_of q) (length world.items) in
     let after : World = record world { queries = world.queries ++ new ∷ [] } in
+    let engine : State = record old { queries = old.queries ++ live ∷ [] } in
     let none_live : is_live world name ≡ false = same_live old world name stands.queries ∙ free in
     let count : length world.queries ≡ length old.queries = same_count old world stands.queries in
     let room : nat_le most_queries (length world.queries) ≡ false = lt-leb _ _ (rw (← count) at few) in
-    let accepted : length old.items ≡ length world.items = (sees old world 0 stands.next stands.kept).accepted in
-    let made_is : registration_of kept ≡ new.registration = made ∙ ap (λ n. (new_query name (reading_of q) n).registration) accepted in
-    let regs : map registration_of (old.queries ++ kept ∷ []) ≡ map (λ (query : Query). query.registration) (world.queries ++ new ∷ []) =
-    map_push registration_of old.queries kept ∙ (ap (λ qs. qs ++ registration_of kept ∷ []) stands.queries
+    let made_is : registration_of live ≡ new.registration = made ∙ ap (λ n. (new_query name (reading_of q) n).registration) stands.fits.kept.accepted in
+    let regs : registrations_in engine ≡ map (λ (query : Query). query.registration) (world.queries ++ new ∷ []) =
+    map_push registration_of old.queries live ∙ (ap (λ qs. qs ++ registration_of live ∷ []) stands.queries
     ∙ (ap (λ r. registrations world ++ r ∷ []) made_is ∙ sym (map_push (λ (query : Query). query.registration) world.queries new))) in
-    let seen = seen_more old.queries world.queries kept new stands.seen (precede_new kept nothing) in (
+    let seen = seen_more old.queries world.queries live new stands.seen (precede_new live begins.unreported) in
+    let fits = fits_begun old live world.items begins stands.fits in
+    let held_is : held after ≤ most_held = let one = held_stands engine world after idle fits (regs) stands.next refl in let two = held_here old world idle stands in let low = stands.few in omega (arith, one, two, low) in (
       after,
       rw (none_live, is, good, unmixed, room, starts) refl,
-      other_queries old (old.queries ++ kept ∷ []) world after (world.queries ++ new ∷ []) idle stands refl regs seen,
+      other_queries old engine world after (world.queries ++ new ∷ []) idle stands refl refl refl refl refl regs seen fits held_is,
     )
 
--- the named query goes
-pub cancel_leads : (old : State) (name : List ℕ) (place : ℕ) (live : Live) (world : World) → old.first ≡ None → IsDistinct bytes_eq (map (λ (l : Live). l.name) old.queries)
+-- the named query goes, and what it alone needed
+pub cancel_leads : (old new : State) (name : List ℕ) (place : ℕ) (live : Live) (world : World) → old.first ≡ None → IsDistinct bytes_eq (map (λ (l : Live). l.name) old.queries)
     → slice_get old.queries place ≡ Some live → live.name ≡ name → Stands old world []
-    → Leads world (Cancel name) (record old { queries = remove old.queries place })
-cancel_leads old name place live world idle names listed is stands =
+    → new.next ≡ old.next → new.stored ≡ old.stored → new.first ≡ old.first → new.broken ≡ old.broken → new.queries ≡ remove old.queries place
+    → Fits new world.items → Leads world (Cancel name) new
+cancel_leads old new name place live world idle names listed is stands next stored first broken queries fits =
     let after : World = record world { queries = without name world.queries } in
     let is_named : is_live world name ≡ true = same_live old world name stands.queries ∙ any_named old.queries place live name listed is in
     let found = world_at old world stands.queries place live listed in
     let called : name_of_query found.0 ≡ name = ap (λ (r : Registration). r.name) found.2 ∙ is in
     let gone : without name world.queries ≡ remove world.queries place =
     subst (λ n. without n world.queries ≡ remove world.queries place) called (remove_named world.queries name_of_query place found.0 (world_names old world stands.queries names) found.1) in
-    let regs : map registration_of (remove old.queries place) ≡ map (λ (query : Query). query.registration) (remove world.queries place) =
-    remove_map registration_of old.queries place ∙ (ap (λ qs. remove qs place) stands.queries ∙ sym (remove_map (λ (query : Query). query.registration) world.queries place)) in (
+    let regs : registrations_in new ≡ map (λ (query : Query). query.registration) (without name world.queries) =
+    ap (map registration_of) queries ∙ (remove_map registration_of old.queries place ∙ (ap (λ qs. remove qs place) stands.queries ∙ (sym (remove_map (λ (query : Query). query.registration) world.queries place) ∙ ap (map (λ (query : Query). query.registration)) (sym gone)))) in
+    let seen : HaveSeen new.queries (without name world.queries) = subst (λ ls. HaveSeen ls (without name world.queries)) (sym queries)
+    (subst (λ qs. HaveSeen (remove old.queries place) qs) (sym gone) (seen_removed old.queries world.queries place stands.seen)) in
+    let fewer : held after ≤ held world = rw gone (held_fewer (next_of world) (next_of world) (watches_of (map (λ (query : Query). query.registration) (remove world.queries place))) (watches_of (registrations world)) world.items
+    (λ entry. rw (remove_map (λ (query : Query). query.registration) world.queries place) (less_needed (registrations world) place (next_of world) entry))) in
+    let few : held after ≤ most_held = let low = stands.few in omega (arith, fewer, low) in (
       after,
       rw is_named refl,
-      other_queries old (remove old.queries place) world after (remove world.queries place) idle stands (ap (λ qs. record world { queries = qs }) gone) regs (seen_removed old.queries world.queries place stands.seen),
+      other_queries old new world after (without name world.queries) idle stands refl next stored first broken regs seen fits few,
     )
 
 -- ---- stored quads: no moment
 
+-- what came and went is logged for a query that has reported
+abbrev pub IsLoggedFor : List Fact → List Piece → List Fact → List Piece → Live → Type 0
+IsLoggedFor stored log stored_now log_now live = live.reported ≡ true
+    → (q : Fact) → since log_now live.place q +ℤ times fact_eq stored q ≡ since log live.place q +ℤ times fact_eq stored_now q
+
+-- so it leads on from what the query has seen
+follows_logged : (items : List Accepted) (stored stored_now : List Fact) (log log_now : List Piece) (live : Live)
+    → IsLoggedFor stored log stored_now log_now live → Follows items stored log live → Follows items stored_now log_now live
+follows_logged items stored stored_now log log_now live logged follows = record {
+  contents = follows.contents;
+  seen = λ q. by live.reported q logged (follows.seen q);
+}
+  where
+    by : (b : Bool) (q : Fact) → (b ≡ true → (q : Fact) → since log_now live.place q +ℤ times fact_eq stored q ≡ since log live.place q +ℤ times fact_eq stored_now q)
+        → times fact_eq live.seen q +ℤ (if b then since log live.place q else times fact_eq stored q) ≡ times fact_eq stored q +ℤ times fact_eq (facts_followed items live.contents) q
+        → times fact_eq live.seen q +ℤ (if b then since log_now live.place q else times fact_eq stored_now q) ≡ times fact_eq stored_now q +ℤ times fact_eq (facts_followed items live.contents) q
+    by true q logged before = let change = logged refl q in omega (arith, ints, change, before)
+    by false q logged before = omega (arith, ints, before)
+
+pub fits_logged : (old : State) (stored : List Fact) (log : List Piece) (items : List Accepted) → All (IsLoggedFor old.stored old.log stored log) old.queries → Fits old items
+    → Fits (record old { stored = stored; log = log }) items
+fits_logged old stored log items logged fits = record {
+  kept = fits.kept;
+  told = fits.told;
+  follows = λ k d below. follows_logged items old.stored stored old.log log (slice_index_or old.queries k d) (logged k d below) (fits.follows k d below);
+}
+
 -- an engine that is idle, with other quads, stands for the world with these
-other_quads : (old : State) (stored wanted : List Fact) (world : World) → old.first ≡ None → IsSameMultiset fact_eq stored wanted → Stands old world []
-    → Stands (record old { stored = stored }) (record world { stored = wanted }) (option_map_or (λ from. moments_from (record world { stored = wanted }) from) world.next [] ++ [])
-other_quads old stored wanted world idle same stands =
+other_quads : (old : State) (stored wanted : List Fact) (log : List Piece) (world : World) → old.first ≡ None → IsSameMultiset fact_eq stored wanted
+    → All (IsLoggedFor old.stored old.log stored log) old.queries → Stands old world []
+    → Stands (record old { stored = stored; log = log }) (record world { stored = wanted }) (option_map_or (λ from. moments_from (record world { stored = wanted }) from) world.next [] ++ [])
+other_quads old stored wanted log world idle same logged stands =
     let none : option_map_or (λ from. moments_from (record world { stored = wanted }) from) world.next [] ++ [] ≡ [] =
     append-nil _ ∙ none_behind (record world { stored = wanted }) world.next in
     rw none
     (record {
       ready = stands.ready;
       next = stands.next;
-      kept = stands.kept;
+      fits = fits_logged old stored log world.items logged stands.fits;
+      few = stands.few;
       stored = same;
       queries = stands.queries;
       seen = stands.seen;
@@ -377,24 +520,26 @@ other_quads old stored wanted world idle same stands =
     })
 
 -- the quads that weren't stored are stored
-pub insert_leads : (old : State) (quads : List Quad) (world : World) → old.first ≡ None → length (stored_with old.stored quads) ≤ most_quads → Stands old world []
-    → Leads world (Insert quads) (record old { stored = stored_with old.stored quads })
-insert_leads old quads world idle few stands =
+pub insert_leads : (old : State) (quads : List Quad) (log : List Piece) (world : World) → old.first ≡ None → length (stored_with old.stored quads) ≤ most_quads
+    → All (IsLoggedFor old.stored old.log (stored_with old.stored quads) log) old.queries → Stands old world []
+    → Leads world (Insert quads) (record old { stored = stored_with old.stored quads; log = log })
+insert_leads old quads log world idle few logged stands =
     let after : World = record world { stored = stored_with world.stored quads } in
     let many : length (stored_with old.stored quads) ≡ length (stored_with world.stored quads) = as-many-stored_with old.stored world.stored quads stands.stored in
     let within : nat_lt most_quads (length (stored_with world.stored quads)) ≡ false = le-ltb _ _ (rw many at few) in (
       after,
       rw within refl,
-      other_quads old (stored_with old.stored quads) (stored_with world.stored quads) world idle (same-stored_with old.stored world.stored quads stands.stored) stands,
+      other_quads old (stored_with old.stored quads) (stored_with world.stored quads) log world idle (same-stored_with old.stored world.stored quads stands.stored) logged stands,
     )
 
 -- the named quads are no longer stored
-pub delete_leads : (old : State) (quads : List Quad) (stored : List Fact) (world : World) → old.first ≡ None → IsSameMultiset fact_eq stored (stored_without old.stored quads) → Stands old world []
-    → Leads world (Delete quads) (record old { stored = stored })
-delete_leads old quads stored world idle same stands = (
+pub delete_leads : (old : State) (quads : List Quad) (stored : List Fact) (log : List Piece) (world : World) → old.first ≡ None → IsSameMultiset fact_eq stored (stored_without old.stored quads)
+    → All (IsLoggedFor old.stored old.log stored log) old.queries → Stands old world []
+    → Leads world (Delete quads) (record old { stored = stored; log = log })
+delete_leads old quads stored log world idle same logged stands = (
   record world { stored = stored_without world.stored quads },
   refl,
-  other_quads old stored (stored_without world.stored quads) world idle (λ q. same q ∙ same-stored_without old.stored world.stored quads stands.stored q) stands,
+  other_quads old stored (stored_without world.stored quads) log world idle (λ q. same q ∙ same-stored_without old.stored world.stored quads stands.stored q) logged stands,
 )
 
 -- more would be stored than can be
@@ -470,14 +615,14 @@ module _ (old : State) (name text : List ℕ) (q : Registered) (ready : old.brok
     }
 
 -- a query that has begun becomes live, or memory is refused
-pub begun_offers : (old new : State) (name text : List ℕ) (q : Registered) (kept : Live) (result : Result (Unit {0}) Refused) → old.broken ≡ false → registration_of kept ≡ (new_query name (reading_of q) (length old.items)).registration → kept.reported ≡ false → old.first ≡ None
+pub begun_offers : (old new : State) (name text : List ℕ) (q : Registered) (kept : Live) (result : Result (Unit {0}) Refused) → old.broken ≡ false → registration_of kept ≡ (new_query name (reading_of q) old.kept.accepted).registration → Begins old kept → old.first ≡ None
     → list_any (has_name name) (registrations_in old) ≡ false → parse text ≡ Ok q → first_fault q ≡ None → is_mixed q.policy ≡ false → length old.queries < most_queries → starts_overfull (reading_of q) ≡ false
     → OnOk result (new ≡ record old { queries = old.queries ++ kept ∷ [] }) → IfErr result (λ why. (why ≡ answer.OutOfMemory) × (new.broken ≡ true)) → Offers old (Register name text) result new
-begun_offers old new name text q kept (Ok done) ready made nothing idle free is good unmixed few starts went failed =
+begun_offers old new name text q kept (Ok done) ready made begins idle free is good unmixed few starts went failed =
     let became : new ≡ record old { queries = old.queries ++ kept ∷ [] } = went in
     rw became (record {
       was_ready = ready;
       ready = ready;
-      stands = λ world stands. register_leads old name text q kept world made nothing idle free is good unmixed few starts stands;
+      stands = λ world stands. register_leads old name text q kept world made begins idle free is good unmixed few starts stands;
     })
-begun_offers old new name text q kept (Err why) ready made nothing idle free is good unmixed few starts went failed = breaks old name text why new ready free failed.0 failed.1
+begun_offers old new name text q kept (Err why) ready made begins idle free is good unmixed few starts went failed = breaks old name text why new ready free failed.0 failed.1

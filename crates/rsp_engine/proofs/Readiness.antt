@@ -1,30 +1,36 @@
 -- An engine that is ready stays so: where time passes, an item is kept, a query becomes live, or one is cancelled.
-use Rattle.std.proofs.Common.{◌≡◌, ℕ, zero, suc, ◌+◌, ◌-◌, ◌<◌, ◌≤◌, Bool, true, false, ◌||◌, not, List, [], ◌∷◌, ◌++◌, length, map, remove, take, Option, None, Some, refl, sym, ◌∙◌, ap, subst, arith}
-use Rattle.std.specs.Prelude.{bytes_eq, slice_index_or}
+use Rattle.std.proofs.Common.{◌≡◌, ℕ, zero, suc, ◌+◌, ◌-◌, ◌<◌, ◌≤◌, Bool, true, false, ◌||◌, not, List, [], ◌∷◌, ◌++◌, length, map, filter, remove, take, Option, None, Some, refl, sym, ◌∙◌, ap, subst, arith, unwrap_or, bytes_eq}
 use Rattle.std.specs.List.{All, IsDistinct, list_any}
-use Rattle.std.specs.List.Sorted.{IsNonDecreasing}
-use Rattle.std.specs.Option.{ForSome, is_some}
-use Rattle.std.proofs.lemmas.List.Elements.{All-append, All-cons, All-map}
-use Rattle.std.proofs.lemmas.List.Sorted.{IsNonDecreasingBy-push, IsNonDecreasingBy-short}
+use Rattle.std.specs.Option.{ForSome, is_some, option_map_or}
+use Rattle.std.proofs.lemmas.List.Elements.{All-append, All-cons, All-filter, All-map, All-weaker}
 use Rattle.std.proofs.lemmas.Simd.{map-map}
 use Rattle.rsp_spec.specs.Windows.{last_instant}
 use Rattle.rsp_terms.specs.declared.statement.Fact.{Fact}
-use Rattle.rsp_terms.specs.Same.{fact_eq}
-use Rattle.rsp_multiset.specs.Weights.{times, weight}
+use Rattle.rsp_algebra.specs.Changing.{IsSet}
 use Rattle.rsp_algebra.specs.Nodes.{Node, node_of}
+use Rattle.rsp_report.specs.declared.contents.Watched.{Watched}
+use Rattle.rsp_scope.specs.Contents.{Accepted}
+use Rattle.rsp_scope.specs.Ends.{IsKept}
+use Rattle.rsp_scope.specs.Kept.{Kept, needed}
+use Rattle.rsp_scope.specs.Moves.{Followed, IsReached}
+use Rattle.rsp_scope.specs.declared.item.Item.{Item}
+use Rattle.rsp_scope.proofs.Needed.{none_kept}
 use Rattle.rsp_engine.specs.declared.engine.Engine.TheInside.{Inside}
 use Rattle.rsp_engine.specs.declared.finding.Pending.{Pending}
-use Rattle.rsp_engine.specs.declared.item.Item.{Item}
 use Rattle.rsp_engine.specs.declared.live_query.LiveQuery.{LiveQuery}
 use Rattle.rsp_engine.specs.Accept.{has_name}
-use Rattle.rsp_engine.specs.Inside.{Answers, IsOnce, IsReady, IsWatching, Parts, fixed, live_of, parts_of, state_of}
-use Rattle.rsp_engine.specs.Kept.{triples_of}
-use Rattle.rsp_engine.specs.Left.{IsFirstLeft, name_in, reports_at}
-use Rattle.rsp_engine.specs.Stands.{HasArrived, IsStore, IsTimed, Live, State, is_idle, registration_of, registrations_in}
+use Rattle.rsp_engine.specs.Contents.{watches}
+use Rattle.rsp_engine.specs.Inside.{Answers, IsReady, Parts, asked, fixed, live_of, parts_of, state_of}
+use Rattle.rsp_engine.specs.Keeping.{IsUnmoved, watches_followed}
+use Rattle.rsp_engine.specs.Left.{IsFirstLeft}
+use Rattle.rsp_engine.specs.Passing.{Passes, unwatched}
+use Rattle.rsp_engine.specs.Stands.{Fits, History, IsLive, IsState, IsStore, Live, State, asked_in, asked_of, cut_of, is_idle, next_in, registration_of, registrations_in, test_in, watches_in}
+use Rattle.rsp_engine.specs.Watching.{Asked, IsPrompt, IsTimed, IsWatching, Tells, name_of, reports_by}
 use Rattle.rsp_engine.proofs.FactSets.{store_new}
-use Rattle.rsp_engine.proofs.Left.{newest_of, waits_at}
+use Rattle.rsp_engine.proofs.Fitting.{fits_passed}
+use Rattle.rsp_engine.proofs.Left.{read_first, waits_at}
 use Rattle.rsp_engine.proofs.Named.{All-remove, distinct_more, distinct_removed, remove_map}
-use Rattle.rsp_engine.proofs.Reporting.{fixed_left}
+use Rattle.rsp_engine.proofs.Offering.{Begins, fits_begun}
 
 -- ---- lists
 
@@ -45,28 +51,6 @@ idle_first engine sound idle = by engine.first (subst (λ b. (b || not (is_some 
     by : (first : Option Pending) → not (is_some first) ≡ true → first ≡ None
     by None is = refl
     by (Some place) is = cc
-
--- ---- times
-
-pub timed_later : (items : List Item) (next to : ℕ) → IsTimed items next → next ≤ to → IsTimed items to
-timed_later items next to timed later = record {
-  sorted = timed.sorted;
-  high = λ k d below. let low = timed.high k d below in omega (arith, low, later);
-}
-
-pub timed_more : (items : List Item) (item : Item) (next : ℕ) → IsTimed items next → next ≤ item.time → IsTimed (items ++ item ∷ []) item.time
-timed_more items item next timed later =
-    let highest : All (λ t. t ≤ next) (map (λ (i : Item). i.time) items) = All-map (λ t. t ≤ next) (λ (i : Item). i.time) items timed.high in
-    let last : (d : ℕ) → 0 < length (map (λ (i : Item). i.time) items) → slice_index_or (map (λ (i : Item). i.time) items) (length (map (λ (i : Item). i.time) items) - 1) d ≤ item.time =
-    λ d some. let low = highest (length (map (λ (i : Item). i.time) items) - 1) d (omega (arith, some)) in omega (arith, low, later) in
-    record {
-      sorted = subst IsNonDecreasing (sym (map_more (λ (i : Item). i.time) items item)) (IsNonDecreasingBy-push (λ x. x) (map (λ (i : Item). i.time) items) item.time timed.sorted last);
-      high = one_more (λ (i : Item). i.time ≤ item.time) items item (λ k d below. let low = timed.high k d below in omega (arith, low, later)) (omega arith);
-    }
-
--- the item that was kept has arrived
-pub arrived_now : (items : List Item) (item : Item) → ForSome (Some item.stream) (HasArrived (items ++ item ∷ []) item.time)
-arrived_now items item = λ stream is. record { item = item; last = newest_of items item; stream_is = cc; time_is = refl }
 
 any_fixed : (lives : List Live) (name : List ℕ) → list_any (has_name name) (map registration_of lives) ≡ false → list_any (λ (l : Live). bytes_eq l.name name) lives ≡ false
 any_fixed [] name free = refl
@@ -90,6 +74,9 @@ refilled (suc n) [] rest is = cc
 refilled zero (x ∷ xs) rest is = cc
 refilled (suc n) (x ∷ xs) rest is = ap (λ ys. x ∷ ys) (refilled n xs rest (omega (arith, is)))
 
+pub mapped : {X Y : Type 0} (P : Y → Type 0) (f : X → Y) (xs : List X) → All (λ x. P (f x)) xs → All P (map f xs)
+mapped P f xs all = All-map P f xs all
+
 -- ---- engines
 
 -- what holds by the parts alone holds where they are the same
@@ -107,8 +94,7 @@ module _ {A : Type 0} (node : A → Node) (width : A → ℕ) (facts : A → Lis
     node_is = ap (λ (p : Parts A). node p.answer) (sym is) ∙ (answers.node_is ∙ ap (λ (p : Parts A). node_of p.translated.tree) is);
     width_is = ap (λ (p : Parts A). width p.answer) (sym is) ∙ (answers.width_is ∙ ap (λ (p : Parts A). p.translated.width) is);
     ready = ap (λ (p : Parts A). spent p.answer) (sym is) ∙ answers.ready;
-    same = λ q. ap (λ (p : Parts A). times fact_eq (facts p.answer) q) (sym is) ∙ (answers.same q ∙ ap (λ (p : Parts A). weight fact_eq p.seen q) is);
-    once = λ q. subst (λ (p : Parts A). IsOnce (weight fact_eq p.seen q)) is (answers.once q);
+    set = subst (λ (p : Parts A). IsSet (facts p.answer)) is answers.set;
   }
 
   -- queries of the same parts have their answers
@@ -128,107 +114,264 @@ live_as facts p =
       variables = p.query.reading.variables;
       first = p.query.first;
       reported = p.reported;
+      place = p.place;
       seen = facts p.answer;
+      watched = [];
+      contents = p.contents;
     }
 
 -- and are kept so
-pub lives_kept : {A : Type 0} (facts : A → List Fact) (olds news : List (LiveQuery A)) → map parts_of news ≡ map parts_of olds → map (live_of facts) news ≡ map (live_of facts) olds
-lives_kept facts olds news is = sym (map-map (live_as facts) parts_of news) ∙ (ap (map (live_as facts)) is ∙ map-map (live_as facts) parts_of olds)
+pub lives_kept : {A : Type 0} (facts : A → List Fact) (olds news : List (LiveQuery A)) → map parts_of news ≡ map parts_of olds
+    → map unwatched (map (live_of facts) news) ≡ map unwatched (map (live_of facts) olds)
+lives_kept facts olds news is =
+    map-map unwatched (live_of facts) news ∙ (sym (map-map (live_as facts) parts_of news)
+    ∙ (ap (map (live_as facts)) is ∙ (map-map (live_as facts) parts_of olds ∙ sym (map-map unwatched (live_of facts) olds))))
 
-module _ {A : Type 0} (node : A → Node) (width : A → ℕ) (facts : A → List Fact) (spent : A → Bool) (e : Inside A) (ready : IsReady node width facts spent e) where
-  -- every instant before `to` is complete, where queries watch these items
-  module _ (new : Inside A) (to : ℕ) (from : ℕ) (next : new.next ≡ Some to) (high : to ≤ last_instant + 1)
-      (lives : map (live_of facts) new.queries.items ≡ map (live_of facts) e.queries.items) (more : length e.items.items ≤ length new.items.items)
-      (stored : new.stored ≡ e.stored) (timed : IsTimed new.items.items to) (arrival : ForSome new.arrived (HasArrived new.items.items to)) (held : new.held ≡ triples_of new.items.items)
-      (answers : All (Answers node width facts spent) new.queries.items) (watching : All (IsWatching new.items.items) new.queries.items)
-      (left : IsFirstLeft name_in (reports_at new.items.items to new.arrived) (map fixed new.queries.items) to from 0 new.first) where
-    pub ready_passed : IsReady node width facts spent new
-    ready_passed = record {
-      state = record {
-        next_high = rw next high;
-        timed = rw next timed;
-        arrival = rw next arrival;
-        store = rw stored ready.state.store;
-        firsts = rw lives (λ k d below. let low = ready.state.firsts k d below in omega (arith, low, more));
-        names = rw lives ready.state.names;
-        waits = rw next (waits_at name_in (reports_at new.items.items to new.arrived) (registrations_in (state_of facts new)) to from 0 new.first
-            (fixed_left facts new.queries.items (reports_at new.items.items to new.arrived) to from 0 new.first left));
-      };
-      held = held;
-      answers = answers;
-      watching = watching;
+-- a first place by what queries watch
+pub asked_first : {A : Type 0} (facts : A → List Fact) (queries : List (LiveQuery A)) (test : ℕ → Asked → Bool) (last t i : ℕ) (r : Option Pending)
+    → IsFirstLeft (λ live. name_of (asked live)) (λ t live. test t (asked live)) queries last t i r
+    → IsFirstLeft name_of test (map asked_of (map (live_of facts) queries)) last t i r
+asked_first facts queries test last t i r first =
+    rw (map-map asked_of (live_of facts) queries) (read_first asked name_of test queries last t i r first)
+
+-- ---- time passes
+
+-- the cut goes on
+pub cut_on : (first : Option Pending) (next from to : ℕ) (name : Asked → List ℕ) (test : ℕ → Asked → Bool) (queries : List Asked)
+    → IsFirstLeft name test queries to from 0 first → next ≤ from → next ≤ to → next ≤ option_map_or (λ (place : Pending). place.at) first to
+cut_on None next from to name test queries is low high = high
+cut_on (Some place) next from to name test queries is low high = let late = is.1 in omega (arith, low, late)
+
+reached_later : (at : Option ℕ) (cut to : ℕ) → cut ≤ to → IsReached at cut → IsReached at to
+reached_later None cut to low is = tt
+reached_later (Some at) cut to low is = omega (arith, low, is)
+
+-- a live query stays one, by what it watches now
+live_on : (old new : Live) (next next_now : ℕ) (arrived came : Option (List ℕ)) (accepted more cut to : ℕ) → unwatched old ≡ unwatched new → cut ≤ to → accepted ≤ more
+    → IsPrompt next_now came (asked_of new) → IsLive next arrived accepted cut old → IsLive next_now came more to new
+live_on old new next next_now arrived came accepted more cut to is low few prompt live = record {
+  prompt = prompt;
+  watches = subst (λ (l : Live). map (λ (seen : Followed). seen.watch) l.contents ≡ watches l.first l.windows) is live.watches;
+  reached = subst (λ (l : Live). All (λ (seen : Followed). IsReached seen.at to) l.contents) is
+      (All-weaker (λ (seen : Followed). IsReached seen.at cut) (λ (seen : Followed). IsReached seen.at to) (λ seen is. reached_later seen.at cut to low is) old.contents live.reached);
+  first = let start = ap (λ (l : Live). l.first) is in let low = live.first in omega (arith, start, low, few);
+}
+
+pub lives_on : (olds news : List Live) (next next_now : ℕ) (arrived came : Option (List ℕ)) (accepted more cut to : ℕ) → map unwatched news ≡ map unwatched olds → cut ≤ to → accepted ≤ more
+    → All (λ (live : Live). IsPrompt next_now came (asked_of live)) news → All (IsLive next arrived accepted cut) olds → All (IsLive next_now came more to) news
+lives_on olds [] next next_now arrived came accepted more cut to is low few prompt all = none (IsLive next_now came more to)
+lives_on [] (new ∷ news) next next_now arrived came accepted more cut to is low few prompt all = cc
+lives_on (old ∷ olds) (new ∷ news) next next_now arrived came accepted more cut to is low few prompt all =
+    let first : unwatched old ≡ unwatched new = cc in
+    let rest : map unwatched news ≡ map unwatched olds = cc in
+    All-cons (IsLive next_now came more to) new news
+    (live_on old new next next_now arrived came accepted more cut to first low few (prompt 0 new (omega arith)) (all 0 old (omega arith)))
+    (lives_on olds news next next_now arrived came accepted more cut to rest low few (λ k d below. prompt (suc k) d (omega (arith, below))) (λ k d below. all (suc k) d (omega (arith, below))))
+
+names_alike : (olds news : List Live) → map unwatched news ≡ map unwatched olds → map (λ (l : Live). l.name) news ≡ map (λ (l : Live). l.name) olds
+names_alike olds news is = sym (map-map (λ (l : Live). l.name) unwatched news) ∙ (ap (map (λ (l : Live). l.name)) is ∙ map-map (λ (l : Live). l.name) unwatched olds)
+
+-- an engine that passed to an instant is as sound as it was
+pub state_passed : (old new : State) (more : List Accepted) (came : Option (List ℕ)) (to : ℕ) → IsState old → Passes old more came to new → to ≤ last_instant + 1 → cut_of old ≤ cut_of new
+    → old.kept.accepted ≤ new.kept.accepted → All (λ (live : Live). IsPrompt to came (asked_of live)) new.queries → All (λ (item : Item). item.time ≤ to) new.kept.items → IsState new
+state_passed old new more came to state passes high low few prompt timed = record {
+  next_high = rw passes.next high;
+  lives = rw (passes.next, passes.arrived)
+      (lives_on old.queries new.queries (next_in old) to old.arrived came old.kept.accepted new.kept.accepted (cut_of old) (cut_of new) passes.queries low few prompt state.lives);
+  timed = rw passes.next timed;
+  store = rw passes.stored state.store;
+  names = rw (names_alike old.queries new.queries passes.queries) state.names;
+  waits = rw (passes.next, passes.arrived) (waits_at name_of (reports_by to came) (asked_in new) to (unwrap_or old.next to) 0 new.first passes.first);
+  history = record { items = state.history.items ++ more; fits = passes.fits state.history.items state.history.fits };
+}
+
+-- the queries of an engine that is ready watch
+pub all_watching : {A : Type 0} (facts : A → List Fact) (queries : List (LiveQuery A)) (next : ℕ) (arrived : Option (List ℕ)) (accepted cut : ℕ) → All (IsLive next arrived accepted cut) (map (live_of facts) queries)
+    → All (λ live. IsWatching next (asked live)) queries
+all_watching facts queries next arrived accepted cut lives =
+    unmapped (λ (l : Live). IsWatching next (asked_of l)) (live_of facts) queries
+    (All-weaker (IsLive next arrived accepted cut) (λ (l : Live). IsWatching next (asked_of l)) (λ l is. is.prompt.watching) (map (live_of facts) queries) lives)
+
+-- a later instant
+timed_on : (next to : ℕ) (w : Watched) → next ≤ to → IsTimed next w → IsTimed to w
+timed_on next to w low timed = record {
+  watched = timed.watched;
+  high = All-weaker (λ time. time ≤ next) (λ time. time ≤ to) (λ time early. omega (arith, early, low)) w.times timed.high;
+}
+
+pub prompt_on : (next to : ℕ) (a : Asked) → next ≤ to → IsWatching next a → IsPrompt to None a
+prompt_on next to a low watching = record {
+  watching = record {
+    policy = watching.policy;
+    shapes = watching.shapes;
+    timed = All-weaker (IsTimed next) (IsTimed to) (λ w timed. timed_on next to w low timed) a.watched watching.timed;
+  };
+  fresh = λ is. cc;
+}
+
+module _ {A : Type 0} (node : A → Node) (width : A → ℕ) (facts : A → List Fact) (spent : A → Bool) (e : Inside A) (ready : IsReady node width facts spent e) (idle : e.first ≡ None) where
+  abbrev here : State
+  here = state_of facts e
+
+  idle_here : cut_of here ≡ next_in here
+  idle_here = rw idle refl
+
+  firsts_of : (items : List Accepted) → Fits here items → All (λ (l : LiveQuery A). l.first ≤ length items) e.queries.items
+  firsts_of items fits =
+      unmapped (λ (l : Live). l.first ≤ length items) (live_of facts) e.queries.items
+      (All-weaker (IsLive (next_in here) e.arrived e.streams.accepted (cut_of here)) (λ (l : Live). l.first ≤ length items)
+      (λ l is. let low = is.first in let many = fits.kept.accepted in omega (arith, low, many)) (map (live_of facts) e.queries.items) ready.state.lives)
+
+  -- an engine that takes items and passes to an instant
+  module _ (new : Inside A) (more : List Accepted) (came : Option (List ℕ)) (to : ℕ) (taken : Kept) (low : next_in here ≤ to) (from_low : next_in here ≤ unwrap_or e.next to)
+      (next : new.next ≡ Some to) (stored : new.stored ≡ e.stored) (log : new.log ≡ e.log) (arrived : new.arrived ≡ came) (sound : new.broken ≡ false)
+      (parts : map parts_of new.queries.items ≡ map parts_of e.queries.items)
+      (first : IsFirstLeft (λ live. name_of (asked live)) (λ t live. reports_by to came t (asked live)) new.queries.items to (unwrap_or e.next to) 0 new.first)
+      (kept : new.streams ≡ record taken { items = needed (option_map_or (λ (place : Pending). place.at) new.first to) taken.items })
+      (takes : (items : List Accepted) → IsKept (next_in here) (watches_in here) items e.streams → IsKept (next_in here) (watches_in here) (items ++ more) taken)
+      (tells : (items : List Accepted) → All (λ (l : LiveQuery A). l.first ≤ length items) e.queries.items
+      → All (λ (l : LiveQuery A). Tells items (next_in here) (fixed l) l.watched.items) e.queries.items
+      → All (λ (l : LiveQuery A). Tells (items ++ more) (next_in here) (fixed l) l.watched.items) new.queries.items) where
+    abbrev there : State
+    there = state_of facts new
+
+    lives : map unwatched (map (live_of facts) new.queries.items) ≡ map unwatched (map (live_of facts) e.queries.items)
+    lives = lives_kept facts e.queries.items new.queries.items parts
+
+    first_there : IsFirstLeft name_of (reports_by to came) (asked_in there) to (unwrap_or e.next to) 0 new.first
+    first_there = asked_first facts new.queries.items (reports_by to came) to (unwrap_or e.next to) 0 new.first first
+
+    cut_there : cut_of there ≡ option_map_or (λ (place : Pending). place.at) new.first to
+    cut_there = rw next refl
+
+    pub cut_later : cut_of here ≤ cut_of there
+    cut_later =
+        let on = cut_on new.first (next_in here) (unwrap_or e.next to) to name_of (reports_by to came) (asked_in there) first_there from_low low in
+        rw (idle_here, cut_there) on
+
+    tells_there : (items : List Accepted) → Fits here items → All (λ (l : Live). Tells (items ++ more) (next_in here) (registration_of l) l.watched) (map (live_of facts) new.queries.items)
+    tells_there items fits =
+        mapped (λ (l : Live). Tells (items ++ more) (next_in here) (registration_of l) l.watched) (live_of facts) new.queries.items
+        (tells items (firsts_of items fits)
+        (unmapped (λ (l : Live). Tells items (next_in here) (registration_of l) l.watched) (live_of facts) e.queries.items
+        (subst (λ n. All (λ (l : Live). Tells items n (registration_of l) l.watched) (map (live_of facts) e.queries.items)) idle_here fits.told)))
+
+    fits_there : (items : List Accepted) → Fits here items → Fits there (items ++ more)
+    fits_there items fits =
+        fits_passed here there items more taken cut_later lives stored log (kept ∙ ap (λ n. record taken { items = needed n taken.items }) (sym cut_there))
+        (subst (λ n. IsKept n (watches_in here) (items ++ more) taken) (sym idle_here) (takes items (subst (λ n. IsKept n (watches_in here) items e.streams) idle_here fits.kept)))
+        (subst (λ n. All (λ (l : Live). Tells (items ++ more) n (registration_of l) l.watched) (map (live_of facts) new.queries.items)) (sym idle_here) (tells_there items fits))
+        fits.follows
+
+    pub passes : Passes here more came to there
+    passes = record {
+      next = next;
+      queries = lives;
+      stored = stored;
+      log = log;
+      arrived = arrived;
+      broken = sound;
+      first = first_there;
+      told = tells_there;
+      fits = fits_there;
     }
 
-  -- other queries, where no place is set
-  module _ (new : Inside A) (next : new.next ≡ e.next) (items : new.items ≡ e.items) (stored : new.stored ≡ e.stored) (held : new.held ≡ e.held) (arrived : new.arrived ≡ e.arrived) (first : new.first ≡ None) where
-    pub ready_more : (query : LiveQuery A) → new.queries.items ≡ e.queries.items ++ query ∷ [] → query.first ≡ length e.items.items
-        → list_any (has_name query.name) (registrations_in (state_of facts e)) ≡ false → IsWatching e.items.items query → Answers node width facts spent query → IsReady node width facts spent new
-    ready_more query is at_end free watching answers =
-        let lives : map (live_of facts) new.queries.items ≡ map (live_of facts) e.queries.items ++ live_of facts query ∷ [] = ap (map (live_of facts)) is ∙ map_more (live_of facts) e.queries.items query in
-        record {
-          state = record {
-            next_high = rw next ready.state.next_high;
-            timed = rw (next, items) ready.state.timed;
-            arrival = rw (next, items, arrived) ready.state.arrival;
-            store = rw stored ready.state.store;
-            firsts = rw (lives, items) (one_more (λ (l : Live). l.first ≤ length e.items.items) (map (live_of facts) e.queries.items) (live_of facts query) ready.state.firsts (omega (arith, at_end)));
-            names = rw lives (distinct_more (map (live_of facts) e.queries.items) (λ (l : Live). l.name) query.name (live_of facts query) ready.state.names (any_fixed (map (live_of facts) e.queries.items) query.name free) refl);
-            waits = rw first (λ x is. cc);
-          };
-          held = rw (held, items) ready.held;
-          answers = rw is (one_more (Answers node width facts spent) e.queries.items query ready.answers answers);
-          watching = rw (is, items) (one_more (IsWatching e.items.items) e.queries.items query ready.watching watching);
-        }
+    pub ready_passed : to ≤ last_instant + 1 → e.streams.accepted ≤ taken.accepted → All (λ (l : LiveQuery A). IsPrompt to came (asked l)) new.queries.items
+        → All (λ (item : Item). item.time ≤ to) taken.items → length new.streams.items ≤ new.ends.cap → IsReady node width facts spent new
+    ready_passed high few prompt timed room = record {
+      state = state_passed here there more came to ready.state passes high cut_later (rw kept few)
+          (mapped (λ (l : Live). IsPrompt to came (asked_of l)) (live_of facts) new.queries.items prompt)
+          (rw kept (All-filter _ (λ (item : Item). item.time ≤ to) taken.items timed));
+      answers = answers_kept node width facts spent e.queries.items new.queries.items parts ready.answers;
+      room = room;
+    }
 
-    pub ready_without : (place : ℕ) → new.queries.items ≡ remove e.queries.items place → IsReady node width facts spent new
-    ready_without place is =
-        let lives : map (live_of facts) new.queries.items ≡ remove (map (live_of facts) e.queries.items) place = ap (map (live_of facts)) is ∙ remove_map (live_of facts) e.queries.items place in
-        record {
-          state = record {
-            next_high = rw next ready.state.next_high;
-            timed = rw (next, items) ready.state.timed;
-            arrival = rw (next, items, arrived) ready.state.arrival;
-            store = rw stored ready.state.store;
-            firsts = rw (lives, items) (All-remove (λ (l : Live). l.first ≤ length e.items.items) (map (live_of facts) e.queries.items) place ready.state.firsts);
-            names = rw lives (distinct_removed (map (live_of facts) e.queries.items) (λ (l : Live). l.name) place ready.state.names);
-            waits = rw first (λ x is. cc);
-          };
-          held = rw (held, items) ready.held;
-          answers = rw is (All-remove (Answers node width facts spent) e.queries.items place ready.answers);
-          watching = rw (is, items) (All-remove (IsWatching e.items.items) e.queries.items place ready.watching);
-        }
+  -- ---- other queries
 
-  -- other quads, where no place is set
-  pub ready_stored : (new : Inside A) → new.next ≡ e.next → new.queries ≡ e.queries → new.items ≡ e.items → new.held ≡ e.held → new.arrived ≡ e.arrived → new.first ≡ e.first → IsStore new.stored → IsReady node width facts spent new
-  ready_stored new next queries items held arrived first store = record {
-    state = record {
-      next_high = rw next ready.state.next_high;
-      timed = rw (next, items) ready.state.timed;
-      arrival = rw (next, items, arrived) ready.state.arrival;
-      store = store;
-      firsts = rw (queries, items) ready.state.firsts;
-      names = rw queries ready.state.names;
-      waits = rw (next, queries, items, arrived, first) ready.state.waits;
-    };
-    held = rw (held, items) ready.held;
-    answers = rw queries ready.answers;
-    watching = rw (queries, items) ready.watching;
-  }
+  -- a query that becomes live
+  pub ready_more : (new : Inside A) (query : LiveQuery A) → new.next ≡ e.next → new.streams ≡ e.streams → new.ends ≡ e.ends → new.stored ≡ e.stored → new.log ≡ e.log → new.arrived ≡ e.arrived → new.first ≡ e.first → new.broken ≡ e.broken
+      → new.queries.items ≡ e.queries.items ++ query ∷ [] → Begins here (live_of facts query) → IsPrompt (next_in here) e.arrived (asked query)
+      → watches_followed query.contents.items ≡ watches query.first query.windows
+      → list_any (has_name query.name) (registrations_in here) ≡ false → Answers node width facts spent query → IsReady node width facts spent new
+  ready_more new query next streams ends stored log arrived first broken is begins prompt watches_are free answers =
+      let lives : map (live_of facts) new.queries.items ≡ map (live_of facts) e.queries.items ++ live_of facts query ∷ [] = ap (map (live_of facts)) is ∙ map_more (live_of facts) e.queries.items query in
+      let none_left : new.first ≡ None = first ∙ idle in
+      let same : state_of facts new ≡ record here { queries = here.queries ++ live_of facts query ∷ [] } = λ i. record { next = next i; queries = lives i; kept = streams i; stored = stored i; log = log i; arrived = arrived i; first = first i; broken = broken i } in
+      let started : All (λ (seen : Followed). IsReached seen.at (cut_of here)) query.contents.items = All-weaker IsUnmoved (λ (seen : Followed). IsReached seen.at (cut_of here)) (λ seen unmoved. subst (λ at. IsReached at (cut_of here)) (sym unmoved.at) tt) query.contents.items begins.unmoved in
+      record {
+        state = subst IsState (sym same) (record {
+          next_high = ready.state.next_high;
+          lives = one_more (IsLive (next_in here) e.arrived e.streams.accepted (cut_of here)) here.queries (live_of facts query) ready.state.lives
+              (record { prompt = prompt; watches = watches_are; reached = started; first = let start = begins.first in omega (arith, start) });
+          timed = ready.state.timed;
+          store = ready.state.store;
+          names = rw (map_more (λ (l : Live). l.name) here.queries (live_of facts query)) (distinct_more here.queries (λ (l : Live). l.name) query.name (live_of facts query) ready.state.names (any_fixed here.queries query.name free) refl);
+          waits = rw idle (λ x is. cc);
+          history = record { items = ready.state.history.items; fits = fits_begun here (live_of facts query) ready.state.history.items begins ready.state.history.fits };
+        });
+        answers = rw is (one_more (Answers node width facts spent) e.queries.items query ready.answers answers);
+        room = rw (streams, ends) ready.room;
+      }
+
+  -- one that goes, with what it alone needed
+  pub ready_without : (new : Inside A) (place : ℕ) → new.next ≡ e.next → new.stored ≡ e.stored → new.log ≡ e.log → new.arrived ≡ e.arrived → new.first ≡ e.first
+      → new.queries.items ≡ remove e.queries.items place → new.streams.accepted ≡ e.streams.accepted → All (λ (item : Item). item.time ≤ next_in here) new.streams.items
+      → ((items : List Accepted) → Fits here items → Fits (state_of facts new) items) → length new.streams.items ≤ new.ends.cap → IsReady node width facts spent new
+  ready_without new place next stored log arrived first is accepted timed fits room =
+      let lives : map (live_of facts) new.queries.items ≡ remove (map (live_of facts) e.queries.items) place = ap (map (live_of facts)) is ∙ remove_map (live_of facts) e.queries.items place in
+      record {
+        state = record {
+          next_high = rw next ready.state.next_high;
+          lives = rw (lives, next, arrived, accepted, first) (All-remove (IsLive (next_in here) e.arrived e.streams.accepted (cut_of here)) (map (live_of facts) e.queries.items) place ready.state.lives);
+          timed = rw next timed;
+          store = rw stored ready.state.store;
+          names = rw lives (distinct_removed (map (live_of facts) e.queries.items) (λ (l : Live). l.name) place ready.state.names);
+          waits = rw (first ∙ idle) (λ x is. cc);
+          history = record { items = ready.state.history.items; fits = fits ready.state.history.items ready.state.history.fits };
+        };
+        answers = rw is (All-remove (Answers node width facts spent) e.queries.items place ready.answers);
+        room = room;
+      }
+
+-- other quads
+pub ready_stored : {A : Type 0} (node : A → Node) (width : A → ℕ) (facts : A → List Fact) (spent : A → Bool) (e : Inside A) → IsReady node width facts spent e
+    → (new : Inside A) → new.next ≡ e.next → new.queries ≡ e.queries → new.streams ≡ e.streams → new.ends ≡ e.ends → new.arrived ≡ e.arrived → new.first ≡ e.first → IsStore new.stored
+    → ((items : List Accepted) → Fits (state_of facts e) items → Fits (state_of facts new) items) → IsReady node width facts spent new
+ready_stored node width facts spent e ready new next queries streams ends arrived first store fits = record {
+  state = record {
+    next_high = rw next ready.state.next_high;
+    lives = rw (next, queries, streams, arrived, first) ready.state.lives;
+    timed = rw (next, streams) ready.state.timed;
+    store = store;
+    names = rw queries ready.state.names;
+    waits = rw (next, queries, arrived, first) ready.state.waits;
+    history = record { items = ready.state.history.items; fits = fits ready.state.history.items ready.state.history.fits };
+  };
+  answers = rw queries ready.answers;
+  room = rw (streams, ends) ready.room;
+}
+
+-- nothing fits an engine that has taken nothing
+pub fits_nothing : (e : State) → e.next ≡ None → e.queries ≡ [] → e.kept ≡ record { accepted = 0; items = [] } → Fits e []
+fits_nothing e next queries kept = record {
+  kept = rw kept (none_kept (cut_of e) (watches_in e));
+  told = rw queries (none (λ (live : Live). Tells [] (cut_of e) (registration_of live) live.watched));
+  follows = rw queries (λ k d below. absurd (omega (arith, below)));
+}
 
 -- an engine that has taken nothing
-pub ready_new : {A : Type 0} (node : A → Node) (width : A → ℕ) (facts : A → List Fact) (spent : A → Bool) (e : Inside A) → e.next ≡ None → e.queries.items ≡ [] → e.items.items ≡ [] → e.stored ≡ [] → e.held ≡ 0 → e.arrived ≡ None → e.first ≡ None → IsReady node width facts spent e
+pub ready_new : {A : Type 0} (node : A → Node) (width : A → ℕ) (facts : A → List Fact) (spent : A → Bool) (e : Inside A) → e.next ≡ None → e.queries.items ≡ [] → e.streams ≡ record { accepted = 0; items = [] } → e.stored ≡ [] → e.arrived ≡ None → e.first ≡ None → IsReady node width facts spent e
 unfolding IsDistinct
-ready_new node width facts spent e next queries items stored held arrived first = record {
+ready_new node width facts spent e next queries streams stored arrived first = record {
   state = record {
     next_high = rw next (omega arith);
-    timed = rw (next, items) (record { sorted = IsNonDecreasingBy-short (λ x. x) [] (omega arith); high = none (λ (i : Item). i.time ≤ 0) });
-    arrival = rw arrived (λ x is. cc);
+    lives = rw queries (λ k d below. absurd (omega (arith, below)));
+    timed = rw streams (none (λ (i : Item). i.time ≤ next_in (state_of facts e)));
     store = rw stored store_new;
-    firsts = rw (queries, items) (none (λ (l : Live). l.first ≤ 0));
     names = rw queries tt;
     waits = rw first (λ x is. cc);
+    history = record { items = []; fits = fits_nothing (state_of facts e) next (ap (map (live_of facts)) queries) streams };
   };
-  held = rw (held, items) refl;
   answers = rw queries (none (Answers node width facts spent));
-  watching = rw (queries, items) (none (IsWatching []));
+  room = rw streams (omega arith);
 }
