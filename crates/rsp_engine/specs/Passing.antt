@@ -76,6 +76,12 @@ HasContents items kept t watched = All (λ (watch : Watch). HasContent watch t k
 abbrev pub facts_at : List Accepted → List Fact → Live → ℕ → List Fact
 facts_at items stored live t = stored ++ facts_over items live.first live.windows t
 
+-- there are items of which a live query's windows have seen a beginning, and whose contents at t are kept
+pub record IsFollowed (kept : Kept) (stored : List Fact) (log : List Piece) (t : ℕ) (live : Live) : Type 0 where
+  pub items : List Accepted
+  pub follows : Follows items stored log live
+  pub contents : HasContents items kept t (watches live.first live.windows)
+
 -- a live query reported at t, over the stored quads and what its windows see of the accepted items; where it is still live, its
 -- answer stands for that, and it has seen all of the log
 pub record IsReported {A : Type 0} (node : A → Node) (width : A → ℕ) (facts : A → List Fact) (spent : A → Bool)

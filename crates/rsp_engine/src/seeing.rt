@@ -15,7 +15,7 @@ ghost use Rattle.rsp_streams_out.specs.Streams.{reported};
 ghost use Rattle.rsp_engine.specs.Contents.{watches};
 ghost use Rattle.rsp_engine.specs.Inside.{Answers, live_of};
 ghost use Rattle.rsp_engine.specs.Keeping.{watches_followed};
-ghost use Rattle.rsp_engine.specs.Passing.{HasContents, IsReported};
+ghost use Rattle.rsp_engine.specs.Passing.{HasContents, IsFollowed, IsReported};
 ghost use Rattle.rsp_engine.specs.Reports.{cells_at};
 ghost use Rattle.rsp_engine.specs.Stands.{Behind, IsStore, facts_followed, unseen};
 
@@ -46,6 +46,7 @@ pub(crate) fn report_at<A: Answer, L: Ledger>(
     requires store { IsStore stored.now }
     requires watches { watches_followed live.old.contents.items ≡ watches live.old.first live.old.windows }
     requires reached { All (λ (seen : Followed). IsReached seen.at at) live.old.contents.items }
+    requires followed { IsFollowed streams.now stored.now log.now at (live_of A.facts live.old) }
     requires answers { Answers A.node A.width A.facts A.spent live.old }
     ensures query { IfOk result (λ report. report.query ≡ live.old.name) }
     ensures at { IfOk result (λ report. report.at ≡ at) }
@@ -77,6 +78,7 @@ fn outcome_at<A: Answer, L: Ledger>(
     requires store { IsStore stored.now }
     requires watches { watches_followed live.old.contents.items ≡ watches live.old.first live.old.windows }
     requires reached { All (λ (seen : Followed). IsReached seen.at at) live.old.contents.items }
+    requires followed { IsFollowed streams.now stored.now log.now at (live_of A.facts live.old) }
     requires answers { Answers A.node A.width A.facts A.spent live.old }
     ensures reported { IfOk result (IsReported A.node A.width A.facts A.spent
         streams.now stored.now log.now at live.old live.new) }
