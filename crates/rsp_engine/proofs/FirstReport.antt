@@ -34,7 +34,8 @@ use Rattle.rsp_engine.proofs.Left.{gone, waiting_head}
 use Rattle.rsp_engine.proofs.Places.{nearer, nearer_gone}
 use Rattle.rsp_engine.proofs.Named.{drop_named, find_named, get_map, remove_map, remove_named, set_map, set_named, set_same}
 use Rattle.rsp_engine.proofs.Fitting.{contents_here}
-use Rattle.rsp_engine.proofs.Offering.{held_fewer, less_needed}
+use Rattle.rsp_engine.proofs.Needing.{less_needed}
+use Rattle.rsp_engine.proofs.Offering.{held_fewer}
 use Rattle.rsp_engine.proofs.Reporting.{All-get}
 use Rattle.rsp_engine.proofs.Seen.{name_of_query, seen_at, seen_removed, seen_set, world_at, world_names}
 use Rattle.rsp_engine.proofs.Standing.{head_is, left_here, left_renamed, none_is, waits_renamed}

@@ -2,12 +2,12 @@ pub mod Left
 pub mod Named
 pub mod Places
 pub mod Standing
-pub mod Sees
 pub mod Seen
 pub mod Reporting
 pub mod Readiness
+pub mod Fitting
+pub mod Needing
 pub mod Offering
-pub mod Graphs
 pub mod FactSets
 pub mod OrderedRows
 pub mod FirstReport

@@ -3,7 +3,7 @@ use Rattle.std.proofs.Common.{◌≡◌, ℕ, zero, suc, ◌+◌, ◌-◌, ◌^�
 use Rattle.std.proofs.lemmas.Grind.{flat_map-append}
 use Rattle.std.proofs.lemmas.Int.{ints}
 use Rattle.std.proofs.lemmas.List.{append-nil, map_push}
-use Rattle.std.proofs.lemmas.List.Elements.{All-append, All-cons, All-weaker, list_any-append}
+use Rattle.std.proofs.lemmas.List.Elements.{All-append, All-cons, All-weaker}
 use Rattle.std.proofs.lemmas.List.Sums.{sum_by-cons}
 use Rattle.std.proofs.lemmas.Bool.{le-leb, le-ltb, lt-leb, lt-ltb, ltb-false}
 use Rattle.std.proofs.lemmas.Option.{same_Some}
@@ -49,12 +49,13 @@ use Rattle.rsp_engine.specs.Keeping.{IsUnmoved, excess}
 use Rattle.rsp_engine.specs.Kept.{held, watches_of}
 use Rattle.rsp_engine.specs.Left.{IsFirstLeft, left_from, name_in, reports_at}
 use Rattle.rsp_engine.specs.Moments.{Moment, due_moments, moments, moments_at, moments_from}
-use Rattle.rsp_engine.specs.Passing.{Passes, unwatched}
+use Rattle.rsp_engine.specs.Passing.{Begins, Passes, unwatched}
 use Rattle.rsp_engine.specs.Stands.{Fits, Follows, HaveSeen, Live, Precede, Stands, State, asked_in, asked_of, cut_of, facts_followed, left_in, next_in, registration_of, registrations_in, test_in, watches_in}
 use Rattle.rsp_engine.specs.Watching.{Tells, name_of}
 use Rattle.rsp_engine.proofs.Fitting.{same_regs}
 use Rattle.rsp_engine.proofs.Left.{first_left_is, instants, read_left, same_left, waits_at}
 use Rattle.rsp_engine.proofs.Named.{remove_map, remove_named}
+use Rattle.rsp_engine.proofs.Needing.{less_needed}
 use Rattle.rsp_engine.proofs.Seen.{name_of_query, precede_new, seen_more, seen_removed, world_at, world_names}
 use Rattle.rsp_engine.proofs.Standing.{any_named, head_is, none_is, same_count, same_live}
 use Rattle.rsp_engine.proofs.Watches.{reports_told}
@@ -200,20 +201,6 @@ held_stands e world after idle fits regs next is =
     let items : after.items ≡ world.items = ap (λ (w : World). w.items) is in
     let mine = held_is (cut_of e) (watches_in e) world.items e.kept fits.kept in
     (λ k. listed_triples (needed_items (times k) (watches_of (regs (~ k))) (items k))) ∙ (ap (λ n. listed_triples (needed_items n (watches_in e) world.items)) (sym (idle_cut e idle)) ∙ sym mine)
-
--- without one of the queries no more is needed
-pub less_needed : (queries : List Registration) (place n : ℕ) (entry : Numbered) → is_needed n (watches_of (remove queries place)) entry ≡ true → is_needed n (watches_of queries) entry ≡ true
-less_needed [] zero n entry needed = needed
-less_needed [] (suc place) n entry needed = needed
-less_needed (query ∷ queries) zero n entry needed = fewer_need_less [] (watches query.first query.reading.windows) (watches_of queries) n entry needed
-less_needed (query ∷ queries) (suc place) n entry needed =
-    list_any-append (is_needed_by n entry) (watches query.first query.reading.windows) (watches_of queries)
-    ∙ by (is_needed n (watches query.first query.reading.windows) entry) (is_needed n (watches_of (remove queries place)) entry) (is_needed n (watches_of queries) entry) (less_needed queries place n entry)
-    (sym (list_any-append (is_needed_by n entry) (watches query.first query.reading.windows) (watches_of (remove queries place))) ∙ needed)
-  where
-    by : (a b c : Bool) → (b ≡ true → c ≡ true) → (a || b) ≡ true → (a || c) ≡ true
-    by true b c h is = refl
-    by false b c h is = h is
 
 pub tick_leads : (old new : State) (time : ℕ) (world : World) → next_in old ≤ time + 1 → Passes old [] None (time + 1) new → Stands old world [] → Leads world (Tick time) new
 tick_leads old new time world late passes stands =
@@ -408,14 +395,6 @@ module _ (old new : State) (live : Live) (items : List Accepted) (same : new ≡
         follows = All-append (Follows items old.stored old.log) old.queries (live ∷ []) fits.follows
             (All-cons (Follows items old.stored old.log) live [] (new_follows items old.stored old.log live unreported unseen unmoved) (λ k d below. absurd (omega (arith, below))));
       })
-
--- what holds of a query that has just begun
-pub record Begins (old : State) (live : Live) : Type 0 where
-  first : live.first ≡ old.kept.accepted
-  told : (items : List Accepted) (from : ℕ) → length items ≡ live.first → Tells items from (registration_of live) live.watched
-  unreported : live.reported ≡ false
-  unseen : live.seen ≡ []
-  unmoved : All IsUnmoved live.contents
 
 pub fits_begun : (old : State) (live : Live) (items : List Accepted) → Begins old live → Fits old items → Fits (record old { queries = old.queries ++ live ∷ [] }) items
 fits_begun old live items begins fits =

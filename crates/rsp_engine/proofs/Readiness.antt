@@ -23,14 +23,14 @@ use Rattle.rsp_engine.specs.Contents.{watches}
 use Rattle.rsp_engine.specs.Inside.{Answers, IsReady, Parts, asked, fixed, live_of, parts_of, state_of}
 use Rattle.rsp_engine.specs.Keeping.{IsUnmoved, watches_followed}
 use Rattle.rsp_engine.specs.Left.{IsFirstLeft}
-use Rattle.rsp_engine.specs.Passing.{Passes, unwatched}
+use Rattle.rsp_engine.specs.Passing.{Begins, Passes, unwatched}
 use Rattle.rsp_engine.specs.Stands.{Fits, History, IsLive, IsState, IsStore, Live, State, asked_in, asked_of, cut_of, is_idle, next_in, registration_of, registrations_in, test_in, watches_in}
 use Rattle.rsp_engine.specs.Watching.{Asked, IsPrompt, IsTimed, IsWatching, Tells, name_of, reports_by}
 use Rattle.rsp_engine.proofs.FactSets.{store_new}
 use Rattle.rsp_engine.proofs.Fitting.{fits_passed}
 use Rattle.rsp_engine.proofs.Left.{read_first, waits_at}
 use Rattle.rsp_engine.proofs.Named.{All-remove, distinct_more, distinct_removed, remove_map}
-use Rattle.rsp_engine.proofs.Offering.{Begins, fits_begun}
+use Rattle.rsp_engine.proofs.Offering.{fits_begun}
 
 -- ---- lists
 

@@ -24,6 +24,7 @@ use Rattle.rsp_engine.specs.declared.report.Report.{Report}
 use Rattle.rsp_engine.specs.Accept.{new_query, starts_overfull}
 use Rattle.rsp_engine.specs.Contents.{facts_over, watches}
 use Rattle.rsp_engine.specs.Inside.{Answers, fixed, live_of}
+use Rattle.rsp_engine.specs.Keeping.{IsUnmoved}
 use Rattle.rsp_engine.specs.Left.{IsFirstLeft}
 use Rattle.rsp_engine.specs.Readings.{reading_of}
 use Rattle.rsp_engine.specs.Refusals.{Refusal, refusal_of}
@@ -35,6 +36,14 @@ use Rattle.rsp_engine.specs.World.{Reading}
 -- all of a live query but the times that it watches
 abbrev pub unwatched : Live → Live
 unwatched live = record live { watched = [] }
+
+-- a live query that has just begun: it sees no item that was accepted, hasn't reported, and its windows haven't moved
+pub record Begins (old : State) (live : Live) : Type 0 where
+  pub first : live.first ≡ old.kept.accepted
+  pub told : (items : List Accepted) (from : ℕ) → length items ≡ live.first → Tells items from (registration_of live) live.watched
+  pub unreported : live.reported ≡ false
+  pub unseen : live.seen ≡ []
+  pub unmoved : All IsUnmoved live.contents
 
 -- every instant before `to` is complete, and these items were accepted, of which the newest just came over this stream, where one
 -- did; the moments left are those of the instants that became complete, and of what came; what is still needed is kept

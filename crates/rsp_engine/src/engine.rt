@@ -4,10 +4,10 @@ ghost use Rattle.std.specs.Prelude.{None, Some, false, if◌then◌else◌, leng
 ghost use Rattle.std.specs.List.{All, list_any};
 ghost use Rattle.rsp_spec.specs.Windows.{last_instant};
 ghost use Rattle.rsp_engine.specs.Accept.{has_name};
-ghost use Rattle.rsp_engine.specs.Inside.{IsWatching, fixed, live_of, name_of};
+ghost use Rattle.rsp_engine.specs.Inside.{asked, fixed, live_of};
 ghost use Rattle.rsp_engine.specs.Left.{IsFirstLeft};
 ghost use Rattle.rsp_engine.specs.Passing.{is_overfull_outcome};
-ghost use Rattle.rsp_engine.specs.Watching.{IsPrompt, reports_by};
+ghost use Rattle.rsp_engine.specs.Watching.{IsPrompt, name_of, reports_by};
 ghost use Rattle.rsp_engine.specs.declared.live_query.LiveQuery.{LiveQuery};
 
 use crate::finding::{Pending, first_left};
@@ -73,11 +73,12 @@ impl<A: Answer> Model for Engine<A> {
 }
 
 impl<A: Answer> Engine<A> {
-    ghost use Rattle.std.specs.Prelude.{◌≡◌, ℕ, ◌<◌, ◌↔◌, ◌≤◌, ◌+◌, ◌++◌, ◌∷◌, List, [], true, false};
+    ghost use Rattle.std.specs.Prelude.{◌≡◌, ℕ, ◌<◌, ◌↔◌, ◌≤◌, ◌+◌, ◌++◌, ◌∷◌, List, [], true, false, None};
     ghost use Rattle.std.specs.Prelude.{IsTrue, MatchOption, Ok, OnOk, OnErr, Some, IfErr, IfOk, length, slice_get};
-    ghost use Rattle.std.specs.List.{list_any};
-    ghost use Rattle.std.specs.Option.{is_some};
+    ghost use Rattle.std.specs.List.{All, list_any};
+    ghost use Rattle.std.specs.Option.{is_some, option_map_or};
     ghost use Rattle.rsp_spec.specs.Windows.{last_instant};
+    ghost use Rattle.rsp_terms.specs.declared.statement.Triple.{Triple};
     ghost use Rattle.rsp_syntax.specs.Parsing.{parse};
     ghost use Rattle.rsp_syntax.specs.Periods.{HasPeriods};
     ghost use Rattle.rsp_query.specs.Queries.{registered};
@@ -85,15 +86,19 @@ impl<A: Answer> Engine<A> {
     ghost use Rattle.rsp_algebra.specs.Nodes.{IsPlaced};
     ghost use Rattle.rsp_shapes.specs.Sound.{IsSound};
     ghost use Rattle.rsp_translation.specs.Translation.{IsTranslated};
+    ghost use Rattle.rsp_scope.specs.Ends.{EndsAt};
     ghost use Rattle.rsp_engine.specs.declared.refused.Refused.TheVariants.{OutOfMemory};
     ghost use Rattle.rsp_engine.specs.Accept.{has_name};
-    ghost use Rattle.rsp_engine.specs.Inside.{Answers, IsPolicy, IsWatching, live_of};
-    ghost use Rattle.rsp_engine.specs.Passing.{Passes, ReportsFirst};
+    ghost use Rattle.rsp_engine.specs.Contents.{watches};
+    ghost use Rattle.rsp_engine.specs.Inside.{Answers, asked, live_of};
+    ghost use Rattle.rsp_engine.specs.Keeping.{accepted_of, excess, watches_followed};
+    ghost use Rattle.rsp_engine.specs.Kept.{held};
+    ghost use Rattle.rsp_engine.specs.Passing.{Begins, Passes, ReportsFirst};
     ghost use Rattle.rsp_engine.specs.World.{World, empty_world};
     ghost use Rattle.rsp_engine.specs.Moments.{Moment};
-    ghost use Rattle.rsp_engine.specs.Kept.{triples_of};
-    ghost use Rattle.rsp_engine.specs.Stands.{Live, Stands, is_idle, next_in, registrations_in};
+    ghost use Rattle.rsp_engine.specs.Stands.{Live, Stands, is_idle, next_in, registrations_in, watches_in};
     ghost use Rattle.rsp_engine.specs.Offers.{Offers, NextReport};
+    ghost use Rattle.rsp_engine.specs.Watching.{IsPolicy, IsPrompt};
     ghost use Rattle.rsp_events.specs.Instants.{IsInstant};
 
     /// An engine that has taken no event. Takes no memory.
@@ -295,10 +300,9 @@ impl<A: Answer> Engine<A> {
         requires idle { IsTrue (is_idle self.old) }
         requires ready { self.old.broken ≡ false }
         requires free { list_any (has_name query.name) (registrations_in self.old) ≡ false }
-        requires first { query.first ≡ self.old.kept.accepted }
-        requires watching { IsWatching (next_in self.old) (asked query) }
+        requires begins { Begins self.old (live_of A.facts query) }
+        requires prompt { IsPrompt (next_in self.old) self.old.arrived (asked query) }
         requires watches { watches_followed query.contents.items ≡ watches query.first query.windows }
-        requires unmoved { All IsUnmoved query.contents.items }
         requires answers { Answers A.node A.width A.facts A.spent query }
         ensures ok { OnOk result (self.new ≡ record self.old { queries = self.old.queries ++ live_of A.facts query ∷ [] }) }
         ensures err { IfErr result (λ why. (why ≡ OutOfMemory) × (self.new.broken ≡ true)) }
@@ -603,10 +607,11 @@ fn first_moment<A>(
     next: Option<u64>,
     to: u64,
 ) -> Option<Pending>
-    requires prompt { All (IsPrompt to arrived.now) queries.now }
+    requires prompt { All (λ live. IsPrompt to arrived.now (asked live)) queries.now }
     requires later { unwrap_or next to ≤ to }
     requires instant { to ≤ last_instant + 1 }
-    ensures { IsFirstLeft name_of (reports_by to arrived.now) queries.now to (unwrap_or next to) 0 result }
+    ensures { IsFirstLeft (λ live. name_of (asked live)) (λ t live. reports_by to arrived.now t (asked live)) queries.now to
+        (unwrap_or next to) 0 result }
 {
     let from = Pending {
         at: next.unwrap_or(to),

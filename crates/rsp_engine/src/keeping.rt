@@ -1,11 +1,19 @@
 // The items that are kept: until when each is needed, and letting go of the others.
-ghost use Rattle.std.specs.Prelude.{◌≡◌, ◌≤◌, ◌+◌, ◌^◌, ◌∷◌, ℕ, List, [], Option, OnOk, length, map, nat_lt, if◌then◌else◌, None, Some};
+ghost use Rattle.std.specs.Prelude.{◌≡◌, ◌≤◌, ◌+◌, ◌^◌, ◌++◌, ◌∷◌, ℕ, List, [], None, Some, true, false, OnOk, IfOk, length, map};
+ghost use Rattle.std.specs.List.{All};
+ghost use Rattle.std.specs.Option.{option_map_or};
+ghost use Rattle.rsp_spec.specs.Windows.{last_instant};
 ghost use Rattle.rsp_terms.specs.declared.statement.Triple.{Triple};
-ghost use Rattle.rsp_scope.specs.Contents.{Accepted, Numbered, Watch, as_accepted};
+ghost use Rattle.rsp_scope.specs.Contents.{Accepted, Numbered, Watch};
 ghost use Rattle.rsp_scope.specs.Ends.{AreEnds, EndsAt, IsKept};
-ghost use Rattle.rsp_scope.specs.Kept.{needed, triples_of};
+ghost use Rattle.rsp_scope.specs.Kept.{taken};
 ghost use Rattle.rsp_scope.specs.Needed.{is_needed};
-ghost use Rattle.rsp_engine.specs.Keeping.{watches_followed, watches_by};
+ghost use Rattle.rsp_scope.specs.declared.item.Item.{Item};
+ghost use Rattle.rsp_engine.specs.Inside.{asked, fixed, parts_of};
+ghost use Rattle.rsp_engine.specs.Keeping.{IsLess, accepted_of, excess, watches_by, watches_followed};
+ghost use Rattle.rsp_engine.specs.Passing.{is_overfull_outcome};
+ghost use Rattle.rsp_engine.specs.Watching.{IsPrompt, IsWatching, Tells};
+ghost use Rattle.rsp_engine.specs.declared.finding.Pending.{Pending};
 
 use crate::finding::Pending;
 use crate::live_query::LiveQuery;
