@@ -25,7 +25,7 @@ use Rattle.rsp_scope.specs.Logged.{since}
 use Rattle.rsp_scope.specs.Moves.{Followed, HasSeen}
 use Rattle.rsp_scope.specs.Needed.{is_needed, is_needed_by, listed_triples, needed_items}
 use Rattle.rsp_scope.specs.Quads.{stored_with, stored_without}
-use Rattle.rsp_scope.proofs.Needed.{begun, held_falls, held_is, held_with, held_without}
+use Rattle.rsp_scope.proofs.Needed.{begun, held_falls, held_is, held_with, held_without, none_kept}
 use Rattle.rsp_scope.proofs.Needs.{fewer_need_less, needed-earlier}
 use Rattle.rsp_scope.proofs.StoredLaws.{as-many-stored_with, same-stored_with, same-stored_without}
 use Rattle.rsp_events.specs.declared.event.Event.{Event}
@@ -40,7 +40,7 @@ use Rattle.rsp_engine.specs.declared.refused.Refused.TheVariants as answer
 use Rattle.rsp_engine.specs.declared.refused.Refused.{Refused}
 use Rattle.rsp_engine.specs.Offers.{Answers, Offers, Refuses}
 use Rattle.rsp_engine.specs.Refusals.{Refusal, refusal_of, shape_fault, text_fault}
-use Rattle.rsp_engine.specs.World.{Query, Registration, World, next_of, registrations}
+use Rattle.rsp_engine.specs.World.{Query, Registration, World, empty_world, next_of, registrations}
 use Rattle.rsp_engine.specs.Readings.{reading_of}
 use Rattle.rsp_engine.specs.Accept.{accept, has_name, is_live, most_held, most_quads, most_queries, most_triples, new_query, starts_overfull, with_item, without}
 use Rattle.rsp_engine.specs.Contents.{watches, watches_from}
@@ -605,3 +605,26 @@ begun_offers old new name text q kept (Ok done) ready made begins idle free is g
       stands = λ world stands. register_leads old name text q kept world made begins idle free is good unmixed few starts stands;
     })
 begun_offers old new name text q kept (Err why) ready made begins idle free is good unmixed few starts went failed = breaks old name text why new ready free failed.0 failed.1
+
+-- ---- an engine that has taken nothing
+
+pub fits_nothing : (e : State) → e.next ≡ None → e.queries ≡ [] → e.kept ≡ record { accepted = 0; items = [] } → Fits e []
+fits_nothing e next queries kept = record {
+  kept = rw kept (none_kept (cut_of e) (watches_in e));
+  told = rw queries (λ k d below. absurd (omega (arith, below)));
+  follows = rw queries (λ k d below. absurd (omega (arith, below)));
+}
+
+pub new_stands : (e : State) → e.next ≡ None → e.queries ≡ [] → e.kept ≡ record { accepted = 0; items = [] } → e.stored ≡ [] → e.first ≡ None → e.broken ≡ false → Stands e empty_world []
+new_stands e next queries kept stored first sound = record {
+  ready = sound;
+  next = next;
+  fits = fits_nothing e next queries kept;
+  few = omega arith;
+  stored = rw stored (λ q. refl);
+  queries = rw queries refl;
+  seen = rw queries tt;
+  moments = rw first refl;
+  head = rw first (λ place some. cc);
+  none = (λ _. refl, λ _. first);
+}

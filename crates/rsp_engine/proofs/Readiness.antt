@@ -14,7 +14,6 @@ use Rattle.rsp_scope.specs.Ends.{IsKept}
 use Rattle.rsp_scope.specs.Kept.{Kept, needed}
 use Rattle.rsp_scope.specs.Moves.{Followed, IsReached}
 use Rattle.rsp_scope.specs.declared.item.Item.{Item}
-use Rattle.rsp_scope.proofs.Needed.{none_kept}
 use Rattle.rsp_engine.specs.declared.engine.Engine.TheInside.{Inside}
 use Rattle.rsp_engine.specs.declared.finding.Pending.{Pending}
 use Rattle.rsp_engine.specs.declared.live_query.LiveQuery.{LiveQuery}
@@ -30,7 +29,7 @@ use Rattle.rsp_engine.proofs.FactSets.{store_new}
 use Rattle.rsp_engine.proofs.Fitting.{fits_passed}
 use Rattle.rsp_engine.proofs.Left.{read_first, waits_at}
 use Rattle.rsp_engine.proofs.Named.{All-remove, distinct_more, distinct_removed, remove_map}
-use Rattle.rsp_engine.proofs.Offering.{fits_begun}
+use Rattle.rsp_engine.proofs.Offering.{fits_begun, fits_nothing}
 
 -- ---- lists
 
@@ -349,14 +348,6 @@ ready_stored node width facts spent e ready new next queries streams ends arrive
   };
   answers = rw queries ready.answers;
   room = rw (streams, ends) ready.room;
-}
-
--- nothing fits an engine that has taken nothing
-pub fits_nothing : (e : State) → e.next ≡ None → e.queries ≡ [] → e.kept ≡ record { accepted = 0; items = [] } → Fits e []
-fits_nothing e next queries kept = record {
-  kept = rw kept (none_kept (cut_of e) (watches_in e));
-  told = rw queries (none (λ (live : Live). Tells [] (cut_of e) (registration_of live) live.watched));
-  follows = rw queries (λ k d below. absurd (omega (arith, below)));
 }
 
 -- an engine that has taken nothing

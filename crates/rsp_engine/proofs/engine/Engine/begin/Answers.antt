@@ -1,9 +1,10 @@
-use Rattle.std.proofs.Common.{◌∙◌, ap}
+use Rattle.std.proofs.Common.{◌∙◌, ap, sym}
 use Rattle.rsp_query.specs.Queries.{registered}
 use Rattle.rsp_engine.specs.Accept.{new_query}
 use Rattle.rsp_engine.specs.Inside.{live_of}
 use Rattle.rsp_engine.specs.Readings.{reading_of}
 use Rattle.rsp_engine.specs.Stands.{State}
+use Rattle.rsp_engine.specs.World.{Registration}
 use Rattle.rsp_engine.proofs.Offering.{begun_offers, breaks, overfull_refuses}
 use Rattle.rsp_engine.proofs.Readiness.{idle_first}
 use Rattle.rsp_engine.proofs.engine.Engine.begin.Goals as goal
@@ -15,7 +16,7 @@ returns-in-Ok-Some g c = λ text is.
     let begun = rw c.in-Ok-Some.field-0-is at c.in-Ok-Some.ensures.query in
     let made = begun.1 ∙ ap (λ n. (new_query c.args.name (reading_of q) n).registration) c.accepted.ensures in
     let idle = idle_first old c.requires.ready c.requires.idle in
-    begun_offers old c.go_live.new.self c.args.name text q (live_of g.A.Answer.facts c.in-Ok-Some.query) c.go_live.result c.requires.ready made begun.2 idle c.requires.free is c.requires.translated.sound c.requires.unmixed c.requires.few begun.0 c.go_live.ensures.ok c.go_live.ensures.err
+    begun_offers old c.go_live.new.self c.args.name text q (live_of g.A.Answer.facts c.in-Ok-Some.query) c.go_live.result c.requires.ready made (c.go_live.requires.begins) idle c.requires.free is c.requires.translated.sound c.requires.unmixed c.requires.few begun.0 c.go_live.ensures.ok c.go_live.ensures.err
 
 pub returns-in-Ok-None : goal.returns-in-Ok-None
 returns-in-Ok-None g c = λ text is.
