@@ -16,5 +16,8 @@ pub mod Reported
 pub mod Watches
 pub mod FirstPlaces
 pub mod NewTimes
+pub mod TimesKept
+pub mod WatchedWith
+pub mod Begun
 pub mod Policies
 mod WorldRows

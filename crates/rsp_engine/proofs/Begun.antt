@@ -1,0 +1,55 @@
+-- A live query that has seen no item, and hasn't reported.
+use Rattle.std.proofs.Common.{◌≡◌, ℕ, zero, suc, ◌+◌, ◌<◌, ◌≤◌, ◌^◌, List, [], ◌∷◌, ◌++◌, map, drop, length, None, refl, sym, ap, subst, ◌∙◌, arith}
+use Rattle.std.specs.List.{All}
+use Rattle.std.proofs.lemmas.List.{append_assoc, drop_all, map-append}
+use Rattle.std.proofs.lemmas.List.Elements.{All-map, All-nil, All-push}
+use Rattle.rsp_report.specs.declared.contents.Watched.{Watched}
+use Rattle.rsp_report.specs.Due.{seen_at}
+use Rattle.rsp_scope.specs.Contents.{Accepted, Watch}
+use Rattle.rsp_scope.specs.Moves.{Followed}
+use Rattle.rsp_engine.specs.declared.live_query.LiveQuery.{LiveQuery}
+use Rattle.rsp_engine.specs.declared.live_query.StreamWindow.{StreamWindow}
+use Rattle.rsp_engine.specs.Contents.{watches_from}
+use Rattle.rsp_engine.specs.Due.{visible_items, watched_window}
+use Rattle.rsp_engine.specs.Inside.{asked}
+use Rattle.rsp_engine.specs.Keeping.{watches_followed}
+use Rattle.rsp_engine.specs.Watching.{Asked, IsPolicy, IsTimed, IsWatching, Tells}
+use Rattle.rsp_engine.specs.World.{Registration}
+
+unseen_timed : (next : ℕ) (w : StreamWindow) → IsTimed next (watched_window [] w)
+unseen_timed next w = record {
+  watched = record { sorted = λ i j d low high. absurd (omega (arith, high)); high = All-nil (λ time. time ≤ 2 ^ 48) };
+  high = All-nil (λ time. time ≤ next);
+}
+
+unseen_shapes : (windows : List StreamWindow)
+    → map (λ (watched : Watched). watched.window) (map (watched_window []) windows) ≡ map (λ (w : StreamWindow). w.shape) windows
+unseen_shapes [] = refl
+unseen_shapes (w ∷ ws) = ap (λ shapes. w.shape ∷ shapes) (unseen_shapes ws)
+
+-- it watches its windows
+pub begun_watching : (next : ℕ) (ask : Asked) → IsPolicy ask.policy → ask.watched ≡ map (watched_window []) ask.windows → IsWatching next ask
+begun_watching next ask policy watched = record {
+  policy = policy;
+  shapes = ap (map (λ (watched : Watched). watched.window)) watched ∙ unseen_shapes ask.windows;
+  timed = subst (All (IsTimed next)) (sym watched)
+      (All-map (IsTimed next) (watched_window []) ask.windows (λ k d within. unseen_timed next _));
+}
+
+-- and tells of the items, of which it may see none
+pub begun_tells : (items : List Accepted) (from : ℕ) (query : Registration) (watched : List Watched) → length items ≡ query.first
+    → watched ≡ map (watched_window []) query.reading.windows → Tells items from query watched
+begun_tells items from query watched first is t late =
+    ap (map (seen_at t)) is
+    ∙ ap (λ seen. map (seen_at t) (map (watched_window seen) query.reading.windows))
+    (sym (drop_all query.first items (omega (arith, first))))
+
+-- one window more that is followed
+pub watches_more : (first spot : ℕ) (contents : List Followed) (one : Followed) (w : StreamWindow) (ws : List StreamWindow) (all : List Watch)
+    → one.watch ≡ record { shape = w.shape; spot = spot; stream = w.stream; first = first }
+    → watches_followed contents ++ watches_from first spot (w ∷ ws) ≡ all
+    → watches_followed (contents ++ one ∷ []) ++ watches_from first (spot + 1) ws ≡ all
+watches_more first spot contents one w ws all is before =
+    ap (λ ms. ms ++ watches_from first (spot + 1) ws) (map-append (λ (seen : Followed). seen.watch) contents (one ∷ []))
+    ∙ (append_assoc (watches_followed contents) (one.watch ∷ []) (watches_from first (spot + 1) ws)
+    ∙ (ap (λ watch. watches_followed contents ++ watch ∷ watches_from first (spot + 1) ws) is ∙ before))
