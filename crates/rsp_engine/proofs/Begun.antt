@@ -1,10 +1,10 @@
 -- A live query that has seen no item, and hasn't reported.
-use Rattle.std.proofs.Common.{◌≡◌, ℕ, zero, suc, ◌+◌, ◌<◌, ◌≤◌, ◌^◌, List, [], ◌∷◌, ◌++◌, map, drop, length, None, refl, sym, ap, subst, ◌∙◌, arith}
+use Rattle.std.proofs.Common.{◌≡◌, ℕ, zero, suc, ◌+◌, ◌<◌, ◌≤◌, ◌^◌, List, Option, [], ◌∷◌, ◌++◌, map, drop, length, None, refl, sym, ap, subst, ◌∙◌, arith}
 use Rattle.std.specs.List.{All}
 use Rattle.std.proofs.lemmas.List.{append_assoc, drop_all, map-append}
 use Rattle.std.proofs.lemmas.List.Elements.{All-map, All-nil, All-push}
 use Rattle.rsp_report.specs.declared.contents.Watched.{Watched}
-use Rattle.rsp_report.specs.Due.{seen_at}
+use Rattle.rsp_report.specs.Due.{IsFreshAt, seen_at}
 use Rattle.rsp_scope.specs.Contents.{Accepted, Watch}
 use Rattle.rsp_scope.specs.Moves.{Followed}
 use Rattle.rsp_engine.specs.declared.live_query.LiveQuery.{LiveQuery}
@@ -13,7 +13,7 @@ use Rattle.rsp_engine.specs.Contents.{watches_from}
 use Rattle.rsp_engine.specs.Due.{visible_items, watched_window}
 use Rattle.rsp_engine.specs.Inside.{asked}
 use Rattle.rsp_engine.specs.Keeping.{watches_followed}
-use Rattle.rsp_engine.specs.Watching.{Asked, IsPolicy, IsTimed, IsWatching, Tells}
+use Rattle.rsp_engine.specs.Watching.{Asked, IsPolicy, IsPrompt, IsTimed, IsWatching, Tells}
 use Rattle.rsp_engine.specs.World.{Registration}
 
 unseen_timed : (next : ℕ) (w : StreamWindow) → IsTimed next (watched_window [] w)
@@ -34,6 +34,16 @@ begun_watching next ask policy watched = record {
   shapes = ap (map (λ (watched : Watched). watched.window)) watched ∙ unseen_shapes ask.windows;
   timed = subst (All (IsTimed next)) (sym watched)
       (All-map (IsTimed next) (watched_window []) ask.windows (λ k d within. unseen_timed next _));
+}
+
+-- none of its windows is fresh
+unseen_fresh : (t : ℕ) (windows : List StreamWindow) → All (IsFreshAt t) (map (watched_window []) windows)
+unseen_fresh t windows = All-map (IsFreshAt t) (watched_window []) windows (λ k d within fresh. cc)
+
+pub begun_prompt : (next : ℕ) (arrived : Option (List ℕ)) (ask : Asked) → IsPolicy ask.policy → ask.watched ≡ map (watched_window []) ask.windows → IsPrompt next arrived ask
+begun_prompt next arrived ask policy watched = record {
+  watching = begun_watching next ask policy watched;
+  fresh = λ is. subst (All (IsFreshAt next)) (sym watched) (unseen_fresh next ask.windows);
 }
 
 -- and tells of the items, of which it may see none

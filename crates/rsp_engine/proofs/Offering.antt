@@ -58,7 +58,7 @@ use Rattle.rsp_engine.proofs.Named.{remove_map, remove_named}
 use Rattle.rsp_engine.proofs.Needing.{less_needed}
 use Rattle.rsp_engine.proofs.Seen.{name_of_query, precede_new, seen_more, seen_removed, world_at, world_names}
 use Rattle.rsp_engine.proofs.Standing.{any_named, head_is, none_is, same_count, same_live}
-use Rattle.rsp_engine.proofs.Watches.{reports_told}
+use Rattle.rsp_engine.proofs.Watches.{reports_same}
 
 pub same_bytes : (name : List ℕ) → bytes_eq name name ≡ true
 same_bytes name = (bytes_decides name name).1 refl
@@ -115,7 +115,7 @@ module _ (old new : State) (more : List Accepted) (came : Option (List ℕ)) (to
   alike t late early =
       All-weaker (λ (live : Live). Tells after.items (next_in old) (registration_of live) live.watched)
       (λ (live : Live). test_in new t (asked_of live) ≡ reports_at after.items (next_in new) new.arrived t (registration_of live))
-      (λ live tells. reports_told live after.items (next_in old) (next_in new) new.arrived tells (rw passes.next (omega (arith, low, high))) t (omega (arith, high, late)) early)
+      (λ live tells. reports_same after.items (next_in old) (next_in new) new.arrived live tells t (omega (arith, high, late)) early)
       new.queries (passes.told world.items stands.fits)
 
   named : left_from name_in (reports_at after.items (next_in new) new.arrived) (registrations_in new) (next_in new) (unwrap_or old.next to) 0

@@ -8,7 +8,7 @@ ghost use Rattle.rsp_terms.specs.declared.statement.Fact.{Fact};
 ghost use Rattle.rsp_multiset.specs.Rows.{Cells, row_eq};
 ghost use Rattle.rsp_multiset.specs.Weights.{IsChanged, IsSameMultiset, times, weight};
 ghost use Rattle.rsp_algebra.specs.Solutions.{eval};
-ghost use Rattle.rsp_scope.specs.Contents.{Accepted};
+ghost use Rattle.rsp_scope.specs.Contents.{Accepted, HasContent};
 ghost use Rattle.rsp_scope.specs.Moves.{Followed, HasSeen, IsReached};
 ghost use Rattle.rsp_streams_out.specs.Rows.{AreRows, in_order};
 ghost use Rattle.rsp_streams_out.specs.Streams.{reported};
