@@ -2,7 +2,7 @@
 use Rattle.std.proofs.Common.{◌≡◌, ℕ, zero, suc, ◌+◌, ◌<◌, ◌≤◌, ◌^◌, List, Option, [], ◌∷◌, ◌++◌, map, drop, length, None, refl, sym, ap, subst, ◌∙◌, arith}
 use Rattle.std.specs.List.{All}
 use Rattle.std.proofs.lemmas.List.{append_assoc, drop_all, map-append}
-use Rattle.std.proofs.lemmas.List.Elements.{All-map, All-nil, All-push}
+use Rattle.std.proofs.lemmas.List.Elements.{All-cons, All-nil, All-push}
 use Rattle.rsp_report.specs.declared.contents.Watched.{Watched}
 use Rattle.rsp_report.specs.Due.{IsFreshAt, seen_at}
 use Rattle.rsp_scope.specs.Contents.{Accepted, Watch}
@@ -22,6 +22,11 @@ unseen_timed next w = record {
   high = All-nil (λ time. time ≤ next);
 }
 
+-- what holds of each window without a time
+all_unseen : (P : Watched → Type 0) (windows : List StreamWindow) → ((w : StreamWindow) → P (watched_window [] w)) → All P (map (watched_window []) windows)
+all_unseen P [] holds = All-nil P
+all_unseen P (w ∷ ws) holds = All-cons P (watched_window [] w) (map (watched_window []) ws) (holds w) (all_unseen P ws holds)
+
 unseen_shapes : (windows : List StreamWindow)
     → map (λ (watched : Watched). watched.window) (map (watched_window []) windows) ≡ map (λ (w : StreamWindow). w.shape) windows
 unseen_shapes [] = refl
@@ -33,12 +38,12 @@ begun_watching next ask policy watched = record {
   policy = policy;
   shapes = ap (map (λ (watched : Watched). watched.window)) watched ∙ unseen_shapes ask.windows;
   timed = subst (All (IsTimed next)) (sym watched)
-      (All-map (IsTimed next) (watched_window []) ask.windows (λ k d within. unseen_timed next _));
+      (all_unseen (IsTimed next) ask.windows (unseen_timed next));
 }
 
 -- none of its windows is fresh
 unseen_fresh : (t : ℕ) (windows : List StreamWindow) → All (IsFreshAt t) (map (watched_window []) windows)
-unseen_fresh t windows = All-map (IsFreshAt t) (watched_window []) windows (λ k d within fresh. cc)
+unseen_fresh t windows = all_unseen (IsFreshAt t) windows (λ w fresh. cc)
 
 pub begun_prompt : (next : ℕ) (arrived : Option (List ℕ)) (ask : Asked) → IsPolicy ask.policy → ask.watched ≡ map (watched_window []) ask.windows → IsPrompt next arrived ask
 begun_prompt next arrived ask policy watched = record {

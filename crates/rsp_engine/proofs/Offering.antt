@@ -200,7 +200,10 @@ held_stands e world after idle fits regs next is =
     let times : next_of after ≡ next_in e = ap next_of is ∙ ap (λ n. unwrap_or n 0) (sym next) in
     let items : after.items ≡ world.items = ap (λ (w : World). w.items) is in
     let mine = held_is (cut_of e) (watches_in e) world.items e.kept fits.kept in
-    (λ k. listed_triples (needed_items (times k) (watches_of (regs (~ k))) (items k))) ∙ (ap (λ n. listed_triples (needed_items n (watches_in e) world.items)) (sym (idle_cut e idle)) ∙ sym mine)
+    ap (λ n. listed_triples (needed_items n (watches_of (registrations after)) after.items)) times
+    ∙ (ap (λ rs. listed_triples (needed_items (next_in e) (watches_of rs) after.items)) (sym regs)
+    ∙ (ap (λ xs. listed_triples (needed_items (next_in e) (watches_in e) xs)) items
+    ∙ (ap (λ n. listed_triples (needed_items n (watches_in e) world.items)) (sym (idle_cut e idle)) ∙ sym mine)))
 
 pub tick_leads : (old new : State) (time : ℕ) (world : World) → next_in old ≤ time + 1 → Passes old [] None (time + 1) new → Stands old world [] → Leads world (Tick time) new
 tick_leads old new time world late passes stands =
@@ -372,7 +375,7 @@ none_followed items (seen ∷ contents) all =
 pub new_follows : (items : List Accepted) (stored : List Fact) (log : List Piece) (live : Live) → live.reported ≡ false → live.seen ≡ [] → All IsUnmoved live.contents → Follows items stored log live
 new_follows items stored log live unreported unseen unmoved = record {
   contents = All-weaker IsUnmoved (λ (seen : Followed). HasSeen seen (take seen.accepted items))
-      (λ (seen : Followed) (new : IsUnmoved seen). let none : seen.accepted ≡ 0 = new.seen.accepted in rw none new.seen) live.contents unmoved;
+      (λ (seen : Followed) (new : IsUnmoved seen). let none : seen.accepted ≡ 0 = new.seen.accepted in subst (λ n. HasSeen seen (take n items)) (sym none) new.seen) live.contents unmoved;
   seen = λ q. rw (unreported, unseen, none_followed items live.contents unmoved) (omega (arith, ints));
 }
 

@@ -1,3 +1,4 @@
+use Rattle.std.proofs.Common.{◌∙◌, refl}
 use Rattle.rsp_engine.proofs.Offering.{held_here}
 use Rattle.rsp_engine.proofs.engine.Engine.held.Goals as goal
 
