@@ -20,4 +20,6 @@ pub mod TimesKept
 pub mod WatchedWith
 pub mod Begun
 pub mod Policies
+pub mod KeptEnds
+pub mod Logging
 mod WorldRows
