@@ -1,7 +1,0 @@
-use Rattle.rsp_multiset.proofs.Counting.{one_more}
-use Rattle.rsp_terms.specs.Same.{fact_eq}
-use Rattle.rsp_engine.proofs.seeing.add_each.Goals as goal
-
-pub loop-fact-preserved : goal.loop-fact-preserved
-loop-fact-preserved c q =
-    one_more fact_eq _ _ _ _ _ _ _ q c.loop-fact-test.true c.fact-item.is c.in_ok-share.ensures (c.in_ok-alter.ensures.ok q) (c.loop-fact.invariant q)
