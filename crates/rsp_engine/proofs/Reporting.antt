@@ -142,7 +142,7 @@ module _ {A : Type 0} (node : A → Node) (width : A → ℕ) (facts : A → Lis
       live_now : (cut : ℕ) → place.at ≤ cut → IsLive (next_in here) e.arrived e.streams.accepted cut (live_of facts now)
       live_now cut low = record {
         prompt = subst (IsPrompt (next_in here) e.arrived) (sym asked_now) is_live.prompt;
-        watches = reported.watches ∙ (is_live.watches ∙ ap (λ (r : Registration). watches r.first r.reading.windows) (sym reg_now));
+        watches = reported.windows ∙ (is_live.watches ∙ ap (λ (r : Registration). watches r.first r.reading.windows) (sym reg_now));
         reached = All-weaker (λ (seen : Followed). seen.at ≡ Some place.at) (λ (seen : Followed). IsReached seen.at cut) (λ (seen : Followed) at. subst (λ o. IsReached o cut) (sym at) low) now.contents.items reported.at;
         first = subst (λ (r : Registration). r.first ≤ e.streams.accepted) (sym reg_now) is_live.first;
       }

@@ -15,4 +15,5 @@ pub mod Stands
 pub mod Inside
 pub mod Passing
 pub mod Watching
+pub mod Watched
 pub mod Keeping

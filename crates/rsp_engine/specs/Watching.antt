@@ -55,9 +55,9 @@ pub record IsPolicy (policy : Chosen) : Type 0 where
   pub period_on_items : policy.tuple ≡ true → policy.period ≡ None
 
 -- times in order, of which none is behind `next`
-pub record IsTimed (next : ℕ) (watched : Watched) : Type 0 where
-  pub watched : IsWatched watched
-  pub high : All (λ time. time ≤ next) watched.times
+pub record IsTimed (next : ℕ) (window : Watched) : Type 0 where
+  pub watched : IsWatched window
+  pub high : All (λ time. time ≤ next) window.times
 
 -- a live query watches each of its windows
 pub record IsWatching (next : ℕ) (asked : Asked) : Type 0 where
