@@ -9,6 +9,7 @@ pub mod Fitting
 pub mod Needing
 pub mod Offering
 pub mod FactSets
+pub mod Following
 pub mod OrderedRows
 pub mod FirstReport
 pub mod ReportSteps
