@@ -6,6 +6,7 @@ pub mod Seen
 pub mod Reporting
 pub mod Readiness
 pub mod Fitting
+pub mod Cancelling
 pub mod Needing
 pub mod Offering
 pub mod FactSets

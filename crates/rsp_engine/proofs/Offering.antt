@@ -293,6 +293,32 @@ item_leads old new stream time graph end world idle small late ends none passes 
       there,
     )
 
+-- or memory is refused
+pub item_offers : (old new : State) (stream : List ℕ) (time : ℕ) (graph : List Triple) (end : Option ℕ) (result : Result (Unit {0}) Refused) → old.broken ≡ false → old.first ≡ None → length graph ≤ most_triples → next_in old ≤ time
+    → EndsAt (watches_in old) (record { number = old.kept.accepted; item = record { stream = stream; time = time; graph = graph } }) end
+    → option_map_or (λ _. excess old.kept time (length graph)) end None ≡ None
+    → OnOk result (Passes old (record { stream = stream; time = time; graph = graph } ∷ []) (Some stream) time new) → IfErr result (λ why. (why ≡ answer.OutOfMemory) × (new.broken ≡ true))
+    → Offers old (Item stream time graph) result new
+item_offers old new stream time graph end (Ok done) ready idle small late ends none went failed = record {
+  was_ready = ready;
+  ready = went.broken;
+  stands = λ world stands. item_leads old new stream time graph end world idle small late ends none went stands;
+}
+item_offers old new stream time graph end (Err why) ready idle small late ends none went failed =
+    rw failed.0
+    (record {
+      was_ready = ready;
+      broken = failed.1;
+      memory = tt;
+      may_take = λ world stands.
+          let item : Accepted = record { stream = stream; time = time; graph = graph } in
+          let few = in_bounds old world item idle stands late end ends none in
+          let fits : nat_lt most_held (held (with_item world item)) ≡ false = le-ltb _ _ few in
+          let few_triples : nat_lt most_triples (length graph) ≡ false = le-ltb _ _ small in
+          let in_time : nat_lt time (next_of world) ≡ false = le-ltb _ _ (rw stands.next at late) in
+          rw (in_time, few_triples, fits) tt;
+    })
+
 -- an item whose triples are too many
 pub large_refuses : (old : State) (stream : List ℕ) (time : ℕ) (graph : List Triple) → old.broken ≡ false → next_in old ≤ time → most_triples < length graph
     → Refuses old (Item stream time graph) (answer.ItemTooLarge (length graph)) old
