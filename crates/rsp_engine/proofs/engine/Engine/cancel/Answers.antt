@@ -1,8 +1,6 @@
-use Rattle.std.proofs.Common.{[], ◌≡◌, ◌∙◌, ◌≤◌, ap, arith, bytes_eq, map, refl, remove, subst, sym, unwrap_or}
-use Rattle.std.specs.List.{All, IsDistinct}
-use Rattle.rsp_scope.specs.declared.item.Item.{Item}
-use Rattle.rsp_engine.specs.Inside.{IsReady, live_of, state_of}
-use Rattle.rsp_engine.specs.Stands.{Live, Stands}
+use Rattle.std.proofs.Common.{[], refl}
+use Rattle.rsp_engine.specs.Inside.{IsReady, state_of}
+use Rattle.rsp_engine.specs.Stands.{Stands}
 use Rattle.rsp_engine.proofs.Cancelling.{fits_without, lives, timed_below}
 use Rattle.rsp_engine.proofs.Offering.{cancel_leads, no_query_refuses}
 use Rattle.rsp_engine.proofs.Readiness.{idle_first, ready_without}

@@ -1,4 +1,4 @@
-use Rattle.std.proofs.Common.{◌≡◌, ◌≤◌, Err, ap, length, map, refl, subst, sym}
+use Rattle.std.proofs.Common.{◌≤◌, Err, ap, length, map, refl, subst, sym}
 use Rattle.std.specs.List.{All}
 use Rattle.rsp_events.specs.declared.event.Event.TheVariants.{Insert}
 use Rattle.rsp_scope.specs.Faults.{IsStoredFault}
