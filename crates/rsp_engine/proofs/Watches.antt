@@ -1,5 +1,5 @@
 -- What a live query watches tells when it reports, as the accepted items do.
-use Rattle.std.proofs.Common.{◌≡◌, ℕ, ◌≤◌, false, nat_lt, if◌then◌else◌, ◌&&◌, not, bytes_eq, List, map, Option, sym, ap, ◌∙◌, arith}
+use Rattle.std.proofs.Common.{◌≡◌, ℕ, ◌≤◌, false, nat_lt, if◌then◌else◌, ◌&&◌, not, bytes_eq, List, map, Option, sym, ap, subst, ◌∙◌, arith}
 use Rattle.std.specs.List.{All, list_any}
 use Rattle.std.specs.Option.{option_map_or}
 use Rattle.std.proofs.lemmas.List.Elements.{All-weaker}
@@ -11,8 +11,9 @@ use Rattle.rsp_report.specs.Due.{IsWatched, seen_at}
 use Rattle.rsp_report.specs.Due as windows
 use Rattle.rsp_report.proofs.Unseen.{due_on_item_seen, due_seen}
 use Rattle.rsp_scope.specs.Contents.{Accepted}
+use Rattle.rsp_engine.specs.declared.finding.Pending.{Pending}
 use Rattle.rsp_engine.specs.Due.{is_due, is_due_over, watched_of}
-use Rattle.rsp_engine.specs.Left.{left_from, name_in, reports_at}
+use Rattle.rsp_engine.specs.Left.{IsFirstLeft, left_from, name_in, reports_at}
 use Rattle.rsp_engine.specs.Stands.{Live, asked_of, registration_of}
 use Rattle.rsp_engine.specs.Watching.{IsTimed, Tells, is_due_by, is_due_over_by, name_of, reports_by}
 use Rattle.rsp_engine.specs.declared.live_query.LiveQuery.{LiveQuery}
