@@ -1,5 +1,5 @@
 -- A live query that has seen no item, and hasn't reported.
-use Rattle.std.proofs.Common.{◌≡◌, ℕ, zero, suc, ◌+◌, ◌<◌, ◌≤◌, ◌^◌, List, [], ◌∷◌, ◌++◌, map, drop, length, get_or,  refl, sym, ap, subst, ◌∙◌, arith}
+use Rattle.std.proofs.Common.{◌≡◌, ℕ, zero, suc, ◌+◌, ◌<◌, ◌≤◌, ◌^◌, List, [], ◌∷◌, ◌++◌, map, drop, length, get_or, refl, sym, ap, subst, ◌∙◌, arith}
 use Rattle.std.specs.List.{All, IsDistinct}
 use Rattle.rsp_terms.specs.declared.statement.Fact.{Fact}
 use Rattle.rsp_algebra.specs.Changing.{IsSet}

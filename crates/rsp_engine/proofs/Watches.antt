@@ -45,7 +45,7 @@ module _ (items : List Accepted) (from next : ℕ) (arrived : Option (List ℕ))
       ap (λ b. not live.policy.tuple && b) (due_alike live.policy live.watched (watched_of items (registration_of live)) t (told t late)) in
       let over : (stream : List ℕ) → is_due_over_by (asked_of live) stream next ≡ is_due_over items (registration_of live) stream next =
       λ stream. ap (λ b. live.policy.tuple && (list_any (λ w. bytes_eq stream w.stream) live.windows && b))
-          (due_on_item_alike live.policy live.watched (watched_of items (registration_of live)) next (told next (omega (arith, late, early)))) in
+      (due_on_item_alike live.policy live.watched (watched_of items (registration_of live)) next (told next (omega (arith, late, early)))) in
       (λ k. if nat_lt t next then due k else option_map_or (λ stream. over stream k) arrived false)
 
   -- ---- all queries
