@@ -1,8 +1,10 @@
 -- A live query that has seen no item, and hasn't reported.
-use Rattle.std.proofs.Common.{◌≡◌, ℕ, zero, suc, ◌+◌, ◌<◌, ◌≤◌, ◌^◌, List, Option, [], ◌∷◌, ◌++◌, map, drop, length, None, refl, sym, ap, subst, ◌∙◌, arith}
-use Rattle.std.specs.List.{All}
-use Rattle.std.proofs.lemmas.List.{append_assoc, drop_all, map-append}
-use Rattle.std.proofs.lemmas.List.Elements.{All-cons, All-nil, All-push}
+use Rattle.std.proofs.Common.{◌≡◌, ℕ, zero, suc, ◌+◌, ◌<◌, ◌≤◌, ◌^◌, List, Option, [], ◌∷◌, ◌++◌, map, drop, length, get_or, refl, sym, ap, subst, ◌∙◌, arith}
+use Rattle.std.specs.List.{All, IsDistinct}
+use Rattle.rsp_terms.specs.declared.statement.Fact.{Fact}
+use Rattle.rsp_algebra.specs.Changing.{IsSet}
+use Rattle.std.proofs.lemmas.List.{append_assoc, drop_more, map-append}
+use Rattle.std.proofs.lemmas.List.Elements.{All-cons, All-map, All-nil, All-push}
 use Rattle.rsp_report.specs.declared.contents.Watched.{Watched}
 use Rattle.rsp_report.specs.Due.{IsFreshAt, seen_at}
 use Rattle.rsp_scope.specs.Contents.{Accepted, Watch}
@@ -51,20 +53,26 @@ begun_prompt next arrived ask policy watched = record {
   fresh = λ is. subst (All (IsFreshAt next)) (sym watched) (unseen_fresh next ask.windows);
 }
 
--- and tells of the items, of which it may see none
-pub begun_tells : (items : List Accepted) (from : ℕ) (query : Registration) (watched : List Watched) → length items ≡ query.first
-    → watched ≡ map (watched_window []) query.reading.windows → Tells items from query watched
-begun_tells items from query watched first is t late =
-    ap (map (seen_at t)) is
-    ∙ ap (λ seen. map (seen_at t) (map (watched_window seen) query.reading.windows))
-    (sym (drop_all query.first items (omega (arith, first))))
+-- the facts of an answer over none are a set
+pub none_set : (facts : List Fact) → facts ≡ [] → IsSet facts
+unfolding IsDistinct
+none_set facts is = subst IsSet (sym is) tt
 
--- one window more that is followed
-pub watches_more : (first spot : ℕ) (contents : List Followed) (one : Followed) (w : StreamWindow) (ws : List StreamWindow) (all : List Watch)
+-- ---- its windows, one after another
+
+pub rest_at : {X Y : Type 0} (f : X → Y) (xs : List X) (i : ℕ) (x : X) → i < length xs → x ≡ get_or xs i x
+    → map f (drop i xs) ≡ f x ∷ map f (drop (i + 1) xs)
+rest_at f xs i x within at = ap (map f) (drop_more xs i x within ∙ ap (λ y. y ∷ drop (i + 1) xs) (sym at))
+
+-- one more is followed
+pub watches_more : (first spot next : ℕ) (contents new : List Followed) (one : Followed) (w : StreamWindow) (rest ws : List StreamWindow)
+    (all : List Watch) → new ≡ contents ++ one ∷ [] → next ≡ spot + 1 → rest ≡ w ∷ ws
     → one.watch ≡ record { shape = w.shape; spot = spot; stream = w.stream; first = first }
-    → watches_followed contents ++ watches_from first spot (w ∷ ws) ≡ all
-    → watches_followed (contents ++ one ∷ []) ++ watches_from first (spot + 1) ws ≡ all
-watches_more first spot contents one w ws all is before =
-    ap (λ ms. ms ++ watches_from first (spot + 1) ws) (map-append (λ (seen : Followed). seen.watch) contents (one ∷ []))
+    → watches_followed contents ++ watches_from first spot rest ≡ all
+    → watches_followed new ++ watches_from first next ws ≡ all
+watches_more first spot next contents new one w rest ws all pushed after at is before =
+    (λ k. watches_followed (pushed k) ++ watches_from first (after k) ws)
+    ∙ (ap (λ ms. ms ++ watches_from first (spot + 1) ws) (map-append (λ (seen : Followed). seen.watch) contents (one ∷ []))
     ∙ (append_assoc (watches_followed contents) (one.watch ∷ []) (watches_from first (spot + 1) ws)
-    ∙ (ap (λ watch. watches_followed contents ++ watch ∷ watches_from first (spot + 1) ws) is ∙ before))
+    ∙ (ap (λ watch. watches_followed contents ++ watch ∷ watches_from first (spot + 1) ws) is
+    ∙ (ap (λ windows. watches_followed contents ++ watches_from first spot windows) (sym at) ∙ before))))

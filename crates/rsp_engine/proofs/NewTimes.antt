@@ -69,7 +69,7 @@ first_same : {X : Type 0} (x y : X) (xs ys : List X) → x ∷ xs ≡ y ∷ ys �
 first_same x y xs ys same = (cc, cc)
 
 module _ (stream : List ℕ) (time from t : ℕ) (late : from ≤ t) (items : List Accepted) (item : Accepted)
-  (over : item.stream ≡ stream) (at : item.time ≡ time) where
+    (over : item.stream ≡ stream) (at : item.time ≡ time) where
   told_each : (windows : List StreamWindow) (olds news : List Watched) → AreWatchedWith stream time from windows olds news
       → map (seen_at t) olds ≡ map (seen_at t) (map (watched_window items) windows)
       → map (seen_at t) news ≡ map (seen_at t) (map (watched_window (items ++ item ∷ [])) windows)

@@ -53,7 +53,7 @@ module _ (stream : List ℕ) (time from : ℕ) where
   -- ---- the window of number i
 
   module _ (i : ℕ) (ws : List StreamWindow) (olds news : List Watched) (one : Watched) (are : AreSoFar i ws olds news)
-    (below : i < length news) (is : one ≡ get_or news i one) where
+      (below : i < length news) (is : one ≡ get_or news i one) where
     -- it is as it was
     as_before : one ≡ get_or olds i one
     as_before = is ∙ so_far_at i ws olds news one are
@@ -76,8 +76,12 @@ module _ (stream : List ℕ) (time from : ℕ) where
         let same : over ≡ bytes_eq stream w.stream =
         over_is ∙ ap (λ o. option_map_or (λ (v : StreamWindow). bytes_eq stream v.stream) o false) at in
         subst (λ old. IsWatchedWith stream time from w old new) as_before
-        (record { window = window; timed = timed; fresh = fresh;
-          seen = λ t late. seen t late ∙ ap (λ b. seen_at t (with_time b time one)) same })))
+        (record {
+          window = window;
+          timed = timed;
+          fresh = fresh;
+          seen = λ t late. seen t late ∙ ap (λ b. seen_at t (with_time b time one)) same;
+        })))
 
   pub all_so_far : (i : ℕ) (ws : List StreamWindow) (olds news : List Watched) → AreSoFar i ws olds news → length olds ≤ i
       → AreWatchedWith stream time from ws olds news

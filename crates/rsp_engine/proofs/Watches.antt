@@ -11,8 +11,8 @@ use Rattle.rsp_report.specs.Due.{IsWatched, seen_at}
 use Rattle.rsp_report.specs.Due as windows
 use Rattle.rsp_report.proofs.Unseen.{due_on_item_seen, due_seen}
 use Rattle.rsp_scope.specs.Contents.{Accepted}
-use Rattle.rsp_engine.specs.Due.{is_due, is_due_over, watched_of}
 use Rattle.rsp_engine.specs.declared.finding.Pending.{Pending}
+use Rattle.rsp_engine.specs.Due.{is_due, is_due_over, watched_of}
 use Rattle.rsp_engine.specs.Left.{IsFirstLeft, left_from, name_in, reports_at}
 use Rattle.rsp_engine.specs.Stands.{Live, asked_of, registration_of}
 use Rattle.rsp_engine.specs.Watching.{IsTimed, Tells, is_due_by, is_due_over_by, name_of, reports_by}
@@ -45,7 +45,7 @@ module _ (items : List Accepted) (from next : ℕ) (arrived : Option (List ℕ))
       ap (λ b. not live.policy.tuple && b) (due_alike live.policy live.watched (watched_of items (registration_of live)) t (told t late)) in
       let over : (stream : List ℕ) → is_due_over_by (asked_of live) stream next ≡ is_due_over items (registration_of live) stream next =
       λ stream. ap (λ b. live.policy.tuple && (list_any (λ w. bytes_eq stream w.stream) live.windows && b))
-          (due_on_item_alike live.policy live.watched (watched_of items (registration_of live)) next (told next (omega (arith, late, early)))) in
+      (due_on_item_alike live.policy live.watched (watched_of items (registration_of live)) next (told next (omega (arith, late, early)))) in
       (λ k. if nat_lt t next then due k else option_map_or (λ stream. over stream k) arrived false)
 
   -- ---- all queries

@@ -10,8 +10,12 @@ watch_window-requires-clause-timed g c =
     let live = c.args.live.now in
     timed_before c.args.stream.now c.args.time c.args.from c.loop-window.window live.windows live.watched.items
     c.loop-window.live.watched.items c.index_mut.result.now c.loop-window.invariant.watched
-    (omega (arith, live.watched.ok.0, so_far_long c.args.stream.now c.args.time c.args.from c.loop-window.window live.windows live.watched.items
-    c.loop-window.live.watched.items c.loop-window.invariant.watched)) c.index_mut.ensures.value c.requires.watching.timed
+    (omega (
+      arith,
+      live.watched.ok.0,
+      so_far_long c.args.stream.now c.args.time c.args.from c.loop-window.window live.windows live.watched.items
+          c.loop-window.live.watched.items c.loop-window.invariant.watched,
+    )) c.index_mut.ensures.value c.requires.watching.timed
 
 pub loop-window-preserved : goal.loop-window-preserved
 loop-window-preserved g c =
@@ -25,8 +29,12 @@ loop-window-preserved g c =
       watched =
           more_so_far c.args.stream.now c.args.time c.args.from c.loop-window.window live.windows live.watched.items
           c.loop-window.live.watched.items c.index_mut.result.now c.loop-window.invariant.watched
-          (omega (arith, live.watched.ok.0, so_far_long c.args.stream.now c.args.time c.args.from c.loop-window.window live.windows live.watched.items
-          c.loop-window.live.watched.items c.loop-window.invariant.watched)) c.index_mut.ensures.value c.is_over-over.result c.watch_window.new.watched over
+          (omega (
+            arith,
+            live.watched.ok.0,
+            so_far_long c.args.stream.now c.args.time c.args.from c.loop-window.window live.windows live.watched.items
+                c.loop-window.live.watched.items c.loop-window.invariant.watched,
+          )) c.index_mut.ensures.value c.is_over-over.result c.watch_window.new.watched over
           c.in_ok-watch_window.ensures.window c.in_ok-watch_window.ensures.timed c.in_ok-watch_window.ensures.fresh
           c.in_ok-watch_window.ensures.seen;
     }
