@@ -3,7 +3,7 @@ use Rattle.std.proofs.Common.{◌≡◌, ℕ, zero, suc, ◌+◌, ◌<◌, ◌�
 use Rattle.std.specs.List.{All, IsDistinct}
 use Rattle.rsp_terms.specs.declared.statement.Fact.{Fact}
 use Rattle.rsp_algebra.specs.Changing.{IsSet}
-use Rattle.std.proofs.lemmas.List.{append_assoc, drop_more, map-append}
+use Rattle.std.proofs.lemmas.List.{append_assoc, drop_all, drop_more, map-append}
 use Rattle.std.proofs.lemmas.List.Elements.{All-cons, All-map, All-nil, All-push}
 use Rattle.rsp_report.specs.declared.contents.Watched.{Watched}
 use Rattle.rsp_report.specs.Due.{IsFreshAt, seen_at}
@@ -52,6 +52,14 @@ begun_prompt next arrived ask policy watched = record {
   watching = begun_watching next ask policy watched;
   fresh = λ is. subst (All (IsFreshAt next)) (sym watched) (unseen_fresh next ask.windows);
 }
+
+-- it tells of the items, of which it may see none
+pub begun_tells : (items : List Accepted) (from : ℕ) (query : Registration) (watched : List Watched) → length items ≡ query.first
+    → watched ≡ map (watched_window []) query.reading.windows → Tells items from query watched
+begun_tells items from query watched first is t late =
+    ap (map (seen_at t)) is
+    ∙ ap (λ seen. map (seen_at t) (map (watched_window seen) query.reading.windows))
+    (sym (drop_all query.first items (omega (arith, first))))
 
 -- the facts of an answer over none are a set
 pub none_set : (facts : List Fact) → facts ≡ [] → IsSet facts
