@@ -1,19 +1,17 @@
 -- A live query that has seen no item, and hasn't reported.
-use Rattle.std.proofs.Common.{◌≡◌, ℕ, zero, suc, ◌+◌, ◌<◌, ◌≤◌, ◌^◌, List, Option, [], ◌∷◌, ◌++◌, map, drop, length, get_or, refl, sym, ap, subst, ◌∙◌, arith}
+use Rattle.std.proofs.Common.{◌≡◌, ℕ, ◌+◌, ◌<◌, ◌≤◌, ◌^◌, List, Option, [], ◌∷◌, ◌++◌, map, drop, length, get_or, refl, sym, ap, subst, ◌∙◌, arith}
 use Rattle.std.specs.List.{All, IsDistinct}
 use Rattle.rsp_terms.specs.declared.statement.Fact.{Fact}
 use Rattle.rsp_algebra.specs.Changing.{IsSet}
 use Rattle.std.proofs.lemmas.List.{append_assoc, drop_all, drop_more, map-append}
-use Rattle.std.proofs.lemmas.List.Elements.{All-cons, All-map, All-nil, All-push}
+use Rattle.std.proofs.lemmas.List.Elements.{All-cons, All-nil}
 use Rattle.rsp_report.specs.declared.contents.Watched.{Watched}
 use Rattle.rsp_report.specs.Due.{IsFreshAt, seen_at}
 use Rattle.rsp_scope.specs.Contents.{Accepted, Watch}
 use Rattle.rsp_scope.specs.Moves.{Followed}
-use Rattle.rsp_engine.specs.declared.live_query.LiveQuery.{LiveQuery}
 use Rattle.rsp_engine.specs.declared.live_query.StreamWindow.{StreamWindow}
 use Rattle.rsp_engine.specs.Contents.{watches_from}
-use Rattle.rsp_engine.specs.Due.{visible_items, watched_window}
-use Rattle.rsp_engine.specs.Inside.{asked}
+use Rattle.rsp_engine.specs.Due.{watched_window}
 use Rattle.rsp_engine.specs.Keeping.{watches_followed}
 use Rattle.rsp_engine.specs.Watching.{Asked, IsPolicy, IsPrompt, IsTimed, IsWatching, Tells}
 use Rattle.rsp_engine.specs.World.{Registration}

@@ -1,5 +1,5 @@
 -- An engine without one of its queries.
-use Rattle.std.proofs.Common.{◌≡◌, ℕ, ◌+◌, ◌≤◌, ◌^◌, Bool, true, List, length, map, remove, None, refl, sym, ◌∙◌, ap, subst, arith}
+use Rattle.std.proofs.Common.{◌≡◌, ℕ, ◌+◌, ◌≤◌, ◌^◌, Bool, true, List, map, remove, None, refl, sym, ◌∙◌, ap, subst, arith}
 use Rattle.std.specs.List.{All}
 use Rattle.std.proofs.lemmas.List.Elements.{All-weaker}
 use Rattle.rsp_spec.specs.Windows.{last_instant}
@@ -10,7 +10,6 @@ use Rattle.rsp_scope.specs.Ends.{IsKept}
 use Rattle.rsp_scope.specs.Needed.{is_needed}
 use Rattle.rsp_scope.specs.declared.item.Item.{Item}
 use Rattle.rsp_engine.specs.declared.engine.Engine.TheInside.{Inside}
-use Rattle.rsp_engine.specs.declared.live_query.LiveQuery.{LiveQuery}
 use Rattle.rsp_engine.specs.Inside.{IsReady, live_of, state_of}
 use Rattle.rsp_engine.specs.Keeping.{watches_by}
 use Rattle.rsp_engine.specs.Kept.{watches_of}

@@ -2,14 +2,14 @@
 use Rattle.std.proofs.Common.{◌≡◌, ℕ, zero, suc, ◌+◌, ◌<◌, ◌≤◌, Bool, true, false, List, [], ◌∷◌, filter, length, map, remove, slice_get, slice_set, drop, Option, None, Some, refl, sym, ◌∙◌, ap, subst, arith}
 use Rattle.std.specs.Prelude.{if◌then◌else◌, not, bytes_eq}
 use Rattle.std.proofs.lemmas.List.{length-map, length-set}
-use Rattle.std.proofs.lemmas.Option.{get_or_from_slice_get, slice_get_within}
+use Rattle.std.proofs.lemmas.Option.{slice_get_within}
 use Rattle.std.proofs.lemmas.Simd.{map-map}
 use Rattle.std.specs.List.{IsDistinct}
 use Rattle.rsp_multiset.specs.Rows.{Cells, row_eq}
 use Rattle.rsp_terms.specs.declared.term.Term.{Term}
 use Rattle.rsp_terms.specs.declared.statement.Fact.{Fact}
 use Rattle.rsp_terms.specs.Same.{fact_eq, fact_same, term_eq}
-use Rattle.rsp_multiset.specs.Weights.{IsSameMultiset, times}
+use Rattle.rsp_multiset.specs.Weights.{IsSameMultiset}
 use Rattle.rsp_multiset.proofs.SameLists.{same-append}
 use Rattle.rsp_algebra.specs.Solutions.{eval}
 use Rattle.rsp_algebra.proofs.SameFacts.{same_mapped, same_solutions}

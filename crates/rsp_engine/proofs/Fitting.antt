@@ -1,6 +1,6 @@
 -- How accepted items go on to fit what an engine keeps.
-use Rattle.std.proofs.Common.{◌≡◌, ℕ, zero, suc, ◌+◌, ◌+ℤ◌, ◌<◌, ◌≤◌, Bool, true, false, cond, List, [], ◌∷◌, ◌++◌, length, map, filter, take, drop, Option, None, Some, slice_get, refl, sym, ◌∙◌, ap, subst, arith}
-use Rattle.std.specs.List.{All, Contains, flat_map}
+use Rattle.std.proofs.Common.{◌≡◌, ℕ, zero, suc, ◌+ℤ◌, ◌≤◌, List, [], ◌∷◌, ◌++◌, length, map, take, Some, slice_get, refl, sym, ◌∙◌, ap, subst, arith}
+use Rattle.std.specs.List.{All, Contains}
 use Rattle.std.proofs.lemmas.List.{length-take, take-append-le}
 use Rattle.std.proofs.lemmas.List.Elements.{All-cons, All-contains_itself, All-weaker, Contains-append_left, Contains-append_right}
 use Rattle.std.proofs.lemmas.Simd.{map-map}
@@ -16,9 +16,8 @@ use Rattle.rsp_scope.proofs.Needed.{content_kept, passed}
 use Rattle.rsp_engine.specs.Contents.{watches}
 use Rattle.rsp_engine.specs.Kept.{watches_of}
 use Rattle.rsp_engine.specs.Passing.{HasContents, unwatched}
-use Rattle.rsp_engine.specs.Stands.{Fits, Follows, Live, State, cut_of, facts_followed, next_in, registration_of, registrations_in, unseen, watches_in}
+use Rattle.rsp_engine.specs.Stands.{Fits, Follows, Live, State, cut_of, facts_followed, registration_of, unseen, watches_in}
 use Rattle.rsp_engine.specs.Watching.{Tells}
-use Rattle.rsp_engine.specs.World.{Registration}
 
 -- ---- what a query's windows contain is kept
 

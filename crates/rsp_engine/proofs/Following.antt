@@ -1,6 +1,6 @@
 -- Windows that move to an instant one after the other, and how a live query then follows the items.
 use Rattle.std.proofs.Common.{◌≡◌, ℕ, true, ◌+◌, ◌<◌, ◌≤◌, Some, List, [], ◌∷◌, ◌++◌, ℤ, pos, ◌+ℤ◌, length, map, take, drop, set, get_or, refl, sym, ap, subst, ◌∙◌, arith}
-use Rattle.std.specs.List.{All, flat_map}
+use Rattle.std.specs.List.{All}
 use Rattle.std.specs.Vec.{with_items}
 use Rattle.rsp_engine.specs.declared.live_query.LiveQuery.{LiveQuery}
 use Rattle.std.proofs.lemmas.Int.{ints}
@@ -9,10 +9,10 @@ use Rattle.std.proofs.lemmas.List.Elements.{All-cons, All-get_or, All-head, All-
 use Rattle.rsp_terms.specs.declared.statement.Fact.{Fact}
 use Rattle.rsp_terms.specs.Same.{fact_eq}
 use Rattle.rsp_algebra.specs.Changing.{IsSet, MayChange}
-use Rattle.rsp_multiset.specs.Weights.{IsChanged, IsSameMultiset, only, sum_z, times, weight}
+use Rattle.rsp_multiset.specs.Weights.{IsChanged, IsSameMultiset, only, times, weight}
 use Rattle.rsp_multiset.proofs.Changing.{times-append}
 use Rattle.rsp_multiset.proofs.Sums.{sum_z-append, sum_z-flat_map}
-use Rattle.rsp_scope.specs.Contents.{Accepted, HasContent, Watch, window_facts}
+use Rattle.rsp_scope.specs.Contents.{Accepted, HasContent, window_facts}
 use Rattle.rsp_scope.specs.Kept.{Kept}
 use Rattle.rsp_scope.specs.Moves.{Followed, HasSeen}
 use Rattle.rsp_scope.specs.Logged.{since}

@@ -1,5 +1,5 @@
 -- An accepted event leads from an idle engine that stands for a world to one that stands for the next.
-use Rattle.std.proofs.Common.{◌≡◌, ℕ, zero, suc, ◌+◌, ◌-◌, ◌^◌, ◌+ℤ◌, ◌<◌, ◌≤◌, ◌||◌, Bool, true, false, true≢false, cond, List, [], ◌∷◌, ◌++◌, length, map, filter, remove, slice_get, take, Option, None, Some, Result, Ok, Err, refl, sym, ◌∙◌, ap, subst, arith, nat_lt, nat_le, min, unwrap_or, bytes_eq}
+use Rattle.std.proofs.Common.{◌≡◌, ℕ, suc, ◌+◌, ◌-◌, ◌^◌, ◌+ℤ◌, ◌<◌, ◌≤◌, Bool, true, false, true≢false, cond, List, [], ◌∷◌, ◌++◌, length, map, filter, remove, slice_get, take, Option, None, Some, Result, Ok, Err, refl, sym, ◌∙◌, ap, subst, arith, nat_lt, nat_le, min, unwrap_or, bytes_eq}
 use Rattle.std.proofs.lemmas.Grind.{flat_map-append}
 use Rattle.std.proofs.lemmas.Int.{ints}
 use Rattle.std.proofs.lemmas.List.{append-nil, map_push}
@@ -23,10 +23,10 @@ use Rattle.rsp_scope.specs.Faults.{IsStoredFault}
 use Rattle.rsp_scope.specs.Kept.{needed, triples_of}
 use Rattle.rsp_scope.specs.Logged.{since}
 use Rattle.rsp_scope.specs.Moves.{Followed, HasSeen}
-use Rattle.rsp_scope.specs.Needed.{is_needed, is_needed_by, listed_triples, needed_items}
+use Rattle.rsp_scope.specs.Needed.{is_needed, listed_triples, needed_items}
 use Rattle.rsp_scope.specs.Quads.{stored_with, stored_without}
 use Rattle.rsp_scope.proofs.Needed.{begun, held_falls, held_is, held_with, held_without, none_kept}
-use Rattle.rsp_scope.proofs.Needs.{fewer_need_less, needed-earlier}
+use Rattle.rsp_scope.proofs.Needs.{needed-earlier}
 use Rattle.rsp_scope.proofs.StoredLaws.{as-many-stored_with, same-stored_with, same-stored_without}
 use Rattle.rsp_events.specs.declared.event.Event.{Event}
 use Rattle.rsp_events.specs.declared.event.Event.TheVariants.{Cancel, Delete, Insert, Item, Register, Tick}

@@ -1,7 +1,7 @@
 -- An engine that is ready stays so: where time passes, an item is kept, a query becomes live, or one is cancelled.
-use Rattle.std.proofs.Common.{◌≡◌, ℕ, zero, suc, ◌+◌, ◌-◌, ◌<◌, ◌≤◌, Bool, true, false, ◌||◌, cond, not, nat_le, List, [], ◌∷◌, ◌++◌, length, map, filter, remove, take, Option, None, Some, refl, sym, ◌∙◌, ap, subst, arith, unwrap_or, bytes_eq}
+use Rattle.std.proofs.Common.{◌≡◌, ℕ, zero, suc, ◌+◌, ◌≤◌, Bool, true, false, ◌||◌, cond, not, nat_le, List, [], ◌∷◌, ◌++◌, length, map, filter, remove, take, Option, None, Some, refl, sym, ◌∙◌, ap, subst, arith, unwrap_or, bytes_eq}
 use Rattle.std.specs.List.{All, IsDistinct, list_any}
-use Rattle.std.specs.Option.{ForSome, is_some, option_map_or}
+use Rattle.std.specs.Option.{is_some, option_map_or}
 use Rattle.std.proofs.lemmas.List.Elements.{All-append, All-cons, All-filter, All-map, All-weaker}
 use Rattle.std.proofs.lemmas.Simd.{map-map}
 use Rattle.rsp_spec.specs.Windows.{last_instant}
@@ -24,7 +24,7 @@ use Rattle.rsp_engine.specs.Inside.{Answers, IsReady, Parts, asked, fixed, live_
 use Rattle.rsp_engine.specs.Keeping.{IsUnmoved, watches_followed}
 use Rattle.rsp_engine.specs.Left.{IsFirstLeft}
 use Rattle.rsp_engine.specs.Passing.{Begins, Passes, unwatched}
-use Rattle.rsp_engine.specs.Stands.{Fits, History, IsLive, IsState, IsStore, Live, State, asked_in, asked_of, cut_of, is_idle, next_in, registration_of, registrations_in, test_in, watches_in}
+use Rattle.rsp_engine.specs.Stands.{Fits, IsLive, IsState, IsStore, Live, State, asked_in, asked_of, cut_of, is_idle, next_in, registration_of, registrations_in, watches_in}
 use Rattle.rsp_engine.specs.Watching.{Asked, IsPrompt, IsTimed, IsWatching, Tells, name_of, reports_by}
 use Rattle.rsp_engine.proofs.FactSets.{store_new}
 use Rattle.rsp_engine.proofs.Fitting.{fits_passed}

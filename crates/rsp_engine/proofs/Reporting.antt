@@ -1,12 +1,11 @@
 -- An engine behind a report.
-use Rattle.std.proofs.Common.{◌≡◌, ℕ, zero, suc, ◌+◌, ◌<◌, ◌≤◌, Bool, true, false, List, [], ◌∷◌, length, map, remove, slice_get, slice_set, Option, None, Some, unwrap_or, refl, sym, ◌∙◌, ap, subst, arith}
+use Rattle.std.proofs.Common.{◌≡◌, ℕ, zero, suc, ◌+◌, ◌<◌, ◌≤◌, Bool, true, false, List, [], ◌∷◌, length, map, remove, slice_get, slice_set, Option, Some, unwrap_or, refl, sym, ◌∙◌, ap, subst, arith}
 use Rattle.std.specs.Prelude.{if◌then◌else◌, bytes_eq}
-use Rattle.std.specs.List.{All, IsDistinct, flat_map}
+use Rattle.std.specs.List.{All, IsDistinct}
 use Rattle.std.specs.Option.{option_map_or}
 use Rattle.std.proofs.lemmas.List.{length-map}
 use Rattle.std.proofs.lemmas.List.Elements.{All-set, All-weaker}
 use Rattle.std.proofs.lemmas.Option.{get_or_from_slice_get, slice_get_within}
-use Rattle.std.proofs.lemmas.Simd.{map-map}
 use Rattle.rsp_spec.specs.Windows.{last_instant}
 use Rattle.rsp_terms.specs.declared.statement.Fact.{Fact}
 use Rattle.rsp_algebra.specs.Nodes.{Node}
@@ -14,18 +13,17 @@ use Rattle.rsp_scope.specs.Contents.{Accepted, Numbered, Watch}
 use Rattle.rsp_scope.specs.Ends.{IsKept}
 use Rattle.rsp_scope.specs.Moves.{Followed, IsReached}
 use Rattle.rsp_scope.specs.Needed.{is_needed}
-use Rattle.rsp_scope.specs.declared.item.Item.{Item}
 use Rattle.rsp_engine.specs.declared.engine.Engine.TheInside.{Inside}
 use Rattle.rsp_engine.specs.declared.finding.Pending.{Pending}
 use Rattle.rsp_engine.specs.declared.live_query.LiveQuery.{LiveQuery}
 use Rattle.rsp_engine.specs.declared.report.Outcome.{Outcome}
 use Rattle.rsp_engine.specs.Contents.{watches}
-use Rattle.rsp_engine.specs.Inside.{Answers, IsReady, asked, fixed, live_of, state_of}
+use Rattle.rsp_engine.specs.Inside.{Answers, IsReady, asked, live_of, state_of}
 use Rattle.rsp_engine.specs.Keeping.{IsLess, watches_by, watches_followed}
 use Rattle.rsp_engine.specs.Kept.{watches_of}
 use Rattle.rsp_engine.specs.Left.{IsFirstLeft, IsWaiting}
 use Rattle.rsp_engine.specs.Passing.{IsFollowed, IsReported, is_overfull_outcome, place_behind, queries_behind}
-use Rattle.rsp_engine.specs.Stands.{Fits, Follows, IsLive, IsState, IsStore, Live, State, asked_in, asked_of, cut_of, next_in, registration_of, registrations_in, test_in, watches_in}
+use Rattle.rsp_engine.specs.Stands.{Fits, Follows, IsLive, IsStore, Live, State, asked_in, asked_of, cut_of, next_in, registration_of, registrations_in, test_in, watches_in}
 use Rattle.rsp_engine.specs.Watching.{IsPrompt, Tells, name_of, reports_by}
 use Rattle.rsp_engine.specs.World.{Registration}
 use Rattle.rsp_engine.proofs.Fitting.{contents_here, told_later}

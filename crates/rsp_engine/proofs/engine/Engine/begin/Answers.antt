@@ -1,10 +1,10 @@
-use Rattle.std.proofs.Common.{◌≡◌, ◌∙◌, ap, sym}
+use Rattle.std.proofs.Common.{◌≡◌, ◌∙◌, ap}
 use Rattle.rsp_query.specs.Queries.{registered}
 use Rattle.rsp_engine.specs.Accept.{new_query}
 use Rattle.rsp_engine.specs.Inside.{asked, live_of}
 use Rattle.rsp_engine.specs.Passing.{Begins}
 use Rattle.rsp_engine.specs.Readings.{reading_of}
-use Rattle.rsp_engine.specs.Stands.{State, next_in, registration_of}
+use Rattle.rsp_engine.specs.Stands.{State, registration_of}
 use Rattle.rsp_engine.specs.World.{Registration}
 use Rattle.rsp_engine.proofs.Begun.{begun_prompt, begun_tells}
 use Rattle.rsp_engine.proofs.Offering.{begun_offers, breaks, overfull_refuses}

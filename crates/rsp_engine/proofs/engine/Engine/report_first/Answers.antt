@@ -1,9 +1,7 @@
 use Rattle.std.proofs.Common.{rules, ◌≡◌, ◌∙◌, ◌<◌, length, ap, map, refl, slice_get, Some}
 use Rattle.std.proofs.lemmas.List.{length-set}
-use Rattle.std.specs.List.{All}
-use Rattle.rsp_engine.specs.Inside.{IsReady, live_of, state_of}
-use Rattle.rsp_engine.specs.Stands.{next_in, test_in}
-use Rattle.rsp_engine.specs.Passing.{is_overfull_outcome, place_behind}
+use Rattle.rsp_engine.specs.Inside.{IsReady, live_of}
+use Rattle.rsp_engine.specs.Passing.{is_overfull_outcome}
 use Rattle.rsp_engine.proofs.Cancelling.{timed_below}
 use Rattle.rsp_engine.proofs.Named.{get_index, get_map}
 use Rattle.rsp_engine.proofs.Reporting.{answers, fits_behind, followed, high, left_there, listed, place_is, prompt_behind, reached, ready_behind, states_behind, store, watches_are, within}
