@@ -4,7 +4,8 @@ ghost use Rattle.std.specs.List.{Contains};
 ghost use Rattle.rsp_multiset.specs.Weights.{only, weight};
 ghost use Rattle.rsp_terms.specs.declared.statement.Fact.{Fact};
 ghost use Rattle.rsp_terms.specs.Same.{fact_eq};
-ghost use Rattle.rsp_scope.specs.Logged.{since, AreAlike, EndBy};
+ghost use Rattle.rsp_scope.specs.Logged.{since};
+ghost use Rattle.rsp_scope.specs.Pieces.{AreAlike, EndBy};
 ghost use Rattle.rsp_scope.specs.declared.pieces.Piece.{Piece};
 
 use rsp_multiset::Changes;

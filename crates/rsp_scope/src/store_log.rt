@@ -28,7 +28,7 @@ pub struct StoreLog {
 
 impl Model for StoreLog {
     ghost use Rattle.std.specs.Prelude.{List};
-    ghost use Rattle.rsp_scope.specs.Logged.{EndBy};
+    ghost use Rattle.rsp_scope.specs.Pieces.{EndBy};
     ghost use Rattle.rsp_scope.specs.declared.pieces.Piece.{Piece};
 
     ghost Value = { List Piece };
