@@ -1,6 +1,8 @@
 -- Lanes by stream, and the places that they hold.
-use Rattle.std.proofs.Common.{◌≡◌, ℕ, zero, suc, ◌+◌, ◌<◌, ◌≤◌, Bool, true, false, true≢false, cond, bytes_eq, Option, None, Some, List, [], ◌∷◌, ◌++◌, ℤ, pos, drop, take, length, filter, slice_index_or, slice_set, refl, sym, ap, ◌∙◌, append_assoc, append-nil, arith}
-use Rattle.std.specs.List.{AllByRecursion}
+use Rattle.std.proofs.Common.{◌≡◌, ℕ, zero, suc, ◌+◌, ◌<◌, ◌≤◌, Bool, true, false, cond, bytes_eq, Option, None, Some, List, [], ◌∷◌, ◌++◌, ℤ, pos, drop, take, length, filter, slice_index_or, refl, sym, ap, ◌∙◌, append_assoc, append-nil, arith}
+use Rattle.std.specs.Map.{lookup}
+use Rattle.std.specs.Map.Calls.{RetainsPairs}
+use Rattle.std.specs.Option.{option_map_or}
 use Rattle.std.proofs.lemmas.List.{drop_more, length-append}
 use Rattle.std.proofs.lemmas.List.Sums.{length-filter, sum_by-le-sum_by}
 use Rattle.std.proofs.lemmas.Int.{ints}
@@ -8,85 +10,35 @@ use Rattle.std.proofs.lemmas.Slice.Eq.{bytes_eq-Decides}
 use Rattle.rsp_multiset.specs.Weights.{sum_z}
 use Rattle.rsp_scope.proofs.Endings.{gate-most, sum-filter}
 use Rattle.rsp_scope.specs.Kept.{shortened}
-use Rattle.rsp_scope.specs.Lanes.{AreFiled, IsWithLane, lane_of, places_of, room_of}
+use Rattle.rsp_scope.specs.Lanes.{AreFiled, lane_of, places_of, room_of}
 use Rattle.rsp_scope.specs.declared.item.Item.{Item}
 use Rattle.rsp_scope.specs.declared.lanes.Lane.{Lane}
 
-hidden : {A : Type 0} (a b c : Bool) (p q r : A) → a ≡ b → c ≡ b → cond a p r ≡ cond b p (cond c q r)
-hidden a true c p q r e f = ap (λ x. cond x p r) e
-hidden a false c p q r e f = ap (λ x. cond x p r) e ∙ sym (ap (λ x. cond x q r) f)
-
-passed : {A : Type 0} (a b : Bool) (p q r t : A) → (a ≡ true → b ≡ true → ⊥) → t ≡ cond b q r → cond a p t ≡ cond b q (cond a p r)
-passed true true p q r t apart e = absurd (apart refl refl)
-passed true false p q r t apart e = refl
-passed false b p q r t apart e = e
-
-module _ (stream : List ℕ) where
-  abbrev Others : ℕ → List Lane → Type 0
-  Others n lanes = (k : ℕ) (e : Lane) → k < n → bytes_eq (slice_index_or lanes k e).stream stream ≡ false
-
-  behind : (n : ℕ) (lane : Lane) (lanes : List Lane) → Others (suc n) (lane ∷ lanes) → Others n lanes
-  behind n lane lanes others k e below = others (suc k) e (omega (arith, below))
-
-  other : (n : ℕ) (lane : Lane) (lanes : List Lane) → Others (suc n) (lane ∷ lanes) → bytes_eq lane.stream stream ≡ false
-  other n lane lanes others = others 0 lane (omega arith)
-
-  pub matched : (lanes : List Lane) (at : ℕ) (d : Lane) → at < length lanes → Others at lanes → bytes_eq (slice_index_or lanes at d).stream stream ≡ true
-      → (lane_of lanes stream ≡ (slice_index_or lanes at d).places.items) × (room_of lanes stream ≡ (slice_index_or lanes at d).places.cap)
-  matched [] at d below others is = absurd (omega (arith, below))
-  matched (x ∷ lanes) zero d below others is =
-      (ap (λ b. cond b x.places.items (lane_of lanes stream)) is, ap (λ b. cond b x.places.cap (room_of lanes stream)) is)
-  matched (x ∷ lanes) (suc at) d below others is =
-      let differs = other at x lanes others in
-      let rest = matched lanes at d (omega (arith, below)) (behind at x lanes others) is in
-      (ap (λ b. cond b x.places.items (lane_of lanes stream)) differs ∙ rest.0, ap (λ b. cond b x.places.cap (room_of lanes stream)) differs ∙ rest.1)
-
-  pub unmatched : (lanes : List Lane) → Others (length lanes) lanes → (lane_of lanes stream ≡ []) × (room_of lanes stream ≡ 0)
-  unmatched [] others = (refl, refl)
-  unmatched (x ∷ lanes) others =
-      let differs = other (length lanes) x lanes others in
-      let rest = unmatched lanes (behind (length lanes) x lanes others) in
-      (ap (λ b. cond b x.places.items (lane_of lanes stream)) differs ∙ rest.0, ap (λ b. cond b x.places.cap (room_of lanes stream)) differs ∙ rest.1)
-
-  apart : (x : Lane) (s : List ℕ) → bytes_eq x.stream stream ≡ false → bytes_eq x.stream s ≡ true → bytes_eq stream s ≡ true → ⊥
-  apart x s differs a b =
-      true≢false (sym ((bytes_eq-Decides x.stream stream).1 ((bytes_eq-Decides x.stream s).0 a ∙ sym ((bytes_eq-Decides stream s).0 b))) ∙ differs)
-
-  pub written : (lanes : List Lane) (at : ℕ) (lane : Lane) → at < length lanes → Others at lanes → ((d : Lane) → (slice_index_or lanes at d).stream ≡ stream) → lane.stream ≡ stream
-      → IsWithLane lanes stream lane (slice_set lanes at lane)
-  written [] at lane below others is named s = absurd (omega (arith, below))
-  written (x ∷ lanes) zero lane below others is named s =
-      let a = ap (λ t. bytes_eq t s) named in
-      let c = ap (λ t. bytes_eq t s) (is x) in (
-        hidden (bytes_eq lane.stream s) (bytes_eq stream s) (bytes_eq x.stream s) lane.places.items x.places.items (lane_of lanes s) a c,
-        hidden (bytes_eq lane.stream s) (bytes_eq stream s) (bytes_eq x.stream s) lane.places.cap x.places.cap (room_of lanes s) a c,
-      )
-  written (x ∷ lanes) (suc at) lane below others is named s =
-      let differs = apart x s (other at x lanes others) in
-      let rest = written lanes at lane (omega (arith, below)) (behind at x lanes others) is named s in (
-        passed (bytes_eq x.stream s) (bytes_eq stream s) x.places.items lane.places.items (lane_of lanes s) (lane_of (slice_set lanes at lane) s) differs rest.0,
-        passed (bytes_eq x.stream s) (bytes_eq stream s) x.places.cap lane.places.cap (room_of lanes s) (room_of (slice_set lanes at lane) s) differs rest.1,
-      )
-
-  pub pushed : (lanes : List Lane) (lane : Lane) → Others (length lanes) lanes → lane.stream ≡ stream → IsWithLane lanes stream lane (lanes ++ lane ∷ [])
-  pushed [] lane others named s =
-      let a = ap (λ t. bytes_eq t s) named in
-      (ap (λ b. cond b lane.places.items []) a, ap (λ b. cond b lane.places.cap 0) a)
-  pushed (x ∷ lanes) lane others named s =
-      let differs = apart x s (other (length lanes) x lanes others) in
-      let rest = pushed lanes lane (behind (length lanes) x lanes others) named s in (
-        passed (bytes_eq x.stream s) (bytes_eq stream s) x.places.items lane.places.items (lane_of lanes s) (lane_of (lanes ++ lane ∷ []) s) differs rest.0,
-        passed (bytes_eq x.stream s) (bytes_eq stream s) x.places.cap lane.places.cap (room_of lanes s) (room_of (lanes ++ lane ∷ []) s) differs rest.1,
-      )
-
 -- a lane has room for what it holds
-pub lane-fits : (lanes : List Lane) (s : List ℕ) → length (lane_of lanes s) ≤ room_of lanes s
-lane-fits [] s = omega arith
-lane-fits (x ∷ lanes) s = by (bytes_eq x.stream s) (lane-fits lanes s)
+pub lane-fits : (lanes : List (List ℕ × Lane)) (s : List ℕ) → length (lane_of lanes s) ≤ room_of lanes s
+lane-fits lanes s = by (lookup (bytes_eq s) lanes)
   where
-    by : (b : Bool) → length (lane_of lanes s) ≤ room_of lanes s → length (cond b x.places.items (lane_of lanes s)) ≤ cond b x.places.cap (room_of lanes s)
-    by true rest = omega (arith, x.places.ok.0, x.places.small.1)
-    by false rest = rest
+    by : (o : Option Lane) → length (option_map_or (λ (lane : Lane). lane.places.items) o []) ≤ option_map_or (λ (lane : Lane). lane.places.cap) o 0
+    by None = omega arith
+    by (Some lane) = omega (arith, lane.places.ok.0, lane.places.small.1)
+
+-- lanes that were taken empty, one after the other
+module _ {F : Type 0} (T : F → List ℕ → Lane → Bool → Lane → F → Type 0)
+    (says : (f : F) (k : List ℕ) (lane : Lane) (b : Bool) (new : Lane) (g : F) → T f k lane b new g → (b ≡ true) × ((new.places.items ≡ []) × (new.places.cap ≡ lane.places.cap))) where
+  pub cleared : (f : F) (lanes kept : List (List ℕ × Lane)) → RetainsPairs T f lanes kept → (s : List ℕ) → (lane_of kept s ≡ []) × (room_of kept s ≡ room_of lanes s)
+  cleared f [] kept h s = (ap (λ l. lane_of l s) h, ap (λ l. room_of l s) h)
+  cleared f (e ∷ lanes) kept h s =
+      let told = says f e.0 e.1 h.0 h.1 h.2 h.4 in
+      let split : kept ≡ (e.0, h.1) ∷ h.3 = h.6 ∙ ap (λ b. cond b ((e.0, h.1) ∷ h.3) h.3) told.0 in
+      by (bytes_eq s e.0) h.1 (lookup (bytes_eq s) h.3) told.1 (ap (λ l. lane_of l s) split) (ap (λ l. room_of l s) split) (cleared h.2 lanes h.3 h.5 s)
+    where
+      by : (b : Bool) (new : Lane) (rest : Option Lane) → (new.places.items ≡ []) × (new.places.cap ≡ e.1.places.cap)
+          → lane_of kept s ≡ option_map_or (λ (lane : Lane). lane.places.items) (cond b (Some new) rest) []
+          → room_of kept s ≡ option_map_or (λ (lane : Lane). lane.places.cap) (cond b (Some new) rest) 0
+          → (option_map_or (λ (lane : Lane). lane.places.items) rest [] ≡ []) × (option_map_or (λ (lane : Lane). lane.places.cap) rest 0 ≡ room_of lanes s)
+          → (lane_of kept s ≡ []) × (room_of kept s ≡ option_map_or (λ (lane : Lane). lane.places.cap) (cond b (Some e.1) (lookup (bytes_eq s) lanes)) 0)
+      by true new rest told one two behind = (one ∙ told.0, two ∙ told.1)
+      by false new rest told one two behind = (one ∙ behind.0, two ∙ behind.1)
 
 module _ (s : List ℕ) where
   -- an item more
@@ -142,30 +94,12 @@ module _ (s : List ℕ) where
   pub places-shortened : (items : List Item) (untils : List (Option ℕ)) → length (places_of s 0 (shortened items untils)) ≤ length (places_of s 0 items)
   places-shortened items untils = omega (arith, places-long 0 (shortened items untils), places-long 0 items, kept-most items untils)
 
--- lanes that were taken empty
-pub lanes-empty : (lanes : List Lane) → AllByRecursion (λ (lane : Lane). lane.places.items ≡ []) lanes → (s : List ℕ) → lane_of lanes s ≡ []
-lanes-empty [] h s = refl
-lanes-empty (x ∷ lanes) h s = by (bytes_eq x.stream s) (lanes-empty lanes h.1 s)
-  where
-    by : (b : Bool) → lane_of lanes s ≡ [] → cond b x.places.items (lane_of lanes s) ≡ []
-    by true rest = h.0
-    by false rest = rest
-
-pub room-kept : (lanes : List Lane) (at : ℕ) (lane : Lane) → at < length lanes → ((d : Lane) → lane.stream ≡ (slice_index_or lanes at d).stream)
-    → ((d : Lane) → lane.places.cap ≡ (slice_index_or lanes at d).places.cap)
-    → (s : List ℕ)
-    → room_of (slice_set lanes at lane) s ≡ room_of lanes s
-room-kept [] at lane below named wide s = absurd (omega (arith, below))
-room-kept (x ∷ lanes) zero lane below named wide s = λ i. cond (bytes_eq (named x i) s) (wide x i) (room_of lanes s)
-room-kept (x ∷ lanes) (suc at) lane below named wide s =
-    ap (λ n. cond (bytes_eq x.stream s) x.places.cap n) (room-kept lanes at lane (omega (arith, below)) named wide s)
-
 first-place : (s : List ℕ) (items : List Item) (at : ℕ) (x : Item) → at < length items → x ≡ slice_index_or items at x
     → places_of s at (drop at items) ≡ cond (bytes_eq x.stream s) (at ∷ places_of s (suc at) (drop (at + 1) items)) (places_of s (suc at) (drop (at + 1) items))
 first-place s items at x below is = ap (λ l. places_of s at l) (drop_more items at x below ∙ ap (λ (y : Item). y ∷ drop (at + 1) items) (sym is))
 
 -- one item more of a walk that files the items
-pub filed-next : (lanes : List Lane) (s : List ℕ) (items : List Item) (at : ℕ) (x : Item) (after total : List ℕ) → at < length items → x ≡ slice_index_or items at x
+pub filed-next : (lanes : List (List ℕ × Lane)) (s : List ℕ) (items : List Item) (at : ℕ) (x : Item) (after total : List ℕ) → at < length items → x ≡ slice_index_or items at x
     → after ≡ cond (bytes_eq x.stream s) (lane_of lanes x.stream ++ at ∷ []) (lane_of lanes s)
     → lane_of lanes s ++ places_of s at (drop at items) ≡ total
     → after ++ places_of s (at + 1) (drop (at + 1) items) ≡ total
@@ -183,7 +117,7 @@ filed-next lanes s items at x after total below is put so_far =
     by false other h = h
 
 -- and there is room for it
-pub filed-room : (lanes : List Lane) (items : List Item) (at room : ℕ) (x : Item) → at < length items → x ≡ slice_index_or items at x
+pub filed-room : (lanes : List (List ℕ × Lane)) (items : List Item) (at room : ℕ) (x : Item) → at < length items → x ≡ slice_index_or items at x
     → lane_of lanes x.stream ++ places_of x.stream at (drop at items) ≡ places_of x.stream 0 items
     → length (places_of x.stream 0 items) ≤ room
     → length (lane_of lanes x.stream) < room
@@ -264,7 +198,7 @@ placed-all s h others whole at (x ∷ items) is =
     by false other rest here = let none = others x other in omega (arith, ints, rest, none)
 
 -- an item more in its stream's lane
-pub filed-push : (lanes new : List Lane) (items : List Item) (item : Item) (place : ℕ) → AreFiled lanes items → place ≡ length items
+pub filed-push : (lanes new : List (List ℕ × Lane)) (items : List Item) (item : Item) (place : ℕ) → AreFiled lanes items → place ≡ length items
     → ((s : List ℕ) → lane_of new s ≡ cond (bytes_eq item.stream s) (lane_of lanes item.stream ++ place ∷ []) (lane_of lanes s))
     → AreFiled new (items ++ item ∷ [])
 filed-push lanes new items item place filed last put s =

@@ -7,7 +7,8 @@ use Rattle.rsp_multiset.specs.Weights.{sum_z, only, weight}
 use Rattle.rsp_multiset.proofs.Sums.{sum_z-alike, sum_z-append, sum_z-filter}
 use Rattle.rsp_terms.specs.declared.statement.Fact.{Fact}
 use Rattle.rsp_terms.specs.Same.{fact_eq}
-use Rattle.rsp_scope.specs.Logged.{since, EndBy}
+use Rattle.rsp_scope.specs.Logged.{since}
+use Rattle.rsp_scope.specs.Pieces.{EndBy}
 use Rattle.rsp_scope.specs.declared.pieces.Piece.{Piece}
 use Rattle.rsp_scope.proofs.Endings.{any-default}
 

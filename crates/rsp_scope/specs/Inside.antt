@@ -18,7 +18,7 @@ pub record IsStreams (s : Inside) : Type 0 where
   pub tied : AreTied s.ends.items (needed s.cut s.items.items)
   pub order : AreInOrder s.accepted s.items.items
   pub peaks : s.peaks.items ≡ peaks_from 0 s.items.items
-  pub filed : AreFiled s.lanes.items s.items.items
+  pub filed : AreFiled s.lanes.entries s.items.items
 
 abbrev pub followed_of : Window → Followed
 followed_of s =

@@ -1,5 +1,7 @@
 -- Words of the way: where the items of each stream stand in the queue.
 use Rattle.std.specs.Prelude.{◌≡◌, ℕ, suc, ◌<◌, Bool, false, cond, List, [], ◌∷◌, slice_index_or, bytes_eq}
+use Rattle.std.specs.Map.{lookup}
+use Rattle.std.specs.Option.{option_map_or}
 use Rattle.rsp_scope.specs.Moves.{is_fresh}
 use Rattle.rsp_scope.specs.declared.gate.Gate.{Gate}
 use Rattle.rsp_scope.specs.declared.item.Item.{Item}
@@ -12,23 +14,15 @@ places_of stream at (item ∷ items) =
     cond (bytes_eq item.stream stream) (at ∷ places_of stream (suc at) items) (places_of stream (suc at) items)
 
 -- the places that the stream's lane holds
-abbrev pub lane_of : List Lane → List ℕ → List ℕ
-lane_of [] stream = []
-lane_of (lane ∷ lanes) stream = cond (bytes_eq lane.stream stream) lane.places.items (lane_of lanes stream)
+abbrev pub lane_of : List (List ℕ × Lane) → List ℕ → List ℕ
+lane_of lanes stream = option_map_or (λ (lane : Lane). lane.places.items) (lookup (bytes_eq stream) lanes) []
 
 -- and how many it has room for
-abbrev pub room_of : List Lane → List ℕ → ℕ
-room_of [] stream = 0
-room_of (lane ∷ lanes) stream = cond (bytes_eq lane.stream stream) lane.places.cap (room_of lanes stream)
-
--- as these lanes, with this one for the stream
-abbrev pub IsWithLane : List Lane → List ℕ → Lane → List Lane → Type 0
-IsWithLane lanes stream lane new = (s : List ℕ)
-    → (lane_of new s ≡ cond (bytes_eq stream s) lane.places.items (lane_of lanes s))
-    × (room_of new s ≡ cond (bytes_eq stream s) lane.places.cap (room_of lanes s))
+abbrev pub room_of : List (List ℕ × Lane) → List ℕ → ℕ
+room_of lanes stream = option_map_or (λ (lane : Lane). lane.places.cap) (lookup (bytes_eq stream) lanes) 0
 
 -- each lane holds the places of its stream's items
-abbrev pub AreFiled : List Lane → List Item → Type 0
+abbrev pub AreFiled : List (List ℕ × Lane) → List Item → Type 0
 AreFiled lanes items = (stream : List ℕ) → lane_of lanes stream ≡ places_of stream 0 items
 
 -- the item wasn't in the content of the last move

@@ -11,4 +11,5 @@ pub mod Inside
 pub mod Moves
 pub mod Lanes
 pub mod Order
+pub mod Pieces
 pub mod Runs

@@ -1,6 +1,5 @@
 -- Definitions: what came to and went from the stored quads since a query looked at them.
-use Rattle.std.specs.Prelude.{◌≡◌, ℕ, ◌≤◌, nat_lt, List, ℤ}
-use Rattle.std.specs.List.{AllByRecursion, Contains}
+use Rattle.std.specs.Prelude.{ℕ, nat_lt, List, ℤ}
 use Rattle.rsp_multiset.specs.Weights.{sum_z, only, weight}
 use Rattle.rsp_terms.specs.declared.statement.Fact.{Fact}
 use Rattle.rsp_terms.specs.Same.{fact_eq}
@@ -9,11 +8,3 @@ use Rattle.rsp_scope.specs.declared.pieces.Piece.{Piece}
 -- how often the fact came, less how often it went, in all that was logged from a place on: the pieces that end behind it
 abbrev pub since : List Piece → ℕ → Fact → ℤ
 since pieces place q = sum_z (λ (piece : Piece). only (nat_lt place piece.end) (weight fact_eq piece.changes q)) pieces
-
--- Words of the way: the pieces say the same from each of the places
-abbrev pub AreAlike : List ℕ → List Piece → List Piece → Type 0
-AreAlike places before after = (place : ℕ) → Contains places place → (q : Fact) → since after place q ≡ since before place q
-
--- none ends behind this place
-abbrev pub EndBy : ℕ → List Piece → Type 0
-EndBy place pieces = AllByRecursion (λ (piece : Piece). piece.end ≤ place) pieces

@@ -4,7 +4,8 @@ ghost use Rattle.std.specs.List.{Contains};
 ghost use Rattle.rsp_multiset.specs.Weights.{only, weight};
 ghost use Rattle.rsp_terms.specs.declared.statement.Fact.{Fact};
 ghost use Rattle.rsp_terms.specs.Same.{fact_eq};
-ghost use Rattle.rsp_scope.specs.Logged.{since, AreAlike, EndBy};
+ghost use Rattle.rsp_scope.specs.Logged.{since};
+ghost use Rattle.rsp_scope.specs.Pieces.{AreAlike, EndBy};
 ghost use Rattle.rsp_scope.specs.declared.pieces.Piece.{Piece};
 
 use rsp_multiset::Changes;
@@ -32,8 +33,28 @@ pub(crate) fn end_behind(places: &[u64]) -> Result<u64, AllocError>
     Ok(end)
 }
 
-/// Lets go of the pieces that no place is in front of.
-pub(crate) fn forget(pieces: &mut Vec<Piece, Global>, places: &[u64])
+/// Logs the change for these places, which are in front of `end`. Lets go of what none of them sees, and looks at two pairs of
+/// neighbours from the index `turn` on, which may become one. Gives the index to go on from.
+pub(crate) fn log(
+    pieces: &mut Vec<Piece, Global>,
+    change: Changes<Fact>,
+    places: &[u64],
+    end: u64,
+    turn: usize,
+) -> Result<usize, AllocError>
+    requires { (place : ℕ) → Contains places.now place → place < end }
+    ensures logged { OnOk result ((place : ℕ) → Contains places.now place → (q : Fact)
+        → since pieces.new.items place q ≡ since pieces.old.items place q +ℤ weight fact_eq change q) }
+    ensures ends { (last : ℕ) → end ≤ last → EndBy last pieces.old.items → EndBy last pieces.new.items }
+{
+    forget(pieces, places);
+    put(pieces, change, end)?;
+    let turn = close_up(pieces, places, turn)?;
+    close_up(pieces, places, turn)
+}
+
+// lets go of the pieces that no place is in front of
+fn forget(pieces: &mut Vec<Piece, Global>, places: &[u64])
     ensures alike { AreAlike places.now pieces.old.items pieces.new.items }
     ensures ends { (end : ℕ) → EndBy end pieces.old.items → EndBy end pieces.new.items }
 {
@@ -52,13 +73,9 @@ fn first_of(places: &[u64]) -> u64
     first
 }
 
-/// Logs the change so that it is seen from all places in front of `end`: in the last piece, or in a new one where that one
-/// ends earlier.
-pub(crate) fn put(
-    pieces: &mut Vec<Piece, Global>,
-    change: Changes<Fact>,
-    end: u64,
-) -> Result<(), AllocError>
+// logs the change so that it is seen from all places in front of `end`: in the last piece, or in a new one where that one
+// ends earlier
+fn put(pieces: &mut Vec<Piece, Global>, change: Changes<Fact>, end: u64) -> Result<(), AllocError>
     ensures put { OnOk result ((place : ℕ) → place < end → (q : Fact)
         → since pieces.new.items place q ≡ since pieces.old.items place q +ℤ weight fact_eq change q) }
     ensures ends { (last : ℕ) → end ≤ last → EndBy last pieces.old.items → EndBy last pieces.new.items }
@@ -92,13 +109,9 @@ fn push(pieces: &mut Vec<Piece, Global>, changes: Changes<Fact>, end: u64) -> Re
     Ok(())
 }
 
-/// Looks at the piece of this index and the one behind it, and makes one of them if no place stands between their ends.
-/// Gives the index to look at next, over and over from the first to the last.
-pub(crate) fn close_up(
-    pieces: &mut Vec<Piece, Global>,
-    places: &[u64],
-    at: usize,
-) -> Result<usize, AllocError>
+// Looks at the piece of this index and the one behind it, and makes one of them if no place stands between their ends.
+// Gives the index to look at next, over and over from the first to the last.
+fn close_up(pieces: &mut Vec<Piece, Global>, places: &[u64], at: usize) -> Result<usize, AllocError>
     ensures alike { OnOk result (AreAlike places.now pieces.old.items pieces.new.items) }
     ensures ends { (end : ℕ) → EndBy end pieces.old.items → EndBy end pieces.new.items }
 {

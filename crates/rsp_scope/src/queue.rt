@@ -8,6 +8,8 @@ ghost use Rattle.rsp_scope.specs.declared.item.Item.{Item};
 use crate::lanes::Lane;
 use crate::peaks::fill_peaks;
 use crate::{Item, lanes};
+use indexmap::IndexMap;
+use rsp_terms::Text;
 use std::alloc::{AllocError, Global};
 use std::collections::VecDeque;
 
@@ -47,16 +49,16 @@ fn let_go(items: &mut VecDeque<Item, Global>, next: u64)
 pub(crate) fn close_up(
     items: &mut VecDeque<Item, Global>,
     peaks: &mut VecDeque<u64, Global>,
-    lanes: &mut Vec<Lane, Global>,
+    lanes: &mut IndexMap<Text, Lane>,
     cut: u64,
 )
     requires peaks { peaks.old.items ≡ peaks_from 0 items.old.items }
-    requires filed { AreFiled lanes.old.items items.old.items }
+    requires filed { AreFiled lanes.old.entries items.old.items }
     ensures items { items.new.items ≡ needed cut items.old.items }
     ensures peaks { peaks.new.items ≡ peaks_from 0 items.new.items }
-    ensures filed { AreFiled lanes.new.items items.new.items }
+    ensures filed { AreFiled lanes.new.entries items.new.items }
     ensures room { peaks.new.cap ≡ peaks.old.cap }
-    ensures lanes { (s : List ℕ) → room_of lanes.new.items s ≡ room_of lanes.old.items s }
+    ensures lanes { (s : List ℕ) → room_of lanes.new.entries s ≡ room_of lanes.old.entries s }
 {
     let_go(items, cut);
     fill_peaks(peaks, items);
@@ -67,16 +69,16 @@ pub(crate) fn close_up(
 pub(crate) fn lowered(
     items: &mut VecDeque<Item, Global>,
     peaks: &mut VecDeque<u64, Global>,
-    lanes: &mut Vec<Lane, Global>,
+    lanes: &mut IndexMap<Text, Lane>,
     cut: u64,
     end: u64,
 ) -> u64
     requires peaks { peaks.old.items ≡ peaks_from 0 items.old.items }
-    requires filed { AreFiled lanes.old.items items.old.items }
+    requires filed { AreFiled lanes.old.entries items.old.items }
     ensures low { result ≤ end }
     ensures kept { needed result items.new.items ≡ needed cut items.old.items }
     ensures peaks { peaks.new.items ≡ peaks_from 0 items.new.items }
-    ensures filed { AreFiled lanes.new.items items.new.items }
+    ensures filed { AreFiled lanes.new.entries items.new.items }
     ensures order { (accepted : ℕ) → AreInOrder accepted items.old.items → AreInOrder accepted items.new.items }
 {
     if cut <= end {

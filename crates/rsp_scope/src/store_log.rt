@@ -6,7 +6,7 @@ ghost use Rattle.rsp_terms.specs.declared.statement.Fact.{Fact};
 ghost use Rattle.rsp_terms.specs.Same.{fact_eq};
 ghost use Rattle.rsp_scope.specs.Logged.{since};
 
-use crate::pieces::{Piece, close_up, end_behind, forget, put, sum_since};
+use crate::pieces::{Piece, end_behind, log, sum_since};
 use rsp_multiset::Changes;
 use rsp_terms::Fact;
 use std::alloc::{AllocError, Global};
@@ -28,7 +28,7 @@ pub struct StoreLog {
 
 impl Model for StoreLog {
     ghost use Rattle.std.specs.Prelude.{List};
-    ghost use Rattle.rsp_scope.specs.Logged.{EndBy};
+    ghost use Rattle.rsp_scope.specs.Pieces.{EndBy};
     ghost use Rattle.rsp_scope.specs.declared.pieces.Piece.{Piece};
 
     ghost Value = { List Piece };
@@ -71,10 +71,7 @@ impl StoreLog {
         }
         let end = end_behind(places)?;
         self.end = self.end.max(end);
-        forget(&mut self.pieces, places);
-        put(&mut self.pieces, change, end)?;
-        let turn = close_up(&mut self.pieces, places, self.turn)?;
-        self.turn = close_up(&mut self.pieces, places, turn)?;
+        self.turn = log(&mut self.pieces, change, places, end, self.turn)?;
         Ok(())
     }
 

@@ -1,11 +1,12 @@
 // Kept items.
 use crate::ends::{Run, ending_of};
 use crate::gate::Gate;
-use crate::lanes::Lane;
+use crate::lanes::{Lane, places_in};
 use crate::peaks::{fill_peaks, first_fresh, peak_with};
 use crate::queue::{close_up, lowered, make_room, place, shorten_all};
 use crate::tally::{Tally, take_in, take_none};
 use crate::{Item, Shared, lanes, runs};
+use indexmap::IndexMap;
 use rsp_multiset::Changes;
 use rsp_terms::{Fact, Listed, Text, Triple};
 use std::alloc::{AllocError, Global};
@@ -29,7 +30,7 @@ pub struct Streams {
     // for each place of the queue the latest time up to there
     peaks: VecDeque<u64, Global>,
     // for each stream the places of its items in the queue
-    lanes: Vec<Lane, Global>,
+    lanes: IndexMap<Text, Lane>,
 }
 
 impl Model for Streams {
@@ -62,7 +63,7 @@ impl Streams {
             ends: Vec::new(alloc),
             items: VecDeque::new(alloc),
             peaks: VecDeque::new(alloc),
-            lanes: Vec::new(alloc),
+            lanes: IndexMap::new(alloc),
         }
     }
 
@@ -183,10 +184,9 @@ impl Streams {
         ensures moves { OnOk result (Moves tally.old.spot tally.old.content.entries tally.new.content.entries
             tally.old.counts tally.new.counts change.old change.new) }
     {
-        let Some(at) = lanes::find(self.lanes.as_slice(), &gate.stream) else {
+        let Some(lane) = places_in(&self.lanes, &gate.stream) else {
             return take_none(tally, change, gate, &self.items, self.cut);
         };
-        let lane = &self.lanes[at].places;
         let start = first_fresh(&self.items, &self.peaks, lane, gate);
         take_in(tally, change, gate, &self.items, self.cut, lane, start)
     }

@@ -1,7 +1,7 @@
 // The times of the items over a window's stream.
-ghost use Rattle.std.specs.Prelude.{◌≡◌, ◌-◌, ◌≤◌, ◌^◌, ◌||◌, ℕ, drop, filter, nat_lt};
+ghost use Rattle.std.specs.Prelude.{◌≡◌, ◌+◌, ◌-◌, ◌*◌, ◌<◌, ◌≤◌, ◌^◌, ◌||◌, ℕ, false, drop, filter, length, nat_le};
 ghost use Rattle.std.specs.List.Sorted.{IsNonDecreasing};
-ghost use Rattle.rsp_spec.specs.Windows.{in_content};
+ghost use Rattle.rsp_spec.specs.Windows.{closing, in_content, opening};
 
 use rsp_terms::Listed;
 use rsp_windows::Window;
@@ -18,6 +18,8 @@ pub fn forget_times(alloc: Global, window: &Window, times: &mut Listed<u64>, fro
         → filter (λ time. in_content window.now t time || in_content window.now (t - 1) time) times.new
         ≡ filter (λ time. in_content window.now t time || in_content window.now (t - 1) time) times.old }
     ensures rest { (n : ℕ) × (times.new ≡ drop n times.old) }
+    ensures few { (k : ℕ) → 1 ≤ from → ((j : ℕ) → j < k → closing window.now j + 1 < from)
+        → 2 * length (filter (λ time. nat_le time (opening window.now k)) times.new) ≤ length times.new }
 {
     let Some(before) = from.checked_sub(1) else {
         return;
@@ -31,7 +33,10 @@ pub fn forget_times(alloc: Global, window: &Window, times: &mut Listed<u64>, fro
 }
 
 // whether the time at the middle isn't above `low`
-fn are_half_up_to(times: &[u64], low: u64) -> bool {
+fn are_half_up_to(times: &[u64], low: u64) -> bool
+    requires { IsNonDecreasing times.now }
+    ensures { result ≡ false → 2 * length (filter (λ time. nat_le time low) times.now) ≤ length times.now }
+{
     match times.get(times.len() / 2) {
         Some(middle) => *middle <= low,
         None => false,

@@ -1,6 +1,7 @@
 use Rattle.std.proofs.Common.{rules, ◌≡◌, nat_lt, filter, sym, ap, subst, ◌∙◌}
 use Rattle.std.proofs.lemmas.Fn.{filter_same}
-use Rattle.rsp_scope.specs.Logged.{since, EndBy}
+use Rattle.rsp_scope.specs.Logged.{since}
+use Rattle.rsp_scope.specs.Pieces.{EndBy}
 use Rattle.rsp_scope.specs.declared.pieces.Piece.{Piece}
 use Rattle.rsp_scope.proofs.LogLaws.{ends-filter, since-kept}
 use Rattle.rsp_scope.proofs.pieces.forget.Goals as goal

@@ -1,5 +1,5 @@
 use Rattle.std.proofs.Common.{rules, ◌≡◌, ◌<◌, ◌++◌, ◌∷◌, take, drop, length, sym, refl, ap, subst, arith}
-use Rattle.rsp_scope.specs.Logged.{EndBy}
+use Rattle.rsp_scope.specs.Pieces.{EndBy}
 use Rattle.rsp_scope.specs.declared.pieces.Piece.{Piece}
 use Rattle.rsp_scope.proofs.LogLaws.{ends-at, ends-insert, ends-remove, since-one}
 use Rattle.rsp_scope.proofs.pieces.make_one.Goals as goal

@@ -19,5 +19,5 @@ fill-requires c s =
     let same = ap (λ (l : List Item). length (places_of s 0 l)) c.let_go.ensures in
     let few = places-few s (λ (item : Item). nat_le c.args.cut item.end) c.args.items.now.items in
     let filed = ap (λ (l : List ℕ). length l) (c.requires.filed s) in
-    let fits = lane-fits c.args.lanes.now.items s in
+    let fits = lane-fits c.args.lanes.now.entries s in
     omega (arith, same, few, filed, fits)

@@ -1,7 +1,7 @@
-use Rattle.std.proofs.Common.{rules, ◌≡◌, ◌+◌, ◌-◌, ℕ, ◌||◌, nat_lt, filter, ap, ◌∙◌}
+use Rattle.std.proofs.Common.{rules, ◌≡◌, ◌+◌, ◌-◌, ℕ, ◌||◌, ◌*◌, ◌≤◌, length, nat_le, nat_lt, filter, ap, ◌∙◌}
 use Rattle.std.proofs.lemmas.Fn.{filter_same}
 use Rattle.rsp_spec.specs.Windows.{in_content}
-use Rattle.rsp_scope.proofs.Forgetting.{above-last, forgotten}
+use Rattle.rsp_scope.proofs.Forgetting.{above-last, few-kept, few-left, forgotten}
 use Rattle.rsp_scope.proofs.times.forget_times.Goals as goal
 
 pub returns-then-are_half_up_to-clause-seen : goal.returns-then-are_half_up_to-clause-seen
@@ -24,3 +24,21 @@ returns-then-are_half_up_to-clause-rest c =
     let left : c.from_vec.result ≡ c.retain.new.self.items = search rules in
     let (n, is) = above-last c.opening-low.result c.args.times.now c.requires.sorted in
     (n, left ∙ (kept ∙ (ap (λ l. filter (λ (x : ℕ). nat_lt c.opening-low.result x) l) all ∙ is)))
+
+pub returns-then-are_half_up_to-clause-few : goal.returns-then-are_half_up_to-clause-few
+returns-then-are_half_up_to-clause-few c k later closed =
+    let kept : c.retain.new.self.items ≡ filter (λ (x : ℕ). nat_lt c.opening-low.result x) c.into_vec-kept.result.items
+    = filter_same _ (λ (x : ℕ). nat_lt c.opening-low.result x) _ (λ x b f k. search rules) _ _ c.retain.ensures.filtered in
+    let all : c.into_vec-kept.result.items ≡ c.args.times.now = search rules in
+    let left : c.from_vec.result ≡ c.retain.new.self.items = search rules in
+    let less : c.in-Some.before + 1 ≡ c.args.from = search rules in
+    few-left c.args.window.now c.args.from c.in-Some.before c.first_to_reach.result c.opening-low.result k c.args.times.now c.from_vec.result
+    less c.opening-low.ensures c.first_to_reach.ensures.reaches closed
+    (left ∙ (kept ∙ ap (λ l. filter (λ (x : ℕ). nat_lt c.opening-low.result x) l) all))
+
+pub returns-else-are_half_up_to-clause-few : goal.returns-else-are_half_up_to-clause-few
+returns-else-are_half_up_to-clause-few c k later closed =
+    let less : c.in-Some.before + 1 ≡ c.args.from = search rules in
+    let half : 2 * length (filter (λ time. nat_le time c.opening-low.result) c.args.times.now) ≤ length c.args.times.now = search rules in
+    few-kept c.args.window.now c.args.from c.in-Some.before c.first_to_reach.result c.opening-low.result k c.args.times.now
+    less c.opening-low.ensures c.first_to_reach.ensures.reaches closed half

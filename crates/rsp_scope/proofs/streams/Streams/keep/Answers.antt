@@ -80,7 +80,7 @@ invariant_of-self-2 c =
           (c.make_room.ensures.peaks ∙ (c.lowered-self-inside.ensures.peaks ∙ ap (λ l. peaks_from 0 l) (sym c.make_room.ensures.items)))
           ∙ ap (λ l. peaks_from 0 l) (sym c.push_back_reserved-2.ensures.items));
       filed = λ s.
-          filed-push c.make_place.new.lanes.items c.file.new.lanes.items c.make_room.new.items.items c.args.item c.len.result
+          filed-push c.make_place.new.lanes.entries c.file.new.lanes.entries c.make_room.new.items.items c.args.item c.len.result
           (λ t. c.make_place.ensures.same t ∙ (c.lowered-self-inside.ensures.filed t ∙ ap (λ l. places_of t 0 l) (sym c.make_room.ensures.items)))
           (c.len.ensures ∙ c.make_room.new.items.ok.0)
           c.file.ensures.lane

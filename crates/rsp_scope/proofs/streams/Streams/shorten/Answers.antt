@@ -26,7 +26,7 @@ fill-requires c s =
     let few = places-shortened s kept c.args.untils.now in
     let most = places-few s (λ (item : Item). nat_le c.self.inside.cut item.end) c.self.inside.items.items in
     let filed = ap (λ (l : List ℕ). length l) (c.self.invariant.filed s) in
-    let fits = lane-fits c.self.inside.lanes.items s in
+    let fits = lane-fits c.self.inside.lanes.entries s in
     let room = c.close_up.ensures.lanes s in
     omega (arith, same, few, most, filed, fits, room)
 
