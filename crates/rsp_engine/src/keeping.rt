@@ -162,6 +162,25 @@ pub(crate) fn lower<A>(
         → ((n : ℕ) (entry : Numbered) → is_needed n (watches_by queries.now) entry ≡ true → is_needed n all entry ≡ true)
         → IsKept before all items streams.old → IsKept cut (watches_by queries.now) items streams.new }
 {
+    streams.settle();
+    lower_settled(queries, streams, ends, cut);
+}
+
+// the same, where what has left is closed up, so that the items are read by their index at once
+fn lower_settled<A>(
+    queries: &[LiveQuery<A>],
+    streams: &mut Streams,
+    ends: &mut Vec<Option<u64>>,
+    cut: u64,
+)
+    requires room { length streams.old.items ≤ ends.old.cap }
+    requires timed { All (λ (item : Item). item.time ≤ 2 ^ 48) streams.old.items }
+    ensures less { IsLess streams.old streams.new }
+    ensures room { length streams.new.items ≤ ends.new.cap }
+    ensures kept { (before : ℕ) (all : List Watch) (items : List Accepted) → before ≤ cut
+        → ((n : ℕ) (entry : Numbered) → is_needed n (watches_by queries.now) entry ≡ true → is_needed n all entry ≡ true)
+        → IsKept before all items streams.old → IsKept cut (watches_by queries.now) items streams.new }
+{
     fill(queries, streams, ends);
     streams.shorten(ends.as_slice());
     streams.drop_before(cut);

@@ -120,6 +120,14 @@ impl Streams {
         self.held = runs::triples_from(self.ends.as_slice(), 0, self.held);
     }
 
+    /// Closes up what has left, so that each item is then read by its index at once. Takes no memory.
+    pub fn settle(&mut self)
+        ensures { self.new ≡ self.old }
+    {
+        close_up(&mut self.items, &mut self.peaks, &mut self.lanes, self.cut);
+        lanes::tidy(&mut self.lanes, &self.items);
+    }
+
     /// How many triples the kept items have, as listed.
     pub fn held(&self) -> u64
         ensures { result ≡ triples_of self.now.items }
@@ -207,8 +215,7 @@ impl Streams {
         ensures { self.new ≡ self.old }
     {
         if self.count < self.items.len() - self.count {
-            close_up(&mut self.items, &mut self.peaks, &mut self.lanes, self.cut);
-            lanes::tidy(&mut self.lanes, &self.items);
+            self.settle();
         }
     }
 

@@ -1,10 +1,6 @@
-use Rattle.std.proofs.Common.{rules, ◌≡◌, nat_le, List, length, ap, subst, sym, ◌∙◌, arith}
-use Rattle.rsp_scope.specs.Kept.{needed, triples_of}
-use Rattle.rsp_scope.specs.Order.{AreInOrder}
-use Rattle.rsp_scope.specs.Runs.{AreTied}
+use Rattle.std.proofs.Common.{rules, ◌≡◌, nat_le, length, arith}
 use Rattle.rsp_scope.specs.declared.item.Item.{Item}
-use Rattle.rsp_scope.proofs.Endings.{filter-most, needed-later}
-use Rattle.rsp_scope.proofs.Orders.{order-needed}
+use Rattle.rsp_scope.proofs.Endings.{filter-most}
 use Rattle.rsp_scope.proofs.streams.Streams.close_up.Goals as goal
 
 pub overflow_sub-len : goal.overflow_sub-len
@@ -12,21 +8,3 @@ overflow_sub-len c =
     let most = filter-most (λ (item : Item). nat_le c.self.inside.cut item.end) c.self.inside.items.items in
     let long : c.len.result ≡ length c.self.inside.items.items = search rules in
     omega (arith, most, long, c.self.invariant.count)
-
-pub invariant_of-self : goal.invariant_of-self
-invariant_of-self c =
-    let kept = ap (λ l. needed c.self.inside.cut l) c.close_up.ensures.items ∙ needed-later c.self.inside.cut c.self.inside.cut c.self.inside.items.items (omega arith) in
-    record {
-      count = c.self.invariant.count ∙ ap (λ (l : List Item). length l) (sym kept);
-      held = c.self.invariant.held ∙ ap triples_of (sym kept);
-      tied = subst (λ l. AreTied c.self.inside.ends.items l) (sym kept) c.self.invariant.tied;
-      order = subst (λ l. AreInOrder c.self.inside.accepted l) (sym c.close_up.ensures.items)
-          (order-needed c.self.inside.accepted c.self.inside.cut c.self.inside.items.items c.self.invariant.order);
-      peaks = c.close_up.ensures.peaks;
-      filed = c.tidy.ensures;
-    }
-
-pub returns-then-self-len : goal.returns-then-self-len
-returns-then-self-len c =
-    let kept = ap (λ l. needed c.self.inside.cut l) c.close_up.ensures.items ∙ needed-later c.self.inside.cut c.self.inside.cut c.self.inside.items.items (omega arith) in
-    rw (← c.self.view_is) (λ i. record { accepted = c.self.inside.accepted; items = kept i })

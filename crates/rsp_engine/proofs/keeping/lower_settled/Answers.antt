@@ -4,7 +4,7 @@ use Rattle.rsp_scope.specs.Kept.{Kept, needed}
 use Rattle.rsp_scope.proofs.Needed.{ends_many}
 use Rattle.rsp_engine.specs.Keeping.{IsLess, watches_by}
 use Rattle.rsp_engine.proofs.KeptEnds.{few_lowered, kept_lowered, less_lowered}
-use Rattle.rsp_engine.proofs.keeping.lower.Goals as goal
+use Rattle.rsp_engine.proofs.keeping.lower_settled.Goals as goal
 
 pub shorten-requires : goal.shorten-requires
 shorten-requires g c =
