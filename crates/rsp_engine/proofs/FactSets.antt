@@ -1,198 +1,148 @@
--- How a live query comes to stand for the facts of an instant.
-use Rattle.std.proofs.Common.{◌≡◌, ◌⊎◌, inl, inr, ℕ, Bool, true, false, true≢false, not, ◌&&◌, ◌||◌, cond, if◌then◌else◌, Option, None, Some, List, [], ◌∷◌, ◌++◌, ℤ, pos, negsuc, ◌+ℤ◌, ◌+◌, ◌<◌, fold, refl, sym, ap, subst, ◌∙◌, arith}
+-- How a live query comes to stand for the facts of an instant: what it sees is a set.
+use Rattle.std.proofs.Common.{◌≡◌, ◌⊎◌, inl, inr, ℕ, ◌≤◌, Bool, true, false, true≢false, not, ◌&&◌, ◌||◌, if◌then◌else◌, Option, None, Some, List, [], ◌∷◌, ◌++◌, ℤ, pos, negsuc, ◌+ℤ◌, ◌+◌, map, refl, sym, ap, subst, ◌∙◌, arith}
 use Rattle.std.specs.List.{AllByRecursion, IsDistinct, flat_map, list_any}
-use Rattle.rsp_engine.specs.declared.item.Item.{Item}
-use Rattle.rsp_engine.specs.declared.live_query.StreamWindow.{StreamWindow}
 use Rattle.std.specs.Prelude.{nat_eq}
 use Rattle.std.proofs.lemmas.Bool.{ne_eqb}
 use Rattle.std.proofs.lemmas.Int.{ints}
-use Rattle.rsp_multiset.specs.Weights.{IsChanged, only, times, weight}
+use Rattle.rsp_multiset.specs.RowLists.{each_once}
+use Rattle.rsp_multiset.specs.Weights.{IsChanged, IsSameMultiset, only, sum_z, times, weight}
 use Rattle.rsp_multiset.proofs.Linear.{turned}
+use Rattle.rsp_multiset.proofs.SameLists.{once-times}
+use Rattle.rsp_multiset.proofs.Sums.{sum_z-append, sum_z-map}
 use Rattle.rsp_terms.specs.declared.statement.Fact.{Fact}
 use Rattle.rsp_terms.specs.declared.statement.Triple.{Triple}
-use Rattle.rsp_terms.specs.declared.statement.Spot.TheVariants as spot
-use Rattle.rsp_terms.specs.Same.{fact_eq, fact_same, triple_eq, triple_same}
-use Rattle.rsp_terms.specs.declared.term.Term.{Term}
 use Rattle.rsp_terms.specs.declared.statement.Quad.{Quad}
 use Rattle.rsp_terms.specs.declared.statement.Spot.{Spot}
-use Rattle.rsp_multiset.specs.Weights.{IsSameMultiset}
+use Rattle.rsp_terms.specs.declared.statement.Spot.TheVariants as spot
+use Rattle.rsp_terms.specs.declared.term.Term.{Term}
+use Rattle.rsp_terms.specs.Same.{fact_eq, fact_same, spot_eq, spot_same, triple_eq, triple_same}
 use Rattle.rsp_multiset.proofs.Changing.{times-append}
+use Rattle.rsp_scope.specs.Contents.{Accepted, Numbered, Watch, content_at, fact_in, facts_in, graph_of, numbered, window_facts}
 use Rattle.rsp_scope.specs.Quads.{fact_of, names, spot_of, stored_with, stored_without}
 use Rattle.rsp_scope.specs.Quads.{store as put}
 use Rattle.rsp_scope.proofs.Takings.{times-filter}
 use Rattle.rsp_algebra.specs.Changing.{IsSet, MayChange}
 use Rattle.rsp_algebra.proofs.Sets.{times-set}
-use Rattle.rsp_algebra.proofs.Widths.{all-append}
-use Rattle.rsp_engine.specs.Contents.{add_once, content, distinct_triples, facts_from, facts_of, facts_over, graph, visible_items}
-use Rattle.rsp_engine.specs.Inside.{IsOnce}
+use Rattle.rsp_engine.specs.declared.live_query.StreamWindow.{StreamWindow}
+use Rattle.rsp_engine.specs.Contents.{facts_over, facts_seen, watches_from}
 use Rattle.rsp_engine.specs.Stands.{IsStore}
 
--- ---- a window's graph is a set
-
-apart_last : (xs : List Triple) (t : Triple) (x : Triple) → AllByRecursion (λ y. triple_eq x y ≡ false) xs → triple_eq x t ≡ false → AllByRecursion (λ y. triple_eq x y ≡ false) (xs ++ (t ∷ []))
-apart_last [] t x apart last = (last, tt)
-apart_last (y ∷ ys) t x apart last = (apart.0, apart_last ys t x apart.1 last)
-
-or_none : (a b : Bool) → (a || b) ≡ false → (a ≡ false) × (b ≡ false)
-or_none true b h = absurd (true≢false h)
-or_none false b h = (refl, h)
-
-distinct_last : (xs : List Triple) (t : Triple) → IsDistinct triple_eq xs → list_any (triple_eq t) xs ≡ false → IsDistinct triple_eq (xs ++ (t ∷ []))
-unfolding IsDistinct
-distinct_last [] t distinct none = (tt, tt)
-distinct_last (x ∷ xs) t distinct none =
-    let parts = or_none (triple_eq t x) (list_any (triple_eq t) xs) none in (
-      apart_last xs t x distinct.0 (turned triple_same x t ∙ parts.0),
-      distinct_last xs t distinct.1 parts.1,
-    )
-
-once_distinct : (seen : List Triple) (t : Triple) → IsDistinct triple_eq seen → IsDistinct triple_eq (add_once seen t)
-once_distinct seen t distinct =
-    elim (list_any (triple_eq t) seen) as (λ v. list_any (triple_eq t) seen ≡ v → IsDistinct triple_eq (cond v seen (seen ++ (t ∷ [])))) [
-      | true ↦ λ is. distinct
-      | false ↦ λ is. distinct_last seen t distinct is
-    ] refl
-
-folded_distinct : (seen more : List Triple) → IsDistinct triple_eq seen → IsDistinct triple_eq (fold add_once seen more)
-folded_distinct seen [] distinct = distinct
-folded_distinct seen (t ∷ ts) distinct = folded_distinct (add_once seen t) ts (once_distinct seen t distinct)
-
-and_second : (a b : Bool) → b ≡ false → (a && b) ≡ false
-and_second true b h = h
-and_second false b h = refl
-
-facts_apart : (k : ℕ) (t : Triple) (ts : List Triple) → AllByRecursion (λ y. triple_eq t y ≡ false) ts → AllByRecursion (λ (f : Fact). fact_eq (record { spot = spot.Window k; triple = t }) f ≡ false) (facts_of k ts)
-facts_apart k t [] apart = tt
-facts_apart k t (y ∷ ys) apart = (and_second (nat_eq k k) (triple_eq t y) apart.0, facts_apart k t ys apart.1)
-
-facts_distinct : (k : ℕ) (ts : List Triple) → IsDistinct triple_eq ts → IsSet (facts_of k ts)
-unfolding IsDistinct
-facts_distinct k [] distinct = tt
-facts_distinct k (t ∷ ts) distinct = (facts_apart k t ts distinct.0, facts_distinct k ts distinct.1)
-
-pub graph_is_set : (k : ℕ) (triples : List Triple) → IsSet (facts_of k (distinct_triples triples))
-unfolding IsDistinct
-graph_is_set k triples = facts_distinct k (distinct_triples triples) (folded_distinct [] triples tt)
-
--- ---- windows of different numbers have no fact in common
-
--- a fact of window j is none of those
-abbrev AreOthers : ℕ → Triple → List Fact → Type 0
-AreOthers j t facts = AllByRecursion (λ (f : Fact). fact_eq (record { spot = spot.Window j; triple = t }) f ≡ false) facts
-
-others_of : (j : ℕ) (t : Triple) (k : ℕ) (ts : List Triple) → j < k → AreOthers j t (facts_of k ts)
-others_of j t k [] less = tt
-others_of j t k (y ∷ ys) less =
-    let apart : nat_eq j k ≡ false = ne_eqb j k (omega arith) in
-    (rw apart refl, others_of j t k ys less)
-
-others_from : (j : ℕ) (t : Triple) (items : List Item) (at k : ℕ) (windows : List StreamWindow) → j < k → AreOthers j t (facts_from items at k windows)
-others_from j t items at k [] less = tt
-others_from j t items at k (w ∷ ws) less =
-    all-append
-    (λ (f : Fact). fact_eq (record { spot = spot.Window j; triple = t }) f ≡ false)
-    (facts_of k (graph items w at))
-    (facts_from items at (k + 1) ws)
-    (others_of j t k (graph items w at) less)
-    (others_from j t items at (k + 1) ws (omega arith))
-
-set_then : (k : ℕ) (ts : List Triple) (more : List Fact) → IsSet (facts_of k ts) → IsSet more → ((t : Triple) → AreOthers k t more) → IsSet (facts_of k ts ++ more)
-unfolding IsDistinct
-set_then k [] more set set_more others = set_more
-set_then k (t ∷ ts) more set set_more others = (
-  all-append (λ (f : Fact). fact_eq (record { spot = spot.Window k; triple = t }) f ≡ false) (facts_of k ts) more set.0 (others t),
-  set_then k ts more set.1 set_more others,
-)
-
-windows_are_set : (items : List Item) (at k : ℕ) (windows : List StreamWindow) → IsSet (facts_from items at k windows)
-unfolding IsDistinct
-windows_are_set items at k [] = tt
-windows_are_set items at k (w ∷ ws) =
-    set_then
-    k
-    (graph items w at)
-    (facts_from items at (k + 1) ws)
-    (graph_is_set k (flat_map (λ (i : Item). i.graph) (content items w at)))
-    (windows_are_set items at (k + 1) ws)
-    (λ t. others_from k t items at (k + 1) ws (omega arith))
-
-pub facts_are_set : (items : List Item) (first : ℕ) (windows : List StreamWindow) (t : ℕ) → IsSet (facts_over items first windows t)
-facts_are_set items first windows t = windows_are_set (visible_items items first) t 0 windows
-
--- ---- facts that stand once or not at all
+-- once or not at all
+abbrev pub IsOnce : ℤ → Type 0
+IsOnce n = (n ≡ pos 0) ⊎ (n ≡ pos 1)
 
 once_of : (b : Bool) (n : ℤ) → n ≡ only b (pos 1) → IsOnce n
 once_of true n is = inr is
 once_of false n is = inl is
 
--- a fact that is none of any window stands in none
-abbrev IsElsewhere : Fact → Type 0
-IsElsewhere q = (k : ℕ) (triple : Triple) → fact_eq q (record { spot = spot.Window k; triple = triple }) ≡ false
+-- each fact of a set stands once or not at all
+pub set_once : (facts : List Fact) → IsSet facts → (q : Fact) → IsOnce (times fact_eq facts q)
+set_once facts set q = once_of (list_any (fact_eq q) facts) (times fact_eq facts q) (times-set fact_same facts set q)
 
-none_of : (q : Fact) → IsElsewhere q → (k : ℕ) (triples : List Triple) → times fact_eq (facts_of k triples) q ≡ pos 0
-none_of q elsewhere k [] = refl
-none_of q elsewhere k (t ∷ ts) = let rest = none_of q elsewhere k ts in rw (elsewhere k t) (omega (arith, ints, rest))
+-- ---- the graph of a window
 
-none_from : (q : Fact) → IsElsewhere q → (items : List Item) (t k : ℕ) (windows : List StreamWindow) → times fact_eq (facts_from items t k windows) q ≡ pos 0
-none_from q elsewhere items t k [] = refl
-none_from q elsewhere items t k (w ∷ ws) =
-    let here = none_of q elsewhere k (graph items w t) in
-    let rest = none_from q elsewhere items t (k + 1) ws in
-    let both = times-append fact_eq (facts_of k (graph items w t)) (facts_from items t (k + 1) ws) q in
-    omega (arith, ints, here, rest, both)
+-- a fact is one of a window as often as its triple is one of the graph
+times_in : (k : ℕ) (triples : List Triple) (q : Fact) → times fact_eq (facts_in k triples) q ≡ only (spot_eq q.spot (spot.Window k)) (times triple_eq triples q.triple)
+times_in k triples q = sum_z-map (λ f. only (fact_eq q f) (pos 1)) (fact_in k) triples ∙ by (spot_eq q.spot (spot.Window k)) triples
+  where
+    by : (b : Bool) (ts : List Triple) → sum_z (λ t. only (b && triple_eq q.triple t) (pos 1)) ts ≡ only b (times triple_eq ts q.triple)
+    by true ts = refl
+    by false [] = refl
+    by false (t ∷ ts) = let h = by false ts in omega (arith, ints, h)
 
--- what a query sees: the stored quads, and the graphs of its windows
-module _ (stored : List Fact) (store : IsStore stored) (items : List Item) (first : ℕ) (windows : List StreamWindow) (t : ℕ) where
-  abbrev seen : List Fact
-  seen = stored ++ facts_over items first windows t
+both_only : (a b : Bool) → only a (only b (pos 1)) ≡ only (a && b) (pos 1)
+both_only true b = refl
+both_only false b = refl
 
-  in_windows : (q : Fact) → times fact_eq (facts_over items first windows t) q ≡ only (list_any (fact_eq q) (facts_over items first windows t)) (pos 1)
-  in_windows q = times-set fact_same (facts_over items first windows t) (facts_are_set items first windows t) q
+graph_once : (k : ℕ) (entries : List Numbered) (q : Fact) → IsOnce (times fact_eq (facts_in k (graph_of entries)) q)
+graph_once k entries q =
+    let triples = flat_map (λ (entry : Numbered). entry.item.graph) entries in
+    once_of (spot_eq q.spot (spot.Window k) && list_any (triple_eq q.triple) triples) (times fact_eq (facts_in k (graph_of entries)) q)
+    (times_in k (graph_of entries) q
+    ∙ (ap (λ n. only (spot_eq q.spot (spot.Window k)) n) (once-times triple_same triples q.triple)
+    ∙ both_only (spot_eq q.spot (spot.Window k)) (list_any (triple_eq q.triple) triples)))
 
-  in_store : (q : Fact) → times fact_eq stored q ≡ only (list_any (fact_eq q) stored) (pos 1)
-  in_store q = times-set fact_same stored store.once q
+none_in : (k : ℕ) (triples : List Triple) (q : Fact) → spot_eq q.spot (spot.Window k) ≡ false → times fact_eq (facts_in k triples) q ≡ pos 0
+none_in k triples q apart = times_in k triples q ∙ ap (λ b. only b (times triple_eq triples q.triple)) apart
 
+-- ---- windows of different numbers have no fact in common
+
+module _ (items : List Accepted) (first t : ℕ) (q : Fact) where
+  abbrev here : StreamWindow → ℕ → List Fact
+  here w k = window_facts (record { shape = w.shape; spot = k; stream = w.stream; first = first }) (Some t) items
+
+  abbrev others : List StreamWindow → ℕ → List Fact
+  others ws k = facts_seen items (watches_from first k ws) t
+
+  -- a fact that is none of any window from number k on stands in none
+  none_from : (ws : List StreamWindow) (k : ℕ) → ((m : ℕ) → k ≤ m → spot_eq q.spot (spot.Window m) ≡ false) → times fact_eq (others ws k) q ≡ pos 0
+  none_from [] k apart = refl
+  none_from (w ∷ ws) k apart =
+      let one = none_in k (graph_of (content_at (record { shape = w.shape; spot = k; stream = w.stream; first = first }) (Some t) (numbered 0 items))) q (apart k (omega arith)) in
+      let rest = none_from ws (k + 1) (λ m up. apart m (omega arith)) in
+      let both = times-append fact_eq (here w k) (others ws (k + 1)) q in
+      omega (arith, ints, one, rest, both)
+
+  -- by the window, if any, of which it is one
+  seen_once : (ws : List StreamWindow) (k : ℕ) → IsOnce (times fact_eq (others ws k) q)
+  seen_once [] k = inl refl
+  seen_once (w ∷ ws) k = by (spot_eq q.spot (spot.Window k)) refl (seen_once ws (k + 1))
+    where
+      both : times fact_eq (here w k ++ others ws (k + 1)) q ≡ times fact_eq (here w k) q +ℤ times fact_eq (others ws (k + 1)) q
+      both = times-append fact_eq (here w k) (others ws (k + 1)) q
+
+      graph : List Numbered
+      graph = content_at (record { shape = w.shape; spot = k; stream = w.stream; first = first }) (Some t) (numbered 0 items)
+
+      later : spot_eq q.spot (spot.Window k) ≡ true → (m : ℕ) → k + 1 ≤ m → spot_eq q.spot (spot.Window m) ≡ false
+      later is m up =
+          let own = (spot_same q.spot (spot.Window k)).0 is in
+          let apart : nat_eq k m ≡ false = ne_eqb k m (omega arith) in
+          ap (λ s. spot_eq s (spot.Window m)) own ∙ apart
+
+      by : (b : Bool) → spot_eq q.spot (spot.Window k) ≡ b → IsOnce (times fact_eq (others ws (k + 1)) q) → IsOnce (times fact_eq (here w k ++ others ws (k + 1)) q)
+      by true is rest =
+          let none = none_from ws (k + 1) (later is) in
+          subst IsOnce (let n : times fact_eq (here w k) q ≡ times fact_eq (here w k ++ others ws (k + 1)) q = omega (arith, ints, both, none) in n) (graph_once k graph q)
+      by false is rest =
+          let none : times fact_eq (here w k) q ≡ pos 0 = none_in k (graph_of graph) q is in
+          subst IsOnce (let n : times fact_eq (others ws (k + 1)) q ≡ times fact_eq (here w k ++ others ws (k + 1)) q = omega (arith, ints, both, none) in n) rest
+
+-- ---- what a query sees: the stored quads, and the graphs of its windows
+
+module _ (stored : List Fact) (store : IsStore stored) (items : List Accepted) (first : ℕ) (windows : List StreamWindow) (t : ℕ) where
   once_in : (s : Spot) (y : Triple) → IsOnce (times fact_eq stored (record { spot = s; triple = y }) +ℤ times fact_eq (facts_over items first windows t) (record { spot = s; triple = y }))
   once_in (spot.Window k) y =
       let none = store.graphs k y in
-      let some = in_windows (record { spot = spot.Window k; triple = y }) in
-      once_of (list_any (fact_eq (record { spot = spot.Window k; triple = y })) (facts_over items first windows t)) _ (omega (arith, ints, none, some))
+      subst IsOnce (let n : times fact_eq (facts_over items first windows t) (record { spot = spot.Window k; triple = y }) ≡ times fact_eq stored (record { spot = spot.Window k; triple = y }) +ℤ times fact_eq (facts_over items first windows t) (record { spot = spot.Window k; triple = y }) = omega (arith, ints, none) in n)
+      (seen_once items first t (record { spot = spot.Window k; triple = y }) windows 0)
   once_in spot.Default y =
-      let some = in_store (record { spot = spot.Default; triple = y }) in
-      let none = none_from (record { spot = spot.Default; triple = y }) (λ k triple. refl) (visible_items items first) t 0 windows in
-      once_of (list_any (fact_eq (record { spot = spot.Default; triple = y })) stored) _ (omega (arith, ints, none, some))
+      let none = none_from items first t (record { spot = spot.Default; triple = y }) windows 0 (λ m up. refl) in
+      subst IsOnce (let n : times fact_eq stored (record { spot = spot.Default; triple = y }) ≡ times fact_eq stored (record { spot = spot.Default; triple = y }) +ℤ times fact_eq (facts_over items first windows t) (record { spot = spot.Default; triple = y }) = omega (arith, ints, none) in n)
+      (set_once stored store.once (record { spot = spot.Default; triple = y }))
   once_in (spot.Named name) y =
-      let some = in_store (record { spot = spot.Named name; triple = y }) in
-      let none = none_from (record { spot = spot.Named name; triple = y }) (λ k triple. refl) (visible_items items first) t 0 windows in
-      once_of (list_any (fact_eq (record { spot = spot.Named name; triple = y })) stored) _ (omega (arith, ints, none, some))
+      let none = none_from items first t (record { spot = spot.Named name; triple = y }) windows 0 (λ m up. refl) in
+      subst IsOnce (let n : times fact_eq stored (record { spot = spot.Named name; triple = y }) ≡ times fact_eq stored (record { spot = spot.Named name; triple = y }) +ℤ times fact_eq (facts_over items first windows t) (record { spot = spot.Named name; triple = y }) = omega (arith, ints, none) in n)
+      (set_once stored store.once (record { spot = spot.Named name; triple = y }))
 
-  -- each fact stands once or not at all, where these are all
-  module _ (all : List (Fact × ℤ)) (is : (q : Fact) → weight fact_eq all q ≡ times fact_eq stored q +ℤ times fact_eq (facts_over items first windows t) q) where
-    pub all_once : (q : Fact) → IsOnce (weight fact_eq all q)
-    all_once q = subst IsOnce (sym (is q)) (once_in q.spot q.triple)
-
-    pub all_are : (q : Fact) → weight fact_eq all q ≡ times fact_eq seen q
-    all_are q = is q ∙ sym (times-append fact_eq stored (facts_over items first windows t) q)
+  -- each fact that it sees stands once
+  pub seen_facts_once : (q : Fact) → IsOnce (times fact_eq (stored ++ facts_over items first windows t) q)
+  seen_facts_once q = subst IsOnce (sym (times-append fact_eq stored (facts_over items first windows t) q)) (once_in q.spot q.triple)
 
 -- ---- the change from the facts of one report to those of the next
 
-turn : (seen now held weight : ℤ) → IsOnce seen → IsOnce now → held ≡ seen → now ≡ seen +ℤ weight
+turn : (held now weight : ℤ) → IsOnce held → IsOnce now → now ≡ held +ℤ weight
     → (weight ≡ pos 0) ⊎ (((weight ≡ pos 1) × (held ≡ pos 0)) ⊎ ((weight ≡ negsuc 0) × (held ≡ pos 1)))
-turn seen now held weight (inl none) (inl still) is change = inl (omega (arith, ints, none, still, change))
-turn seen now held weight (inl none) (inr comes) is change = inr (inl (omega (arith, ints, none, comes, change), is ∙ none))
-turn seen now held weight (inr there) (inl goes) is change = inr (inr (omega (arith, ints, there, goes, change), is ∙ there))
-turn seen now held weight (inr there) (inr stays) is change = inl (omega (arith, ints, there, stays, change))
+turn held now weight (inl none) (inl still) change = inl (omega (arith, ints, none, still, change))
+turn held now weight (inl none) (inr comes) change = inr (inl (omega (arith, ints, none, comes, change), none))
+turn held now weight (inr there) (inl goes) change = inr (inr (omega (arith, ints, there, goes, change), there))
+turn held now weight (inr there) (inr stays) change = inl (omega (arith, ints, there, stays, change))
 
-module _ (held : List Fact) (seen now changes : List (Fact × ℤ)) (same : (q : Fact) → times fact_eq held q ≡ weight fact_eq seen q)
-    (change : (q : Fact) → weight fact_eq now q ≡ weight fact_eq seen q +ℤ weight fact_eq changes q) where
-  pub may_change : ((q : Fact) → IsOnce (weight fact_eq seen q)) → ((q : Fact) → IsOnce (weight fact_eq now q)) → MayChange held changes
-  may_change once once_now q =
-      turn (weight fact_eq seen q) (weight fact_eq now q) (times fact_eq held q) (weight fact_eq changes q) (once q) (once_now q) (same q) (change q)
-
-  -- the answer then stands for the facts of now
-  pub now_same : (held_now : List Fact) → IsChanged fact_eq held changes held_now → (q : Fact) → times fact_eq held_now q ≡ weight fact_eq now q
-  now_same held_now held_changed q =
-      held_changed q ∙ (ap (λ n. n +ℤ weight fact_eq changes q) (same q) ∙ sym (change q))
+-- from one set to another each fact comes or goes once at most
+pub may_change : (held now : List Fact) (changes : List (Fact × ℤ)) → ((q : Fact) → IsOnce (times fact_eq held q)) → ((q : Fact) → IsOnce (times fact_eq now q))
+    → IsChanged fact_eq held changes now → MayChange held changes
+may_change held now changes once once_now changed q =
+    turn (times fact_eq held q) (times fact_eq now q) (weight fact_eq changes q) (once q) (once_now q) (changed q)
 
 -- one entry more
 pub one_entry : (before after left rest : List (Fact × ℤ)) (fact shared : Fact) (n whole : ℤ) (q : Fact) → left ≡ (fact, n) ∷ rest → shared ≡ fact
@@ -204,6 +154,10 @@ one_entry before after left rest fact shared n whole q is same altered whole_is 
     omega (arith, ints, front, there, altered, whole_is)
 
 -- ---- the stored quads
+
+or_none : (a b : Bool) → (a || b) ≡ false → (a ≡ false) × (b ≡ false)
+or_none true b h = absurd (true≢false h)
+or_none false b h = (refl, h)
 
 apart_more : (xs : List Fact) (t x : Fact) → AllByRecursion (λ y. fact_eq x y ≡ false) xs → fact_eq x t ≡ false → AllByRecursion (λ y. fact_eq x y ≡ false) (xs ++ (t ∷ []))
 apart_more [] t x apart last = (last, tt)

@@ -6,9 +6,11 @@ pub mod Seen
 pub mod Reporting
 pub mod Readiness
 pub mod Fitting
+pub mod Cancelling
 pub mod Needing
 pub mod Offering
 pub mod FactSets
+pub mod Following
 pub mod OrderedRows
 pub mod FirstReport
 pub mod ReportSteps
@@ -20,4 +22,6 @@ pub mod TimesKept
 pub mod WatchedWith
 pub mod Begun
 pub mod Policies
+pub mod KeptEnds
+pub mod Logging
 mod WorldRows

@@ -1,5 +1,5 @@
 // What a live query reports at an instant.
-ghost use Rattle.std.specs.Prelude.{◌≡◌, ◌≤◌, ◌+◌, ◌++◌, ◌+ℤ◌, [], false, List, ℕ, map, IfOk, OnOk, length, take};
+ghost use Rattle.std.specs.Prelude.{◌≡◌, ◌≤◌, ◌+◌, ◌++◌, ◌∷◌, ◌+ℤ◌, [], false, List, ℕ, map, IfOk, OnOk, length, take};
 ghost use Rattle.std.specs.List.{All};
 ghost use Rattle.rsp_spec.specs.Windows.{last_instant};
 ghost use Rattle.rsp_terms.specs.Same.{fact_eq, term_eq};
@@ -8,7 +8,7 @@ ghost use Rattle.rsp_terms.specs.declared.statement.Fact.{Fact};
 ghost use Rattle.rsp_multiset.specs.Rows.{Cells, row_eq};
 ghost use Rattle.rsp_multiset.specs.Weights.{IsChanged, IsSameMultiset, times, weight};
 ghost use Rattle.rsp_algebra.specs.Solutions.{eval};
-ghost use Rattle.rsp_scope.specs.Contents.{Accepted};
+ghost use Rattle.rsp_scope.specs.Contents.{Accepted, HasContent};
 ghost use Rattle.rsp_scope.specs.Moves.{Followed, HasSeen, IsReached};
 ghost use Rattle.rsp_streams_out.specs.Rows.{AreRows, in_order};
 ghost use Rattle.rsp_streams_out.specs.Streams.{reported};
