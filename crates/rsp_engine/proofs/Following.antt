@@ -1,8 +1,10 @@
 -- Windows that move to an instant one after the other, and how a live query then follows the items.
 use Rattle.std.proofs.Common.{◌≡◌, ℕ, true, ◌+◌, ◌<◌, ◌≤◌, Some, List, [], ◌∷◌, ◌++◌, ℤ, pos, ◌+ℤ◌, length, map, take, drop, set, get_or, refl, sym, ap, subst, ◌∙◌, arith}
 use Rattle.std.specs.List.{All, flat_map}
+use Rattle.std.specs.Vec.{with_items}
+use Rattle.rsp_engine.specs.declared.live_query.LiveQuery.{LiveQuery}
 use Rattle.std.proofs.lemmas.Int.{ints}
-use Rattle.std.proofs.lemmas.List.{append-nil, drop-set-lt, drop_more, length-map, map-set, set-get_or, take-append-drop, take_all, take_more, take_more_set}
+use Rattle.std.proofs.lemmas.List.{append-nil, drop-set-lt, drop_more, length-map, map-set, set-get_or, with_items_is, take-append-drop, take_all, take_more, take_more_set}
 use Rattle.std.proofs.lemmas.List.Elements.{All-cons, All-get_or, All-head, All-nil, All-push, All-same, All-tail}
 use Rattle.rsp_terms.specs.declared.statement.Fact.{Fact}
 use Rattle.rsp_terms.specs.Same.{fact_eq}
@@ -145,14 +147,23 @@ module _ (kept : Kept) (t i : ℕ) (olds news : List Followed) (before now after
           begun = All-same (HasBegun items) (take (i + 1) (set news i new)) (take i news ++ new ∷ []) front (All-push (HasBegun items) (take i news) new so_far.begun step.0);
           told = λ q.
               let a = so_far.told q in
-              let b = step.1.0 q in
+              let b = step.1 q in
               let c = ap (λ l. times fact_eq (facts_followed items l) q) front_old ∙ followed_more items (take i olds) one q in
               let d = ap (λ l. times fact_eq (facts_followed items l) q) front ∙ followed_more items (take i news) new q in
               omega (arith, ints, a, b, c, d);
           accepted = All-same (λ (seen : Followed). seen.accepted ≡ length items) (take (i + 1) (set news i new)) (take i news ++ new ∷ []) front
-          (All-push (λ (seen : Followed). seen.accepted ≡ length items) (take i news) new so_far.accepted step.1.1);
+          (All-push (λ (seen : Followed). seen.accepted ≡ length items) (take i news) new so_far.accepted step.2);
         };
   }
+
+-- one that hasn't moved is as before
+pub as_before : (P : Followed → Type 0) (kept : Kept) (t i : ℕ) (olds news : List Followed) (before now : List (Fact × ℤ)) (one : Followed) → i < length news
+    → MoveOn kept t i olds news before now → All P olds → P (get_or news i one)
+as_before P kept t i olds news before now one below on all =
+    let long : length news ≡ length olds = sym (length-map news (λ (seen : Followed). seen.watch)) ∙ (ap length on.watches ∙ length-map olds (λ (seen : Followed). seen.watch)) in
+    let below_old : i < length olds = omega (arith, below, long) in
+    let halves : get_or news i one ∷ drop (i + 1) news ≡ get_or olds i one ∷ drop (i + 1) olds = sym (drop_more news i one below) ∙ (on.rest ∙ drop_more olds i one below_old) in
+    subst P (sym (ap (λ l. get_or l 0 one) halves)) (All-get_or P olds i one below_old all)
 
 -- all have
 module _ (kept : Kept) (t i : ℕ) (olds news : List Followed) (before after : List (Fact × ℤ)) (past : length news ≤ i) (on : MoveOn kept t i olds news before after) where
@@ -218,6 +229,21 @@ module _ (items : List Accepted) (stored : List Fact) (log : List Piece) (live :
         omega (arith, ints, none, before, first, then, by, own);
   }
 
+-- what a move of all windows says
+abbrev pub AllMoved : Kept → ℕ → List Followed → List Followed → List (Fact × ℤ) → List (Fact × ℤ) → Type 0
+AllMoved kept t olds news before after =
+    (items : List Accepted) → All (HasBegun items) olds → HasContents items kept t (watches_followed olds)
+    → All (HasBegun items) news
+    × ((q : Fact) → weight fact_eq after q +ℤ times fact_eq (facts_followed items olds) q ≡ weight fact_eq before q +ℤ times fact_eq (facts_followed items news) q)
+    × All (λ (seen : Followed). seen.accepted ≡ length items) news
+
+-- the windows of a live query, written back
+pub contents_back : {A : Type 0} (live : LiveQuery A) (news : List Followed) → watches_followed news ≡ watches_followed live.contents.items
+    → (with_items live.contents news).items ≡ news
+contents_back live news same =
+    with_items_is live.contents news
+    (sym (length-map news (λ (seen : Followed). seen.watch)) ∙ (ap length same ∙ (length-map live.contents.items (λ (seen : Followed). seen.watch) ∙ sym live.contents.ok.0)))
+
 -- ---- a live query whose windows have moved to t
 
 module _ (kept : Kept) (stored : List Fact) (log : List Piece) (t : ℕ) (live : Live) (news : List Followed) (fresh changes : List (Fact × ℤ))
@@ -225,15 +251,12 @@ module _ (kept : Kept) (stored : List Fact) (log : List Piece) (t : ℕ) (live :
     (watches_new : watches_followed news ≡ watches_followed live.contents)
     (at : All (λ (seen : Followed). seen.at ≡ Some t) news)
     (not_seen : (q : Fact) → weight fact_eq fresh q ≡ unseen stored log live q)
-    (moved : (items : List Accepted) → All (HasBegun items) live.contents → HasContents items kept t (watches_followed live.contents)
-    → All (HasBegun items) news
-    × ((q : Fact) → weight fact_eq changes q +ℤ times fact_eq (facts_followed items live.contents) q ≡ weight fact_eq fresh q +ℤ times fact_eq (facts_followed items news) q)
-    × All (λ (seen : Followed). seen.accepted ≡ length items) news) where
+    (moved : AllMoved kept t live.contents news fresh changes) where
   module _ (items : List Accepted) (follows : Follows items stored log live) (contents : HasContents items kept t (watches live.first live.windows)) where
     are_moved : AreMoved items live.contents news fresh changes
     are_moved =
         let given = moved items follows.contents (subst (HasContents items kept t) (sym watches_old) contents) in
-        record { begun = given.0; told = given.1.0; accepted = given.1.1 }
+        record { begun = given.0; told = given.1; accepted = given.2 }
 
     pub change_leads : IsChanged fact_eq live.seen changes (facts_at items stored live t)
     change_leads = leads_to_now items stored log live t news fresh changes follows (watches_new ∙ watches_old) at not_seen are_moved

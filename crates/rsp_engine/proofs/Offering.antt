@@ -316,7 +316,7 @@ item_offers old new stream time graph end (Err why) ready idle small late ends n
           let fits : nat_lt most_held (held (with_item world item)) ≡ false = le-ltb _ _ few in
           let few_triples : nat_lt most_triples (length graph) ≡ false = le-ltb _ _ small in
           let in_time : nat_lt time (next_of world) ≡ false = le-ltb _ _ (rw stands.next at late) in
-          rw (in_time, few_triples, fits) tt;
+          rw (in_time, few_triples, fits) refl;
     })
 
 -- an item whose triples are too many

@@ -1,5 +1,5 @@
 -- An engine behind a report.
-use Rattle.std.proofs.Common.{◌≡◌, ℕ, zero, suc, ◌+◌, ◌<◌, ◌≤◌, Bool, true, false, List, [], ◌∷◌, length, map, remove, slice_get, slice_set, Option, None, Some, refl, sym, ◌∙◌, ap, subst, arith}
+use Rattle.std.proofs.Common.{◌≡◌, ℕ, zero, suc, ◌+◌, ◌<◌, ◌≤◌, Bool, true, false, List, [], ◌∷◌, length, map, remove, slice_get, slice_set, Option, None, Some, unwrap_or, refl, sym, ◌∙◌, ap, subst, arith}
 use Rattle.std.specs.Prelude.{if◌then◌else◌, bytes_eq}
 use Rattle.std.specs.List.{All, IsDistinct, flat_map}
 use Rattle.std.specs.Option.{option_map_or}
@@ -250,7 +250,10 @@ module _ {A : Type 0} (node : A → Node) (width : A → ℕ) (facts : A → Lis
             record {
               state = record {
                 next_high = rw next ready.state.next_high;
-                lives = rw (next, arrived, less.accepted) all_live;
+                lives =
+                    subst (λ n. All (IsLive n new.arrived new.streams.accepted (cut_of there)) there.queries) (sym (ap (λ n. unwrap_or n 0) next))
+                    (subst (λ a. All (IsLive (next_in here) a new.streams.accepted (cut_of there)) there.queries) (sym arrived)
+                    (subst (λ k. All (IsLive (next_in here) e.arrived k (cut_of there)) there.queries) (sym less.accepted) all_live));
                 timed = rw next (less.timed (next_in here) ready.state.timed);
                 store = rw stored ready.state.store;
                 names = rw lives (names_behind (is_overfull_outcome given));

@@ -1,4 +1,4 @@
-use Rattle.std.proofs.Common.{◌∙◌, ap, sym}
+use Rattle.std.proofs.Common.{◌≡◌, ◌∙◌, ap, sym}
 use Rattle.rsp_query.specs.Queries.{registered}
 use Rattle.rsp_engine.specs.Accept.{new_query}
 use Rattle.rsp_engine.specs.Inside.{asked, live_of}
@@ -33,7 +33,7 @@ returns-in-Ok-Some g c = λ text is.
     let q = registered c.args.query.now in
     let begun = rw c.in-Ok-Some.field-0-is at c.in-Ok-Some.ensures.query in
     let watched = rw c.in-Ok-Some.field-0-is at c.in-Ok-Some.ensures.watched in
-    let made = rw (← c.self.view_is) (begun.1 ∙ ap (λ n. (new_query c.args.name (reading_of q) n).registration) c.accepted.ensures) in
+    let made : registration_of (live_of g.A.Answer.facts c.in-Ok-Some.query) ≡ (new_query c.args.name (reading_of q) old.kept.accepted).registration = rw (← c.self.view_is) (begun.1 ∙ ap (λ n. (new_query c.args.name (reading_of q) n).registration) c.accepted.ensures) in
     let idle = idle_first old c.requires.ready c.requires.idle in
     let begins : Begins old (live_of g.A.Answer.facts c.in-Ok-Some.query) = record {
       first = rw (← c.self.view_is) (ap (λ (r : Registration). r.first) begun.1 ∙ c.accepted.ensures);

@@ -1,8 +1,6 @@
-use Rattle.std.proofs.Common.{◌≡◌, ◌∙◌, ◌≤◌, ap, arith, bytes_eq, map, refl, remove, subst, sym, unwrap_or}
-use Rattle.std.specs.List.{All, IsDistinct}
-use Rattle.rsp_scope.specs.declared.item.Item.{Item}
-use Rattle.rsp_engine.specs.Inside.{IsReady, live_of, state_of}
-use Rattle.rsp_engine.specs.Stands.{Live}
+use Rattle.std.proofs.Common.{[], refl}
+use Rattle.rsp_engine.specs.Inside.{IsReady, state_of}
+use Rattle.rsp_engine.specs.Stands.{Stands}
 use Rattle.rsp_engine.proofs.Cancelling.{fits_without, lives, timed_below}
 use Rattle.rsp_engine.proofs.Offering.{cancel_leads, no_query_refuses}
 use Rattle.rsp_engine.proofs.Readiness.{idle_first, ready_without}
@@ -24,25 +22,24 @@ invariant_of-self g c = λ _.
     let idle = idle_first (state_of g.A.Answer.facts c.self.inside) (rw (← c.self.view_is) at c.requires.ready) (rw (← c.self.view_is) at c.requires.idle) in
     let cut = c.first_incomplete-cut.ensures in
     let kept = rw (c.as_slice.ensures.value, cut, ← c.self.view_is) at c.lower.ensures.kept in
-    ready_without _ _ _ _ _ sound idle _ c.in-Some.place refl refl refl refl refl c.remove.ensures.items c.lower.ensures.less.accepted (c.lower.ensures.less.timed _ sound.state.timed)
-    (fits_without _ _ _ _ _ sound idle _ c.in-Some.place refl refl refl refl c.remove.ensures.items kept) c.lower.ensures.room
+    ready_without _ _ _ _ _ sound idle (record c.self.inside { queries = c.remove.new.self; streams = c.lower.new.streams; ends = c.lower.new.ends }) c.in-Some.place refl refl refl refl refl c.remove.ensures.items c.lower.ensures.less.accepted (c.lower.ensures.less.timed _ sound.state.timed)
+    (fits_without _ _ _ _ _ sound idle (record c.self.inside { queries = c.remove.new.self; streams = c.lower.new.streams; ends = c.lower.new.ends }) c.in-Some.place refl refl refl refl c.remove.ensures.items kept) c.lower.ensures.room
 
 pub returns-in-Some : goal.returns-in-Some
 returns-in-Some g c =
-    let old = c.args.self.now in
-    let found = c.in-Some.ensures in
+    let here = state_of g.A.Answer.facts c.self.inside in
+    let found = rw (← c.self.view_is) at c.in-Some.ensures in
     let sound : IsReady g.A.Answer.node g.A.Answer.width g.A.Answer.facts g.A.Answer.spent c.self.inside = c.self.invariant (rw (← c.self.view_is) at c.requires.ready) in
     let idle = idle_first (state_of g.A.Answer.facts c.self.inside) (rw (← c.self.view_is) at c.requires.ready) (rw (← c.self.view_is) at c.requires.idle) in
-    let names : IsDistinct bytes_eq (map (λ (l : Live). l.name) old.queries) = rw (← c.self.view_is) sound.state.names in
     let cut = c.first_incomplete-cut.ensures in
     let kept = rw (c.as_slice.ensures.value, cut, ← c.self.view_is) at c.lower.ensures.kept in
     record {
       was_ready = c.requires.ready;
       ready = rw (← c.self.view_is) at c.requires.ready;
       stands = λ world stands.
-          rw (← c.self.view_is) at
-          (cancel_leads old _ c.args.name.now c.in-Some.place found.0 world (idle_first old c.requires.ready c.requires.idle) names found.1 found.2 stands refl refl refl refl (lives _ _ _ _ _ sound idle _ c.in-Some.place refl refl refl refl c.remove.ensures.items kept)
-          (fits_without _ _ _ _ _ sound idle _ c.in-Some.place refl refl refl refl c.remove.ensures.items kept world.items stands.fits));
+          let before : Stands here world [] = rw (← c.self.view_is) at stands in
+          cancel_leads here (state_of g.A.Answer.facts (record c.self.inside { queries = c.remove.new.self; streams = c.lower.new.streams; ends = c.lower.new.ends })) c.args.name.now c.in-Some.place found.0 world idle sound.state.names found.1 found.2 before refl refl refl refl (lives _ _ _ _ _ sound idle (record c.self.inside { queries = c.remove.new.self; streams = c.lower.new.streams; ends = c.lower.new.ends }) c.in-Some.place refl refl refl refl c.remove.ensures.items kept)
+          (fits_without _ _ _ _ _ sound idle (record c.self.inside { queries = c.remove.new.self; streams = c.lower.new.streams; ends = c.lower.new.ends }) c.in-Some.place refl refl refl refl c.remove.ensures.items kept world.items before.fits);
     }
 
 pub returns-in-None : goal.returns-in-None

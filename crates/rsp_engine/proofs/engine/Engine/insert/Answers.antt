@@ -1,9 +1,11 @@
-use Rattle.std.proofs.Common.{◌≡◌, ◌≤◌, length, map, refl, subst, sym}
+use Rattle.std.proofs.Common.{◌≤◌, Err, ap, length, map, refl, subst, sym}
 use Rattle.std.specs.List.{All}
 use Rattle.rsp_events.specs.declared.event.Event.TheVariants.{Insert}
 use Rattle.rsp_scope.specs.Faults.{IsStoredFault}
 use Rattle.rsp_scope.specs.Quads.{stored_with}
 use Rattle.rsp_scope.specs.declared.stored.StoredFault.TheVariants.{StoreFull}
+use Rattle.rsp_engine.specs.Offers.{RefusesAs}
+use Rattle.rsp_engine.specs.Refusals.{store_full}
 use Rattle.rsp_engine.specs.Inside.{IsReady, live_of, state_of}
 use Rattle.rsp_engine.specs.Stands.{IsStore}
 use Rattle.rsp_engine.proofs.FactSets.{store_more}
@@ -14,14 +16,14 @@ use Rattle.rsp_engine.proofs.engine.Engine.insert.Goals as goal
 pub invariant_of-self : goal.invariant_of-self
 invariant_of-self g c = λ _.
     let sound : IsReady g.A.Answer.node g.A.Answer.width g.A.Answer.facts g.A.Answer.spent c.self.inside = c.self.invariant (rw (← c.self.view_is) at c.requires.ready) in
-    let logged = rw c.as_slice-queries.ensures.value at c.in-Ok.ensures.logged in
+    let logged = rw c.as_slice.ensures.value at c.in-Ok.ensures.logged in
     ready_stored _ _ _ _ _ sound _ refl refl refl refl refl refl (subst IsStore (sym c.in-Ok.ensures.stored) (store_more c.self.inside.stored c.args.quads.now sound.state.store))
     (λ items fits. fits_logged (state_of g.A.Answer.facts c.self.inside) _ _ items (mapped (IsLoggedFor c.self.inside.stored c.self.inside.log c.insert.new.stored c.insert.new.log) (live_of g.A.Answer.facts) c.self.inside.queries.items logged) fits)
 
 pub returns-in-Ok : goal.returns-in-Ok
 returns-in-Ok g c =
     let idle = idle_first c.args.self.now c.requires.ready c.requires.idle in
-    let logged = rw c.as_slice-queries.ensures.value at c.in-Ok.ensures.logged in
+    let logged = rw c.as_slice.ensures.value at c.in-Ok.ensures.logged in
     rw (← c.self.view_is)
     (record {
       was_ready = rw (← c.self.view_is) at c.requires.ready;
@@ -32,3 +34,14 @@ returns-in-Ok g c =
           (subst (λ fs. All (IsLoggedFor c.self.inside.stored c.self.inside.log fs c.insert.new.log) (map (live_of g.A.Answer.facts) c.self.inside.queries.items)) c.in-Ok.ensures.stored
           (mapped (IsLoggedFor c.self.inside.stored c.self.inside.log c.insert.new.stored c.insert.new.log) (live_of g.A.Answer.facts) c.self.inside.queries.items logged)) stands);
     })
+
+pub returns-in-Err-StoreFull : goal.returns-in-Err-StoreFull
+returns-in-Err-StoreFull g c =
+    let old = state_of g.A.Answer.facts c.self.inside in
+    let many = c.in-Err-StoreFull.quads in
+    let fault : IsStoredFault (length (stored_with c.self.inside.stored c.args.quads.now)) (StoreFull many) = rw c.in-Err-StoreFull.field-0-is at c.in-Err-StoreFull.ensures.fault in
+    let refused = full_store_refuses old c.args.quads.now many (rw (← c.self.view_is) at c.requires.ready) fault in
+    let same = c.in-Err-StoreFull.ensures.full many (ap Err c.in-Err-StoreFull.field-0-is) in
+    rw (← c.self.view_is)
+    (subst (λ fs. RefusesAs old (Insert c.args.quads.now) (store_full many) (record old { stored = fs; log = c.insert.new.log })) (sym same.0)
+    (subst (λ log. RefusesAs old (Insert c.args.quads.now) (store_full many) (record old { log = log })) (sym same.1) refused))

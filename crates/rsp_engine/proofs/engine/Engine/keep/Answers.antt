@@ -1,14 +1,15 @@
 use Rattle.std.proofs.Common.{◌≡◌, ◌∙◌, ◌++◌, ◌∷◌, ◌≤◌, List, [], Some, ap, arith, drop, length, map, refl, subst, sym, take, unwrap_or}
 use Rattle.std.proofs.lemmas.List.{length-map}
 use Rattle.std.specs.List.{All}
+use Rattle.std.specs.Vec.{with_items}
 use Rattle.rsp_scope.specs.Contents.{Accepted}
 use Rattle.rsp_scope.specs.Ends.{EndsAt, IsKept}
-use Rattle.rsp_scope.specs.Kept.{Kept, needed, taken}
+use Rattle.rsp_scope.specs.Kept.{Kept, taken}
 use Rattle.rsp_scope.proofs.Needed.{joined}
-use Rattle.rsp_engine.specs.Inside.{IsReady, asked, fixed, live_of, parts_of, state_of}
+use Rattle.rsp_engine.specs.Inside.{IsReady, asked, fixed, parts_of, state_of}
 use Rattle.rsp_engine.specs.Keeping.{accepted_of}
-use Rattle.rsp_engine.specs.Stands.{State, next_in, watches_in}
-use Rattle.rsp_engine.specs.Watching.{IsPrompt, IsWatching, Tells}
+use Rattle.rsp_engine.specs.Stands.{State, watches_in}
+use Rattle.rsp_engine.specs.Watching.{IsPrompt, Tells}
 use Rattle.rsp_engine.proofs.Offering.{high_of}
 use Rattle.rsp_engine.proofs.Readiness.{all_watching, idle_first, passes, ready_passed, refilled, room_kept, taken_more, timed_taken}
 use Rattle.rsp_engine.proofs.engine.Engine.keep.Goals as goal
@@ -45,9 +46,8 @@ invariant_of-self g c = λ broken.
     λ items firsts told. subst (λ qs. All (λ l. Tells (items ++ accepted_of c.args.arrival ∷ []) (unwrap_or c.self.inside.next 0) (fixed l) l.watched.items) qs) (sym whole) ((rw (c.deref_mut.ensures.value, c.unwrap_or-from.ensures) at c.in-Ok.ensures.told) items firsts told) in
     let prompt = subst (λ qs. All (λ l. IsPrompt c.args.arrival.time (Some c.args.arrival.stream) (asked l)) qs) (sym whole) c.in-Ok.ensures.prompt in
     let timed = timed_taken c.self.inside.streams c.args.arrival.stream c.args.arrival.time _ c.args.arrival.graph c.args.arrival.end later sound.state.timed in
-    let room = rw c.drop_before.ensures (room_kept _ c.take.new.streams.items c.take.new.ends.cap c.in-Ok.ensures.room) in
-    ready_passed _ _ _ _ _ sound idle _ (accepted_of c.args.arrival ∷ []) (Some c.args.arrival.stream) c.args.arrival.time took later (high_of c.self.inside.next c.args.arrival.time) refl refl refl (ap Some c.in-Ok.ensures.stream) broken (ap (map parts_of) whole ∙ parts) first kept takes tells
-    (let high = c.requires.instant in omega (arith, high)) (taken_more c.self.inside.streams c.args.arrival.stream c.args.arrival.time c.args.arrival.graph c.args.arrival.end) prompt timed room
+    ready_passed _ _ _ _ _ sound idle (record c.self.inside { next = Some c.args.arrival.time; queries = with_items c.self.inside.queries c.take.new.queries; streams = c.drop_before.new.self; ends = c.take.new.ends; arrived = Some c.in-Ok.stream; first = c.first_moment-self-inside.result }) (accepted_of c.args.arrival ∷ []) (Some c.args.arrival.stream) c.args.arrival.time took later (high_of c.self.inside.next c.args.arrival.time) refl refl refl (ap Some c.in-Ok.ensures.stream) broken (ap (map parts_of) whole ∙ parts) first kept takes tells
+    (let high = c.requires.instant in omega (arith, high)) (taken_more c.self.inside.streams c.args.arrival.stream c.args.arrival.time c.args.arrival.graph c.args.arrival.end) prompt timed (rw c.drop_before.ensures (room_kept _ c.take.new.streams.items c.take.new.ends.cap c.in-Ok.ensures.room))
 
 pub returns-in-Ok-clause-ok : goal.returns-in-Ok-clause-ok
 returns-in-Ok-clause-ok g c =
@@ -68,4 +68,4 @@ returns-in-Ok-clause-ok g c =
     → All (λ l. Tells (items ++ accepted_of c.args.arrival ∷ []) (unwrap_or c.self.inside.next 0) (fixed l) l.watched.items) (take c.self.inside.queries.len (c.take.new.queries ++ drop (length c.take.new.queries) c.self.inside.queries.items)) =
     λ items firsts told. subst (λ qs. All (λ l. Tells (items ++ accepted_of c.args.arrival ∷ []) (unwrap_or c.self.inside.next 0) (fixed l) l.watched.items) qs) (sym whole) ((rw (c.deref_mut.ensures.value, c.unwrap_or-from.ensures) at c.in-Ok.ensures.told) items firsts told) in
     rw (← c.self.view_is)
-    (passes _ _ _ _ _ sound idle _ (accepted_of c.args.arrival ∷ []) (Some c.args.arrival.stream) c.args.arrival.time took later (high_of c.self.inside.next c.args.arrival.time) refl refl refl (ap Some c.in-Ok.ensures.stream) (rw (← c.self.view_is) at c.requires.ready) (ap (map parts_of) whole ∙ parts) first kept takes tells)
+    (passes _ _ _ _ _ sound idle (record c.self.inside { next = Some c.args.arrival.time; queries = with_items c.self.inside.queries c.take.new.queries; streams = c.drop_before.new.self; ends = c.take.new.ends; arrived = Some c.in-Ok.stream; first = c.first_moment-self-inside.result }) (accepted_of c.args.arrival ∷ []) (Some c.args.arrival.stream) c.args.arrival.time took later (high_of c.self.inside.next c.args.arrival.time) refl refl refl (ap Some c.in-Ok.ensures.stream) (rw (← c.self.view_is) at c.requires.ready) (ap (map parts_of) whole ∙ parts) first kept takes tells)

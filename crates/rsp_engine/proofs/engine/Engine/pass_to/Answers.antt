@@ -1,4 +1,4 @@
-use Rattle.std.proofs.Common.{◌∙◌, ◌≤◌, ◌++◌, List, [], None, ap, append-nil, arith, refl, unwrap_or}
+use Rattle.std.proofs.Common.{◌∙◌, ◌≤◌, ◌++◌, List, [], None, Some, ap, arith, refl, unwrap_or}
 use Rattle.std.proofs.lemmas.List.{append-nil}
 use Rattle.std.proofs.lemmas.List.Elements.{All-weaker}
 use Rattle.rsp_scope.specs.Contents.{Accepted}
@@ -32,9 +32,8 @@ invariant_of-self g c = λ broken.
     let prompt = All-weaker (λ l. IsWatching (unwrap_or c.self.inside.next 0) (asked l)) (λ l. IsPrompt c.args.to None (asked l)) (λ l watching. prompt_on (unwrap_or c.self.inside.next 0) c.args.to (asked l) later watching) c.self.inside.queries.items
     (all_watching g.A.Answer.facts c.self.inside.queries.items _ _ _ _ sound.state.lives) in
     let timed = All-weaker (λ (item : Item). item.time ≤ unwrap_or c.self.inside.next 0) (λ (item : Item). item.time ≤ c.args.to) (λ item early. omega (arith, early, later)) c.self.inside.streams.items sound.state.timed in
-    let room = rw kept (room_kept _ c.self.inside.streams.items c.self.inside.ends.cap sound.room) in
-    ready_passed _ _ _ _ _ sound idle _ [] None c.args.to c.self.inside.streams later (high_of c.self.inside.next c.args.to) refl refl refl refl broken refl first kept takes (λ items firsts told. rw (append-nil items) told)
-    c.requires.instant (omega arith) prompt timed room
+    ready_passed _ _ _ _ _ sound idle (record c.self.inside { next = Some c.args.to; streams = c.drop_before.new.self; arrived = None; first = c.first_moment-self-inside.result }) [] None c.args.to c.self.inside.streams later (high_of c.self.inside.next c.args.to) refl refl refl refl broken refl first kept takes (λ items firsts told. rw (append-nil items) told)
+    c.requires.instant (omega arith) prompt timed (rw kept (room_kept _ c.self.inside.streams.items c.self.inside.ends.cap sound.room))
 
 pub returns : goal.returns
 returns g c =
@@ -46,4 +45,4 @@ returns g c =
     let takes : (items : List Accepted) → IsKept (unwrap_or c.self.inside.next 0) (watches_in (state_of g.A.Answer.facts c.self.inside)) items c.self.inside.streams → IsKept (unwrap_or c.self.inside.next 0) (watches_in (state_of g.A.Answer.facts c.self.inside)) (items ++ []) c.self.inside.streams =
     λ items is. rw (append-nil items) is in
     rw (← c.self.view_is)
-    (passes _ _ _ _ _ sound idle _ [] None c.args.to c.self.inside.streams later (high_of c.self.inside.next c.args.to) refl refl refl refl (rw (← c.self.view_is) at c.requires.ready) refl first kept takes (λ items firsts told. rw (append-nil items) told))
+    (passes _ _ _ _ _ sound idle (record c.self.inside { next = Some c.args.to; streams = c.drop_before.new.self; arrived = None; first = c.first_moment-self-inside.result }) [] None c.args.to c.self.inside.streams later (high_of c.self.inside.next c.args.to) refl refl refl refl (rw (← c.self.view_is) at c.requires.ready) refl first kept takes (λ items firsts told. rw (append-nil items) told))

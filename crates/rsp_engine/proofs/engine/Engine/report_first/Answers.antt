@@ -105,7 +105,7 @@ invariant_of-self g c = λ _.
     let behind = c.place_behind-query.ensures.queries in
     let left = rw (c.unwrap_or-next.ensures, c.as_slice-queries.ensures.value, c.place_behind-query.ensures.place ∙ place_is c.args.place full) at c.first_left-self-inside.ensures in
     let kept = rw (c.as_slice-queries.ensures.value, c.cut_at.ensures, c.unwrap_or-next.ensures) at c.let_go.ensures.kept in
-    ready_behind _ _ _ _ _ sound c.args.place first live is c.report_at.new.live c.in-Ok.report.outcome reported _ refl refl refl refl behind left c.let_go.ensures.less c.let_go.ensures.room kept
+    ready_behind _ _ _ _ _ sound c.args.place first live is c.report_at.new.live c.in-Ok.report.outcome reported (record c.self.inside { queries = c.place_behind-query.new.queries; streams = c.let_go.new.streams; ends = c.let_go.new.ends; first = c.first_left-self-inside.result }) refl refl refl refl behind left c.let_go.ensures.less c.let_go.ensures.room kept
 
 pub returns-in-Ok-clause-ok : goal.returns-in-Ok-clause-ok
 returns-in-Ok-clause-ok g c =
@@ -140,6 +140,6 @@ returns-in-Ok-clause-ok g c =
       arrived = refl;
       broken = refl;
       queries = ap (map (live_of g.A.Answer.facts)) behind ∙ states_behind _ _ _ _ _ sound c.args.place first live is now c.in-Ok.report.outcome reported full;
-      left = left_there _ _ _ _ _ sound c.args.place first live is now c.in-Ok.report.outcome reported _ refl refl refl refl behind left c.let_go.ensures.less c.let_go.ensures.room kept;
-      fits = fits_behind _ _ _ _ _ sound c.args.place first live is now c.in-Ok.report.outcome reported _ refl refl refl refl behind left c.let_go.ensures.less c.let_go.ensures.room kept;
+      left = left_there _ _ _ _ _ sound c.args.place first live is now c.in-Ok.report.outcome reported (record c.self.inside { queries = c.place_behind-query.new.queries; streams = c.let_go.new.streams; ends = c.let_go.new.ends; first = c.first_left-self-inside.result }) refl refl refl refl behind left c.let_go.ensures.less c.let_go.ensures.room kept;
+      fits = fits_behind _ _ _ _ _ sound c.args.place first live is now c.in-Ok.report.outcome reported (record c.self.inside { queries = c.place_behind-query.new.queries; streams = c.let_go.new.streams; ends = c.let_go.new.ends; first = c.first_left-self-inside.result }) refl refl refl refl behind left c.let_go.ensures.less c.let_go.ensures.room kept;
     })
