@@ -1,12 +1,12 @@
 -- A live query that has seen no item, and hasn't reported.
 use Rattle.std.proofs.Common.{◌≡◌, ℕ, ◌+◌, ◌<◌, ◌≤◌, ◌^◌, List, Option, [], ◌∷◌, ◌++◌, map, drop, length, get_or, refl, sym, ap, subst, ◌∙◌, arith}
 use Rattle.std.specs.List.{All, IsDistinct}
-use Rattle.rsp_terms.specs.declared.statement.Fact.{Fact}
-use Rattle.rsp_algebra.specs.Changing.{IsSet}
 use Rattle.std.proofs.lemmas.List.{append_assoc, drop_all, drop_more, map-append}
 use Rattle.std.proofs.lemmas.List.Elements.{All-cons, All-nil}
 use Rattle.rsp_report.specs.declared.contents.Watched.{Watched}
 use Rattle.rsp_report.specs.Due.{IsFreshAt, seen_at}
+use Rattle.rsp_terms.specs.declared.statement.Fact.{Fact}
+use Rattle.rsp_algebra.specs.Changing.{IsSet}
 use Rattle.rsp_scope.specs.Contents.{Accepted, Watch}
 use Rattle.rsp_scope.specs.Moves.{Followed}
 use Rattle.rsp_engine.specs.declared.live_query.StreamWindow.{StreamWindow}
@@ -51,7 +51,7 @@ begun_prompt next arrived ask policy watched = record {
   fresh = λ is. subst (All (IsFreshAt next)) (sym watched) (unseen_fresh next ask.windows);
 }
 
--- it tells of the items, of which it may see none
+-- and tells of the items, of which it may see none
 pub begun_tells : (items : List Accepted) (from : ℕ) (query : Registration) (watched : List Watched) → length items ≡ query.first
     → watched ≡ map (watched_window []) query.reading.windows → Tells items from query watched
 begun_tells items from query watched first is t late =
