@@ -43,7 +43,7 @@ returns-in-Overfull g c =
             full;
         same = refl;
         watched = refl;
-        watches = ap watches_followed back ∙ watched;
+        windows = ap watches_followed back ∙ watched;
         at = All-same (λ (seen : Followed). seen.at ≡ Some c.args.at) (with_items live.contents news).items news back c.in_ok-move_windows.ensures.at;
         told = λ rows. absurd (true≢false rows);
         answers = λ rows. absurd (true≢false rows);
@@ -82,7 +82,7 @@ returns g c =
             (c.in_ok-rows-in-Net.ensures seen before preceding same (rw (c.change.ensures.width, c.change.ensures.node) net) behind));
         same = refl;
         watched = refl;
-        watches = ap watches_followed back ∙ watched;
+        windows = ap watches_followed back ∙ watched;
         at = All-same (λ (seen : Followed). seen.at ≡ Some c.args.at) (with_items live.contents news).items news back c.in_ok-move_windows.ensures.at;
         told = λ rows. refl;
         answers = λ rows. record {
