@@ -6,6 +6,7 @@ pub mod Seen
 pub mod Reporting
 pub mod Readiness
 pub mod Fitting
+pub mod Cancelling
 pub mod Needing
 pub mod Offering
 pub mod FactSets
@@ -17,5 +18,10 @@ pub mod Reported
 pub mod Watches
 pub mod FirstPlaces
 pub mod NewTimes
+pub mod TimesKept
+pub mod WatchedWith
+pub mod Begun
 pub mod Policies
+pub mod KeptEnds
+pub mod Logging
 mod WorldRows

@@ -1,109 +1,97 @@
 -- What one more item adds to the times that a query watches.
-use Rattle.std.proofs.Common.{◌≡◌, ◌≢◌, ℕ, zero, suc, ◌+◌, ◌<◌, ◌≤◌, below_more, Bool, true, false, cond, List, [], ◌∷◌, ◌++◌, Some, length, map, take, drop, set, get_or, filter, refl, sym, ap, subst, ◌∙◌, arith, add-one}
-use Rattle.std.specs.Prelude.{◌-◌, bytes_eq, slice_get}
-use Rattle.std.specs.Option.{option_map_or}
-use Rattle.std.proofs.lemmas.List.{get_or-set_other, get_or-set_same, length-map, length-set, length_push, get_or_push}
-use Rattle.std.proofs.lemmas.Option.{slice_get-get_or, get_or_from_slice_get}
+use Rattle.std.proofs.Common.{◌≡◌, ℕ, ◌-◌, ◌≤◌, ◌||◌, Bool, true, false, cond, List, [], ◌∷◌, ◌++◌, length, map, filter, refl, sym, ap, ◌∙◌}
+use Rattle.std.specs.Prelude.{bytes_eq}
+use Rattle.std.proofs.lemmas.List.{drop-append-le}
+use Rattle.std.proofs.lemmas.List.Elements.{filter-append}
+use Rattle.rsp_spec.specs.Windows.{in_content}
 use Rattle.rsp_report.specs.declared.contents.Watched.{Watched}
-use Rattle.rsp_engine.specs.declared.item.Item.{Item}
+use Rattle.rsp_report.specs.Due.{seen_at}
+use Rattle.rsp_scope.specs.Contents.{Accepted}
+use Rattle.rsp_engine.specs.World.{Registration}
 use Rattle.rsp_engine.specs.declared.live_query.StreamWindow.{StreamWindow}
-use Rattle.rsp_engine.specs.declared.live_query.LiveQuery.{LiveQuery}
-use Rattle.rsp_engine.specs.Contents.{visible_items}
-use Rattle.rsp_engine.specs.Inside.{IsWatching}
-use Rattle.rsp_engine.specs.Due.{is_over, newest, watched_window}
-use Rattle.rsp_engine.specs.Watching.{with_time}
+use Rattle.rsp_engine.specs.Due.{is_over, visible_items, watched_window}
+use Rattle.rsp_engine.specs.Watching.{Tells, with_time}
+use Rattle.rsp_engine.specs.Watched.{AreWatchedWith}
+use Rattle.rsp_engine.proofs.Named.{last_of}
 
 -- ---- one window
 
-pub newest_last : (items : List Item) (item : Item) → newest (items ++ (item ∷ [])) ≡ Some item
-newest_last items item =
-    let at : length (items ++ (item ∷ [])) - 1 ≡ length items = omega (arith, length_push items item) in
-    let within : length items < length (items ++ (item ∷ [])) = omega (arith, length_push items item) in
-    ap (slice_get (items ++ (item ∷ []))) at
-    ∙ (slice_get-get_or (items ++ (item ∷ [])) (length items) item within ∙ ap Some (get_or_push items item item (length items) refl))
+abbrev time_of : Accepted → ℕ
+time_of item = item.time
 
-times_last : (w : StreamWindow) (items : List Item) (item : Item) → map (λ (i : Item). i.time) (filter (is_over w) (items ++ (item ∷ [])))
-    ≡ cond (is_over w item) (map (λ (i : Item). i.time) (filter (is_over w) items) ++ (item.time ∷ [])) (map (λ (i : Item). i.time) (filter (is_over w) items))
-times_last w [] item = elim (is_over w item) as (λ b. map (λ (i : Item). i.time) (cond b (item ∷ []) []) ≡ cond b (item.time ∷ []) []) [ true ↦ refl | false ↦ refl ]
+times_last : (w : StreamWindow) (items : List Accepted) (item : Accepted) → map time_of (filter (is_over w) (items ++ item ∷ []))
+    ≡ cond (is_over w item) (map time_of (filter (is_over w) items) ++ item.time ∷ []) (map time_of (filter (is_over w) items))
+times_last w [] item = elim (is_over w item) as (λ b. map time_of (cond b (item ∷ []) []) ≡ cond b (item.time ∷ []) []) [ true ↦ refl | false ↦ refl ]
 times_last w (x ∷ items) item = by (is_over w x) (times_last w items item)
   where
-    first : Bool → List Item → List ℕ
-    first b rest = map (λ (i : Item). i.time) (cond b (x ∷ rest) rest)
+    first : Bool → List Accepted → List ℕ
+    first b rest = map time_of (cond b (x ∷ rest) rest)
 
     by : (b : Bool)
-        → map (λ (i : Item). i.time) (filter (is_over w) (items ++ (item ∷ [])))
-        ≡ cond (is_over w item) (map (λ (i : Item). i.time) (filter (is_over w) items) ++ (item.time ∷ [])) (map (λ (i : Item). i.time) (filter (is_over w) items))
-        → first b (filter (is_over w) (items ++ (item ∷ [])))
-        ≡ cond (is_over w item) (first b (filter (is_over w) items) ++ (item.time ∷ [])) (first b (filter (is_over w) items))
+        → map time_of (filter (is_over w) (items ++ item ∷ []))
+        ≡ cond (is_over w item) (map time_of (filter (is_over w) items) ++ item.time ∷ []) (map time_of (filter (is_over w) items))
+        → first b (filter (is_over w) (items ++ item ∷ []))
+        ≡ cond (is_over w item) (first b (filter (is_over w) items) ++ item.time ∷ []) (first b (filter (is_over w) items))
     by true rest = ap (λ ts. x.time ∷ ts) rest ∙ pulled (is_over w item)
       where
-        pulled : (c : Bool) → x.time ∷ cond c (map (λ (i : Item). i.time) (filter (is_over w) items) ++ (item.time ∷ [])) (map (λ (i : Item). i.time) (filter (is_over w) items))
-            ≡ cond c (x.time ∷ (map (λ (i : Item). i.time) (filter (is_over w) items) ++ (item.time ∷ []))) (x.time ∷ map (λ (i : Item). i.time) (filter (is_over w) items))
+        pulled : (c : Bool) → x.time ∷ cond c (map time_of (filter (is_over w) items) ++ item.time ∷ []) (map time_of (filter (is_over w) items))
+            ≡ cond c (x.time ∷ (map time_of (filter (is_over w) items) ++ item.time ∷ [])) (x.time ∷ map time_of (filter (is_over w) items))
         pulled true = refl
         pulled false = refl
     by false rest = rest
 
-pub watched_last : (w : StreamWindow) (items : List Item) (item : Item)
-    → with_time (is_over w item) item.time (watched_window items w) ≡ watched_window (items ++ (item ∷ [])) w
+-- the newest item's time comes to the window, where the item is over its stream
+pub watched_last : (w : StreamWindow) (items : List Accepted) (item : Accepted)
+    → with_time (is_over w item) item.time (watched_window items w) ≡ watched_window (items ++ item ∷ []) w
 watched_last w items item =
-    rw (times_last w items item, newest_last items item) refl
+    rw (times_last w items item, last_of items item) refl
 
--- ---- the windows, one after another
+-- with a new time, what is seen follows from what was seen
+abbrev seen_with : Bool → ℕ → ℕ → Watched → Watched
+seen_with true time t s =
+    record { window = s.window; times = s.times ++ filter (λ x. in_content s.window t x || in_content s.window (t - 1) x) (time ∷ []); fresh = true }
+seen_with false time t s = record { window = s.window; times = s.times; fresh = false }
 
-module _ {W X : Type 0} (old new : W → X) where
-  -- the first i of some windows are new, the others old
-  abbrev pub so_far : List W → ℕ → List X
-  so_far ws i = map new (take i ws) ++ map old (drop i ws)
+seen_by : (over : Bool) (time t : ℕ) (w : Watched) → seen_at t (with_time over time w) ≡ seen_with over time t (seen_at t w)
+seen_by true time t w =
+    ap (λ ts. record { window = w.window; times = ts; fresh = true })
+    (filter-append (λ x. in_content w.window t x || in_content w.window (t - 1) x) w.times (time ∷ []))
+seen_by false time t w = refl
 
-  so_far_next : (ws : List W) (i : ℕ) (w : W) → slice_get ws i ≡ Some w → set (so_far ws i) i (new w) ≡ so_far ws (suc i)
-  so_far_next [] i w listed = absurd (cc)
-  so_far_next (x ∷ ws) zero w listed = ap (λ y. new y ∷ map old ws) (sym (get_or_from_slice_get (x ∷ ws) 0 w x listed))
-  so_far_next (x ∷ ws) (suc i) w listed = ap (λ l. new x ∷ l) (so_far_next ws i w listed)
+same_with : (over : Bool) (time t : ℕ) (one other : Watched) → seen_at t one ≡ seen_at t other
+    → seen_at t (with_time over time one) ≡ seen_at t (with_time over time other)
+same_with over time t one other same =
+    seen_by over time t one ∙ (ap (seen_with over time t) same ∙ sym (seen_by over time t other))
 
-  so_far_at : (ws : List W) (i : ℕ) (d : X) → i < length ws → (w : W) × (slice_get ws i ≡ Some w) × (get_or (so_far ws i) i d ≡ old w)
-  so_far_at [] i d below = absurd (omega arith)
-  so_far_at (x ∷ ws) zero d below = (x, refl, refl)
-  so_far_at (x ∷ ws) (suc i) d below = so_far_at ws i d (omega arith)
+-- ---- all windows of a query
 
--- a query watches each of its windows
-pub watched_length : {A : Type 0} (items : List Item) (live : LiveQuery A) → IsWatching items live → live.watched.len ≡ length live.windows
-watched_length items live is =
-    live.watched.ok.0 ∙ (ap length is.watched ∙ length-map live.windows (watched_window (visible_items items live.first)))
+first_same : {X : Type 0} (x y : X) (xs ys : List X) → x ∷ xs ≡ y ∷ ys → (x ≡ y) × (xs ≡ ys)
+first_same x y xs ys same = (cc, cc)
 
-pub next_watched : (ws : List StreamWindow) (items : List Item) (item : Item) (i : ℕ) (watched : List Watched) (one new : Watched) (over : Bool)
-    → watched ≡ so_far (watched_window items) (watched_window (items ++ (item ∷ []))) ws i
-    → i < length ws → one ≡ get_or watched i one → over ≡ option_map_or (λ (w : StreamWindow). bytes_eq item.stream w.stream) (slice_get ws i) false
-    → new ≡ with_time over item.time one
-    → set watched i new ≡ so_far (watched_window items) (watched_window (items ++ (item ∷ []))) ws (i + 1)
-next_watched ws items item i watched one new over is below listed over_at new_is =
-    let at = so_far_at (watched_window items) (watched_window (items ++ (item ∷ []))) ws i one below in
-    let one_is : one ≡ watched_window items at.0 = listed ∙ (ap (λ l. get_or l i one) is ∙ at.2) in
-    let over_is : over ≡ bytes_eq item.stream at.0.stream = over_at ∙ ap (λ o. option_map_or (λ (w : StreamWindow). bytes_eq item.stream w.stream) o false) at.1 in
-    let new_one : new ≡ watched_window (items ++ (item ∷ [])) at.0 = new_is ∙ ((λ k. with_time (over_is k) item.time (one_is k)) ∙ watched_last at.0 items item) in
-    (λ k. set (is k) i (new_one k)) ∙ (so_far_next (watched_window items) (watched_window (items ++ (item ∷ []))) ws i at.0 at.1 ∙ ap (so_far (watched_window items) (watched_window (items ++ (item ∷ []))) ws) (sym (add-one i)))
+module _ (stream : List ℕ) (time from t : ℕ) (late : from ≤ t) (items : List Accepted) (item : Accepted)
+    (over : item.stream ≡ stream) (at : item.time ≡ time) where
+  told_each : (windows : List StreamWindow) (olds news : List Watched) → AreWatchedWith stream time from windows olds news
+      → map (seen_at t) olds ≡ map (seen_at t) (map (watched_window items) windows)
+      → map (seen_at t) news ≡ map (seen_at t) (map (watched_window (items ++ item ∷ [])) windows)
+  told_each [] [] [] are told = refl
+  told_each (w ∷ ws) (old ∷ olds) (new ∷ news) are told =
+      let parts = first_same _ _ _ _ told in
+      let last : with_time (bytes_eq stream w.stream) time (watched_window items w) ≡ watched_window (items ++ item ∷ []) w =
+      (λ k. with_time (bytes_eq (sym over k) w.stream) (sym at k) (watched_window items w)) ∙ watched_last w items item in
+      let first : seen_at t new ≡ seen_at t (watched_window (items ++ item ∷ []) w) =
+      are.0.seen t late
+      ∙ (same_with (bytes_eq stream w.stream) time t old (watched_window items w) parts.0 ∙ ap (seen_at t) last) in
+      (λ k. first k ∷ told_each ws olds news are.1 parts.1 k)
+  told_each [] (old ∷ olds) news are told = absurd are
+  told_each [] [] (new ∷ news) are told = absurd are
+  told_each (w ∷ ws) [] news are told = absurd are
+  told_each (w ∷ ws) (old ∷ olds) [] are told = absurd are
 
--- ---- the queries, one after another
-
-module _ {X : Type 0} (P : X → Type 0) (xs : List X) (i : ℕ) (x : X) where
-  -- what holds of a value that is written, and of each before it
-  pub written_up_to : i < length xs → P x → ((k : ℕ) (d : X) → k < i → P (get_or xs k d)) → (k : ℕ) (d : X) → k < i + 1 → P (get_or (set xs i x) k d)
-  written_up_to within here before k d below =
-      below_more
-      (λ j. P (get_or (set xs i x) j d))
-      i
-      (λ j less. let other : j ≢ i = omega arith in subst P (sym (get_or-set_other xs i j x d other)) (before j d less))
-      (subst P (sym (get_or-set_same xs i x d within)) here)
-      k
-      below
-
-  -- what holds of those behind it
-  pub written_behind : ((k : ℕ) (d : X) → i ≤ k → k < length xs → P (get_or xs k d)) → (k : ℕ) (d : X) → i + 1 ≤ k → k < length (set xs i x) → P (get_or (set xs i x) k d)
-  written_behind behind k d later within =
-      let other : k ≢ i = omega arith in
-      subst P (sym (get_or-set_other xs i k x d other)) (behind k d (omega arith) (omega (arith, length-set xs i x)))
-
--- a written value that is seen as the one before it
-pub same_mapped : {X Y : Type 0} (f : X → Y) (xs : List X) (i : ℕ) (x new : X) → f new ≡ f (get_or xs i x) → map f (set xs i new) ≡ map f xs
-same_mapped f [] i x new same = refl
-same_mapped f (y ∷ xs) zero x new same = ap (λ z. z ∷ map f xs) same
-same_mapped f (y ∷ xs) (suc i) x new same = ap (λ zs. f y ∷ zs) (same_mapped f xs i x new same)
+-- what told of the items tells of the new one too
+pub tells_more : (stream : List ℕ) (time from : ℕ) (items : List Accepted) (item : Accepted) (query : Registration) (olds news : List Watched)
+    → item.stream ≡ stream → item.time ≡ time → query.first ≤ length items
+    → AreWatchedWith stream time from query.reading.windows olds news
+    → Tells items from query olds → Tells (items ++ item ∷ []) from query news
+tells_more stream time from items item query olds news over at first are told t late =
+    told_each stream time from t late (visible_items items query.first) item over at query.reading.windows olds news are (told t late)
+    ∙ ap (λ seen. map (seen_at t) (map (watched_window seen) query.reading.windows)) (sym (drop-append-le query.first items (item ∷ []) first))

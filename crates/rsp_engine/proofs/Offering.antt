@@ -25,7 +25,7 @@ use Rattle.rsp_scope.specs.Logged.{since}
 use Rattle.rsp_scope.specs.Moves.{Followed, HasSeen}
 use Rattle.rsp_scope.specs.Needed.{is_needed, is_needed_by, listed_triples, needed_items}
 use Rattle.rsp_scope.specs.Quads.{stored_with, stored_without}
-use Rattle.rsp_scope.proofs.Needed.{begun, held_falls, held_is, held_with, held_without}
+use Rattle.rsp_scope.proofs.Needed.{begun, held_falls, held_is, held_with, held_without, none_kept}
 use Rattle.rsp_scope.proofs.Needs.{fewer_need_less, needed-earlier}
 use Rattle.rsp_scope.proofs.StoredLaws.{as-many-stored_with, same-stored_with, same-stored_without}
 use Rattle.rsp_events.specs.declared.event.Event.{Event}
@@ -40,7 +40,7 @@ use Rattle.rsp_engine.specs.declared.refused.Refused.TheVariants as answer
 use Rattle.rsp_engine.specs.declared.refused.Refused.{Refused}
 use Rattle.rsp_engine.specs.Offers.{Answers, Offers, Refuses}
 use Rattle.rsp_engine.specs.Refusals.{Refusal, refusal_of, shape_fault, text_fault}
-use Rattle.rsp_engine.specs.World.{Query, Registration, World, next_of, registrations}
+use Rattle.rsp_engine.specs.World.{Query, Registration, World, empty_world, next_of, registrations}
 use Rattle.rsp_engine.specs.Readings.{reading_of}
 use Rattle.rsp_engine.specs.Accept.{accept, has_name, is_live, most_held, most_quads, most_queries, most_triples, new_query, starts_overfull, with_item, without}
 use Rattle.rsp_engine.specs.Contents.{watches, watches_from}
@@ -58,7 +58,7 @@ use Rattle.rsp_engine.proofs.Named.{remove_map, remove_named}
 use Rattle.rsp_engine.proofs.Needing.{less_needed}
 use Rattle.rsp_engine.proofs.Seen.{name_of_query, precede_new, seen_more, seen_removed, world_at, world_names}
 use Rattle.rsp_engine.proofs.Standing.{any_named, head_is, none_is, same_count, same_live}
-use Rattle.rsp_engine.proofs.Watches.{reports_told}
+use Rattle.rsp_engine.proofs.Watches.{reports_same}
 
 pub same_bytes : (name : List ℕ) → bytes_eq name name ≡ true
 same_bytes name = (bytes_decides name name).1 refl
@@ -115,7 +115,7 @@ module _ (old new : State) (more : List Accepted) (came : Option (List ℕ)) (to
   alike t late early =
       All-weaker (λ (live : Live). Tells after.items (next_in old) (registration_of live) live.watched)
       (λ (live : Live). test_in new t (asked_of live) ≡ reports_at after.items (next_in new) new.arrived t (registration_of live))
-      (λ live tells. reports_told live after.items (next_in old) (next_in new) new.arrived tells (rw passes.next (omega (arith, low, high))) t (omega (arith, high, late)) early)
+      (λ live tells. reports_same after.items (next_in old) (next_in new) new.arrived live tells t (omega (arith, high, late)) early)
       new.queries (passes.told world.items stands.fits)
 
   named : left_from name_in (reports_at after.items (next_in new) new.arrived) (registrations_in new) (next_in new) (unwrap_or old.next to) 0
@@ -200,7 +200,10 @@ held_stands e world after idle fits regs next is =
     let times : next_of after ≡ next_in e = ap next_of is ∙ ap (λ n. unwrap_or n 0) (sym next) in
     let items : after.items ≡ world.items = ap (λ (w : World). w.items) is in
     let mine = held_is (cut_of e) (watches_in e) world.items e.kept fits.kept in
-    (λ k. listed_triples (needed_items (times k) (watches_of (regs (~ k))) (items k))) ∙ (ap (λ n. listed_triples (needed_items n (watches_in e) world.items)) (sym (idle_cut e idle)) ∙ sym mine)
+    ap (λ n. listed_triples (needed_items n (watches_of (registrations after)) after.items)) times
+    ∙ (ap (λ rs. listed_triples (needed_items (next_in e) (watches_of rs) after.items)) (sym regs)
+    ∙ (ap (λ xs. listed_triples (needed_items (next_in e) (watches_in e) xs)) items
+    ∙ (ap (λ n. listed_triples (needed_items n (watches_in e) world.items)) (sym (idle_cut e idle)) ∙ sym mine)))
 
 pub tick_leads : (old new : State) (time : ℕ) (world : World) → next_in old ≤ time + 1 → Passes old [] None (time + 1) new → Stands old world [] → Leads world (Tick time) new
 tick_leads old new time world late passes stands =
@@ -290,6 +293,32 @@ item_leads old new stream time graph end world idle small late ends none passes 
       there,
     )
 
+-- or memory is refused
+pub item_offers : (old new : State) (stream : List ℕ) (time : ℕ) (graph : List Triple) (end : Option ℕ) (result : Result (Unit {0}) Refused) → old.broken ≡ false → old.first ≡ None → length graph ≤ most_triples → next_in old ≤ time
+    → EndsAt (watches_in old) (record { number = old.kept.accepted; item = record { stream = stream; time = time; graph = graph } }) end
+    → option_map_or (λ _. excess old.kept time (length graph)) end None ≡ None
+    → OnOk result (Passes old (record { stream = stream; time = time; graph = graph } ∷ []) (Some stream) time new) → IfErr result (λ why. (why ≡ answer.OutOfMemory) × (new.broken ≡ true))
+    → Offers old (Item stream time graph) result new
+item_offers old new stream time graph end (Ok done) ready idle small late ends none went failed = record {
+  was_ready = ready;
+  ready = went.broken;
+  stands = λ world stands. item_leads old new stream time graph end world idle small late ends none went stands;
+}
+item_offers old new stream time graph end (Err why) ready idle small late ends none went failed =
+    rw failed.0
+    (record {
+      was_ready = ready;
+      broken = failed.1;
+      memory = tt;
+      may_take = λ world stands.
+          let item : Accepted = record { stream = stream; time = time; graph = graph } in
+          let few = in_bounds old world item idle stands late end ends none in
+          let fits : nat_lt most_held (held (with_item world item)) ≡ false = le-ltb _ _ few in
+          let few_triples : nat_lt most_triples (length graph) ≡ false = le-ltb _ _ small in
+          let in_time : nat_lt time (next_of world) ≡ false = le-ltb _ _ (rw stands.next at late) in
+          rw (in_time, few_triples, fits) refl;
+    })
+
 -- an item whose triples are too many
 pub large_refuses : (old : State) (stream : List ℕ) (time : ℕ) (graph : List Triple) → old.broken ≡ false → next_in old ≤ time → most_triples < length graph
     → Refuses old (Item stream time graph) (answer.ItemTooLarge (length graph)) old
@@ -372,7 +401,7 @@ none_followed items (seen ∷ contents) all =
 pub new_follows : (items : List Accepted) (stored : List Fact) (log : List Piece) (live : Live) → live.reported ≡ false → live.seen ≡ [] → All IsUnmoved live.contents → Follows items stored log live
 new_follows items stored log live unreported unseen unmoved = record {
   contents = All-weaker IsUnmoved (λ (seen : Followed). HasSeen seen (take seen.accepted items))
-      (λ (seen : Followed) (new : IsUnmoved seen). let none : seen.accepted ≡ 0 = new.seen.accepted in rw none new.seen) live.contents unmoved;
+      (λ (seen : Followed) (new : IsUnmoved seen). let none : seen.accepted ≡ 0 = new.seen.accepted in subst (λ n. HasSeen seen (take n items)) (sym none) new.seen) live.contents unmoved;
   seen = λ q. rw (unreported, unseen, none_followed items live.contents unmoved) (omega (arith, ints));
 }
 
@@ -605,3 +634,26 @@ begun_offers old new name text q kept (Ok done) ready made begins idle free is g
       stands = λ world stands. register_leads old name text q kept world made begins idle free is good unmixed few starts stands;
     })
 begun_offers old new name text q kept (Err why) ready made begins idle free is good unmixed few starts went failed = breaks old name text why new ready free failed.0 failed.1
+
+-- ---- an engine that has taken nothing
+
+pub fits_nothing : (e : State) → e.next ≡ None → e.queries ≡ [] → e.kept ≡ record { accepted = 0; items = [] } → Fits e []
+fits_nothing e next queries kept = record {
+  kept = rw kept (none_kept (cut_of e) (watches_in e));
+  told = rw queries (λ k d below. absurd (omega (arith, below)));
+  follows = rw queries (λ k d below. absurd (omega (arith, below)));
+}
+
+pub new_stands : (e : State) → e.next ≡ None → e.queries ≡ [] → e.kept ≡ record { accepted = 0; items = [] } → e.stored ≡ [] → e.first ≡ None → e.broken ≡ false → Stands e empty_world []
+new_stands e next queries kept stored first sound = record {
+  ready = sound;
+  next = next;
+  fits = fits_nothing e next queries kept;
+  few = omega arith;
+  stored = rw stored (λ q. refl);
+  queries = rw queries refl;
+  seen = rw queries tt;
+  moments = rw first refl;
+  head = rw first (λ place some. cc);
+  none = (λ _. refl, λ _. first);
+}

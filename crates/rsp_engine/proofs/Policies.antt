@@ -8,7 +8,7 @@ use Rattle.rsp_report.specs.declared.words.PolicyWords.{PolicyWords}
 use Rattle.rsp_report.specs.declared.words.PolicyWords.TheVariants as words
 use Rattle.rsp_report.specs.Policies.{choice_of, count_of, first_period, is_mixed, is_named, same_kind}
 use Rattle.rsp_syntax.specs.Periods.{HasPeriods}
-use Rattle.rsp_engine.specs.Inside.{IsPolicy}
+use Rattle.rsp_engine.specs.Watching.{IsPolicy}
 
 or_none : (a b : Bool) → (a || b) ≡ false → (a ≡ false) × (b ≡ false)
 or_none true b h = absurd (true≢false h)

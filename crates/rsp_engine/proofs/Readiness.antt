@@ -1,20 +1,20 @@
 -- An engine that is ready stays so: where time passes, an item is kept, a query becomes live, or one is cancelled.
-use Rattle.std.proofs.Common.{◌≡◌, ℕ, zero, suc, ◌+◌, ◌-◌, ◌<◌, ◌≤◌, Bool, true, false, ◌||◌, not, List, [], ◌∷◌, ◌++◌, length, map, filter, remove, take, Option, None, Some, refl, sym, ◌∙◌, ap, subst, arith, unwrap_or, bytes_eq}
+use Rattle.std.proofs.Common.{◌≡◌, ℕ, zero, suc, ◌+◌, ◌-◌, ◌<◌, ◌≤◌, Bool, true, false, ◌||◌, cond, not, nat_le, List, [], ◌∷◌, ◌++◌, length, map, filter, remove, take, Option, None, Some, refl, sym, ◌∙◌, ap, subst, arith, unwrap_or, bytes_eq}
 use Rattle.std.specs.List.{All, IsDistinct, list_any}
 use Rattle.std.specs.Option.{ForSome, is_some, option_map_or}
 use Rattle.std.proofs.lemmas.List.Elements.{All-append, All-cons, All-filter, All-map, All-weaker}
 use Rattle.std.proofs.lemmas.Simd.{map-map}
 use Rattle.rsp_spec.specs.Windows.{last_instant}
 use Rattle.rsp_terms.specs.declared.statement.Fact.{Fact}
+use Rattle.rsp_terms.specs.declared.statement.Triple.{Triple}
 use Rattle.rsp_algebra.specs.Changing.{IsSet}
 use Rattle.rsp_algebra.specs.Nodes.{Node, node_of}
 use Rattle.rsp_report.specs.declared.contents.Watched.{Watched}
 use Rattle.rsp_scope.specs.Contents.{Accepted}
 use Rattle.rsp_scope.specs.Ends.{IsKept}
-use Rattle.rsp_scope.specs.Kept.{Kept, needed}
+use Rattle.rsp_scope.specs.Kept.{Kept, needed, taken}
 use Rattle.rsp_scope.specs.Moves.{Followed, IsReached}
 use Rattle.rsp_scope.specs.declared.item.Item.{Item}
-use Rattle.rsp_scope.proofs.Needed.{none_kept}
 use Rattle.rsp_engine.specs.declared.engine.Engine.TheInside.{Inside}
 use Rattle.rsp_engine.specs.declared.finding.Pending.{Pending}
 use Rattle.rsp_engine.specs.declared.live_query.LiveQuery.{LiveQuery}
@@ -30,7 +30,7 @@ use Rattle.rsp_engine.proofs.FactSets.{store_new}
 use Rattle.rsp_engine.proofs.Fitting.{fits_passed}
 use Rattle.rsp_engine.proofs.Left.{read_first, waits_at}
 use Rattle.rsp_engine.proofs.Named.{All-remove, distinct_more, distinct_removed, remove_map}
-use Rattle.rsp_engine.proofs.Offering.{fits_begun}
+use Rattle.rsp_engine.proofs.Offering.{fits_begun, fits_nothing}
 
 -- ---- lists
 
@@ -134,15 +134,39 @@ pub asked_first : {A : Type 0} (facts : A → List Fact) (queries : List (LiveQu
 asked_first facts queries test last t i r first =
     rw (map-map asked_of (live_of facts) queries) (read_first asked name_of test queries last t i r first)
 
+fewer_pass : {X : Type 0} (p : X → Bool) (xs : List X) → length (filter p xs) ≤ length xs
+fewer_pass p [] = omega arith
+fewer_pass p (x ∷ xs) = by (p x) (fewer_pass p xs)
+  where
+    by : (b : Bool) → length (filter p xs) ≤ length xs → length (cond b (x ∷ filter p xs) (filter p xs)) ≤ suc (length xs)
+    by true less = omega (arith, less)
+    by false less = omega (arith, less)
+
+-- there is room for fewer
+pub room_kept : (n : ℕ) (items : List Item) (cap : ℕ) → length items ≤ cap → length (needed n items) ≤ cap
+room_kept n items cap room = let less = fewer_pass (λ (item : Item). nat_le n item.end) items in omega (arith, room, less)
+
+-- the items with one more are not later than it
+pub timed_taken : (kept : Kept) (stream : List ℕ) (time next : ℕ) (graph : List Triple) (end : Option ℕ) → next ≤ time → All (λ (item : Item). item.time ≤ next) kept.items
+    → All (λ (item : Item). item.time ≤ time) (taken kept stream time graph end).items
+timed_taken kept stream time next graph None low all = All-weaker (λ (item : Item). item.time ≤ next) (λ (item : Item). item.time ≤ time) (λ item early. omega (arith, early, low)) kept.items all
+timed_taken kept stream time next graph (Some end) low all =
+    one_more (λ (item : Item). item.time ≤ time) kept.items (record { number = kept.accepted; stream = stream; time = time; graph = graph; end = end })
+    (All-weaker (λ (item : Item). item.time ≤ next) (λ (item : Item). item.time ≤ time) (λ item early. omega (arith, early, low)) kept.items all) (omega arith)
+
+pub taken_more : (kept : Kept) (stream : List ℕ) (time : ℕ) (graph : List Triple) (end : Option ℕ) → kept.accepted ≤ (taken kept stream time graph end).accepted
+taken_more kept stream time graph None = omega arith
+taken_more kept stream time graph (Some end) = omega arith
+
 -- ---- time passes
 
 -- the cut goes on
-pub cut_on : (first : Option Pending) (next from to : ℕ) (name : Asked → List ℕ) (test : ℕ → Asked → Bool) (queries : List Asked)
-    → IsFirstLeft name test queries to from 0 first → next ≤ from → next ≤ to → next ≤ option_map_or (λ (place : Pending). place.at) first to
-cut_on None next from to name test queries is low high = high
-cut_on (Some place) next from to name test queries is low high = let late = is.1 in omega (arith, low, late)
+pub cut_on : (first : Option Pending) (next from to i : ℕ) (name : Asked → List ℕ) (test : ℕ → Asked → Bool) (queries : List Asked)
+    → IsFirstLeft name test queries to from i first → next ≤ from → next ≤ to → next ≤ option_map_or (λ (place : Pending). place.at) first to
+cut_on None next from to i name test queries is low high = high
+cut_on (Some place) next from to i name test queries is low high = let late = is.1 in omega (arith, low, late)
 
-reached_later : (at : Option ℕ) (cut to : ℕ) → cut ≤ to → IsReached at cut → IsReached at to
+pub reached_later : (at : Option ℕ) (cut to : ℕ) → cut ≤ to → IsReached at cut → IsReached at to
 reached_later None cut to low is = tt
 reached_later (Some at) cut to low is = omega (arith, low, is)
 
@@ -176,8 +200,8 @@ pub state_passed : (old new : State) (more : List Accepted) (came : Option (List
     → old.kept.accepted ≤ new.kept.accepted → All (λ (live : Live). IsPrompt to came (asked_of live)) new.queries → All (λ (item : Item). item.time ≤ to) new.kept.items → IsState new
 state_passed old new more came to state passes high low few prompt timed = record {
   next_high = rw passes.next high;
-  lives = rw (passes.next, passes.arrived)
-      (lives_on old.queries new.queries (next_in old) to old.arrived came old.kept.accepted new.kept.accepted (cut_of old) (cut_of new) passes.queries low few prompt state.lives);
+  lives = subst (λ n. All (IsLive n new.arrived new.kept.accepted (cut_of new)) new.queries) (sym (ap (λ n. unwrap_or n 0) passes.next))
+      (subst (λ came. All (IsLive to came new.kept.accepted (cut_of new)) new.queries) (sym passes.arrived) (lives_on old.queries new.queries (next_in old) to old.arrived came old.kept.accepted new.kept.accepted (cut_of old) (cut_of new) passes.queries low few prompt state.lives));
   timed = rw passes.next timed;
   store = rw passes.stored state.store;
   names = rw (names_alike old.queries new.queries passes.queries) state.names;
@@ -246,7 +270,7 @@ module _ {A : Type 0} (node : A → Node) (width : A → ℕ) (facts : A → Lis
 
     pub cut_later : cut_of here ≤ cut_of there
     cut_later =
-        let on = cut_on new.first (next_in here) (unwrap_or e.next to) to name_of (reports_by to came) (asked_in there) first_there from_low low in
+        let on = cut_on new.first (next_in here) (unwrap_or e.next to) to 0 name_of (reports_by to came) (asked_in there) first_there from_low low in
         rw (idle_here, cut_there) on
 
     tells_there : (items : List Accepted) → Fits here items → All (λ (l : Live). Tells (items ++ more) (next_in here) (registration_of l) l.watched) (map (live_of facts) new.queries.items)
@@ -305,7 +329,7 @@ module _ {A : Type 0} (node : A → Node) (width : A → ℕ) (facts : A → Lis
               (record { prompt = prompt; watches = watches_are; reached = started; first = let start = begins.first in omega (arith, start) });
           timed = ready.state.timed;
           store = ready.state.store;
-          names = rw (map_more (λ (l : Live). l.name) here.queries (live_of facts query)) (distinct_more here.queries (λ (l : Live). l.name) query.name (live_of facts query) ready.state.names (any_fixed here.queries query.name free) refl);
+          names = distinct_more here.queries (λ (l : Live). l.name) query.name (live_of facts query) ready.state.names (any_fixed here.queries query.name free) refl;
           waits = rw idle (λ x is. cc);
           history = record { items = ready.state.history.items; fits = fits_begun here (live_of facts query) ready.state.history.items begins ready.state.history.fits };
         });
@@ -349,14 +373,6 @@ ready_stored node width facts spent e ready new next queries streams ends arrive
   };
   answers = rw queries ready.answers;
   room = rw (streams, ends) ready.room;
-}
-
--- nothing fits an engine that has taken nothing
-pub fits_nothing : (e : State) → e.next ≡ None → e.queries ≡ [] → e.kept ≡ record { accepted = 0; items = [] } → Fits e []
-fits_nothing e next queries kept = record {
-  kept = rw kept (none_kept (cut_of e) (watches_in e));
-  told = rw queries (none (λ (live : Live). Tells [] (cut_of e) (registration_of live) live.watched));
-  follows = rw queries (λ k d below. absurd (omega (arith, below)));
 }
 
 -- an engine that has taken nothing

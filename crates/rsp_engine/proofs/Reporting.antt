@@ -1,5 +1,5 @@
 -- An engine behind a report.
-use Rattle.std.proofs.Common.{◌≡◌, ℕ, zero, suc, ◌+◌, ◌<◌, ◌≤◌, Bool, true, false, List, [], ◌∷◌, length, map, remove, slice_get, slice_set, Option, None, Some, refl, sym, ◌∙◌, ap, subst, arith}
+use Rattle.std.proofs.Common.{◌≡◌, ℕ, zero, suc, ◌+◌, ◌<◌, ◌≤◌, Bool, true, false, List, [], ◌∷◌, length, map, remove, slice_get, slice_set, Option, None, Some, unwrap_or, refl, sym, ◌∙◌, ap, subst, arith}
 use Rattle.std.specs.Prelude.{if◌then◌else◌, bytes_eq}
 use Rattle.std.specs.List.{All, IsDistinct, flat_map}
 use Rattle.std.specs.Option.{option_map_or}
@@ -32,7 +32,7 @@ use Rattle.rsp_engine.proofs.Fitting.{contents_here, told_later}
 use Rattle.rsp_engine.proofs.Left.{waits_at}
 use Rattle.rsp_engine.proofs.Named.{All-remove, distinct_removed, get_map, remove_map, set_map, set_same}
 use Rattle.rsp_engine.proofs.Needing.{less_needed}
-use Rattle.rsp_engine.proofs.Readiness.{asked_first, cut_on, reached_later}
+use Rattle.rsp_engine.proofs.Readiness.{asked_first, cut_on, reached_later, unmapped}
 
 -- ---- lists
 
@@ -155,6 +155,13 @@ module _ {A : Type 0} (node : A → Node) (width : A → ℕ) (facts : A → Lis
           here.queries ready.state.lives)
           (λ goes_on. live_now cut low)
 
+      -- what the queries behind watch is in order
+      pub prompt_behind : (ends : Bool) → All (λ l. IsPrompt (next_in here) e.arrived (asked l)) (behind ends)
+      prompt_behind ends =
+          unmapped (λ (l : Live). IsPrompt (next_in here) e.arrived (asked_of l)) (live_of facts) (behind ends)
+          (subst (All (λ (l : Live). IsPrompt (next_in here) e.arrived (asked_of l))) (sym (states_behind ends))
+          (All-weaker (IsLive (next_in here) e.arrived e.streams.accepted place.at) (λ (l : Live). IsPrompt (next_in here) e.arrived (asked_of l)) (λ l is. is.prompt) (queries_behind here place (live_of facts now) ends) (lives_behind ends place.at (omega arith))))
+
       names_behind : (ends : Bool) → IsDistinct bytes_eq (map (λ (l : Live). l.name) (queries_behind here place (live_of facts now) ends))
       names_behind true = distinct_removed here.queries (λ (l : Live). l.name) place.query ready.state.names
       names_behind false =
@@ -201,7 +208,7 @@ module _ {A : Type 0} (node : A → Node) (width : A → ℕ) (facts : A → Lis
         cut_there = rw next refl
 
         cut_low : place.at ≤ option_map_or (λ (p : Pending). p.at) new.first (next_in here)
-        cut_low = cut_on new.first place.at place.at (next_in here) name_of (test_in here) (asked_in there) left_there (omega arith) waits.within
+        cut_low = cut_on new.first place.at place.at (next_in here) (place_behind place (is_overfull_outcome given)) name_of (test_in here) (asked_in there) left_there (omega arith) waits.within
 
         all_live : All (IsLive (next_in here) e.arrived e.streams.accepted (cut_of there)) there.queries
         all_live = rw lives (lives_behind (is_overfull_outcome given) (cut_of there) (subst (λ c. place.at ≤ c) (sym cut_there) cut_low))
@@ -243,7 +250,10 @@ module _ {A : Type 0} (node : A → Node) (width : A → ℕ) (facts : A → Lis
             record {
               state = record {
                 next_high = rw next ready.state.next_high;
-                lives = rw (next, arrived, less.accepted) all_live;
+                lives =
+                    subst (λ n. All (IsLive n new.arrived new.streams.accepted (cut_of there)) there.queries) (sym (ap (λ n. unwrap_or n 0) next))
+                    (subst (λ a. All (IsLive (next_in here) a new.streams.accepted (cut_of there)) there.queries) (sym arrived)
+                    (subst (λ k. All (IsLive (next_in here) e.arrived k (cut_of there)) there.queries) (sym less.accepted) all_live));
                 timed = rw next (less.timed (next_in here) ready.state.timed);
                 store = rw stored ready.state.store;
                 names = rw lives (names_behind (is_overfull_outcome given));

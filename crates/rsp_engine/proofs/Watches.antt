@@ -1,162 +1,91 @@
--- What a live query watches: times that don't fall, the newest item's as the last of the windows that are fresh.
-use Rattle.std.proofs.Common.{◌≡◌, inl, inr, ℕ, zero, suc, ◌+◌, ◌-◌, ◌≤◌, ◌^◌, true, false, List, [], ◌∷◌, ◌++◌, map, filter, drop, length, Option, None, Some, slice_get, refl, sym, ap, subst, ◌∙◌, arith}
-use Rattle.std.specs.List.{All}
-use Rattle.std.specs.List.Sorted.{IsNonDecreasing, IsNonDecreasingBy}
-use Rattle.std.specs.Option.{ForSome, is_some, option_map_or}
-use Rattle.std.proofs.lemmas.Bool.{cases_lt}
-use Rattle.std.proofs.lemmas.List.{drop-append-le, drop_all, get_or-map, length-map, length_push, map_push, nil_from_length}
-use Rattle.std.proofs.lemmas.List.Elements.{All-drop, All-filter, All-map, All-weaker, filter-append}
-use Rattle.std.proofs.lemmas.List.Kept.{IsNonDecreasingBy-filter}
-use Rattle.std.proofs.lemmas.List.Sorted.{IsNonDecreasingBy-drop}
-use Rattle.std.proofs.lemmas.Option.{slice_get_within}
-use Rattle.rsp_spec.specs.Windows.{last_instant}
+-- What a live query watches tells when it reports, as the accepted items do.
+use Rattle.std.proofs.Common.{◌≡◌, ℕ, ◌≤◌, false, nat_lt, if◌then◌else◌, ◌&&◌, not, bytes_eq, List, map, Option, sym, ap, subst, ◌∙◌, arith}
+use Rattle.std.specs.List.{All, list_any}
+use Rattle.std.specs.Option.{option_map_or}
+use Rattle.std.proofs.lemmas.List.Elements.{All-weaker}
+use Rattle.std.proofs.lemmas.Simd.{map-map}
+use Rattle.rsp_terms.specs.declared.statement.Fact.{Fact}
+use Rattle.rsp_report.specs.declared.chosen.Chosen.{Chosen}
 use Rattle.rsp_report.specs.declared.contents.Watched.{Watched}
-use Rattle.rsp_report.specs.Due.{IsFreshAt, IsWatched}
-use Rattle.rsp_engine.specs.declared.item.Item.{Item}
-use Rattle.rsp_engine.specs.declared.live_query.LiveQuery.{LiveQuery}
-use Rattle.rsp_engine.specs.declared.live_query.StreamWindow.{StreamWindow}
-use Rattle.rsp_engine.specs.Due.{is_over, newest, watched_window}
+use Rattle.rsp_report.specs.Due.{IsWatched, seen_at}
+use Rattle.rsp_report.specs.Due as windows
+use Rattle.rsp_report.proofs.Unseen.{due_on_item_seen, due_seen}
+use Rattle.rsp_scope.specs.Contents.{Accepted}
 use Rattle.rsp_engine.specs.declared.finding.Pending.{Pending}
-use Rattle.rsp_engine.specs.Inside.{IsWatching, fixed, name_of}
-use Rattle.rsp_engine.specs.Left.{IsFirstLeft, name_in, reports_at}
-use Rattle.rsp_engine.specs.Stands.{HasArrived, IsTimed}
-use Rattle.rsp_engine.specs.Watching.{IsPrompt, reports_by}
-use Rattle.rsp_engine.proofs.Left.{read_first, same_first}
-use Rattle.rsp_engine.proofs.Named.{last_of}
+use Rattle.rsp_engine.specs.Due.{is_due, is_due_over, watched_of}
+use Rattle.rsp_engine.specs.Left.{IsFirstLeft, left_from, name_in, reports_at}
+use Rattle.rsp_engine.specs.Stands.{Live, asked_of, registration_of}
+use Rattle.rsp_engine.specs.Watching.{IsTimed, Tells, is_due_by, is_due_over_by, name_of, reports_by}
+use Rattle.rsp_engine.specs.declared.live_query.LiveQuery.{LiveQuery}
+use Rattle.rsp_engine.specs.Inside.{asked, live_of}
+use Rattle.rsp_engine.proofs.Left.{read_first, read_left, same_first, same_left}
 
--- ---- times in order
+-- times that are not behind `next` are in order
+pub timed_watched : (next : ℕ) (ws : List Watched) → All (IsTimed next) ws → All IsWatched ws
+timed_watched next ws timed = All-weaker (IsTimed next) IsWatched (λ w is. is.watched) ws timed
 
-module _ {X : Type 0} (n : X → ℕ) where
-  by_number : (xs : List X) → IsNonDecreasing (map n xs) → IsNonDecreasingBy n xs
-  by_number xs sorted i j d low high =
-      let long : length (map n xs) ≡ length xs = length-map xs n in
-      let first = get_or-map n xs i d (n d) (omega arith) in
-      let second = get_or-map n xs j d (n d) high in
-      let below = sorted i j (n d) low (omega arith) in
-      omega (arith, first, second, below)
+-- ---- by what is seen at t
 
-  by_map : (xs : List X) → IsNonDecreasingBy n xs → IsNonDecreasing (map n xs)
-  by_map [] sorted i j d low high = absurd (omega arith)
-  by_map (x ∷ xs) sorted i j d low high =
-      let long : length (map n (x ∷ xs)) ≡ length (x ∷ xs) = length-map (x ∷ xs) n in
-      let first = get_or-map n (x ∷ xs) i x d (omega arith) in
-      let second = get_or-map n (x ∷ xs) j x d (omega arith) in
-      let below = sorted i j x low (omega arith) in
-      omega (arith, first, second, below)
+module _ (policy : Chosen) (one other : List Watched) (t : ℕ) (same : map (seen_at t) one ≡ map (seen_at t) other) where
+  due_alike : windows.is_due policy one t ≡ windows.is_due policy other t
+  due_alike = sym (due_seen policy one t) ∙ (ap (λ ws. windows.is_due policy ws t) same ∙ due_seen policy other t)
 
-abbrev time_of : Item → ℕ
-time_of item = item.time
+  due_on_item_alike : windows.is_due_on_item policy one t ≡ windows.is_due_on_item policy other t
+  due_on_item_alike =
+      sym (due_on_item_seen policy one t) ∙ (ap (λ ws. windows.is_due_on_item policy ws t) same ∙ due_on_item_seen policy other t)
 
-watched_window_is : (items : List Item) (first next : ℕ) (w : StreamWindow) → IsTimed items next → next ≤ last_instant + 1
-    → IsWatched (watched_window (drop first items) w)
-watched_window_is items first next w timed high = record {
-  sorted = by_map time_of (filter (is_over w) (drop first items))
-      (IsNonDecreasingBy-filter time_of (is_over w) (drop first items)
-      (IsNonDecreasingBy-drop time_of first items (by_number time_of items timed.sorted)));
-  high = All-map (λ time. time ≤ 2 ^ 48) time_of (filter (is_over w) (drop first items))
-      (All-filter (is_over w) (λ (item : Item). item.time ≤ 2 ^ 48) (drop first items)
-      (All-drop (λ (item : Item). item.time ≤ 2 ^ 48) first items
-      (All-weaker (λ (item : Item). item.time ≤ next) (λ (item : Item). item.time ≤ 2 ^ 48)
-      (λ item low. omega (arith, low, high)) items timed.high)));
-}
+-- ---- one query
 
--- ---- the newest item
+module _ (items : List Accepted) (from next : ℕ) (arrived : Option (List ℕ)) where
+  -- it reports by what it watches as by the items
+  pub reports_same : (live : Live) → Tells items from (registration_of live) live.watched → (t : ℕ) → from ≤ t → t ≤ next
+      → reports_by next arrived t (asked_of live) ≡ reports_at items next arrived t (registration_of live)
+  reports_same live told t late early =
+      let due : is_due_by (asked_of live) t ≡ is_due items (registration_of live) t =
+      ap (λ b. not live.policy.tuple && b) (due_alike live.policy live.watched (watched_of items (registration_of live)) t (told t late)) in
+      let over : (stream : List ℕ) → is_due_over_by (asked_of live) stream next ≡ is_due_over items (registration_of live) stream next =
+      λ stream. ap (λ b. live.policy.tuple && (list_any (λ w. bytes_eq stream w.stream) live.windows && b))
+      (due_on_item_alike live.policy live.watched (watched_of items (registration_of live)) next (told next (omega (arith, late, early)))) in
+      (λ k. if nat_lt t next then due k else option_map_or (λ stream. over stream k) arrived false)
 
--- a list by its last
-record Ends {X : Type 0} (xs : List X) (x : X) : Type 0 where
-  front : List X
-  whole : xs ≡ front ++ x ∷ []
+  -- ---- all queries
 
-ends_at : {X : Type 0} (xs : List X) (n : ℕ) (x : X) → length xs ≡ suc n → slice_get xs n ≡ Some x → Ends xs x
-ends_at [] n x long is = cc
-ends_at (y ∷ xs) zero x long is =
-    let same : y ≡ x = cc in
-    let none : xs ≡ [] = nil_from_length xs (omega (arith, long)) in
-    record { front = []; whole = rw (none, same) refl }
-ends_at (y ∷ xs) (suc n) x long is =
-    let rest = ends_at xs n x (omega (arith, long)) is in
-    record { front = y ∷ rest.front; whole = ap (λ zs. y ∷ zs) rest.whole }
+  pub all_report_same : (lives : List Live) → All (λ live. Tells items from (registration_of live) live.watched) lives
+      → (t : ℕ) → from ≤ t → t ≤ next
+      → All (λ live. reports_by next arrived t (asked_of live) ≡ reports_at items next arrived t (registration_of live)) lives
+  all_report_same lives told t late early =
+      All-weaker (λ live. Tells items from (registration_of live) live.watched)
+      (λ live. reports_by next arrived t (asked_of live) ≡ reports_at items next arrived t (registration_of live))
+      (λ live tells. reports_same live tells t late early) lives told
 
-ends_with : {X : Type 0} (xs : List X) (x : X) → slice_get xs (length xs - 1) ≡ Some x → Ends xs x
-ends_with xs x is = ends_at xs (length xs - 1) x (omega (arith, slice_get_within xs (length xs - 1) x is)) is
+  -- the moments that are left are those by the items
+  pub left_by_world : (lives : List Live) → All (λ live. Tells items from (registration_of live) live.watched) lives
+      → (t i : ℕ) → from ≤ t → t ≤ next
+      → left_from name_of (reports_by next arrived) (map asked_of lives) next t i
+      ≡ left_from name_in (reports_at items next arrived) (map registration_of lives) next t i
+  left_by_world lives told t i late early =
+      sym (read_left asked_of name_of (reports_by next arrived) lives next t i)
+      ∙ (same_left (λ live. live.name) (λ s live. reports_by next arrived s (asked_of live))
+      (λ s live. reports_at items next arrived s (registration_of live)) lives next t i early
+      (λ s after before. all_report_same lives told s (omega (arith, late, after)) before)
+      ∙ read_left registration_of name_in (reports_at items next arrived) lives next t i)
 
-fresh_in : (front : List Item) (item : Item) (w : StreamWindow) → IsFreshAt item.time (watched_window (front ++ item ∷ []) w)
-fresh_in front item w fresh =
-    let over : is_over w item ≡ true = subst (λ o. option_map_or (is_over w) o false ≡ true) (last_of front item) fresh in
-    let passing : filter (is_over w) (front ++ item ∷ []) ≡ filter (is_over w) front ++ item ∷ [] =
-    filter-append (is_over w) front (item ∷ []) ∙ rw over refl in
-    let times : map time_of (filter (is_over w) (front ++ item ∷ [])) ≡ map time_of (filter (is_over w) front) ++ item.time ∷ [] =
-    ap (map time_of) passing ∙ map_push time_of (filter (is_over w) front) item in
-    subst (λ ts. slice_get ts (length ts - 1) ≡ Some item.time) (sym times)
-    (last_of (map time_of (filter (is_over w) front)) item.time)
+  -- and the first place is that by the items
+  pub first_by_world : (lives : List Live) → All (λ live. Tells items from (registration_of live) live.watched) lives
+      → (t i : ℕ) (r : Option Pending) → from ≤ t → t ≤ next
+      → IsFirstLeft (λ live. name_of (asked_of live)) (λ s live. reports_by next arrived s (asked_of live)) lives next t i r
+      → IsFirstLeft name_in (reports_at items next arrived) (map registration_of lives) next t i r
+  first_by_world lives told t i r late early first =
+      read_first registration_of name_in (reports_at items next arrived) lives next t i r
+      (same_first (λ live. live.name) (λ s live. reports_by next arrived s (asked_of live))
+      (λ s live. reports_at items next arrived s (registration_of live)) lives next t i r early
+      (λ s after before. all_report_same lives told s (omega (arith, late, after)) before) first)
 
-fresh_of_none : (w : StreamWindow) (t : ℕ) → IsFreshAt t (watched_window [] w)
-fresh_of_none w t fresh = cc
-
-fresh_window : (items : List Item) (first : ℕ) (item : Item) (w : StreamWindow) → newest items ≡ Some item
-    → IsFreshAt item.time (watched_window (drop first items) w)
-fresh_window items first item w last =
-    let ends = ends_with items item last in
-    elim (cases_lt (length ends.front) first) [
-      | inl beyond ↦
-          let none : drop first items ≡ [] =
-          drop_all first items (omega (arith, ap length ends.whole, length_push ends.front item, beyond)) in
-          subst (λ xs. IsFreshAt item.time (watched_window xs w)) (sym none) (fresh_of_none w item.time)
-      | inr within ↦
-          let rest : drop first items ≡ drop first ends.front ++ item ∷ [] =
-          ap (drop first) ends.whole ∙ drop-append-le first ends.front (item ∷ []) within in
-          subst (λ xs. IsFreshAt item.time (watched_window xs w)) (sym rest) (fresh_in (drop first ends.front) item w)
-    ]
-
--- ---- all windows
-
-all_windows : (P : Watched → Type 0) (items : List Item) (windows : List StreamWindow)
-    → ((w : StreamWindow) → P (watched_window items w))
-    → All P (map (watched_window items) windows)
-all_windows P items windows each = All-map P (watched_window items) windows (λ k d within. each _)
-
-module _ {A : Type 0} (live : LiveQuery A) (items : List Item) (watching : IsWatching items live) where
-  all_watched : (next : ℕ) → IsTimed items next → next ≤ last_instant + 1 → All IsWatched live.watched.items
-  all_watched next timed high =
-      rw watching.watched
-      (all_windows IsWatched (drop live.first items) (fixed live).reading.windows
-      (λ w. watched_window_is items live.first next w timed high))
-
-  all_fresh : (item : Item) → newest items ≡ Some item → All (IsFreshAt item.time) live.watched.items
-  all_fresh item last =
-      rw watching.watched
-      (all_windows (IsFreshAt item.time) (drop live.first items) (fixed live).reading.windows
-      (λ w. fresh_window items live.first item w last))
-
-  -- it watches in order
-  prompt : (next : ℕ) (arrived : Option (List ℕ)) → IsTimed items next → next ≤ last_instant + 1
-      → ForSome arrived (HasArrived items next) → IsPrompt next arrived live
-  prompt next arrived timed high came = record {
-    policy = watching.policy;
-    watched = all_watched next timed high;
-    fresh = by arrived came;
-  }
-    where
-      by : (o : Option (List ℕ)) → ForSome o (HasArrived items next) → is_some o ≡ true → All (IsFreshAt next) live.watched.items
-      by None came is = cc
-      by (Some stream) came is =
-          let last = came stream refl in
-          subst (λ t. All (IsFreshAt t) live.watched.items) last.time_is (all_fresh last.item last.last)
-
-  -- and reports as the items say
-  reports_same : (next : ℕ) (arrived : Option (List ℕ)) (t : ℕ) → reports_by next arrived t live ≡ reports_at items next arrived t (fixed live)
-  reports_same next arrived t = rw watching.watched refl
-
--- all live queries
-module _ {A : Type 0} (queries : List (LiveQuery A)) (items : List Item) (watching : All (IsWatching items) queries) (next : ℕ) (arrived : Option (List ℕ)) where
-  pub all_prompt : IsTimed items next → next ≤ last_instant + 1 → ForSome arrived (HasArrived items next) → All (IsPrompt next arrived) queries
-  all_prompt timed high came = All-weaker (IsWatching items) (IsPrompt next arrived) (λ live is. prompt live items is next arrived timed high came) queries watching
-
-  -- the first place by what they watch is that by the items
-  pub first_by_items : (t i : ℕ) (r : Option Pending) → t ≤ next → IsFirstLeft name_of (reports_by next arrived) queries next t i r
-      → IsFirstLeft name_in (reports_at items next arrived) (map fixed queries) next t i r
-  first_by_items t i r low first =
-      read_first fixed name_in (reports_at items next arrived) queries next t i r
-      (same_first name_of (reports_by next arrived) (λ t live. reports_at items next arrived t (fixed live)) queries next t i r low
-      (λ s late early. All-weaker (IsWatching items) (λ live. reports_by next arrived s live ≡ reports_at items next arrived s (fixed live)) (λ live is. reports_same live items is next arrived s) queries watching)
-      first)
+-- the first place by the queries is that by what decides when they report
+pub first_asked : {A : Type 0} (facts : A → List Fact) (queries : List (LiveQuery A)) (next : ℕ) (arrived : Option (List ℕ)) (t i : ℕ)
+    (r : Option Pending)
+    → IsFirstLeft (λ live. name_of (asked live)) (λ s live. reports_by next arrived s (asked live)) queries next t i r
+    → IsFirstLeft name_of (reports_by next arrived) (map asked_of (map (live_of facts) queries)) next t i r
+first_asked facts queries next arrived t i r first =
+    subst (λ asks. IsFirstLeft name_of (reports_by next arrived) asks next t i r) (sym (map-map asked_of (live_of facts) queries))
+    (read_first asked name_of (reports_by next arrived) queries next t i r first)

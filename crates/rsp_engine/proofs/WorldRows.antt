@@ -29,18 +29,17 @@ use Rattle.rsp_translation.specs.declared.shape.Shape.TheVariants as shape
 use Rattle.rsp_translation.specs.Translation.{first_fault}
 use Rattle.rsp_syntax.specs.Parsing.{parse}
 use Rattle.rsp_syntax.specs.declared.fault.SyntaxFault.TheVariants as fault
-use Rattle.rsp_engine.specs.declared.item.Item as item
+use Rattle.rsp_scope.specs.Contents.{Accepted, Numbered, content, numbered}
 use Rattle.rsp_engine.specs.declared.live_query.StreamWindow.{StreamWindow}
 use Rattle.rsp_engine.specs.declared.report.Report.{Report}
 use Rattle.rsp_engine.specs.declared.report.Outcome.TheVariants.{Rows, Overfull}
-use Rattle.rsp_engine.specs.Refusals.{Refusal, left_out, late, scope, policy_mix, name_taken, no_query, queries_full, start_overfull, unbuilt, text_fault}
+use Rattle.rsp_engine.specs.Refusals.{Refusal, left_out, late, scope, policy_mix, name_taken, no_query, queries_full, start_overfull, text_fault}
 use Rattle.rsp_engine.specs.World.{World, Query, Reading, Registration}
 use Rattle.rsp_engine.specs.Readings.{reading_of}
 use Rattle.rsp_engine.specs.Accept.{accept, accept_reading, is_live, new_query, starts_overfull}
-use Rattle.rsp_engine.specs.Contents.{content}
 use Rattle.rsp_engine.specs.Moments.{Moment, moments}
 use Rattle.rsp_engine.specs.Reports.{facts, reports, world_behind, is_overfull, after_report, moments_behind}
-use Rattle.rsp_engine.specs.Kept.{kept_items, triples_of}
+use Rattle.rsp_engine.specs.Kept.{held, kept_items}
 
 -- ---- what the rows speak of
 
@@ -59,7 +58,7 @@ abbrev triple : ℕ → Triple
 triple n = record { subject = iri n; predicate = Iri (codes "p:v"); object = Iri (codes "a:0") }
 
 -- items of one triple, and their arrival
-abbrev item_at : ℕ → ℕ → item.Item
+abbrev item_at : ℕ → ℕ → Accepted
 item_at time n = record { stream = codes "s:a"; time = time; graph = triple n ∷ [] }
 
 abbrev arrives_on : List ℕ → ℕ → ℕ → Event
@@ -109,7 +108,7 @@ at_tens name = named name (at_instants (Close ∷ [])) (on_a 10 10)
 abbrev from : ℕ → Query → Query
 from first query = record query { registration = record query.registration { first = first } }
 
-abbrev world : Option ℕ → List item.Item → List Query → World
+abbrev world : Option ℕ → List Accepted → List Query → World
 world next items queries = record { next = next; items = items; stored = []; queries = queries }
 
 abbrev at_of : List ℕ → ℕ → Moment
@@ -148,7 +147,7 @@ instants policy windows events = map (λ (r : Report). r.at) (said_of (query pol
 -- ---- which queries are accepted
 
 -- the later item's text stands first
-abbrev two_items : List item.Item
+abbrev two_items : List Accepted
 two_items = item_at 1 3 ∷ item_at 4 1 ∷ []
 
 abbrev waiting : World
@@ -219,14 +218,9 @@ item_leaves_its_instant_open : accept (world (Some 10) two_items []) (arrives 10
     ≡ Ok (world (Some 10) (two_items ++ item_at 10 5 ∷ []) [])
 item_leaves_its_instant_open = refl
 
--- of two refusals that hold, the first is given: behind 1,000 items, and of more than 1,000 triples
-late_items_may_be_unbuilt : map (λ n. accept (world (Some 4) (map (λ _. item_at 4 1) (range_with_len 0 n)) []) (arrives 3 1))
-    (999 ∷ 1000 ∷ []) ≡ Err (late 3 4) ∷ Err unbuilt ∷ []
-late_items_may_be_unbuilt = refl
-
-late_graphs_may_be_unbuilt : map (λ n. accept waiting (Item (codes "s:a") 3 (map (λ _. triple 1) (range_with_len 0 n))))
-    (1000 ∷ 1001 ∷ []) ≡ Err (late 3 4) ∷ Err unbuilt ∷ []
-late_graphs_may_be_unbuilt = refl
+-- of two refusals that hold, the first is given: an item that is late is so however many triples it has
+late_items_may_be_large : (graph : List Triple) → accept waiting (Item (codes "s:a") 3 graph) ≡ Err (late 3 4)
+late_items_may_be_large graph = refl
 
 -- ---- stored quads
 
@@ -335,8 +329,9 @@ each_item_is_reported = refl
 -- ---- what a query sees
 
 -- closings are inside, openings and gaps outside: the times in the content at 0, 1, .., of items of the times 0, 1, ..
-contents : map (λ t. map (λ (i : item.Item). i.time)
-    (content (map (λ time. item_at time 1) (range_with_len 0 12)) (over (codes "s:a") 2 5) t)) (range_with_len 0 9)
+contents : map (λ t. map (λ (entry : Numbered). entry.item.time)
+    (content (record { shape = record { width = 2; slide = 5; origin = 0 }; spot = 0; stream = codes "s:a"; first = 0 }) t
+    (numbered 0 (map (λ time. item_at time 1) (range_with_len 0 12))))) (range_with_len 0 9)
     ≡ [] ∷ (1 ∷ []) ∷ (1 ∷ 2 ∷ []) ∷ [] ∷ [] ∷ [] ∷ (6 ∷ []) ∷ (6 ∷ 7 ∷ []) ∷ [] ∷ []
 contents = refl
 
@@ -473,16 +468,20 @@ module _ (reading : Reading) (full : is_overfull (between reading) (ending readi
 
 -- ---- which items are still needed
 
+-- the items that are kept, without their numbers
+abbrev kept : World → List Accepted
+kept world = map (λ (entry : Numbered). entry.item) (kept_items world)
+
 -- until (0, 10] and (5, 15] have closed
 items_are_kept_to_the_closing : map
-    (λ next. kept_items (Some next) (record { first = 0; windows = on_a 10 5 } ∷ []) (item_at 4 1 ∷ item_at 6 2 ∷ []))
+    (λ next. kept (world (Some next) (item_at 4 1 ∷ item_at 6 2 ∷ []) (query (at_instants (Close ∷ [])) (on_a 10 5) ∷ [])))
     (10 ∷ 11 ∷ 15 ∷ 16 ∷ []) ≡ (item_at 4 1 ∷ item_at 6 2 ∷ []) ∷ (item_at 6 2 ∷ []) ∷ (item_at 6 2 ∷ []) ∷ [] ∷ []
 items_are_kept_to_the_closing = refl
 
 -- one query sees the second and the third item, another the third alone, whose stream is no window's
-seen_items_are_kept : kept_items (Some 4) (record { first = 1; windows = on_a 10 10 } ∷ record { first = 2; windows = on_a 10 10 } ∷ [])
-    (two_items ++ record (item_at 4 2) { stream = codes "s:b" } ∷ []) ≡ item_at 4 1 ∷ []
+seen_items_are_kept : kept (world (Some 4) (two_items ++ record (item_at 4 2) { stream = codes "s:b" } ∷ [])
+    (from 1 (at_tens (codes "q")) ∷ from 2 (at_tens (codes "r")) ∷ [])) ≡ item_at 4 1 ∷ []
 seen_items_are_kept = refl
 
-triples_are_counted_as_listed : triples_of (record (item_at 1 1) { graph = triple 1 ∷ triple 1 ∷ [] } ∷ two_items) ≡ 4
+triples_are_counted_as_listed : held (world (Some 4) (record (item_at 1 1) { graph = triple 1 ∷ triple 1 ∷ [] } ∷ two_items) (at_tens (codes "q") ∷ [])) ≡ 4
 triples_are_counted_as_listed = refl

@@ -323,8 +323,8 @@ impl<A: Answer> Engine<A> {
     {
         match self.place_of(name) {
             Some(place) => {
-                self.queries.remove(place);
                 let cut = self.first_incomplete();
+                self.queries.remove(place);
                 lower(
                     self.queries.as_slice(),
                     &mut self.streams,
@@ -371,7 +371,10 @@ impl<A: Answer> Engine<A> {
         ) {
             Ok(()) => Ok(()),
             Err(StoredFault::StoreFull { quads }) => Err(Refused::StoreFull { quads }),
-            Err(StoredFault::OutOfMemory) => Err(self.break_off()),
+            Err(StoredFault::OutOfMemory) => {
+                self.broken = true;
+                Err(Refused::OutOfMemory)
+            }
         }
     }
 
@@ -388,7 +391,10 @@ impl<A: Answer> Engine<A> {
             quads,
         ) {
             Ok(()) => Ok(()),
-            Err(AllocError) => Err(self.break_off()),
+            Err(AllocError) => {
+                self.broken = true;
+                Err(Refused::OutOfMemory)
+            }
         }
     }
 
@@ -504,7 +510,10 @@ impl<A: Answer> Engine<A> {
                 self.streams.drop_before(cut_at(self.first, time));
                 Ok(())
             }
-            Err(AllocError) => Err(self.break_off()),
+            Err(AllocError) => {
+                self.broken = true;
+                Err(Refused::OutOfMemory)
+            }
         }
     }
 

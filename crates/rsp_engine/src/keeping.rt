@@ -15,10 +15,10 @@ ghost use Rattle.rsp_engine.specs.Passing.{is_overfull_outcome};
 ghost use Rattle.rsp_engine.specs.Watching.{IsPrompt, IsWatching, Tells};
 ghost use Rattle.rsp_engine.specs.declared.finding.Pending.{Pending};
 
+use crate::Outcome;
 use crate::finding::Pending;
 use crate::live_query::LiveQuery;
 use crate::watching::watch;
-use crate::Outcome;
 use rsp_scope::{Contents, Streams, later};
 use rsp_terms::{Listed, Text, Triple};
 use std::alloc::{AllocError, Global};

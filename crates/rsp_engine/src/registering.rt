@@ -187,9 +187,9 @@ pub(crate) fn begun<A: Answer>(
     requires translated { IsTranslated (registered query.now) made.value }
     requires placed { IsPlaced made.value }
     ensures query { IfOk result (IsBegun name (registered query.now) first) }
-    ensures watching { IfOk result (λ live. IfSome live (λ live. (next : ℕ) → IsWatching next (asked live))) }
-    ensures told { IfOk result (λ live. IfSome live (λ live. (items : List Accepted) (from : ℕ) → length items ≡ first
-        → Tells items from (fixed live) live.watched.items)) }
+    ensures policy { IfOk result (λ live. IfSome live (λ live. IsPolicy live.policy)) }
+    ensures watched { IfOk result (λ live. IfSome live (λ live. live.watched.items ≡ map (watched_window []) live.windows)) }
+    ensures seen { IfOk result (λ live. IfSome live (λ live. A.facts live.answer ≡ [])) }
     ensures unmoved { IfOk result (λ live. IfSome live (λ live. All IsUnmoved live.contents.items)) }
     ensures watches { IfOk result (λ live. IfSome live (λ live. watches_followed live.contents.items ≡ watches first live.windows)) }
     ensures answers { IfOk result (λ live. IfSome live (Answers A.node A.width A.facts A.spent)) }
@@ -219,9 +219,9 @@ fn live_query<A: Answer>(
     ensures query { IfOk result (λ live.
         fixed live ≡ (new_query name (readings.reading_of (registered query.now)) first).registration) }
     ensures reported { IfOk result (λ live. live.reported ≡ false) }
-    ensures watching { IfOk result (λ live. (next : ℕ) → IsWatching next (asked live)) }
-    ensures told { IfOk result (λ live. (items : List Accepted) (from : ℕ) → length items ≡ first
-        → Tells items from (fixed live) live.watched.items) }
+    ensures policy { IfOk result (λ live. IsPolicy live.policy) }
+    ensures watched { IfOk result (λ live. live.watched.items ≡ map (watched_window []) live.windows) }
+    ensures seen { IfOk result (λ live. A.facts live.answer ≡ []) }
     ensures unmoved { IfOk result (λ live. All IsUnmoved live.contents.items) }
     ensures watches { IfOk result (λ live. watches_followed live.contents.items ≡ watches first live.windows) }
     ensures answers { IfOk result (Answers A.node A.width A.facts A.spent) }

@@ -3,8 +3,7 @@ ghost use Rattle.std.specs.Prelude.{◌≡◌, ◌+ℤ◌, ◌≤◌, ℕ, true,
 ghost use Rattle.std.specs.List.{All, Contains, IsDistinct};
 ghost use Rattle.rsp_terms.specs.Same.{fact_eq};
 ghost use Rattle.rsp_terms.specs.declared.statement.Fact.{Fact};
-ghost use Rattle.rsp_multiset.specs.Weights.{weight};
-ghost use Rattle.rsp_multiset.specs.Weights.{IsSameMultiset};
+ghost use Rattle.rsp_multiset.specs.Weights.{IsSameMultiset, weight};
 ghost use Rattle.rsp_scope.specs.Faults.{IsStoredFault};
 ghost use Rattle.rsp_scope.specs.Logged.{since};
 ghost use Rattle.rsp_scope.specs.Quads.{stored_with, stored_without};

@@ -1,5 +1,5 @@
 // What a new item adds to what live queries watch: its time, to the windows over its stream.
-ghost use Rattle.std.specs.Prelude.{◌≡◌, ◌≤◌, ◌++◌, ◌∷◌, ℕ, [], List, map, OnOk, bytes_eq, length, slice_get, drop};
+ghost use Rattle.std.specs.Prelude.{◌≡◌, ◌≤◌, ◌++◌, ◌∷◌, ℕ, [], false, List, map, OnOk, bytes_eq, length, slice_get, drop};
 ghost use Rattle.std.specs.List.{All};
 ghost use Rattle.std.specs.Option.{option_map_or};
 ghost use Rattle.rsp_spec.specs.Windows.{last_instant};

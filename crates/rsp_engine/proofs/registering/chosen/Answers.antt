@@ -1,6 +1,6 @@
 use Rattle.std.proofs.Common.{subst, sym}
 use Rattle.rsp_report.specs.Policies.{is_mixed}
-use Rattle.rsp_engine.specs.Inside.{IsPolicy}
+use Rattle.rsp_engine.specs.Watching.{IsPolicy}
 use Rattle.rsp_engine.proofs.Policies.{is_policy, not_mixed}
 use Rattle.rsp_engine.proofs.registering.chosen.Goals as goal
 

@@ -1,21 +1,48 @@
-use Rattle.std.proofs.Common.{◌∙◌, ap}
+use Rattle.std.proofs.Common.{◌≡◌, ◌∙◌, ap, sym}
 use Rattle.rsp_query.specs.Queries.{registered}
 use Rattle.rsp_engine.specs.Accept.{new_query}
-use Rattle.rsp_engine.specs.Inside.{live_of}
+use Rattle.rsp_engine.specs.Inside.{asked, live_of}
+use Rattle.rsp_engine.specs.Passing.{Begins}
 use Rattle.rsp_engine.specs.Readings.{reading_of}
-use Rattle.rsp_engine.specs.Stands.{State}
+use Rattle.rsp_engine.specs.Stands.{State, next_in, registration_of}
+use Rattle.rsp_engine.specs.World.{Registration}
+use Rattle.rsp_engine.proofs.Begun.{begun_prompt, begun_tells}
 use Rattle.rsp_engine.proofs.Offering.{begun_offers, breaks, overfull_refuses}
 use Rattle.rsp_engine.proofs.Readiness.{idle_first}
 use Rattle.rsp_engine.proofs.engine.Engine.begin.Goals as goal
+
+pub go_live-requires-clause-begins : goal.go_live-requires-clause-begins
+go_live-requires-clause-begins g c =
+    let begun = rw c.in-Ok-Some.field-0-is at c.in-Ok-Some.ensures.query in
+    let watched = rw c.in-Ok-Some.field-0-is at c.in-Ok-Some.ensures.watched in
+    record {
+      first = rw (← c.self.view_is) (ap (λ (r : Registration). r.first) begun.1 ∙ c.accepted.ensures);
+      told = λ items from first. begun_tells items from (registration_of (live_of g.A.Answer.facts c.in-Ok-Some.query)) c.in-Ok-Some.query.watched.items first watched;
+      unreported = begun.2;
+      unseen = rw c.in-Ok-Some.field-0-is at c.in-Ok-Some.ensures.seen;
+      unmoved = rw c.in-Ok-Some.field-0-is at c.in-Ok-Some.ensures.unmoved;
+    }
+
+pub go_live-requires-clause-prompt : goal.go_live-requires-clause-prompt
+go_live-requires-clause-prompt g c =
+    begun_prompt _ _ (asked c.in-Ok-Some.query) (rw c.in-Ok-Some.field-0-is at c.in-Ok-Some.ensures.policy) (rw c.in-Ok-Some.field-0-is at c.in-Ok-Some.ensures.watched)
 
 pub returns-in-Ok-Some : goal.returns-in-Ok-Some
 returns-in-Ok-Some g c = λ text is.
     let old = c.args.self.now in
     let q = registered c.args.query.now in
     let begun = rw c.in-Ok-Some.field-0-is at c.in-Ok-Some.ensures.query in
-    let made = begun.1 ∙ ap (λ n. (new_query c.args.name (reading_of q) n).registration) c.accepted.ensures in
+    let watched = rw c.in-Ok-Some.field-0-is at c.in-Ok-Some.ensures.watched in
+    let made : registration_of (live_of g.A.Answer.facts c.in-Ok-Some.query) ≡ (new_query c.args.name (reading_of q) old.kept.accepted).registration = rw (← c.self.view_is) (begun.1 ∙ ap (λ n. (new_query c.args.name (reading_of q) n).registration) c.accepted.ensures) in
     let idle = idle_first old c.requires.ready c.requires.idle in
-    begun_offers old c.go_live.new.self c.args.name text q (live_of g.A.Answer.facts c.in-Ok-Some.query) c.go_live.result c.requires.ready made begun.2 idle c.requires.free is c.requires.translated.sound c.requires.unmixed c.requires.few begun.0 c.go_live.ensures.ok c.go_live.ensures.err
+    let begins : Begins old (live_of g.A.Answer.facts c.in-Ok-Some.query) = record {
+      first = rw (← c.self.view_is) (ap (λ (r : Registration). r.first) begun.1 ∙ c.accepted.ensures);
+      told = λ items from first. begun_tells items from (registration_of (live_of g.A.Answer.facts c.in-Ok-Some.query)) c.in-Ok-Some.query.watched.items first watched;
+      unreported = begun.2;
+      unseen = rw c.in-Ok-Some.field-0-is at c.in-Ok-Some.ensures.seen;
+      unmoved = rw c.in-Ok-Some.field-0-is at c.in-Ok-Some.ensures.unmoved;
+    } in
+    begun_offers old c.go_live.new.self c.args.name text q (live_of g.A.Answer.facts c.in-Ok-Some.query) c.go_live.result c.requires.ready made begins idle c.requires.free is c.requires.translated.sound c.requires.unmixed c.requires.few begun.0 c.go_live.ensures.ok c.go_live.ensures.err
 
 pub returns-in-Ok-None : goal.returns-in-Ok-None
 returns-in-Ok-None g c = λ text is.

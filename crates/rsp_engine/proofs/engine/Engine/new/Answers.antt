@@ -1,6 +1,11 @@
-use Rattle.std.proofs.Common.{refl}
+use Rattle.std.proofs.Common.{ap, map, refl}
+use Rattle.rsp_engine.specs.Inside.{live_of}
+use Rattle.rsp_engine.proofs.Offering.{new_stands}
 use Rattle.rsp_engine.proofs.Readiness.{ready_new}
 use Rattle.rsp_engine.proofs.engine.Engine.new.Goals as goal
 
 pub invariant_of-result : goal.invariant_of-result
-invariant_of-result g c = λ _. ready_new _ _ _ _ _ refl c.new.ensures.items c.new-2.ensures.items c.new-3.ensures refl refl refl
+invariant_of-result g c = λ _. ready_new _ _ _ _ _ refl c.new.ensures.items c.new-2.ensures c.new-4.ensures refl refl
+
+pub returns : goal.returns
+returns g c = new_stands _ refl (ap (map (live_of g.A.Answer.facts)) c.new.ensures.items) c.new-2.ensures c.new-4.ensures refl refl

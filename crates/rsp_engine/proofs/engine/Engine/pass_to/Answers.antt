@@ -1,10 +1,15 @@
-use Rattle.std.proofs.Common.{◌≤◌, None, arith, refl, unwrap_or}
-use Rattle.rsp_engine.specs.Inside.{IsReady}
-use Rattle.rsp_engine.specs.Left.{reports_at}
-use Rattle.rsp_engine.proofs.Offering.{low_of}
-use Rattle.rsp_engine.proofs.Readiness.{ready_passed, timed_later}
-use Rattle.rsp_engine.proofs.Reporting.{fixed_left}
-use Rattle.rsp_engine.proofs.Watches.{all_prompt, first_by_items}
+use Rattle.std.proofs.Common.{◌∙◌, ◌≤◌, ◌++◌, List, [], None, Some, ap, arith, refl, unwrap_or}
+use Rattle.std.proofs.lemmas.List.{append-nil}
+use Rattle.std.proofs.lemmas.List.Elements.{All-weaker}
+use Rattle.rsp_scope.specs.Contents.{Accepted}
+use Rattle.rsp_scope.specs.Ends.{IsKept}
+use Rattle.rsp_scope.specs.Kept.{needed}
+use Rattle.rsp_scope.specs.declared.item.Item.{Item}
+use Rattle.rsp_engine.specs.Inside.{IsReady, asked, state_of}
+use Rattle.rsp_engine.specs.Stands.{watches_in}
+use Rattle.rsp_engine.specs.Watching.{IsPrompt, IsWatching}
+use Rattle.rsp_engine.proofs.Offering.{high_of}
+use Rattle.rsp_engine.proofs.Readiness.{all_watching, idle_first, passes, prompt_on, ready_passed, room_kept}
 use Rattle.rsp_engine.proofs.engine.Engine.pass_to.Goals as goal
 
 pub first_moment-self-inside-requires-clause-prompt : goal.first_moment-self-inside-requires-clause-prompt
@@ -12,29 +17,32 @@ first_moment-self-inside-requires-clause-prompt g c =
     let sound : IsReady g.A.Answer.node g.A.Answer.width g.A.Answer.facts g.A.Answer.spent c.self.inside = c.self.invariant (rw (← c.self.view_is) at c.requires.ready) in
     let later : unwrap_or c.self.inside.next 0 ≤ c.args.to = rw (← c.self.view_is) at c.requires.later in
     rw c.as_slice-queries.ensures.value
-    (all_prompt c.self.inside.queries.items c.self.inside.items.items sound.watching c.args.to None (timed_later c.self.inside.items.items _ c.args.to sound.state.timed later) c.requires.instant (λ x is. cc))
+    (All-weaker (λ l. IsWatching (unwrap_or c.self.inside.next 0) (asked l)) (λ l. IsPrompt c.args.to None (asked l)) (λ l watching. prompt_on (unwrap_or c.self.inside.next 0) c.args.to (asked l) later watching) c.self.inside.queries.items
+    (all_watching g.A.Answer.facts c.self.inside.queries.items _ _ _ _ sound.state.lives))
 
 pub invariant_of-self : goal.invariant_of-self
-invariant_of-self g c = λ _.
+invariant_of-self g c = λ broken.
     let sound : IsReady g.A.Answer.node g.A.Answer.width g.A.Answer.facts g.A.Answer.spent c.self.inside = c.self.invariant (rw (← c.self.view_is) at c.requires.ready) in
+    let idle = idle_first (state_of g.A.Answer.facts c.self.inside) (rw (← c.self.view_is) at c.requires.ready) (rw (← c.self.view_is) at c.requires.idle) in
     let later : unwrap_or c.self.inside.next 0 ≤ c.args.to = rw (← c.self.view_is) at c.requires.later in
-    let by_watch = rw c.as_slice-queries.ensures.value at c.first_moment-self-inside.ensures in
-    let left = first_by_items c.self.inside.queries.items c.self.inside.items.items sound.watching c.args.to None _ 0 c.first_moment-self-inside.result (low_of c.self.inside.next c.args.to later) by_watch in
-    ready_passed _ _ _ _ _ sound _ c.args.to _ refl c.requires.instant refl (omega arith) refl (timed_later c.self.inside.items.items _ c.args.to sound.state.timed later) (λ x is. cc) sound.held sound.answers sound.watching left
+    let first = rw c.as_slice-queries.ensures.value at c.first_moment-self-inside.ensures in
+    let kept = c.drop_before.ensures ∙ ap (λ n. record c.self.inside.streams { items = needed n c.self.inside.streams.items }) c.cut_at.ensures in
+    let takes : (items : List Accepted) → IsKept (unwrap_or c.self.inside.next 0) (watches_in (state_of g.A.Answer.facts c.self.inside)) items c.self.inside.streams → IsKept (unwrap_or c.self.inside.next 0) (watches_in (state_of g.A.Answer.facts c.self.inside)) (items ++ []) c.self.inside.streams =
+    λ items is. rw (append-nil items) is in
+    let prompt = All-weaker (λ l. IsWatching (unwrap_or c.self.inside.next 0) (asked l)) (λ l. IsPrompt c.args.to None (asked l)) (λ l watching. prompt_on (unwrap_or c.self.inside.next 0) c.args.to (asked l) later watching) c.self.inside.queries.items
+    (all_watching g.A.Answer.facts c.self.inside.queries.items _ _ _ _ sound.state.lives) in
+    let timed = All-weaker (λ (item : Item). item.time ≤ unwrap_or c.self.inside.next 0) (λ (item : Item). item.time ≤ c.args.to) (λ item early. omega (arith, early, later)) c.self.inside.streams.items sound.state.timed in
+    ready_passed _ _ _ _ _ sound idle (record c.self.inside { next = Some c.args.to; streams = c.drop_before.new.self; arrived = None; first = c.first_moment-self-inside.result }) [] None c.args.to c.self.inside.streams later (high_of c.self.inside.next c.args.to) refl refl refl refl broken refl first kept takes (λ items firsts told. rw (append-nil items) told)
+    c.requires.instant (omega arith) prompt timed (rw kept (room_kept _ c.self.inside.streams.items c.self.inside.ends.cap sound.room))
 
 pub returns : goal.returns
 returns g c =
     let sound : IsReady g.A.Answer.node g.A.Answer.width g.A.Answer.facts g.A.Answer.spent c.self.inside = c.self.invariant (rw (← c.self.view_is) at c.requires.ready) in
+    let idle = idle_first (state_of g.A.Answer.facts c.self.inside) (rw (← c.self.view_is) at c.requires.ready) (rw (← c.self.view_is) at c.requires.idle) in
     let later : unwrap_or c.self.inside.next 0 ≤ c.args.to = rw (← c.self.view_is) at c.requires.later in
-    let by_watch = rw c.as_slice-queries.ensures.value at c.first_moment-self-inside.ensures in
-    let left = first_by_items c.self.inside.queries.items c.self.inside.items.items sound.watching c.args.to None _ 0 c.first_moment-self-inside.result (low_of c.self.inside.next c.args.to later) by_watch in
+    let first = rw c.as_slice-queries.ensures.value at c.first_moment-self-inside.ensures in
+    let kept = c.drop_before.ensures ∙ ap (λ n. record c.self.inside.streams { items = needed n c.self.inside.streams.items }) c.cut_at.ensures in
+    let takes : (items : List Accepted) → IsKept (unwrap_or c.self.inside.next 0) (watches_in (state_of g.A.Answer.facts c.self.inside)) items c.self.inside.streams → IsKept (unwrap_or c.self.inside.next 0) (watches_in (state_of g.A.Answer.facts c.self.inside)) (items ++ []) c.self.inside.streams =
+    λ items is. rw (append-nil items) is in
     rw (← c.self.view_is)
-    (record {
-      next = refl;
-      queries = refl;
-      items = refl;
-      stored = refl;
-      arrived = refl;
-      broken = rw (← c.self.view_is) at c.requires.ready;
-      first = fixed_left g.A.Answer.facts c.self.inside.queries.items (reports_at c.self.inside.items.items c.args.to None) c.args.to (unwrap_or c.self.inside.next c.args.to) 0 c.first_moment-self-inside.result left;
-    })
+    (passes _ _ _ _ _ sound idle (record c.self.inside { next = Some c.args.to; streams = c.drop_before.new.self; arrived = None; first = c.first_moment-self-inside.result }) [] None c.args.to c.self.inside.streams later (high_of c.self.inside.next c.args.to) refl refl refl refl (rw (← c.self.view_is) at c.requires.ready) refl first kept takes (λ items firsts told. rw (append-nil items) told))

@@ -1,12 +1,12 @@
 use Rattle.std.proofs.Common.{rules, ◌≡◌, ◌∙◌, ◌<◌, length, ap, map, refl, slice_get, Some}
 use Rattle.std.proofs.lemmas.List.{length-set}
 use Rattle.std.specs.List.{All}
-use Rattle.rsp_engine.specs.Inside.{IsReady, IsWatching, live_of, state_of}
+use Rattle.rsp_engine.specs.Inside.{IsReady, live_of, state_of}
 use Rattle.rsp_engine.specs.Stands.{next_in, test_in}
 use Rattle.rsp_engine.specs.Passing.{is_overfull_outcome, place_behind}
+use Rattle.rsp_engine.proofs.Cancelling.{timed_below}
 use Rattle.rsp_engine.proofs.Named.{get_index, get_map}
-use Rattle.rsp_engine.proofs.Reporting.{answers, first_seen, fixed_left, high, listed, place_is, ready_behind, states_behind, watching_behind, within}
-use Rattle.rsp_engine.proofs.Watches.{all_prompt, first_by_items}
+use Rattle.rsp_engine.proofs.Reporting.{answers, fits_behind, followed, high, left_there, listed, place_is, prompt_behind, reached, ready_behind, states_behind, store, watches_are, within}
 use Rattle.rsp_engine.proofs.engine.Engine.report_first.Goals as goal
 
 pub index_mut-requires : goal.index_mut-requires
@@ -22,13 +22,35 @@ report_at-requires-clause-instant g c =
     let first : c.self.inside.first ≡ Some c.args.place = rw (← c.self.view_is) at c.requires.first in
     high _ _ _ _ _ sound c.args.place first
 
-pub report_at-requires-clause-first : goal.report_at-requires-clause-first
-report_at-requires-clause-first g c =
+pub report_at-requires-clause-store : goal.report_at-requires-clause-store
+report_at-requires-clause-store g c =
+    let sound : IsReady g.A.Answer.node g.A.Answer.width g.A.Answer.facts g.A.Answer.spent c.self.inside = c.self.invariant (rw (← c.self.view_is) at c.requires.ready) in
+    let first : c.self.inside.first ≡ Some c.args.place = rw (← c.self.view_is) at c.requires.first in
+    store _ _ _ _ _ sound c.args.place first
+
+pub report_at-requires-clause-watches : goal.report_at-requires-clause-watches
+report_at-requires-clause-watches g c =
     let sound : IsReady g.A.Answer.node g.A.Answer.width g.A.Answer.facts g.A.Answer.spent c.self.inside = c.self.invariant (rw (← c.self.view_is) at c.requires.ready) in
     let first : c.self.inside.first ≡ Some c.args.place = rw (← c.self.view_is) at c.requires.first in
     let live = c.index_mut.result.now in
     let is : slice_get c.self.inside.queries.items c.args.place.query ≡ Some live = get_index c.self.inside.queries.items c.args.place.query live (listed _ _ _ _ _ sound c.args.place first) c.index_mut.ensures.value in
-    rw c.as_slice-items.ensures.value (first_seen _ _ _ _ _ sound c.args.place first live is)
+    watches_are _ _ _ _ _ sound c.args.place first live is
+
+pub report_at-requires-clause-reached : goal.report_at-requires-clause-reached
+report_at-requires-clause-reached g c =
+    let sound : IsReady g.A.Answer.node g.A.Answer.width g.A.Answer.facts g.A.Answer.spent c.self.inside = c.self.invariant (rw (← c.self.view_is) at c.requires.ready) in
+    let first : c.self.inside.first ≡ Some c.args.place = rw (← c.self.view_is) at c.requires.first in
+    let live = c.index_mut.result.now in
+    let is : slice_get c.self.inside.queries.items c.args.place.query ≡ Some live = get_index c.self.inside.queries.items c.args.place.query live (listed _ _ _ _ _ sound c.args.place first) c.index_mut.ensures.value in
+    reached _ _ _ _ _ sound c.args.place first live is
+
+pub report_at-requires-clause-followed : goal.report_at-requires-clause-followed
+report_at-requires-clause-followed g c =
+    let sound : IsReady g.A.Answer.node g.A.Answer.width g.A.Answer.facts g.A.Answer.spent c.self.inside = c.self.invariant (rw (← c.self.view_is) at c.requires.ready) in
+    let first : c.self.inside.first ≡ Some c.args.place = rw (← c.self.view_is) at c.requires.first in
+    let live = c.index_mut.result.now in
+    let is : slice_get c.self.inside.queries.items c.args.place.query ≡ Some live = get_index c.self.inside.queries.items c.args.place.query live (listed _ _ _ _ _ sound c.args.place first) c.index_mut.ensures.value in
+    followed _ _ _ _ _ sound c.args.place first live is
 
 pub report_at-requires-clause-answers : goal.report_at-requires-clause-answers
 report_at-requires-clause-answers g c =
@@ -50,16 +72,27 @@ first_left-self-inside-requires-clause-prompt g c =
     let first : c.self.inside.first ≡ Some c.args.place = rw (← c.self.view_is) at c.requires.first in
     let live = c.index_mut.result.now in
     let is : slice_get c.self.inside.queries.items c.args.place.query ≡ Some live = get_index c.self.inside.queries.items c.args.place.query live (listed _ _ _ _ _ sound c.args.place first) c.index_mut.ensures.value in
-    let reported = rw c.as_slice-items.ensures.value at c.in-Ok.ensures.reported in
-    let watching = watching_behind _ _ _ _ _ sound c.args.place first live is c.report_at.new.live c.in-Ok.report.outcome reported c.in-Ok.ensures.watched (is_overfull_outcome c.in-Ok.report.outcome) in
+    let reported = c.in-Ok.ensures.reported in
     rw (c.as_slice-queries.ensures.value, c.place_behind-query.ensures.queries, c.unwrap_or-next.ensures)
-    (all_prompt _ c.self.inside.items.items watching _ c.self.inside.arrived sound.state.timed sound.state.next_high sound.state.arrival)
+    (prompt_behind _ _ _ _ _ sound c.args.place first live is c.report_at.new.live c.in-Ok.report.outcome reported (is_overfull_outcome c.in-Ok.report.outcome))
 
 pub first_left-self-inside-requires-clause-from : goal.first_left-self-inside-requires-clause-from
 first_left-self-inside-requires-clause-from g c =
     let sound : IsReady g.A.Answer.node g.A.Answer.width g.A.Answer.facts g.A.Answer.spent c.self.inside = c.self.invariant (rw (← c.self.view_is) at c.requires.ready) in
     let first : c.self.inside.first ≡ Some c.args.place = rw (← c.self.view_is) at c.requires.first in
     rw c.unwrap_or-next.ensures (within _ _ _ _ _ sound c.args.place first)
+
+pub let_go-requires-clause-room : goal.let_go-requires-clause-room
+let_go-requires-clause-room g c =
+    let sound : IsReady g.A.Answer.node g.A.Answer.width g.A.Answer.facts g.A.Answer.spent c.self.inside = c.self.invariant (rw (← c.self.view_is) at c.requires.ready) in
+    let first : c.self.inside.first ≡ Some c.args.place = rw (← c.self.view_is) at c.requires.first in
+    sound.room
+
+pub let_go-requires-clause-timed : goal.let_go-requires-clause-timed
+let_go-requires-clause-timed g c =
+    let sound : IsReady g.A.Answer.node g.A.Answer.width g.A.Answer.facts g.A.Answer.spent c.self.inside = c.self.invariant (rw (← c.self.view_is) at c.requires.ready) in
+    let first : c.self.inside.first ≡ Some c.args.place = rw (← c.self.view_is) at c.requires.first in
+    timed_below c.self.inside.streams.items _ sound.state.next_high sound.state.timed
 
 pub invariant_of-self : goal.invariant_of-self
 invariant_of-self g c = λ _.
@@ -68,14 +101,11 @@ invariant_of-self g c = λ _.
     let live = c.index_mut.result.now in
     let is : slice_get c.self.inside.queries.items c.args.place.query ≡ Some live = get_index c.self.inside.queries.items c.args.place.query live (listed _ _ _ _ _ sound c.args.place first) c.index_mut.ensures.value in
     let full = is_overfull_outcome c.in-Ok.report.outcome in
-    let reported = rw c.as_slice-items.ensures.value at c.in-Ok.ensures.reported in
+    let reported = c.in-Ok.ensures.reported in
     let behind = c.place_behind-query.ensures.queries in
-    let watching : All (IsWatching c.self.inside.items.items) c.place_behind-query.new.queries.items =
-    rw behind (watching_behind _ _ _ _ _ sound c.args.place first live is c.report_at.new.live c.in-Ok.report.outcome reported c.in-Ok.ensures.watched full) in
-    let by_watch = rw (c.unwrap_or-next.ensures, c.as_slice-queries.ensures.value, c.place_behind-query.ensures.place ∙ place_is c.args.place full) at c.first_left-self-inside.ensures in
-    let left = first_by_items c.place_behind-query.new.queries.items c.self.inside.items.items watching (next_in (state_of g.A.Answer.facts c.self.inside)) c.self.inside.arrived c.args.place.at (place_behind c.args.place full) c.first_left-self-inside.result
-    (within _ _ _ _ _ sound c.args.place first) by_watch in
-    ready_behind _ _ _ _ _ sound c.args.place first live is c.report_at.new.live c.in-Ok.report.outcome reported c.in-Ok.ensures.watched _ refl refl refl refl refl behind left
+    let left = rw (c.unwrap_or-next.ensures, c.as_slice-queries.ensures.value, c.place_behind-query.ensures.place ∙ place_is c.args.place full) at c.first_left-self-inside.ensures in
+    let kept = rw (c.as_slice-queries.ensures.value, c.cut_at.ensures, c.unwrap_or-next.ensures) at c.let_go.ensures.kept in
+    ready_behind _ _ _ _ _ sound c.args.place first live is c.report_at.new.live c.in-Ok.report.outcome reported (record c.self.inside { queries = c.place_behind-query.new.queries; streams = c.let_go.new.streams; ends = c.let_go.new.ends; first = c.first_left-self-inside.result }) refl refl refl refl behind left c.let_go.ensures.less c.let_go.ensures.room kept
 
 pub returns-in-Ok-clause-ok : goal.returns-in-Ok-clause-ok
 returns-in-Ok-clause-ok g c =
@@ -85,13 +115,10 @@ returns-in-Ok-clause-ok g c =
     let is : slice_get c.self.inside.queries.items c.args.place.query ≡ Some live = get_index c.self.inside.queries.items c.args.place.query live (listed _ _ _ _ _ sound c.args.place first) c.index_mut.ensures.value in
     let now = c.report_at.new.live in
     let full = is_overfull_outcome c.in-Ok.report.outcome in
-    let reported = rw c.as_slice-items.ensures.value at c.in-Ok.ensures.reported in
+    let reported = c.in-Ok.ensures.reported in
     let behind = c.place_behind-query.ensures.queries in
-    let watching : All (IsWatching c.self.inside.items.items) c.place_behind-query.new.queries.items =
-    rw behind (watching_behind _ _ _ _ _ sound c.args.place first live is now c.in-Ok.report.outcome reported c.in-Ok.ensures.watched full) in
-    let by_watch = rw (c.unwrap_or-next.ensures, c.as_slice-queries.ensures.value, c.place_behind-query.ensures.place ∙ place_is c.args.place full) at c.first_left-self-inside.ensures in
-    let left = first_by_items c.place_behind-query.new.queries.items c.self.inside.items.items watching (next_in (state_of g.A.Answer.facts c.self.inside)) c.self.inside.arrived c.args.place.at (place_behind c.args.place full) c.first_left-self-inside.result
-    (within _ _ _ _ _ sound c.args.place first) by_watch in
+    let left = rw (c.unwrap_or-next.ensures, c.as_slice-queries.ensures.value, c.place_behind-query.ensures.place ∙ place_is c.args.place full) at c.first_left-self-inside.ensures in
+    let kept = rw (c.as_slice-queries.ensures.value, c.cut_at.ensures, c.unwrap_or-next.ensures) at c.let_go.ensures.kept in
     rw (← c.self.view_is)
     (record {
       place = c.args.place;
@@ -104,13 +131,15 @@ returns-in-Ok-clause-ok g c =
       variables = c.in-Ok.ensures.variables;
       outcome = reported.outcome;
       same = reported.same;
+      watched = reported.watched;
       told = reported.told;
-      seen = λ rows. (reported.answers rows).1;
+      stood = λ rows items follows contents. (reported.follows rows items follows contents).1;
       next = refl;
-      items = refl;
       stored = refl;
+      log = refl;
       arrived = refl;
       broken = refl;
-      queries = ap (map (live_of g.A.Answer.facts)) behind ∙ states_behind _ _ _ _ _ sound c.args.place first live is now c.in-Ok.report.outcome reported c.in-Ok.ensures.watched full;
-      left = fixed_left g.A.Answer.facts c.place_behind-query.new.queries.items (test_in (state_of g.A.Answer.facts c.self.inside)) (next_in (state_of g.A.Answer.facts c.self.inside)) c.args.place.at (place_behind c.args.place full) c.first_left-self-inside.result left;
+      queries = ap (map (live_of g.A.Answer.facts)) behind ∙ states_behind _ _ _ _ _ sound c.args.place first live is now c.in-Ok.report.outcome reported full;
+      left = left_there _ _ _ _ _ sound c.args.place first live is now c.in-Ok.report.outcome reported (record c.self.inside { queries = c.place_behind-query.new.queries; streams = c.let_go.new.streams; ends = c.let_go.new.ends; first = c.first_left-self-inside.result }) refl refl refl refl behind left c.let_go.ensures.less c.let_go.ensures.room kept;
+      fits = fits_behind _ _ _ _ _ sound c.args.place first live is now c.in-Ok.report.outcome reported (record c.self.inside { queries = c.place_behind-query.new.queries; streams = c.let_go.new.streams; ends = c.let_go.new.ends; first = c.first_left-self-inside.result }) refl refl refl refl behind left c.let_go.ensures.less c.let_go.ensures.room kept;
     })

@@ -1,0 +1,97 @@
+-- The ends of the kept items by the windows of the live queries, and what is let go.
+use Rattle.std.proofs.Common.{◌≡◌, ℕ, ◌+◌, ◌≤◌, true, false, cond, min, nat_le, nat_lt, Option, None, Some, List, [], ◌∷◌, All, length, refl, sym, ap, subst, arith}
+use Rattle.std.proofs.lemmas.Bool.Decides.{nat_tests}
+use Rattle.std.proofs.lemmas.List.Elements.{All-cons, All-filter, All-head, All-nil, All-tail}
+use Rattle.rsp_scope.specs.Contents.{Accepted, Numbered, Watch, as_accepted}
+use Rattle.rsp_scope.specs.Ends.{AreEnds, EndsAt, IsKept}
+use Rattle.rsp_scope.specs.Kept.{Kept, needed, shortened, triples_of}
+use Rattle.rsp_scope.specs.Needed.{is_needed}
+use Rattle.rsp_scope.specs.declared.item.Item.{Item}
+use Rattle.rsp_scope.proofs.Endings.{filter-most, needed-later}
+use Rattle.rsp_scope.proofs.Needed.{held_falls, lowered, passed}
+use Rattle.rsp_engine.specs.Keeping.{IsLess, excess}
+
+-- ---- the ends
+
+-- an item, where a default is asked for
+abbrev pub no_item : Item
+no_item = record { number = 0; stream = []; time = 0; graph = []; end = 0 }
+
+-- the end that was found by the fields of an item is the item's own
+pub end_of_item : (watches : List Watch) (item : Item) (number : ℕ) (stream : List ℕ) (time : ℕ) (end : Option ℕ)
+    → number ≡ item.number → stream ≡ item.stream → time ≡ item.time
+    → EndsAt watches (record { number = number; item = record { stream = stream; time = time; graph = item.graph } }) end
+    → EndsAt watches (as_accepted item) end
+end_of_item watches item number stream time end number_is stream_is time_is h =
+    subst (λ (entry : Numbered). EndsAt watches entry end)
+    (λ i. record { number = number_is i; item = record { stream = stream_is i; time = time_is i; graph = item.graph } }) h
+
+-- ---- the triples that would be kept
+
+not_more : (n : ℕ) → n ≤ 1000000 → nat_lt 1000000 n ≡ false
+not_more n within = grind (arith, nat_tests, within)
+
+-- where all kept items together are few, those from an instant on are
+pub no_excess : (kept : Kept) (time triples : ℕ) → triples_of kept.items + triples ≤ 1000000 → None ≡ excess kept time triples
+no_excess kept time triples few =
+    let many = triples_of (needed time kept.items) + triples in
+    let within : many ≤ 1000000 = omega (arith, few, held_falls time kept.items) in
+    sym (ap (λ b. cond b (Some (min many 18446744073709551615)) None) (not_more many within))
+
+-- ---- what is let go
+
+abbrev IsBy : ℕ → Item → Type 0
+IsBy high item = item.time ≤ high
+
+shortened-timed : (high : ℕ) (items : List Item) (untils : List (Option ℕ)) → All (IsBy high) items → All (IsBy high) (shortened items untils)
+shortened-timed high [] [] timed = All-nil (IsBy high)
+shortened-timed high [] (until ∷ untils) timed = All-nil (IsBy high)
+shortened-timed high (item ∷ items) [] timed = All-nil (IsBy high)
+shortened-timed high (item ∷ items) (None ∷ untils) timed = shortened-timed high items untils (All-tail (IsBy high) item items timed)
+shortened-timed high (item ∷ items) (Some e ∷ untils) timed =
+    All-cons (IsBy high) (record item { end = e }) (shortened items untils) (All-head (IsBy high) item items timed)
+    (shortened-timed high items untils (All-tail (IsBy high) item items timed))
+
+shortened-most : (items : List Item) (untils : List (Option ℕ)) → length (shortened items untils) ≤ length items
+shortened-most [] [] = omega arith
+shortened-most [] (until ∷ untils) = omega arith
+shortened-most (item ∷ items) [] = omega arith
+shortened-most (item ∷ items) (None ∷ untils) = omega (arith, shortened-most items untils)
+shortened-most (item ∷ items) (Some e ∷ untils) = omega (arith, shortened-most items untils)
+
+-- what ends before the cut
+pub less_passed : (cut : ℕ) (old : Kept) → IsLess old (record old { items = needed cut old.items })
+less_passed cut old =
+    record {
+      accepted = refl;
+      timed = λ high timed. All-filter (λ (item : Item). nat_le cut item.end) (IsBy high) old.items timed;
+    }
+
+pub few_passed : (cut : ℕ) (items : List Item) → length (needed cut items) ≤ length items
+few_passed cut items = filter-most (λ (item : Item). nat_le cut item.end) items
+
+pub kept_passed : (before cut : ℕ) (all now : List Watch) (items : List Accepted) (kept : Kept) → before ≤ cut → now ≡ all
+    → IsKept before all items kept → IsKept cut now items (record kept { items = needed cut kept.items })
+kept_passed before cut all now items kept on same h =
+    subst (λ ws. IsKept cut ws items (record kept { items = needed cut kept.items })) (sym same) (passed before cut all items kept h on)
+
+-- and what fewer windows don't need
+pub less_lowered : (cut : ℕ) (old : Kept) (untils : List (Option ℕ)) → IsLess old (record old { items = needed cut (shortened old.items untils) })
+less_lowered cut old untils =
+    record {
+      accepted = refl;
+      timed = λ high timed.
+          All-filter (λ (item : Item). nat_le cut item.end) (IsBy high) (shortened old.items untils) (shortened-timed high old.items untils timed);
+    }
+
+pub few_lowered : (cut : ℕ) (items : List Item) (untils : List (Option ℕ)) → length (needed cut (shortened items untils)) ≤ length items
+few_lowered cut items untils = omega (arith, few_passed cut (shortened items untils), shortened-most items untils)
+
+pub kept_lowered : (before cut : ℕ) (all fewer : List Watch) (items : List Accepted) (kept : Kept) (untils : List (Option ℕ))
+    → AreEnds fewer kept.items untils → before ≤ cut
+    → ((n : ℕ) (entry : Numbered) → is_needed n fewer entry ≡ true → is_needed n all entry ≡ true)
+    → IsKept before all items kept → IsKept cut fewer items (record kept { items = needed cut (shortened kept.items untils) })
+kept_lowered before cut all fewer items kept untils ends on less h =
+    subst (λ l. IsKept cut fewer items (record kept { items = l })) (needed-later before cut (shortened kept.items untils) on)
+    (passed before cut fewer items (record kept { items = needed before (shortened kept.items untils) })
+    (lowered before all fewer items kept untils h less ends) on)

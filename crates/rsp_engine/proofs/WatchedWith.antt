@@ -1,0 +1,199 @@
+-- A query's windows, one after another, as they are watched with a new item.
+use Rattle.std.proofs.Common.{◌≡◌, ℕ, zero, suc, ◌+◌, ◌<◌, ◌≤◌, List, [], ◌∷◌, ◌++◌, ◌≢◌, Bool, false, Some, length, map, set, get_or, below_more, length-set, get_or-set_same, get_or-set_other, refl, sym, ap, subst, ◌∙◌, arith, add-one}
+use Rattle.std.specs.Prelude.{bytes_eq, slice_get}
+use Rattle.std.specs.List.{All}
+use Rattle.std.specs.Option.{option_map_or}
+use Rattle.std.proofs.lemmas.List.{get_or_default, length-map, nil_from_length}
+use Rattle.std.proofs.lemmas.List.Elements.{All-cons, All-nil}
+use Rattle.rsp_report.specs.declared.contents.Watched.{Watched}
+use Rattle.rsp_report.specs.Due.{IsFreshAt, seen_at}
+use Rattle.rsp_engine.specs.declared.live_query.LiveQuery.{LiveQuery}
+use Rattle.rsp_engine.specs.declared.live_query.StreamWindow.{StreamWindow}
+use Rattle.rsp_scope.specs.Contents.{Accepted}
+use Rattle.rsp_engine.specs.Inside.{Parts, asked, fixed, parts_of}
+use Rattle.rsp_engine.specs.Watching.{IsPolicy, IsPrompt, IsTimed, IsWatching, Tells, with_time}
+use Rattle.rsp_engine.specs.Watched.{AreWatchedWith, IsWatchedWith}
+use Rattle.rsp_engine.proofs.NewTimes.{tells_more}
+
+module _ (stream : List ℕ) (time from : ℕ) where
+  -- the first i windows are watched with the item, the others as before
+  abbrev pub AreSoFar : ℕ → List StreamWindow → List Watched → List Watched → Type 0
+  AreSoFar zero ws olds news = (news ≡ olds) × (length ws ≡ length olds)
+  AreSoFar (suc i) (w ∷ ws) (old ∷ olds) (new ∷ news) = IsWatchedWith stream time from w old new × AreSoFar i ws olds news
+  AreSoFar (suc i) _ _ _ = ⊥
+
+  pub so_far_at : (i : ℕ) (ws : List StreamWindow) (olds news : List Watched) (d : Watched) → AreSoFar i ws olds news
+      → get_or news i d ≡ get_or olds i d
+  so_far_at zero ws olds news d are = ap (λ l. get_or l 0 d) are.0
+  so_far_at (suc i) (w ∷ ws) (old ∷ olds) (new ∷ news) d are = so_far_at i ws olds news d are.1
+  so_far_at (suc i) [] olds news d are = absurd are
+  so_far_at (suc i) (w ∷ ws) [] news d are = absurd are
+  so_far_at (suc i) (w ∷ ws) (old ∷ olds) [] d are = absurd are
+
+  pub so_far_long : (i : ℕ) (ws : List StreamWindow) (olds news : List Watched) → AreSoFar i ws olds news → length news ≡ length olds
+  so_far_long zero ws olds news are = ap length are.0
+  so_far_long (suc i) (w ∷ ws) (old ∷ olds) (new ∷ news) are = ap suc (so_far_long i ws olds news are.1)
+  so_far_long (suc i) [] olds news are = absurd are
+  so_far_long (suc i) (w ∷ ws) [] news are = absurd are
+  so_far_long (suc i) (w ∷ ws) (old ∷ olds) [] are = absurd are
+
+  so_far_next : (i : ℕ) (ws : List StreamWindow) (olds news : List Watched) (d new : Watched) → AreSoFar i ws olds news → i < length olds
+      → ((w : StreamWindow) → slice_get ws i ≡ Some w → IsWatchedWith stream time from w (get_or olds i d) new)
+      → AreSoFar (suc i) ws olds (set news i new)
+  so_far_next zero (w ∷ ws) (old ∷ olds) (x ∷ news) d new are below is = (is w refl, (cc, omega (arith, are.1)))
+  so_far_next zero [] (old ∷ olds) news d new are below is = absurd (omega (arith, are.1))
+  so_far_next zero ws [] news d new are below is = absurd (omega (arith, below))
+  so_far_next zero (w ∷ ws) (old ∷ olds) [] d new are below is = absurd (cc)
+  so_far_next (suc i) (w ∷ ws) (old ∷ olds) (x ∷ news) d new are below is =
+      (are.0, so_far_next i ws olds news d new are.1 (omega (arith, below)) is)
+  so_far_next (suc i) [] olds news d new are below is = absurd are
+  so_far_next (suc i) (w ∷ ws) [] news d new are below is = absurd are
+  so_far_next (suc i) (w ∷ ws) (old ∷ olds) [] d new are below is = absurd are
+
+  -- ---- the window of number i
+
+  module _ (i : ℕ) (ws : List StreamWindow) (olds news : List Watched) (one : Watched) (are : AreSoFar i ws olds news)
+      (below : i < length news) (is : one ≡ get_or news i one) where
+    -- it is as it was
+    as_before : one ≡ get_or olds i one
+    as_before = is ∙ so_far_at i ws olds news one are
+
+    pub timed_before : All (IsTimed from) olds → IsTimed from one
+    timed_before timed =
+        let inside : i < length olds = omega (arith, below, so_far_long i ws olds news are) in
+        subst (IsTimed from) (sym as_before) (timed i one inside)
+
+    -- and is then watched with the item
+    pub more_so_far : (over : Bool) (new : Watched) → over ≡ option_map_or (λ (w : StreamWindow). bytes_eq stream w.stream) (slice_get ws i) false
+        → new.window ≡ one.window → IsTimed time new → IsFreshAt time new
+        → ((t : ℕ) → from ≤ t → seen_at t new ≡ seen_at t (with_time over time one))
+        → AreSoFar (i + 1) ws olds (set news i new)
+    more_so_far over new over_is window timed fresh seen =
+        let inside : i < length olds = omega (arith, below, so_far_long i ws olds news are) in
+        subst (λ n. AreSoFar n ws olds (set news i new)) (sym (add-one i))
+        (so_far_next i ws olds news one new are inside
+        (λ w at.
+        let same : over ≡ bytes_eq stream w.stream =
+        over_is ∙ ap (λ o. option_map_or (λ (v : StreamWindow). bytes_eq stream v.stream) o false) at in
+        subst (λ old. IsWatchedWith stream time from w old new) as_before
+        (record {
+          window = window;
+          timed = timed;
+          fresh = fresh;
+          seen = λ t late. seen t late ∙ ap (λ b. seen_at t (with_time b time one)) same;
+        })))
+
+  pub all_so_far : (i : ℕ) (ws : List StreamWindow) (olds news : List Watched) → AreSoFar i ws olds news → length olds ≤ i
+      → AreWatchedWith stream time from ws olds news
+  all_so_far zero ws olds news are end =
+      let no_olds : olds ≡ [] = nil_from_length olds (omega (arith, end)) in
+      let no_windows : ws ≡ [] = nil_from_length ws (omega (arith, end, are.1)) in
+      let no_news : news ≡ [] = are.0 ∙ no_olds in
+      rw (no_olds, no_windows, no_news) tt
+  all_so_far (suc i) (w ∷ ws) (old ∷ olds) (new ∷ news) are end = (are.0, all_so_far i ws olds news are.1 (omega (arith, end)))
+  all_so_far (suc i) [] olds news are end = absurd are
+  all_so_far (suc i) (w ∷ ws) [] news are end = absurd are
+  all_so_far (suc i) (w ∷ ws) (old ∷ olds) [] are end = absurd are
+
+  -- ---- what all windows have
+
+  same_shapes : (ws : List StreamWindow) (olds news : List Watched) → AreWatchedWith stream time from ws olds news
+      → map (λ (watched : Watched). watched.window) news ≡ map (λ (watched : Watched). watched.window) olds
+  same_shapes [] [] [] are = refl
+  same_shapes (w ∷ ws) (old ∷ olds) (new ∷ news) are = λ k. are.0.window k ∷ same_shapes ws olds news are.1 k
+  same_shapes [] (old ∷ olds) news are = absurd are
+  same_shapes [] [] (new ∷ news) are = absurd are
+  same_shapes (w ∷ ws) [] news are = absurd are
+  same_shapes (w ∷ ws) (old ∷ olds) [] are = absurd are
+
+  all_new : (P : Watched → Type 0) → ((w : StreamWindow) (old new : Watched) → IsWatchedWith stream time from w old new → P new)
+      → (ws : List StreamWindow) (olds news : List Watched) → AreWatchedWith stream time from ws olds news → All P news
+  all_new P each [] [] [] are = All-nil P
+  all_new P each (w ∷ ws) (old ∷ olds) (new ∷ news) are = All-cons P new news (each w old new are.0) (all_new P each ws olds news are.1)
+  all_new P each [] (old ∷ olds) news are = absurd are
+  all_new P each [] [] (new ∷ news) are = absurd are
+  all_new P each (w ∷ ws) [] news are = absurd are
+  all_new P each (w ∷ ws) (old ∷ olds) [] are = absurd are
+
+  -- ---- a live query
+
+  -- all but its times is the same, and it watches its windows with the item
+  pub record IsMoved {A : Type 0} (old new : LiveQuery A) : Type 0 where
+    pub parts : parts_of new ≡ parts_of old
+    pub watched : AreWatchedWith stream time from old.windows old.watched.items new.watched.items
+
+  module _ {A : Type 0} (old new : LiveQuery A) (moved : IsMoved old new) where
+    pub moved_watching : IsWatching from (asked old) → IsWatching time (asked new)
+    moved_watching is = record {
+      policy = subst (λ (p : Parts A). IsPolicy p.query.reading.policy) (sym moved.parts) is.policy;
+      shapes = same_shapes old.windows old.watched.items new.watched.items moved.watched
+          ∙ (is.shapes ∙ ap (λ (p : Parts A). map (λ (w : StreamWindow). w.shape) p.query.reading.windows) (sym moved.parts));
+      timed = all_new (IsTimed time) (λ w old new each. each.timed) old.windows old.watched.items new.watched.items moved.watched;
+    }
+
+    pub moved_prompt : IsWatching from (asked old) → IsPrompt time (Some stream) (asked new)
+    moved_prompt is = record {
+      watching = moved_watching is;
+      fresh = λ came. all_new (IsFreshAt time) (λ w old new each. each.fresh) old.windows old.watched.items new.watched.items moved.watched;
+    }
+
+    pub moved_tells : (items : List Accepted) (item : Accepted) → item.stream ≡ stream → item.time ≡ time → old.first ≤ length items
+        → Tells items from (fixed old) old.watched.items → Tells (items ++ item ∷ []) from (fixed new) new.watched.items
+    moved_tells items item over at first told =
+        subst (λ (p : Parts A). Tells (items ++ item ∷ []) from p.query new.watched.items) (sym moved.parts)
+        (tells_more stream time from items item (fixed old) old.watched.items new.watched.items over at first moved.watched told)
+
+  -- ---- the live queries, one after another
+
+  module _ {A : Type 0} (olds news : List (LiveQuery A)) where
+    -- the first i watch the item, the others are as before
+    pub record AreMoved (i : ℕ) : Type 0 where
+      pub long : length news ≡ length olds
+      pub done : (k : ℕ) (d : LiveQuery A) → k < i → IsMoved (get_or olds k d) (get_or news k d)
+      pub to_do : (k : ℕ) (d : LiveQuery A) → i ≤ k → get_or news k d ≡ get_or olds k d
+
+    module _ (i : ℕ) (end : length news ≤ i) (are : AreMoved i) where
+      pub all_prompt : All (λ (live : LiveQuery A). IsWatching from (asked live)) olds
+          → All (λ (live : LiveQuery A). IsPrompt time (Some stream) (asked live)) news
+      all_prompt is k d within =
+          moved_prompt (get_or olds k d) (get_or news k d) (are.done k d (omega (arith, end, within))) (is k d (omega (arith, are.long, within)))
+
+      pub all_tell : (items : List Accepted) (item : Accepted) → item.stream ≡ stream → item.time ≡ time
+          → All (λ (live : LiveQuery A). live.first ≤ length items) olds
+          → All (λ (live : LiveQuery A). Tells items from (fixed live) live.watched.items) olds
+          → All (λ (live : LiveQuery A). Tells (items ++ item ∷ []) from (fixed live) live.watched.items) news
+      all_tell items item over at firsts told k d within =
+          moved_tells (get_or olds k d) (get_or news k d) (are.done k d (omega (arith, end, within))) items item over at
+          (firsts k d (omega (arith, are.long, within))) (told k d (omega (arith, are.long, within)))
+
+  -- as many windows as are watched
+  pub none_so_far : (windows : List StreamWindow) (watched : List Watched)
+      → map (λ (w : Watched). w.window) watched ≡ map (λ (w : StreamWindow). w.shape) windows → AreSoFar 0 windows watched watched
+  none_so_far windows watched shapes =
+      (refl, sym (length-map windows (λ (w : StreamWindow). w.shape)) ∙ (sym (ap length shapes) ∙ length-map watched (λ (w : Watched). w.window)))
+
+  pub none_moved : {A : Type 0} (olds : List (LiveQuery A)) → AreMoved olds olds 0
+  none_moved olds = record { long = refl; done = λ k d below. absurd (omega (arith, below)); to_do = λ k d late. refl }
+
+  -- one query more
+  pub more_moved : {A : Type 0} (olds news : List (LiveQuery A)) (i : ℕ) (one new : LiveQuery A) → AreMoved olds news i → i < length news
+      → IsMoved (get_or news i one) new → AreMoved olds (set news i new) (i + 1)
+  more_moved olds news i one new are within moved = record {
+    long = length-set news i new ∙ are.long;
+    done = λ k d below.
+        below_more (λ j. IsMoved (get_or olds j d) (get_or (set news i new) j d)) i
+        (λ j less. let other : j ≢ i = omega (arith, less) in
+        subst (IsMoved (get_or olds j d)) (sym (get_or-set_other news i j new d other)) (are.done j d less))
+        (let is_one : get_or news i one ≡ get_or olds i d = get_or_default news i one d within ∙ are.to_do i d (omega arith) in
+        let is_new : new ≡ get_or (set news i new) i d = sym (get_or-set_same news i new d within) in
+        subst (λ old. IsMoved old (get_or (set news i new) i d)) is_one (subst (IsMoved (get_or news i one)) is_new moved)) k below;
+    to_do = λ k d late.
+        let other : k ≢ i = omega (arith, late) in
+        get_or-set_other news i k new d other ∙ are.to_do k d (omega (arith, late));
+  }
+
+-- a written value that is seen as the one before it
+pub same_mapped : {X Y : Type 0} (f : X → Y) (xs : List X) (i : ℕ) (x new : X) → f new ≡ f (get_or xs i x) → map f (set xs i new) ≡ map f xs
+same_mapped f [] i x new same = refl
+same_mapped f (y ∷ xs) zero x new same = ap (λ z. z ∷ map f xs) same
+same_mapped f (y ∷ xs) (suc i) x new same = ap (λ zs. f y ∷ zs) (same_mapped f xs i x new same)
