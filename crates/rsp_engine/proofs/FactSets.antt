@@ -1,14 +1,13 @@
 -- How a live query comes to stand for the facts of an instant: what it sees is a set.
-use Rattle.std.proofs.Common.{◌≡◌, ◌⊎◌, inl, inr, ℕ, ◌≤◌, Bool, true, false, true≢false, not, ◌&&◌, ◌||◌, if◌then◌else◌, Option, None, Some, List, [], ◌∷◌, ◌++◌, ℤ, pos, negsuc, ◌+ℤ◌, ◌+◌, map, refl, sym, ap, subst, ◌∙◌, arith}
+use Rattle.std.proofs.Common.{◌≡◌, ◌⊎◌, inl, inr, ℕ, ◌≤◌, Bool, true, false, true≢false, not, ◌&&◌, ◌||◌, if◌then◌else◌, Option, None, Some, List, [], ◌∷◌, ◌++◌, ℤ, pos, negsuc, ◌+ℤ◌, ◌+◌, refl, sym, ap, subst, ◌∙◌, arith}
 use Rattle.std.specs.List.{AllByRecursion, IsDistinct, flat_map, list_any}
 use Rattle.std.specs.Prelude.{nat_eq}
 use Rattle.std.proofs.lemmas.Bool.{ne_eqb}
 use Rattle.std.proofs.lemmas.Int.{ints}
-use Rattle.rsp_multiset.specs.RowLists.{each_once}
 use Rattle.rsp_multiset.specs.Weights.{IsChanged, IsSameMultiset, only, sum_z, times, weight}
 use Rattle.rsp_multiset.proofs.Linear.{turned}
 use Rattle.rsp_multiset.proofs.SameLists.{once-times}
-use Rattle.rsp_multiset.proofs.Sums.{sum_z-append, sum_z-map}
+use Rattle.rsp_multiset.proofs.Sums.{sum_z-map}
 use Rattle.rsp_terms.specs.declared.statement.Fact.{Fact}
 use Rattle.rsp_terms.specs.declared.statement.Triple.{Triple}
 use Rattle.rsp_terms.specs.declared.statement.Quad.{Quad}
@@ -17,7 +16,7 @@ use Rattle.rsp_terms.specs.declared.statement.Spot.TheVariants as spot
 use Rattle.rsp_terms.specs.declared.term.Term.{Term}
 use Rattle.rsp_terms.specs.Same.{fact_eq, fact_same, spot_eq, spot_same, triple_eq, triple_same}
 use Rattle.rsp_multiset.proofs.Changing.{times-append}
-use Rattle.rsp_scope.specs.Contents.{Accepted, Numbered, Watch, content_at, fact_in, facts_in, graph_of, numbered, window_facts}
+use Rattle.rsp_scope.specs.Contents.{Accepted, Numbered, content_at, fact_in, facts_in, graph_of, numbered, window_facts}
 use Rattle.rsp_scope.specs.Quads.{fact_of, names, spot_of, stored_with, stored_without}
 use Rattle.rsp_scope.specs.Quads.{store as put}
 use Rattle.rsp_scope.proofs.Takings.{times-filter}
