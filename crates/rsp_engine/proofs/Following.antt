@@ -68,12 +68,12 @@ moved_by kept t old new change before after watched at moved added items begun h
     let changed : IsChanged fact_eq (facts_by items old) change (window_facts old.watch (Some t) items) = subst (λ l. IsChanged fact_eq (facts_by items old) change (window_facts old.watch (Some t) l)) whole given.1 in (
       subst (λ l. HasSeen new l) (sym all) seen,
       (λ q.
-      let one = followed_one items old q in
-      let other = followed_one items new q in
-      let now : times fact_eq (facts_by items new) q ≡ times fact_eq (window_facts old.watch (Some t) items) q = (λ i. times fact_eq (window_facts (watched i) (at i) (all i)) q) in
-      let by = changed q in
-      let sum = added q in
-      omega (arith, ints, one, other, now, by, sum)),
+          let one = followed_one items old q in
+          let other = followed_one items new q in
+          let now : times fact_eq (facts_by items new) q ≡ times fact_eq (window_facts old.watch (Some t) items) q = (λ i. times fact_eq (window_facts (watched i) (at i) (all i)) q) in
+          let by = changed q in
+          let sum = added q in
+          omega (arith, ints, one, other, now, by, sum)),
       seen.accepted,
     )
 
@@ -130,12 +130,12 @@ module _ (kept : Kept) (t i : ℕ) (olds news : List Followed) (before now after
   pub one_moved : new.watch ≡ one.watch → new.at ≡ Some t → MovedBy kept t one new now after → MoveOn kept t (i + 1) olds (set news i new) before after
   one_moved watched at moved = record {
     watches = map-set (λ (seen : Followed). seen.watch) news i new
-    ∙ (ap (λ w. set (watches_followed news) i w) (watched ∙ ap (λ (seen : Followed). seen.watch) is)
-    ∙ (sym (map-set (λ (seen : Followed). seen.watch) news i (get_or news i one))
-    ∙ (ap watches_followed (set-get_or news i one) ∙ on.watches)));
+        ∙ (ap (λ w. set (watches_followed news) i w) (watched ∙ ap (λ (seen : Followed). seen.watch) is)
+        ∙ (sym (map-set (λ (seen : Followed). seen.watch) news i (get_or news i one))
+        ∙ (ap watches_followed (set-get_or news i one) ∙ on.watches)));
     rest = behind;
     at = All-same (λ (seen : Followed). seen.at ≡ Some t) (take (i + 1) (set news i new)) (take i news ++ new ∷ []) front
-    (All-push (λ (seen : Followed). seen.at ≡ Some t) (take i news) new on.at at);
+        (All-push (λ (seen : Followed). seen.at ≡ Some t) (take i news) new on.at at);
     moved = λ items begun has.
         let so_far = on.moved items begun has in
         let own : HasBegun items one = subst (HasBegun items) old_is (All-get_or (HasBegun items) olds i one below_old begun) in
@@ -152,7 +152,7 @@ module _ (kept : Kept) (t i : ℕ) (olds news : List Followed) (before now after
               let d = ap (λ l. times fact_eq (facts_followed items l) q) front ∙ followed_more items (take i news) new q in
               omega (arith, ints, a, b, c, d);
           accepted = All-same (λ (seen : Followed). seen.accepted ≡ length items) (take (i + 1) (set news i new)) (take i news ++ new ∷ []) front
-          (All-push (λ (seen : Followed). seen.accepted ≡ length items) (take i news) new so_far.accepted step.2);
+              (All-push (λ (seen : Followed). seen.accepted ≡ length items) (take i news) new so_far.accepted step.2);
         };
   }
 
