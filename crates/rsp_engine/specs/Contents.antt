@@ -1,4 +1,5 @@
--- Definitions: what a query sees of its windows at an instant (RSP-QL, active window; SECRET, content): the graphs of all its windows.
+-- Definitions: what a query sees of its windows at an instant (RSP-QL, active window; SECRET, content): the graphs of all its
+-- windows.
 use Rattle.std.specs.Prelude.{ℕ, ◌+◌, Some, List, [], ◌∷◌}
 use Rattle.std.specs.List.{flat_map}
 use Rattle.rsp_terms.specs.declared.statement.Fact.{Fact}

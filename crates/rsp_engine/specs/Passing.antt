@@ -100,7 +100,8 @@ pub record IsReported {A : Type 0} (node : A → Node) (width : A → ℕ) (fact
       → IsOutcomeOver given (live_of facts live) (facts_at items stored (live_of facts live) t)
   pub same : fixed new ≡ fixed live
   pub watched : new.watched.items ≡ live.watched.items
-  pub windows : map (λ (seen : Followed). seen.watch) new.contents.items ≡ map (λ (seen : Followed). seen.watch) live.contents.items
+  pub windows : map (λ (seen : Followed). seen.watch) new.contents.items
+      ≡ map (λ (seen : Followed). seen.watch) live.contents.items
   pub at : All (λ (seen : Followed). seen.at ≡ Some t) new.contents.items
   pub told : is_overfull_outcome given ≡ false → new.reported ≡ true
   pub answers : is_overfull_outcome given ≡ false → Answers node width facts spent new

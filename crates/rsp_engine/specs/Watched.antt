@@ -5,7 +5,8 @@ use Rattle.rsp_report.specs.Due.{IsFreshAt, seen_at}
 use Rattle.rsp_engine.specs.declared.live_query.StreamWindow.{StreamWindow}
 use Rattle.rsp_engine.specs.Watching.{IsTimed, with_time}
 
--- a window with the time of a new item, where that is over its stream, and without times that are in no content from `from` - 1 on
+-- a window with the time of a new item, where that is over its stream, and without times that are in no content from `from` -
+-- 1 on
 pub record IsWatchedWith (stream : List ℕ) (time from : ℕ) (w : StreamWindow) (old new : Watched) : Type 0 where
   pub window : new.window ≡ old.window
   pub timed : IsTimed time new

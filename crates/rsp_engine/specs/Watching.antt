@@ -1,4 +1,5 @@
--- Words of the way: what a live query watches: the times of the items over the streams of its windows, and when it reports by them.
+-- Words of the way: what a live query watches: the times of the items over the streams of its windows, and when it reports by
+-- them.
 use Rattle.std.specs.Prelude.{◌≡◌, ℕ, ◌<◌, ◌≤◌, Bool, true, false, ◌&&◌, not, nat_lt, if◌then◌else◌, Option, None, List, [], ◌∷◌, ◌++◌, map, bytes_eq}
 use Rattle.std.specs.List.{All, list_any}
 use Rattle.std.specs.Option.{ForSome, is_some, option_map_or}

@@ -288,7 +288,14 @@ impl<A: Answer> Engine<A> {
         ensures { (text : List ℕ) → parse text ≡ Ok (registered query.now)
             → Offers self.old (Event.Register name text) result self.new }
     {
-        match begun(self.alloc, name, query, policy, made, self.streams.accepted()) {
+        match begun(
+            self.alloc,
+            name,
+            query,
+            policy,
+            made,
+            self.streams.accepted(),
+        ) {
             Ok(Some(query)) => self.go_live(query),
             Ok(None) => Err(Refused::StartOverfull),
             Err(AllocError) => Err(self.break_off()),
@@ -400,12 +407,7 @@ impl<A: Answer> Engine<A> {
 
     // ---- time
 
-    fn take_item(
-        &mut self,
-        stream: Text,
-        time: u64,
-        graph: Listed<Triple>,
-    ) -> Result<(), Refused>
+    fn take_item(&mut self, stream: Text, time: u64, graph: Listed<Triple>) -> Result<(), Refused>
         requires idle { IsTrue (is_idle self.old) }
         requires ready { self.old.broken ≡ false }
         requires instant { time ≤ last_instant }
@@ -435,10 +437,17 @@ impl<A: Answer> Engine<A> {
     fn end_of(&self, stream: &Text, time: u64) -> Option<u64>
         requires ready { self.now.broken ≡ false }
         requires instant { time ≤ last_instant }
-        ensures { (graph : List Triple) → EndsAt (watches_in self.now) (record { number = self.now.kept.accepted;
-            item = record { stream = stream.now; time = time; graph = graph } }) result }
+        ensures { (graph : List Triple) → EndsAt (watches_in self.now) (record {
+          number = self.now.kept.accepted;
+          item = record { stream = stream.now; time = time; graph = graph };
+        }) result }
     {
-        end_of(self.queries.as_slice(), self.streams.accepted(), stream, time)
+        end_of(
+            self.queries.as_slice(),
+            self.streams.accepted(),
+            stream,
+            time,
+        )
     }
 
     // how many triples would be kept with the next item, where that is more than can be; an item that no window needs adds none

@@ -32,7 +32,8 @@ pub(crate) fn first_left<A>(
     requires prompt { All (λ live. IsPrompt next arrived.now (asked live)) queries.now }
     requires next { next ≤ last_instant + 1 }
     requires from { from.at ≤ next }
-    ensures { IsFirstLeft (λ live. name_of (asked live)) (λ t live. reports_by next arrived.now t (asked live)) queries.now next from.at from.query result }
+    ensures { IsFirstLeft (λ live. name_of (asked live)) (λ t live. reports_by next arrived.now t (asked live)) queries.now
+        next from.at from.query result }
 {
     match first_at(queries, arrived, next, from) {
         Some(query) => Some(Pending { at: from.at, query }),
@@ -51,7 +52,8 @@ fn first_from<A>(
     requires prompt { All (λ live. IsPrompt next arrived.now (asked live)) queries.now }
     requires next { next ≤ last_instant + 1 }
     requires from { at ≤ next }
-    ensures { IsFirstLeft (λ live. name_of (asked live)) (λ t live. reports_by next arrived.now t (asked live)) queries.now next at 0 result }
+    ensures { IsFirstLeft (λ live. name_of (asked live)) (λ t live. reports_by next arrived.now t (asked live)) queries.now
+        next at 0 result }
 {
     let at = next_instant(queries, arrived, next, at)?;
     let query = first_at(queries, arrived, next, Pending { at, query: 0 })?;

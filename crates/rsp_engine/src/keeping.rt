@@ -58,8 +58,8 @@ fn end_by(contents: &[Contents], number: u64, stream: &Text, time: u64) -> Optio
     end
 }
 
-/// How many triples would be kept from `time` on, with so many more, where that is more than can be. Looks at the kept items only
-/// where all together are too many.
+/// How many triples would be kept from `time` on, with so many more, where that is more than can be. Looks at the kept items
+/// only where all together are too many.
 pub(crate) fn too_many(streams: &Streams, time: u64, triples: u64) -> Option<u64>
     requires small { triples ≤ 100000 }
     ensures { result ≡ excess streams.now time triples }
@@ -81,8 +81,8 @@ pub(crate) struct Arrival {
     pub end: Option<u64>,
 }
 
-/// Takes an item, which each query then watches. Gives its stream. Makes room for one end more. Fails only where memory is refused;
-/// what is then left is only to be dropped.
+/// Takes an item, which each query then watches. Gives its stream. Makes room for one end more. Fails only where memory is
+/// refused; what is then left is only to be dropped.
 pub(crate) fn take<A>(
     alloc: Global,
     queries: &mut [LiveQuery<A>],
@@ -146,8 +146,8 @@ pub(crate) fn let_go<A>(
     }
 }
 
-/// Lets go of what these queries alone don't need from `cut` on, where another query has gone. Takes no memory: there is room for the
-/// ends of all kept items.
+/// Lets go of what these queries alone don't need from `cut` on, where another query has gone. Takes no memory: there is room
+/// for the ends of all kept items.
 pub(crate) fn lower<A>(
     queries: &[LiveQuery<A>],
     streams: &mut Streams,

@@ -160,7 +160,8 @@ fn unwatched_window(alloc: Global, clause: &WindowClause) -> Watched
 // the windows of a query that has seen no item, nor moved to an instant; it sees the items from number `first` on
 fn unmoved(alloc: Global, clauses: &[WindowClause], first: u64) -> Result<Vec<Contents>, AllocError>
     ensures unmoved { IfOk result (λ contents. All IsUnmoved contents.items) }
-    ensures watches { IfOk result (λ contents. watches_followed contents.items ≡ watches first (map readings.window_of clauses.now)) }
+    ensures watches { IfOk result (λ contents.
+        watches_followed contents.items ≡ watches first (map readings.window_of clauses.now)) }
 {
     let mut contents = Vec::new(alloc);
     let mut spot: u32 = 0;
@@ -191,7 +192,8 @@ pub(crate) fn begun<A: Answer>(
     ensures watched { IfOk result (λ live. IfSome live (λ live. live.watched.items ≡ map (watched_window []) live.windows)) }
     ensures seen { IfOk result (λ live. IfSome live (λ live. A.facts live.answer ≡ [])) }
     ensures unmoved { IfOk result (λ live. IfSome live (λ live. All IsUnmoved live.contents.items)) }
-    ensures watches { IfOk result (λ live. IfSome live (λ live. watches_followed live.contents.items ≡ watches first live.windows)) }
+    ensures watches { IfOk result (λ live. IfSome live (λ live.
+        watches_followed live.contents.items ≡ watches first live.windows)) }
     ensures answers { IfOk result (λ live. IfSome live (Answers A.node A.width A.facts A.spent)) }
 {
     match A::start(alloc, &made)? {

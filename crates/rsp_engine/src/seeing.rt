@@ -102,7 +102,8 @@ fn unseen<A: Answer>(
     stored: &Stored,
     log: &StoreLog,
 ) -> Result<Changes<Fact>, AllocError>
-    ensures { IfOk result (λ changes. (q : Fact) → weight fact_eq changes q ≡ unseen stored.now log.now (live_of A.facts live.now) q) }
+    ensures { IfOk result (λ changes. (q : Fact)
+        → weight fact_eq changes q ≡ unseen stored.now log.now (live_of A.facts live.now) q) }
 {
     if live.reported {
         log.since(live.place)

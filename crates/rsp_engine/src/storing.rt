@@ -16,8 +16,8 @@ use rsp_scope::{StoreLog, Stored, StoredFault};
 use rsp_terms::{Fact, Quad};
 use std::alloc::{AllocError, Global};
 
-/// Stores the quads that aren't stored, and logs them for each query that has reported. Refused as `StoreFull`, all is as it was; where
-/// memory is refused, what is left is only to be dropped.
+/// Stores the quads that aren't stored, and logs them for each query that has reported. Refused as `StoreFull`, all is as it
+/// was; where memory is refused, what is left is only to be dropped.
 pub(crate) fn insert<A>(
     alloc: Global,
     queries: &[LiveQuery<A>],
@@ -36,8 +36,8 @@ pub(crate) fn insert<A>(
     Ok(())
 }
 
-/// Takes out the quads that are stored, and logs them for each query that has reported. Fails only where memory is refused; what is
-/// left is then only to be dropped.
+/// Takes out the quads that are stored, and logs them for each query that has reported. Fails only where memory is refused;
+/// what is left is then only to be dropped.
 pub(crate) fn delete<A>(
     alloc: Global,
     queries: &[LiveQuery<A>],

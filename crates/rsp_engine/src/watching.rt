@@ -16,8 +16,8 @@ use rsp_scope::forget_times;
 use rsp_terms::Text;
 use std::alloc::{AllocError, Global};
 
-/// Adds the time of an item over a stream to what each query watches, and lets go of times that are in no content from `from` - 1 ms on.
-/// Fails only where memory is refused; some queries may then watch it and others not.
+/// Adds the time of an item over a stream to what each query watches, and lets go of times that are in no content from `from`
+/// - 1 ms on. Fails only where memory is refused; some queries may then watch it and others not.
 pub(crate) fn watch<A>(
     alloc: Global,
     queries: &mut [LiveQuery<A>],
@@ -33,7 +33,8 @@ pub(crate) fn watch<A>(
     ensures told { OnOk result ((items : List Accepted) (graph : List Triple)
         → All (λ live. live.first ≤ length items) queries.old
         → All (λ live. Tells items from (fixed live) live.watched.items) queries.old
-        → All (λ live. Tells (items ++ record { stream = stream.now; time = time; graph = graph } ∷ []) from (fixed live) live.watched.items)
+        → All (λ live. Tells (items ++ record { stream = stream.now; time = time; graph = graph } ∷ []) from (fixed live)
+        live.watched.items)
         queries.new) }
 {
     for query in 0..queries.len() {
@@ -53,7 +54,8 @@ fn watch_query<A>(
     requires later { from ≤ time }
     requires instant { time ≤ last_instant }
     ensures parts { OnOk result (parts_of live.new ≡ parts_of live.old) }
-    ensures watched { OnOk result (AreWatchedWith stream.now time from live.old.windows live.old.watched.items live.new.watched.items) }
+    ensures watched { OnOk result (AreWatchedWith stream.now time from live.old.windows
+        live.old.watched.items live.new.watched.items) }
 {
     for window in 0..live.watched.len() {
         let over = is_over(live.windows.as_slice(), window, stream);

@@ -40,7 +40,7 @@ invariant_of-self g c = λ broken.
     let took : Kept = taken c.self.inside.streams c.args.arrival.stream c.args.arrival.time c.args.arrival.graph c.args.arrival.end in
     let takes : (items : List Accepted) → IsKept (unwrap_or c.self.inside.next 0) (watches_in here) items c.self.inside.streams → IsKept (unwrap_or c.self.inside.next 0) (watches_in here) (items ++ accepted_of c.args.arrival ∷ []) took =
     λ items is. joined (unwrap_or c.self.inside.next 0) (watches_in here) items c.self.inside.streams (accepted_of c.args.arrival) c.args.arrival.end is later
-        (subst (λ n. EndsAt (watches_in here) (record { number = n; item = accepted_of c.args.arrival }) c.args.arrival.end) is.accepted (rw (← c.self.view_is) at c.requires.end)) in
+    (subst (λ n. EndsAt (watches_in here) (record { number = n; item = accepted_of c.args.arrival }) c.args.arrival.end) is.accepted (rw (← c.self.view_is) at c.requires.end)) in
     let tells : (items : List Accepted) → All (λ l. l.first ≤ length items) c.self.inside.queries.items → All (λ l. Tells items (unwrap_or c.self.inside.next 0) (fixed l) l.watched.items) c.self.inside.queries.items
     → All (λ l. Tells (items ++ accepted_of c.args.arrival ∷ []) (unwrap_or c.self.inside.next 0) (fixed l) l.watched.items) (take c.self.inside.queries.len (c.take.new.queries ++ drop (length c.take.new.queries) c.self.inside.queries.items)) =
     λ items firsts told. subst (λ qs. All (λ l. Tells (items ++ accepted_of c.args.arrival ∷ []) (unwrap_or c.self.inside.next 0) (fixed l) l.watched.items) qs) (sym whole) ((rw (c.deref_mut.ensures.value, c.unwrap_or-from.ensures) at c.in-Ok.ensures.told) items firsts told) in
@@ -63,7 +63,7 @@ returns-in-Ok-clause-ok g c =
     let took : Kept = taken c.self.inside.streams c.args.arrival.stream c.args.arrival.time c.args.arrival.graph c.args.arrival.end in
     let takes : (items : List Accepted) → IsKept (unwrap_or c.self.inside.next 0) (watches_in here) items c.self.inside.streams → IsKept (unwrap_or c.self.inside.next 0) (watches_in here) (items ++ accepted_of c.args.arrival ∷ []) took =
     λ items is. joined (unwrap_or c.self.inside.next 0) (watches_in here) items c.self.inside.streams (accepted_of c.args.arrival) c.args.arrival.end is later
-        (subst (λ n. EndsAt (watches_in here) (record { number = n; item = accepted_of c.args.arrival }) c.args.arrival.end) is.accepted (rw (← c.self.view_is) at c.requires.end)) in
+    (subst (λ n. EndsAt (watches_in here) (record { number = n; item = accepted_of c.args.arrival }) c.args.arrival.end) is.accepted (rw (← c.self.view_is) at c.requires.end)) in
     let tells : (items : List Accepted) → All (λ l. l.first ≤ length items) c.self.inside.queries.items → All (λ l. Tells items (unwrap_or c.self.inside.next 0) (fixed l) l.watched.items) c.self.inside.queries.items
     → All (λ l. Tells (items ++ accepted_of c.args.arrival ∷ []) (unwrap_or c.self.inside.next 0) (fixed l) l.watched.items) (take c.self.inside.queries.len (c.take.new.queries ++ drop (length c.take.new.queries) c.self.inside.queries.items)) =
     λ items firsts told. subst (λ qs. All (λ l. Tells (items ++ accepted_of c.args.arrival ∷ []) (unwrap_or c.self.inside.next 0) (fixed l) l.watched.items) qs) (sym whole) ((rw (c.deref_mut.ensures.value, c.unwrap_or-from.ensures) at c.in-Ok.ensures.told) items firsts told) in

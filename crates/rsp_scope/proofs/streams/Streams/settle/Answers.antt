@@ -1,4 +1,4 @@
-use Rattle.std.proofs.Common.{◌≡◌, List, length, ap, subst, sym, ◌∙◌, arith}
+use Rattle.std.proofs.Common.{List, length, ap, subst, sym, ◌∙◌, arith}
 use Rattle.rsp_scope.specs.Kept.{needed, triples_of}
 use Rattle.rsp_scope.specs.Order.{AreInOrder}
 use Rattle.rsp_scope.specs.Runs.{AreTied}
