@@ -5,6 +5,7 @@
 ghost use Rattle.std.specs.Prelude.{◌≡◌};
 ghost use Rattle.std.specs.List.{list_any};
 ghost use Rattle.rsp_streams_out.specs.Rows.{cell_text};
+ghost use Rattle.rsp_terms.specs.declared.term.Term.TheVariants.{Blank};
 ghost use Rattle.rsp_terms.specs.Terms.{term_text};
 ghost use Rattle.rsp_call.specs.Apart.{cell_has_tab, has_tab, have_tab, row_has_tab};
 
@@ -49,10 +50,17 @@ fn term_has_tab(term: &Term) -> bool
 {
     match term {
         Term::Iri(text) => has_tab(text),
-        Term::Blank { label, .. } => has_tab(label),
+        Term::Blank { document, label } => blank_has_tab(*document, label),
         Term::Literal { datatype, .. } => has_tab(datatype),
         Term::Tagged { language, .. } => has_tab(language),
     }
+}
+
+// the digits of a document's number hold none
+fn blank_has_tab(document: u32, label: &Text) -> bool
+    ensures { result ≡ has_tab (term_text (Blank document label.now)) }
+{
+    has_tab(label)
 }
 
 fn has_tab(text: &Text) -> bool
