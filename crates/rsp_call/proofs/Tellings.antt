@@ -1,11 +1,12 @@
 -- The reports of an event, written one behind another.
-use Rattle.std.proofs.Common.{◌≡◌, ℕ, suc, true, false, IsTrue, Ok, Option, Some, None, List, [], ◌∷◌, ◌++◌, length, map, refl, sym, ◌∙◌, ap, append_assoc}
+use Rattle.std.proofs.Common.{◌≡◌, ℕ, suc, true, false, IsTrue, Ok, Option, Some, None, List, [], ◌∷◌, ◌++◌, length, map, refl, subst, sym, ◌∙◌, ap, append_assoc}
 use Rattle.std.specs.List.{list_any}
 use Rattle.std.specs.Option.{is_some, option_map}
 use Rattle.std.proofs.lemmas.List.{append-nil}
 use Rattle.rsp_multiset.specs.Rows.{Cells}
 use Rattle.rsp_terms.specs.declared.term.Term.{Term}
 use Rattle.rsp_streams_out.specs.Rows.{AreRows, row_text}
+use Rattle.rsp_streams_out.specs.Json.{report_json}
 use Rattle.rsp_streams_out.specs.Reports.{report_head, report_text, rows_text, variables_line}
 use Rattle.rsp_engine.specs.declared.report.Report.{Report}
 use Rattle.rsp_engine.specs.declared.report.Outcome.{Outcome}
@@ -24,7 +25,7 @@ use Rattle.rsp_call.specs.declared.form.Form.{Form}
 use Rattle.rsp_call.specs.declared.form.Form.TheVariants.{Table, Json}
 use Rattle.rsp_call.specs.declared.stop.Stop.{Stop}
 use Rattle.rsp_call.specs.declared.refusing.Place.{Place}
-use Rattle.rsp_call.specs.Apart.{IsTold}
+use Rattle.rsp_call.specs.Apart.{IsTold, have_tab}
 use Rattle.rsp_call.specs.Output.{a_report, answer_step, is_refusal, outcome_text, text_of, text_of_report}
 use Rattle.std.specs.Fmt.{decimal}
 use Rattle.std.specs.Prelude.{codes}
@@ -67,6 +68,21 @@ pub same_report : (form : Form) (report wanted : Report) → IsTold form report.
 same_report form report wanted told is =
     (λ i. outcome_text form (is.query i) (is.at i) (is.variables i) report.outcome)
     ∙ same_outcome form wanted.query wanted.at wanted.variables report.outcome wanted.outcome told is.outcome
+
+-- the text that is written of a report's rows is that of the report that is wanted
+pub table_told : (form : Form) (report : Report) (rows : List (Cells Term)) (text : List ℕ) → form ≡ Table → report.outcome ≡ Rows rows → text ≡ report_text report.query report.at report.variables rows → (wanted : Report) → IsReport report wanted → text ≡ text_of_report form wanted
+table_told form report rows text is outcome told wanted same =
+    let whole : text ≡ text_of_report form report = told ∙ sym (λ i. outcome_text (is i) report.query report.at report.variables (outcome i)) in
+    let apart : IsTold form report.outcome = subst (λ o. IsTold form o) (sym outcome) (subst (λ f. IsTold f (Rows rows)) (sym is) tt) in
+    whole ∙ same_report form report wanted apart same
+
+pub json_told : (form : Form) (report : Report) (rows : List (Cells Term)) (name : List ℕ) (variables : List (List ℕ)) (given : List (Cells Term)) (text : List ℕ) → form ≡ Json → report.outcome ≡ Rows rows → name ≡ report.query → variables ≡ report.variables → given ≡ rows → (text ≡ report_json name report.at variables given) × (have_tab given ≡ false) → (wanted : Report) → IsReport report wanted → text ≡ text_of_report form wanted
+json_told form report rows name variables given text is outcome query shown same_rows told wanted same =
+    let read = told.0 ∙ (λ i. report_json (query i) report.at (shown i) (same_rows i)) in
+    let whole : text ≡ text_of_report form report = read ∙ sym (λ i. outcome_text (is i) report.query report.at report.variables (outcome i)) in
+    let none = subst (λ rs. have_tab rs ≡ false) same_rows told.1 in
+    let apart : IsTold form report.outcome = subst (λ o. IsTold form o) (sym outcome) (subst (λ f. IsTold f (Rows rows)) (sym is) none) in
+    whole ∙ same_report form report wanted apart same
 
 -- ---- the reports of an event
 

@@ -108,8 +108,7 @@ fn json(
     variables: &[Text],
     rows: &[Row<Term>],
 ) -> Result<Vec<u8>, AllocError>
-    ensures text { IfOk result (λ text. text.items ≡ report_json name.now at variables.now rows.now) }
-    ensures apart { IfOk result (λ text. have_tab rows.now ≡ false) }
+    ensures { IfOk result (λ text. (text.items ≡ report_json name.now at variables.now rows.now) × (have_tab rows.now ≡ false)) }
 {
     if have_tab(rows) {
         return Err(AllocError);
