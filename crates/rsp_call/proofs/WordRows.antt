@@ -1,5 +1,5 @@
 -- Rows of the table of words, worked out by hand, and the first of the generator's items.
-use Rattle.std.proofs.Common.{◌≡◌, ℕ, Some, None, List, [], ◌∷◌, ◌++◌, length, refl}
+use Rattle.std.proofs.Common.{◌≡◌, ℕ, Some, None, [], ◌∷◌, ◌++◌, length, refl}
 use Rattle.std.specs.Prelude.{codes, decimal}
 use Rattle.rsp_text.specs.Digits.{read_u64}
 use Rattle.rsp_call.specs.declared.form.Form.TheVariants.{Table, Json}

@@ -56,6 +56,7 @@ two_for_events form a b = by (is_dashes a) (is_json a) refl refl
     second : (c : Bool) → cond c (Some (events form)) None ≡ events_of form (if c then [] else b ∷ [])
     second true = refl
     second false = refl
+
     by : (c d : Bool) → is_dashes a ≡ c → is_json a ≡ d → cond (d && is_dashes b) (Some (events form)) None ≡ events_of form (values (if c then a ∷ b ∷ [] else (if d then b ∷ [] else a ∷ without_json (b ∷ []))))
     by true d is json =
         let other : d ≡ false = sym json ∙ json_is_no_dashes a is in

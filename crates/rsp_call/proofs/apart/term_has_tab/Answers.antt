@@ -1,6 +1,4 @@
-use Rattle.std.proofs.Common.{◌∙◌, ap, rules, sym}
-use Rattle.rsp_terms.specs.Terms.{term_text}
-use Rattle.rsp_call.specs.Apart.{has_tab}
+use Rattle.std.proofs.Common.{◌∙◌, sym}
 use Rattle.rsp_call.proofs.Tabless.{literal_tab, tagged_tab}
 use Rattle.rsp_call.proofs.apart.term_has_tab.Goals as goal
 
