@@ -201,6 +201,18 @@ def operators(operator):
     return lambda size: block("@register q", [text]) + stored(size) + rounds(size)
 
 
+def terms(size):
+    """One report of so many rows over what is stored, with terms of each kind in turn."""
+    kinds = [
+        "<http://example.org/thing/%d>", "_:n%d", '"say \\"%d\\" and \\\\"', f'"%d.5"^^<{XSD}decimal>', '"reading %d"@en-GB',
+    ]
+    text = "REGISTER RSTREAM <q:o> REPORT CLOSE TICK TIME AS SELECT ?s ?o FROM NAMED WINDOW <w:1> ON <s:a> [RANGE PT10S] "
+    quads = [f"<http://example.org/{k}> <p:v> {kinds[k % len(kinds)] % k} .\n" for k in range(size)]
+    most = (MOST_BYTES - 100) // max(map(len, quads), default=1)
+    inserts = [block("@insert", quads[at:at + most]) for at in range(0, len(quads), most)]
+    return block("@register q", [text + "WHERE { ?s <p:v> ?o }\n"]) + b"".join(inserts) + b"@tick 1\n@tick 10000\n"
+
+
 # ---- ticks far apart
 
 GAPS = {"1 ms": 1, "1 h": 3_600_000, "1 y": 31_536_000_000}

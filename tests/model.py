@@ -9,6 +9,7 @@ from collections import Counter, namedtuple
 
 import query_model
 from algebra_model import DEFAULT, Overfull, solutions, translated
+from json_reports import as_json
 from policy_model import content, instants, is_due, is_due_on_arrival, is_mixed, policy_of, window_of
 from query_model import LAST_INSTANT, instant
 from shape_model import fault
@@ -424,6 +425,9 @@ def answer(world, group):
 
 def run(words, log):
     """The output and the status of a run."""
+    if words in ([b"events", b"--json"], [b"events", b"--json", b"--"]):
+        tables, status = run([b"events"], log)
+        return as_json(tables), status
     if words not in ([b"events"], [b"events", b"--"]):
         return USAGE, 2
     world, written, refused = World(), [], False

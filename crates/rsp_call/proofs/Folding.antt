@@ -5,6 +5,7 @@ use Rattle.std.proofs.lemmas.List.Folds.{list_any-append}
 use Rattle.std.specs.List.{flat_map, list_any}
 use Rattle.rsp_events.specs.declared.event.Block.{Block}
 use Rattle.rsp_engine.specs.World.{World}
+use Rattle.rsp_call.specs.declared.form.Form.{Form}
 use Rattle.rsp_call.specs.declared.refusing.Place.TheVariants as place
 use Rattle.rsp_call.specs.Output.{Step, followed_by, is_refusal, run, step, text_of_saying}
 use Rattle.rsp_call.specs.Runs.{content_refused, content_text, content_world, refused_from, text_from, world_from}
@@ -19,9 +20,9 @@ or-false false = refl
 
 -- ---- one block more
 
-pub text_more : (world : World) (block : Block) (more : List Block)
-    → text_from world (block ∷ more) ≡ content_text world (place.Block block.number) block.content ++ text_from (content_world world (place.Block block.number) block.content) more
-text_more world block more = flat_map-append text_of_saying (step world block).said (run (step world block).after more).said
+pub text_more : (form : Form) (world : World) (block : Block) (more : List Block)
+    → text_from form world (block ∷ more) ≡ content_text form world (place.Block block.number) block.content ++ text_from form (content_world world (place.Block block.number) block.content) more
+text_more form world block more = flat_map-append (text_of_saying form) (step world block).said (run (step world block).after more).said
 
 pub refused_more : (world : World) (block : Block) (more : List Block)
     → refused_from world (block ∷ more) ≡ (content_refused world (place.Block block.number) block.content || refused_from (content_world world (place.Block block.number) block.content) more)
@@ -36,9 +37,9 @@ run-append world (x ∷ xs) ys =
     ∙ ap (λ said. record { said = said; after = (run (run (step world x).after xs).after ys).after })
     (sym (append_assoc (step world x).said (run (step world x).after xs).said _))
 
-pub text_from-append : (world : World) (xs ys : List Block) → text_from world (xs ++ ys) ≡ text_from world xs ++ text_from (world_from world xs) ys
-text_from-append world xs ys =
-    ap (λ (s : Step). flat_map text_of_saying s.said) (run-append world xs ys) ∙ flat_map-append text_of_saying (run world xs).said _
+pub text_from-append : (form : Form) (world : World) (xs ys : List Block) → text_from form world (xs ++ ys) ≡ text_from form world xs ++ text_from form (world_from world xs) ys
+text_from-append form world xs ys =
+    ap (λ (s : Step). flat_map (text_of_saying form) s.said) (run-append world xs ys) ∙ flat_map-append (text_of_saying form) (run world xs).said _
 
 pub world_from-append : (world : World) (xs ys : List Block) → world_from world (xs ++ ys) ≡ world_from (world_from world xs) ys
 world_from-append world xs ys = ap (λ (s : Step). s.after) (run-append world xs ys)

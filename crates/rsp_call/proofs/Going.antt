@@ -8,6 +8,7 @@ use Rattle.rsp_io.specs.Reading.{given_after}
 use Rattle.rsp_events.specs.declared.event.Block.{Block}
 use Rattle.rsp_events.specs.Reader.{Reader}
 use Rattle.rsp_engine.specs.Stands.{State, is_idle}
+use Rattle.rsp_call.specs.declared.form.Form.{Form}
 use Rattle.rsp_call.specs.declared.stop.Stop.{Stop}
 use Rattle.rsp_call.specs.declared.stop.Stop.TheVariants.{Memory, Write}
 use Rattle.rsp_call.specs.Output.{log_blocks, log_whole_blocks, whole_text, output, has_refusal}
@@ -56,7 +57,7 @@ of_log P (Some log) (Some rest) bytes consumed holds = rw consumed (holds rest)
 -- ---- between two reads
 
 -- some bytes of the log are read and worked off
-pub record Going (source_before : SourceSeen) (before : SinkSeen) (source : SourceSeen) (now : SinkSeen) (reader : Reader) (engine : State) (known : Bool) (total : ℕ) : Type 0 where
+pub record Going (form : Form) (source_before : SourceSeen) (before : SinkSeen) (source : SourceSeen) (now : SinkSeen) (reader : Reader) (engine : State) (known : Bool) (total : ℕ) : Type 0 where
   pub bytes : List ℕ
   pub count : total ≡ length bytes
   pub short : total ≤ most_bytes
@@ -65,15 +66,15 @@ pub record Going (source_before : SourceSeen) (before : SinkSeen) (source : Sour
   pub sure : source.sure ≡ source_before.sure
   pub idle : IsTrue (is_idle engine)
   pub at : IsAt reader engine known bytes
-  pub wrote : Wrote before now (whole_text bytes)
+  pub wrote : Wrote before now (whole_text form bytes)
 
 -- what the prefix law of blocks says
 abbrev pub Begins : Type 0
 Begins = (bytes more : List ℕ) → (rest : List Block) × (log_blocks (bytes ++ more) ≡ log_whole_blocks bytes ++ rest)
 
 -- nothing is read yet
-pub going_nothing : (source : SourceSeen) (sink : SinkSeen) (reader : Reader) (engine : State) (known : Bool) → IsAt reader engine known [] → IsTrue (is_idle engine) → Going source sink source sink reader engine known 0
-going_nothing source sink reader engine known at idle =
+pub going_nothing : (form : Form) (source : SourceSeen) (sink : SinkSeen) (reader : Reader) (engine : State) (known : Bool) → IsAt reader engine known [] → IsTrue (is_idle engine) → Going form source sink source sink reader engine known 0
+going_nothing form source sink reader engine known at idle =
     record {
       bytes = [];
       count = refl;
@@ -87,8 +88,8 @@ going_nothing source sink reader engine known at idle =
     }
 
 -- a piece more
-pub going_on : (source_before source source_after : SourceSeen) (before mid now : SinkSeen) (reader reader_after : Reader) (engine engine_after : State) (known known_after : Bool) (total n : ℕ) (piece : List ℕ) → Going source_before before source mid reader engine known total → n ≡ length piece → Consumes source.left source_after.left piece → source_after.given ≡ given_after source.given n → total + n ≤ most_bytes → source_after.faults ≡ source.faults → source_after.sure ≡ source.sure → IsTrue (is_idle engine_after) → ((bytes : List ℕ) → IsAt reader engine known bytes → IsAt reader_after engine_after known_after (bytes ++ piece) × Adds mid now bytes piece) → Going source_before before source_after now reader_after engine_after known_after (total + n)
-going_on source_before source source_after before mid now reader reader_after engine engine_after known known_after total n piece going size consumed given within faultless sure idle adds =
+pub going_on : (form : Form) (source_before source source_after : SourceSeen) (before mid now : SinkSeen) (reader reader_after : Reader) (engine engine_after : State) (known known_after : Bool) (total n : ℕ) (piece : List ℕ) → Going form source_before before source mid reader engine known total → n ≡ length piece → Consumes source.left source_after.left piece → source_after.given ≡ given_after source.given n → total + n ≤ most_bytes → source_after.faults ≡ source.faults → source_after.sure ≡ source.sure → IsTrue (is_idle engine_after) → ((bytes : List ℕ) → IsAt reader engine known bytes → IsAt reader_after engine_after known_after (bytes ++ piece) × Adds form mid now bytes piece) → Going form source_before before source_after now reader_after engine_after known_after (total + n)
+going_on form source_before source source_after before mid now reader reader_after engine engine_after known known_after total n piece going size consumed given within faultless sure idle adds =
     let added = adds going.bytes going.at in
     record {
       bytes = going.bytes ++ piece;
@@ -109,78 +110,78 @@ not_sure true h = absurd (h refl)
 not_sure false h = refl
 
 -- what was written is how the log's text begins
-log_begins : Begins → (before now : SinkSeen) (bytes more : List ℕ) → Wrote before now (whole_text bytes) → WrotePart before now (output (bytes ++ more))
-log_begins law before now bytes more wrote =
+log_begins : (form : Form) → Begins → (before now : SinkSeen) (bytes more : List ℕ) → Wrote before now (whole_text form bytes) → WrotePart before now (output form (bytes ++ more))
+log_begins form law before now bytes more wrote =
     let behind = law bytes more in
-    rw (text_behind bytes (bytes ++ more) behind.0 behind.1) (wrote_part before now (whole_text bytes) (text_from (world_at bytes) behind.0) wrote)
+    rw (text_behind form bytes (bytes ++ more) behind.0 behind.1) (wrote_part before now (whole_text form bytes) (text_from form (world_at bytes) behind.0) wrote)
 
-pub read_failed : Begins → (source_before source source_after : SourceSeen) (before now : SinkSeen) (reader : Reader) (engine : State) (known : Bool) (total : ℕ) → Going source_before before source now reader engine known total → source_after.left ≡ source.left → source_after.given ≡ source.given → Rose source.faults source_after.faults → (IsTrue source.sure → ⊥) → ReadFails source_before source_after before now
-read_failed law source_before source source_after before now reader engine known total going left given rose unsure =
+pub read_failed : (form : Form) → Begins → (source_before source source_after : SourceSeen) (before now : SinkSeen) (reader : Reader) (engine : State) (known : Bool) (total : ℕ) → Going form source_before before source now reader engine known total → source_after.left ≡ source.left → source_after.given ≡ source.given → Rose source.faults source_after.faults → (IsTrue source.sure → ⊥) → ReadFails form source_before source_after before now
+read_failed form law source_before source source_after before now reader engine known total going left given rose unsure =
     record {
       bytes = going.bytes;
       took = took_same source_before source source_after going.bytes going.took left given;
       written = going.wrote;
-      log = of_log (λ log. WrotePart before now (output log)) source_before.left source.left going.bytes going.took.left (λ more. log_begins law before now going.bytes more going.wrote);
+      log = of_log (λ log. WrotePart before now (output form log)) source_before.left source.left going.bytes going.took.left (λ more. log_begins form law before now going.bytes more going.wrote);
       short = rw (← going.count) going.short;
       rose = rw going.faultless at rose;
       unsure = sym going.sure ∙ not_sure source.sure unsure;
     }
 
-pub too_long : Begins → (source_before source source_after : SourceSeen) (before now : SinkSeen) (reader : Reader) (engine : State) (known : Bool) (total n : ℕ) (piece : List ℕ) → Going source_before before source now reader engine known total → n ≡ length piece → Consumes source.left source_after.left piece → source_after.given ≡ given_after source.given n → source_after.faults ≡ source.faults → most_bytes < total + n → PassesLimit source_before source_after before now
-too_long law source_before source source_after before now reader engine known total n piece going size consumed given faultless past =
+pub too_long : (form : Form) → Begins → (source_before source source_after : SourceSeen) (before now : SinkSeen) (reader : Reader) (engine : State) (known : Bool) (total n : ℕ) (piece : List ℕ) → Going form source_before before source now reader engine known total → n ≡ length piece → Consumes source.left source_after.left piece → source_after.given ≡ given_after source.given n → source_after.faults ≡ source.faults → most_bytes < total + n → PassesLimit form source_before source_after before now
+too_long form law source_before source source_after before now reader engine known total n piece going size consumed given faultless past =
     let count = going.count in
     record {
       bytes = going.bytes;
       last = piece;
       took = took_more source_before source source_after going.bytes piece going.took consumed (rw size at given);
       written = going.wrote;
-      log = of_log (λ log. WrotePart before now (output log)) source_before.left source.left going.bytes going.took.left (λ more. log_begins law before now going.bytes more going.wrote);
+      log = of_log (λ log. WrotePart before now (output form log)) source_before.left source.left going.bytes going.took.left (λ more. log_begins form law before now going.bytes more going.wrote);
       long = rw (length-append going.bytes piece, ← size, ← count) past;
       faultless = faultless ∙ going.faultless;
     }
 
-answers_stop : (source_before source : SourceSeen) (before now : SinkSeen) (bytes : List ℕ) (why : Stop) → Took source_before source bytes → length bytes ≤ most_bytes → source.faults ≡ source_before.faults → Stops before now (output bytes) why → IfSome source_before.left (λ log. Stops before now (output log) why) → AnswersLog source_before source before now (status_of (Err why))
-answers_stop source_before source before now bytes Memory took short faultless stops log =
+answers_stop : (form : Form) (source_before source : SourceSeen) (before now : SinkSeen) (bytes : List ℕ) (why : Stop) → Took source_before source bytes → length bytes ≤ most_bytes → source.faults ≡ source_before.faults → Stops before now (output form bytes) why → IfSome source_before.left (λ log. Stops before now (output form log) why) → AnswersLog form source_before source before now (status_of (Err why))
+answers_stop form source_before source before now bytes Memory took short faultless stops log =
     record { bytes = bytes; took = took; part = stops; log = log; short = short; faultless = faultless }
-answers_stop source_before source before now bytes Write took short faultless stops log =
+answers_stop form source_before source before now bytes Write took short faultless stops log =
     record { bytes = bytes; took = took; failed = stops; log = log; short = short; faultless = faultless }
 
 -- the work on a piece stopped
-stopped_at : (before mid now : SinkSeen) (bytes piece more : List ℕ) (why : Stop) → Wrote before mid (whole_text bytes) → Breaks mid now bytes (piece ++ more) why → Stops before now (output ((bytes ++ piece) ++ more)) why
-stopped_at before mid now bytes piece more why wrote broke =
+stopped_at : (form : Form) (before mid now : SinkSeen) (bytes piece more : List ℕ) (why : Stop) → Wrote before mid (whole_text form bytes) → Breaks form mid now bytes (piece ++ more) why → Stops before now (output form ((bytes ++ piece) ++ more)) why
+stopped_at form before mid now bytes piece more why wrote broke =
     rw (append_assoc bytes piece more, broke.added) (stops_behind before mid now _ _ why wrote broke.stops)
 
-pub work_stopped : (source_before source source_after : SourceSeen) (before mid now : SinkSeen) (reader : Reader) (engine : State) (known : Bool) (total n : ℕ) (piece : List ℕ) (why : Stop) → Going source_before before source mid reader engine known total → n ≡ length piece → Consumes source.left source_after.left piece → source_after.given ≡ given_after source.given n → source_after.faults ≡ source.faults → total + n ≤ most_bytes → ((bytes more : List ℕ) → IsAt reader engine known bytes → Breaks mid now bytes (piece ++ more) why) → AnswersLog source_before source_after before now (status_of (Err why))
-work_stopped source_before source source_after before mid now reader engine known total n piece why going size consumed given faultless within breaks =
+pub work_stopped : (form : Form) (source_before source source_after : SourceSeen) (before mid now : SinkSeen) (reader : Reader) (engine : State) (known : Bool) (total n : ℕ) (piece : List ℕ) (why : Stop) → Going form source_before before source mid reader engine known total → n ≡ length piece → Consumes source.left source_after.left piece → source_after.given ≡ given_after source.given n → source_after.faults ≡ source.faults → total + n ≤ most_bytes → ((bytes more : List ℕ) → IsAt reader engine known bytes → Breaks form mid now bytes (piece ++ more) why) → AnswersLog form source_before source_after before now (status_of (Err why))
+work_stopped form source_before source source_after before mid now reader engine known total n piece why going size consumed given faultless within breaks =
     let took = took_more source_before source source_after going.bytes piece going.took consumed (rw size at given) in
-    let stops : (more : List ℕ) → Stops before now (output ((going.bytes ++ piece) ++ more)) why
-    = λ more. stopped_at before mid now going.bytes piece more why going.wrote (breaks going.bytes more going.at) in
+    let stops : (more : List ℕ) → Stops before now (output form ((going.bytes ++ piece) ++ more)) why
+    = λ more. stopped_at form before mid now going.bytes piece more why going.wrote (breaks going.bytes more going.at) in
     let count = going.count in
-    answers_stop source_before source_after before now (going.bytes ++ piece) why took
+    answers_stop form source_before source_after before now (going.bytes ++ piece) why took
     (rw (length-append going.bytes piece, ← size, ← count) within)
     (faultless ∙ going.faultless)
     (rw (append-nil (going.bytes ++ piece)) at (stops []))
-    (of_log (λ log. Stops before now (output log) why) source_before.left source_after.left (going.bytes ++ piece) took.left stops)
+    (of_log (λ log. Stops before now (output form log) why) source_before.left source_after.left (going.bytes ++ piece) took.left stops)
 
 -- the log has ended
 of_all : (P : List ℕ → Type 0) (left : Option (List ℕ)) (bytes : List ℕ) → IfSome left (λ log. log ≡ bytes) → P bytes → IfSome left P
 of_all P None bytes all holds = tt
 of_all P (Some log) bytes all holds = rw all holds
 
-answers_end : (source_before source : SourceSeen) (before now : SinkSeen) (bytes : List ℕ) (result : Result Bool Stop) → Took source_before source bytes → length bytes ≤ most_bytes → source.faults ≡ source_before.faults → IsAtEnd source.left → Ends before now (output bytes) result → MatchResult result (λ refused. refused ≡ has_refusal bytes) (λ _. ⊤) → AnswersLog source_before source before now (status_of result)
-answers_end source_before source before now bytes (Ok false) took short faultless at_end ends told =
+answers_end : (form : Form) (source_before source : SourceSeen) (before now : SinkSeen) (bytes : List ℕ) (result : Result Bool Stop) → Took source_before source bytes → length bytes ≤ most_bytes → source.faults ≡ source_before.faults → IsAtEnd source.left → Ends before now (output form bytes) result → MatchResult result (λ refused. refused ≡ has_refusal bytes) (λ _. ⊤) → AnswersLog form source_before source before now (status_of result)
+answers_end form source_before source before now bytes (Ok false) took short faultless at_end ends told =
     record { bytes = bytes; took = took; at_end = at_end; all = all_taken source_before.left source.left bytes took.left at_end; written = ends; refused = sym told; short = short; faultless = faultless }
-answers_end source_before source before now bytes (Ok true) took short faultless at_end ends told =
+answers_end form source_before source before now bytes (Ok true) took short faultless at_end ends told =
     record { bytes = bytes; took = took; at_end = at_end; all = all_taken source_before.left source.left bytes took.left at_end; written = ends; refused = sym told; short = short; faultless = faultless }
-answers_end source_before source before now bytes (Err why) took short faultless at_end ends told =
-    answers_stop source_before source before now bytes why took short faultless ends
-    (of_all (λ log. Stops before now (output log) why) source_before.left bytes (all_taken source_before.left source.left bytes took.left at_end) ends)
+answers_end form source_before source before now bytes (Err why) took short faultless at_end ends told =
+    answers_stop form source_before source before now bytes why took short faultless ends
+    (of_all (λ log. Stops before now (output form log) why) source_before.left bytes (all_taken source_before.left source.left bytes took.left at_end) ends)
 
-pub log_ended : (source_before source source_after : SourceSeen) (before mid now : SinkSeen) (reader : Reader) (engine : State) (known : Bool) (total : ℕ) (result : Result Bool Stop) → Going source_before before source mid reader engine known total → Consumes source.left source_after.left [] → IsAtEnd source_after.left → source_after.given ≡ given_after source.given 0 → source_after.faults ≡ source.faults → ((bytes : List ℕ) → IsAt reader engine known bytes → Closes mid now bytes result) → AnswersLog source_before source_after before now (status_of result)
-log_ended source_before source source_after before mid now reader engine known total result going consumed at_end given faultless closes =
+pub log_ended : (form : Form) (source_before source source_after : SourceSeen) (before mid now : SinkSeen) (reader : Reader) (engine : State) (known : Bool) (total : ℕ) (result : Result Bool Stop) → Going form source_before before source mid reader engine known total → Consumes source.left source_after.left [] → IsAtEnd source_after.left → source_after.given ≡ given_after source.given 0 → source_after.faults ≡ source.faults → ((bytes : List ℕ) → IsAt reader engine known bytes → Closes form mid now bytes result) → AnswersLog form source_before source_after before now (status_of result)
+log_ended form source_before source source_after before mid now reader engine known total result going consumed at_end given faultless closes =
     let took : Took source_before source_after going.bytes = rw (append-nil going.bytes) at (took_more source_before source source_after going.bytes [] going.took consumed given) in
     let close = closes going.bytes going.at in
-    answers_end source_before source_after before now going.bytes result took
+    answers_end form source_before source_after before now going.bytes result took
     (rw (← going.count) going.short)
     (faultless ∙ going.faultless)
     at_end

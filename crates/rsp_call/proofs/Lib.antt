@@ -1,4 +1,5 @@
 pub mod Writings
+pub mod Tabless
 pub mod Tellings
 pub mod Folding
 pub mod Takings

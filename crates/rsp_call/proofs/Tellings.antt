@@ -1,11 +1,12 @@
 -- The reports of an event, written one behind another.
-use Rattle.std.proofs.Common.{◌≡◌, ℕ, suc, true, false, IsTrue, Ok, Option, Some, None, List, [], ◌∷◌, ◌++◌, length, map, refl, sym, ◌∙◌, ap, append_assoc}
+use Rattle.std.proofs.Common.{◌≡◌, ℕ, suc, true, false, IsTrue, Ok, Option, Some, None, List, [], ◌∷◌, ◌++◌, length, map, refl, subst, sym, ◌∙◌, ap, append_assoc}
 use Rattle.std.specs.List.{list_any}
 use Rattle.std.specs.Option.{is_some, option_map}
 use Rattle.std.proofs.lemmas.List.{append-nil}
 use Rattle.rsp_multiset.specs.Rows.{Cells}
 use Rattle.rsp_terms.specs.declared.term.Term.{Term}
 use Rattle.rsp_streams_out.specs.Rows.{AreRows, row_text}
+use Rattle.rsp_streams_out.specs.Json.{report_json}
 use Rattle.rsp_streams_out.specs.Reports.{report_head, report_text, rows_text, variables_line}
 use Rattle.rsp_engine.specs.declared.report.Report.{Report}
 use Rattle.rsp_engine.specs.declared.report.Outcome.{Outcome}
@@ -20,8 +21,11 @@ use Rattle.rsp_engine.specs.Reports.{IsOutcome, IsReport, reports, world_behind}
 use Rattle.rsp_engine.specs.Stands.{State, Stands, is_idle}
 use Rattle.rsp_engine.specs.Offers.{Answers, GivesFirst, GivesOf, HasNone, Refuses}
 use Rattle.rsp_engine.proofs.ReportSteps.{reports_step, world_step}
+use Rattle.rsp_call.specs.declared.form.Form.{Form}
+use Rattle.rsp_call.specs.declared.form.Form.TheVariants.{Table, Json}
 use Rattle.rsp_call.specs.declared.stop.Stop.{Stop}
 use Rattle.rsp_call.specs.declared.refusing.Place.{Place}
+use Rattle.rsp_call.specs.Apart.{IsTold, have_tab}
 use Rattle.rsp_call.specs.Output.{a_report, answer_step, is_refusal, outcome_text, text_of, text_of_report}
 use Rattle.std.specs.Fmt.{decimal}
 use Rattle.std.specs.Prelude.{codes}
@@ -29,9 +33,10 @@ use Rattle.rsp_call.specs.Refusals.{Reason, details, kind, of_event, place_text,
 use Rattle.rsp_call.specs.Runs.{event_refused, event_text, event_world, reports_text}
 use Rattle.rsp_call.specs.Sinks.{SinkSeen, Wrote, WrotePart}
 use Rattle.rsp_call.specs.Stops.{IsLineOf, Stops}
+use Rattle.rsp_call.proofs.Tabless.{same_json}
 use Rattle.rsp_call.proofs.Writings.{wrote_more, wrote_part, stops_behind, stops_before_more}
 
--- ---- a report's text depends on the texts of its rows alone
+-- ---- a report's text as a table depends on the texts of its rows alone
 
 -- a line for each text
 lines_of : List (List ℕ) → List ℕ
@@ -47,97 +52,111 @@ pub counted : (rows : List (Cells Term)) → length rows ≡ length (map row_tex
 counted [] = refl
 counted (row ∷ rows) = ap suc (counted rows)
 
-same_rows : (name : List ℕ) (at : ℕ) (variables : List (List ℕ)) (rows wanted : List (Cells Term)) → AreRows rows wanted → report_text name at variables rows ≡ report_text name at variables wanted
-same_rows name at variables rows wanted are =
+same_table : (name : List ℕ) (at : ℕ) (variables : List (List ℕ)) (rows wanted : List (Cells Term)) → AreRows rows wanted → report_text name at variables rows ≡ report_text name at variables wanted
+same_table name at variables rows wanted are =
     let many : length rows ≡ length wanted = counted rows ∙ (ap length are.texts ∙ sym (counted wanted)) in
     let lines : rows_text rows ≡ rows_text wanted = rows_as_lines rows ∙ (ap lines_of are.texts ∙ sym (rows_as_lines wanted)) in
     (λ i. report_head name at (many i) ++ (variables_line variables ++ lines i))
 
-same_outcome : (name : List ℕ) (at : ℕ) (variables : List (List ℕ)) (given wanted : Outcome) → IsOutcome given wanted → outcome_text name at variables given ≡ outcome_text name at variables wanted
-same_outcome name at variables Overfull wanted is = ap (outcome_text name at variables) (sym is)
-same_outcome name at variables (Rows rows) Overfull is = absurd is
-same_outcome name at variables (Rows rows) (Rows wanted) is = same_rows name at variables rows wanted is
+same_outcome : (form : Form) (name : List ℕ) (at : ℕ) (variables : List (List ℕ)) (given wanted : Outcome) → IsTold form given → IsOutcome given wanted → outcome_text form name at variables given ≡ outcome_text form name at variables wanted
+same_outcome form name at variables Overfull wanted told is = ap (outcome_text form name at variables) (sym is)
+same_outcome form name at variables (Rows rows) Overfull told is = absurd is
+same_outcome Table name at variables (Rows rows) (Rows wanted) told is = same_table name at variables rows wanted is
+same_outcome Json name at variables (Rows rows) (Rows wanted) told is = same_json name at variables rows wanted told is
 
-same_report : (report wanted : Report) → IsReport report wanted → text_of_report report ≡ text_of_report wanted
-same_report report wanted is =
-    (λ i. outcome_text (is.query i) (is.at i) (is.variables i) report.outcome)
-    ∙ same_outcome wanted.query wanted.at wanted.variables report.outcome wanted.outcome is.outcome
+pub same_report : (form : Form) (report wanted : Report) → IsTold form report.outcome → IsReport report wanted → text_of_report form report ≡ text_of_report form wanted
+same_report form report wanted told is =
+    (λ i. outcome_text form (is.query i) (is.at i) (is.variables i) report.outcome)
+    ∙ same_outcome form wanted.query wanted.at wanted.variables report.outcome wanted.outcome told is.outcome
+
+-- the text that is written of a report's rows is that of the report that is wanted
+pub table_told : (form : Form) (report : Report) (rows : List (Cells Term)) (text : List ℕ) → form ≡ Table → report.outcome ≡ Rows rows → text ≡ report_text report.query report.at report.variables rows → (wanted : Report) → IsReport report wanted → text ≡ text_of_report form wanted
+table_told form report rows text is outcome told wanted same =
+    let whole : text ≡ text_of_report form report = told ∙ sym (λ i. outcome_text (is i) report.query report.at report.variables (outcome i)) in
+    let apart : IsTold form report.outcome = subst (λ o. IsTold form o) (sym outcome) (subst (λ f. IsTold f (Rows rows)) (sym is) tt) in
+    whole ∙ same_report form report wanted apart same
+
+pub json_told : (form : Form) (report : Report) (rows : List (Cells Term)) (name : List ℕ) (variables : List (List ℕ)) (given : List (Cells Term)) (text : List ℕ) → form ≡ Json → report.outcome ≡ Rows rows → name ≡ report.query → variables ≡ report.variables → given ≡ rows → (text ≡ report_json name report.at variables given) × (have_tab given ≡ false) → (wanted : Report) → IsReport report wanted → text ≡ text_of_report form wanted
+json_told form report rows name variables given text is outcome query shown same_rows told wanted same =
+    let read = told.0 ∙ (λ i. report_json (query i) report.at (shown i) (same_rows i)) in
+    let whole : text ≡ text_of_report form report = read ∙ sym (λ i. outcome_text (is i) report.query report.at report.variables (outcome i)) in
+    let none = subst (λ rs. have_tab rs ≡ false) same_rows told.1 in
+    let apart : IsTold form report.outcome = subst (λ o. IsTold form o) (sym outcome) (subst (λ f. IsTold f (Rows rows)) (sym is) none) in
+    whole ∙ same_report form report wanted apart same
 
 -- ---- the reports of an event
 
 -- some reports are written, and the engine stands for the world and the moments behind them
-pub record Told (world : World) (left : List Moment) (engine : State) (before now : SinkSeen) : Type 0 where
+pub record Told (form : Form) (world : World) (left : List Moment) (engine : State) (before now : SinkSeen) : Type 0 where
   pub here : World
   pub rest : List Moment
   pub done : List ℕ
   pub stands : Stands engine here rest
-  pub all : reports_text (reports world left) ≡ done ++ reports_text (reports here rest)
+  pub all : reports_text form (reports world left) ≡ done ++ reports_text form (reports here rest)
   pub leads : world_behind world left ≡ world_behind here rest
   pub wrote : Wrote before now done
 
-abbrev pub Telling : State → SinkSeen → State → SinkSeen → Type 0
-Telling engine_before before engine now = (world : World) (left : List Moment) → Stands engine_before world left → Told world left engine before now
+abbrev pub Telling : Form → State → SinkSeen → State → SinkSeen → Type 0
+Telling form engine_before before engine now = (world : World) (left : List Moment) → Stands engine_before world left → Told form world left engine before now
 
 -- the text that a report begins
-given_text : (world : World) (rest : List Moment) (report : Report) (new : State) → (gives : GivesOf world rest report new)
-    → reports_text (reports world rest) ≡ text_of_report report ++ reports_text (reports gives.step.after gives.step.left)
-given_text world rest report new gives =
-    ap reports_text (reports_step world rest gives.step gives.is_next)
-    ∙ ap (λ text. text ++ reports_text (reports gives.step.after gives.step.left)) (sym (same_report report gives.step.report gives.is_report))
+given_text : (form : Form) (world : World) (rest : List Moment) (report : Report) (new : State) → (gives : GivesOf world rest report new)
+    → reports_text form (reports world rest) ≡ text_of_report form gives.step.report ++ reports_text form (reports gives.step.after gives.step.left)
+given_text form world rest report new gives = ap (reports_text form) (reports_step world rest gives.step gives.is_next)
 
 -- one report more
-told_more : (world : World) (left : List Moment) (engine after : State) (before mid now : SinkSeen) (report : Report) → Told world left engine before mid → GivesFirst engine report after → Wrote mid now (text_of_report report) → Told world left after before now
-told_more world left engine after before mid now report told gives wrote =
+told_more : (form : Form) (world : World) (left : List Moment) (engine after : State) (before mid now : SinkSeen) (report : Report) → Told form world left engine before mid → GivesFirst engine report after → ((wanted : Report) → IsReport report wanted → Wrote mid now (text_of_report form wanted)) → Told form world left after before now
+told_more form world left engine after before mid now report told gives wrote =
     let first = gives.gives told.here told.rest told.stands in
     record {
       here = first.step.after;
       rest = first.step.left;
-      done = told.done ++ text_of_report report;
+      done = told.done ++ text_of_report form first.step.report;
       stands = first.stands;
       all =
           told.all
-          ∙ (ap (λ text. told.done ++ text) (given_text told.here told.rest report after first)
-          ∙ sym (append_assoc told.done (text_of_report report) (reports_text (reports first.step.after first.step.left))));
+          ∙ (ap (λ text. told.done ++ text) (given_text form told.here told.rest report after first)
+          ∙ sym (append_assoc told.done (text_of_report form first.step.report) (reports_text form (reports first.step.after first.step.left))));
       leads = told.leads ∙ world_step told.here told.rest first.step first.is_next;
-      wrote = wrote_more before mid now _ _ told.wrote wrote;
+      wrote = wrote_more before mid now _ _ told.wrote (wrote first.step.report first.is_report);
     }
 
 -- no report is left
-pub told_all : (world : World) (left : List Moment) (engine after : State) (before now : SinkSeen) → Told world left engine before now → HasNone engine after → Wrote before now (reports_text (reports world left)) × Stands after (world_behind world left) []
-told_all world left engine after before now told none =
+pub told_all : (form : Form) (world : World) (left : List Moment) (engine after : State) (before now : SinkSeen) → Told form world left engine before now → HasNone engine after → Wrote before now (reports_text form (reports world left)) × Stands after (world_behind world left) []
+told_all form world left engine after before now told none =
     let ended : told.rest ≡ [] = none.none told.here told.rest told.stands in
-    let all : reports_text (reports world left) ≡ told.done = told.all ∙ (rw ended (append-nil told.done)) in
+    let all : reports_text form (reports world left) ≡ told.done = told.all ∙ (rw ended (append-nil told.done)) in
     let led : world_behind world left ≡ told.here = told.leads ∙ rw ended refl in
     (rw all told.wrote, rw (led, none.unchanged, ← ended) told.stands)
 
 -- a report that stopped stops them all
-pub told_stops : (world : World) (left : List Moment) (engine after : State) (before mid now : SinkSeen) (report : Report) (why : Stop) → Told world left engine before mid → GivesFirst engine report after → Stops mid now (text_of_report report) why → Stops before now (reports_text (reports world left)) why
-told_stops world left engine after before mid now report why told gives stops =
+pub told_stops : (form : Form) (world : World) (left : List Moment) (engine after : State) (before mid now : SinkSeen) (report : Report) (why : Stop) → Told form world left engine before mid → GivesFirst engine report after → ((wanted : Report) → IsReport report wanted → Stops mid now (text_of_report form wanted) why) → Stops before now (reports_text form (reports world left)) why
+told_stops form world left engine after before mid now report why told gives stops =
     let first = gives.gives told.here told.rest told.stands in
-    let all = told.all ∙ ap (λ text. told.done ++ text) (given_text told.here told.rest report after first) in
-    rw all (stops_behind before mid now told.done _ why told.wrote (stops_before_more mid now _ _ why stops))
+    let all = told.all ∙ ap (λ text. told.done ++ text) (given_text form told.here told.rest report after first) in
+    rw all (stops_behind before mid now told.done _ why told.wrote (stops_before_more mid now _ _ why (stops first.step.report first.is_report)))
 
 -- memory was refused between two reports
-pub told_part : (world : World) (left : List Moment) (engine : State) (before now : SinkSeen) → Told world left engine before now → WrotePart before now (reports_text (reports world left))
-told_part world left engine before now told = rw told.all (wrote_part before now told.done _ told.wrote)
+pub told_part : (form : Form) (world : World) (left : List Moment) (engine : State) (before now : SinkSeen) → Told form world left engine before now → WrotePart before now (reports_text form (reports world left))
+told_part form world left engine before now told = rw told.all (wrote_part before now told.done _ told.wrote)
 
-pub telling_more : (engine_before : State) (before : SinkSeen) (engine : State) (mid : SinkSeen) (after : State) (now : SinkSeen) (report : Report) → Telling engine_before before engine mid → GivesFirst engine report after → Wrote mid now (text_of_report report) → Telling engine_before before after now
-telling_more engine_before before engine mid after now report telling gives wrote =
-    λ world left stands. told_more world left engine after before mid now report (telling world left stands) gives wrote
+pub telling_more : (form : Form) (engine_before : State) (before : SinkSeen) (engine : State) (mid : SinkSeen) (after : State) (now : SinkSeen) (report : Report) → Telling form engine_before before engine mid → GivesFirst engine report after → ((wanted : Report) → IsReport report wanted → Wrote mid now (text_of_report form wanted)) → Telling form engine_before before after now
+telling_more form engine_before before engine mid after now report telling gives wrote =
+    λ world left stands. told_more form world left engine after before mid now report (telling world left stands) gives wrote
 
 -- ---- what an event says
 
-reports_said : (reports : List Report) → text_of (map a_report reports) ≡ reports_text reports
-reports_said [] = refl
-reports_said (report ∷ reports) = ap (λ text. text_of_report report ++ text) (reports_said reports)
+reports_said : (form : Form) (reports : List Report) → text_of form (map a_report reports) ≡ reports_text form reports
+reports_said form [] = refl
+reports_said form (report ∷ reports) = ap (λ text. text_of_report form report ++ text) (reports_said form reports)
 
 no_refusal : (reports : List Report) → list_any is_refusal (map a_report reports) ≡ false
 no_refusal [] = refl
 no_refusal (report ∷ reports) = no_refusal reports
 
 -- an accepted event says its reports
-pub accepted_text : (world : World) (place : Place) (event : Event) (after : World) → accept world event ≡ Ok after → event_text world place event ≡ reports_text (reports after (moments world event after))
-accepted_text world place event after is = ap (λ answer. text_of (answer_step world place event answer).said) is ∙ reports_said (reports after (moments world event after))
+pub accepted_text : (form : Form) (world : World) (place : Place) (event : Event) (after : World) → accept world event ≡ Ok after → event_text form world place event ≡ reports_text form (reports after (moments world event after))
+accepted_text form world place event after is = ap (λ answer. text_of form (answer_step world place event answer).said) is ∙ reports_said form (reports after (moments world event after))
 
 pub accepted_stands : (world : World) (place : Place) (event : Event) (after : World) (engine : State) → accept world event ≡ Ok after → Stands engine (world_behind after (moments world event after)) []
     → (false ≡ event_refused world place event) × Stands engine (event_world world place event) []
@@ -147,13 +166,13 @@ accepted_stands world place event after engine is stands = (
 )
 
 -- a refused event says its refusal
-pub refused_text : (old new : State) (event : Event) (why : Refused) (place : Place) (world : World) → Refuses old event why new → Stands old world []
-    → IsLineOf place (option_map of_event (refusal_of why)) (event_text world place event)
-refused_text old new event why place world refuses stands = by (refusal_of why) refuses
+pub refused_text : (form : Form) (old new : State) (event : Event) (why : Refused) (place : Place) (world : World) → Refuses old event why new → Stands old world []
+    → IsLineOf place (option_map of_event (refusal_of why)) (event_text form world place event)
+refused_text form old new event why place world refuses stands = by (refusal_of why) refuses
   where
-    by : (o : Option Refusal) → Answers old event why o new → IsLineOf place (option_map of_event o) (event_text world place event)
+    by : (o : Option Refusal) → Answers old event why o new → IsLineOf place (option_map of_event o) (event_text form world place event)
     by None answers = tt
-    by (Some refusal) answers = ap (λ answer. text_of (answer_step world place event answer).said) (answers.refused world stands) ∙ append-nil _
+    by (Some refusal) answers = ap (λ answer. text_of form (answer_step world place event answer).said) (answers.refused world stands) ∙ append-nil _
 
 -- and leaves the world
 pub refused_stands : (old new : State) (event : Event) (why : Refused) (place : Place) (world : World) → Refuses old event why new → is_some (option_map of_event (refusal_of why)) ≡ true → Stands old world []

@@ -1,18 +1,40 @@
 -- Rows of the table of words, worked out by hand, and the first of the generator's items.
-use Rattle.std.proofs.Common.{◌≡◌, ℕ, Some, None, List, [], ◌∷◌, ◌++◌, length, refl}
+use Rattle.std.proofs.Common.{◌≡◌, ℕ, Some, None, [], ◌∷◌, ◌++◌, length, refl}
 use Rattle.std.specs.Prelude.{codes, decimal}
 use Rattle.rsp_text.specs.Digits.{read_u64}
+use Rattle.rsp_call.specs.declared.form.Form.TheVariants.{Table, Json}
 use Rattle.rsp_call.specs.Generator.{graph_of, random, reading, sensor}
 use Rattle.rsp_call.specs.Words.{check, events, generate, mode_of}
 
 pub no_words : mode_of [] ≡ None
 no_words = refl
 
-pub log : mode_of (codes "events" ∷ []) ≡ Some events
+pub log : mode_of (codes "events" ∷ []) ≡ Some (events Table)
 log = refl
 
-pub log_and_dashes : mode_of (codes "events" ∷ codes "--" ∷ []) ≡ Some events
+pub log_and_dashes : mode_of (codes "events" ∷ codes "--" ∷ []) ≡ Some (events Table)
 log_and_dashes = refl
+
+pub log_as_json : mode_of (codes "events" ∷ codes "--json" ∷ []) ≡ Some (events Json)
+log_as_json = refl
+
+pub json_before_dashes : mode_of (codes "events" ∷ codes "--json" ∷ codes "--" ∷ []) ≡ Some (events Json)
+json_before_dashes = refl
+
+pub json_behind_dashes : mode_of (codes "events" ∷ codes "--" ∷ codes "--json" ∷ []) ≡ None
+json_behind_dashes = refl
+
+pub json_twice : mode_of (codes "events" ∷ codes "--json" ∷ codes "--json" ∷ []) ≡ None
+json_twice = refl
+
+pub json_and_dashes_twice : mode_of (codes "events" ∷ codes "--json" ∷ codes "--" ∷ codes "--" ∷ []) ≡ None
+json_and_dashes_twice = refl
+
+pub json_before_the_mode : mode_of (codes "--json" ∷ codes "events" ∷ []) ≡ None
+json_before_the_mode = refl
+
+pub json_of_a_check : mode_of (codes "check" ∷ codes "--json" ∷ codes "q.rq" ∷ []) ≡ None
+json_of_a_check = refl
 
 pub log_and_a_value : mode_of (codes "events" ∷ codes "log" ∷ []) ≡ None
 log_and_a_value = refl

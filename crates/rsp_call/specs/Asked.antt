@@ -5,7 +5,7 @@ use Rattle.rsp_call.specs.declared.words.Mode.{Mode}
 use Rattle.rsp_call.specs.declared.words.Mode.TheVariants.{Events, Check, Generate}
 
 abbrev pub mode_for : Mode → words.Mode
-mode_for Events = words.events
+mode_for (Events form) = words.events form
 mode_for (Check query) = words.check query.now
 mode_for (Generate count) = words.generate count
 

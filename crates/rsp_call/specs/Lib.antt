@@ -13,6 +13,7 @@ pub mod FileAnswers
 pub mod Answers
 -- Words of the way
 pub mod Asked
+pub mod Apart
 pub mod Verdicts
 pub mod Tallies
 pub mod Readings

@@ -7,6 +7,9 @@ use Rattle.rsp_events.specs.declared.event.Block as blocks
 use Rattle.rsp_events.specs.declared.event.Content.{Content}
 use Rattle.rsp_events.specs.declared.event.Content.TheVariants.{Event, Fault}
 use Rattle.rsp_events.specs.Blocks as log
+use Rattle.rsp_terms.specs.declared.term.Term.{Term}
+use Rattle.rsp_multiset.specs.Rows.{Cells}
+use Rattle.rsp_streams_out.specs.Json.{report_json}
 use Rattle.rsp_streams_out.specs.Reports.{overfull_text, report_text}
 use Rattle.rsp_engine.specs.declared.report.Report.{Report}
 use Rattle.rsp_engine.specs.declared.report.Outcome.{Outcome}
@@ -16,6 +19,8 @@ use Rattle.rsp_engine.specs.Refusals.{Refusal}
 use Rattle.rsp_engine.specs.Accept.{accept}
 use Rattle.rsp_engine.specs.Moments.{moments}
 use Rattle.rsp_engine.specs.Reports.{reports, world_behind}
+use Rattle.rsp_call.specs.declared.form.Form.{Form}
+use Rattle.rsp_call.specs.declared.form.Form.TheVariants.{Table, Json}
 use Rattle.rsp_call.specs.declared.refusing.Place.{Place}
 use Rattle.rsp_call.specs.declared.refusing.Place.TheVariants.{Block}
 use Rattle.rsp_call.specs.Refusals.{Reason, of_block, of_event, refusal_line}
@@ -30,23 +35,30 @@ pub data Saying : Type 0 where
   no_fault : Saying
   a_summary : ℕ → ℕ → ℕ → Saying
 
-abbrev pub outcome_text : List ℕ → ℕ → List (List ℕ) → Outcome → List ℕ
-outcome_text name at variables (Rows rows) = report_text name at variables rows
-outcome_text name at variables Overfull = overfull_text name at
+-- the rows of a report: as a table, or as one line of JSON
+abbrev pub text_of_rows : Form → List ℕ → ℕ → List (List ℕ) → List (Cells Term) → List ℕ
+text_of_rows Table = report_text
+text_of_rows Json = report_json
 
-abbrev pub text_of_report : Report → List ℕ
-text_of_report report = outcome_text report.query report.at report.variables report.outcome
+-- an overfull report has one form
+abbrev pub outcome_text : Form → List ℕ → ℕ → List (List ℕ) → Outcome → List ℕ
+outcome_text form name at variables (Rows rows) = text_of_rows form name at variables rows
+outcome_text form name at variables Overfull = overfull_text name at
 
-abbrev pub text_of_saying : Saying → List ℕ
-text_of_saying (a_report report) = text_of_report report
-text_of_saying (a_refusal place reason) = refusal_line place reason
-text_of_saying no_fault = codes "ok\n"
-text_of_saying (a_summary count reports rows) =
+abbrev pub text_of_report : Form → Report → List ℕ
+text_of_report form report = outcome_text form report.query report.at report.variables report.outcome
+
+-- and so has all that is no report
+abbrev pub text_of_saying : Form → Saying → List ℕ
+text_of_saying form (a_report report) = text_of_report form report
+text_of_saying form (a_refusal place reason) = refusal_line place reason
+text_of_saying form no_fault = codes "ok\n"
+text_of_saying form (a_summary count reports rows) =
     codes "gen "
     ++ (decimal count ++ (codes " reports " ++ (decimal reports ++ (codes " rows " ++ (decimal rows ++ codes "\n")))))
 
-abbrev pub text_of : List Saying → List ℕ
-text_of said = flat_map text_of_saying said
+abbrev pub text_of : Form → List Saying → List ℕ
+text_of form said = flat_map (text_of_saying form) said
 
 abbrev pub is_refusal : Saying → Bool
 is_refusal (a_report report) = false
@@ -97,17 +109,17 @@ log_blocks bytes = log.blocks 1 bytes
 abbrev pub log_whole_blocks : List ℕ → List blocks.Block
 log_whole_blocks bytes = log.whole_blocks 1 bytes
 
--- what the program writes for a log
-abbrev pub output : List ℕ → List ℕ
-output bytes = text_of (run empty_world (log_blocks bytes)).said
+-- what the program writes for a log, with its reports in this form
+abbrev pub output : Form → List ℕ → List ℕ
+output form bytes = text_of form (run empty_world (log_blocks bytes)).said
 
 -- some block of the log is refused
 abbrev pub has_refusal : List ℕ → Bool
 has_refusal bytes = list_any is_refusal (run empty_world (log_blocks bytes)).said
 
 -- what the blocks that have ended give
-abbrev pub whole_text : List ℕ → List ℕ
-whole_text bytes = text_of (run empty_world (log_whole_blocks bytes)).said
+abbrev pub whole_text : Form → List ℕ → List ℕ
+whole_text form bytes = text_of form (run empty_world (log_whole_blocks bytes)).said
 
 -- what is written where the words are in no row of the table
 abbrev pub usage_text : List ℕ

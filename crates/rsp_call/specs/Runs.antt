@@ -6,14 +6,15 @@ use Rattle.rsp_events.specs.declared.event.Block.{Block}
 use Rattle.rsp_events.specs.declared.event.Content.{Content}
 use Rattle.rsp_engine.specs.declared.report.Report.{Report}
 use Rattle.rsp_engine.specs.World.{World}
+use Rattle.rsp_call.specs.declared.form.Form.{Form}
 use Rattle.rsp_call.specs.declared.refusing.Place.{Place}
 use Rattle.rsp_call.specs.Output.{content_step, event_step, is_refusal, run, text_of, text_of_report}
 
-abbrev pub reports_text : List Report → List ℕ
-reports_text = flat_map text_of_report
+abbrev pub reports_text : Form → List Report → List ℕ
+reports_text form = flat_map (text_of_report form)
 
-abbrev pub event_text : World → Place → Event → List ℕ
-event_text world place event = text_of (event_step world place event).said
+abbrev pub event_text : Form → World → Place → Event → List ℕ
+event_text form world place event = text_of form (event_step world place event).said
 
 abbrev pub event_world : World → Place → Event → World
 event_world world place event = (event_step world place event).after
@@ -21,8 +22,8 @@ event_world world place event = (event_step world place event).after
 abbrev pub event_refused : World → Place → Event → Bool
 event_refused world place event = list_any is_refusal (event_step world place event).said
 
-abbrev pub content_text : World → Place → Content → List ℕ
-content_text world place content = text_of (content_step world place content).said
+abbrev pub content_text : Form → World → Place → Content → List ℕ
+content_text form world place content = text_of form (content_step world place content).said
 
 abbrev pub content_world : World → Place → Content → World
 content_world world place content = (content_step world place content).after
@@ -30,8 +31,8 @@ content_world world place content = (content_step world place content).after
 abbrev pub content_refused : World → Place → Content → Bool
 content_refused world place content = list_any is_refusal (content_step world place content).said
 
-abbrev pub text_from : World → List Block → List ℕ
-text_from world blocks = text_of (run world blocks).said
+abbrev pub text_from : Form → World → List Block → List ℕ
+text_from form world blocks = text_of form (run world blocks).said
 
 abbrev pub world_from : World → List Block → World
 world_from world blocks = (run world blocks).after

@@ -7,6 +7,7 @@ use Rattle.rsp_call.specs.Output.{log_whole_blocks, whole_text, output, has_refu
 use Rattle.rsp_call.specs.Runs.{refused_from, world_from}
 use Rattle.rsp_call.specs.Sinks.{SinkSeen, Wrote}
 use Rattle.rsp_call.specs.Stops.{Stops, Ends}
+use Rattle.rsp_call.specs.declared.form.Form.{Form}
 use Rattle.rsp_call.specs.declared.stop.Stop.{Stop}
 
 -- these bytes were read; the engine stands for the world that their whole blocks make; and it is known whether one of
@@ -18,20 +19,20 @@ pub record IsAt (reader : Reader) (engine : State) (known : Bool) (bytes : List 
   pub refused : known ≡ refused_from empty_world (log_whole_blocks bytes)
 
 -- the text that more bytes add was written
-pub record Adds (before now : SinkSeen) (bytes piece : List ℕ) : Type 0 where
+pub record Adds (form : Form) (before now : SinkSeen) (bytes piece : List ℕ) : Type 0 where
   pub text : List ℕ
-  pub added : whole_text (bytes ++ piece) ≡ whole_text bytes ++ text
+  pub added : whole_text form (bytes ++ piece) ≡ whole_text form bytes ++ text
   pub wrote : Wrote before now text
 
 -- the session stopped on the way through the text that the rest of the log adds
-pub record Breaks (before now : SinkSeen) (bytes rest : List ℕ) (why : Stop) : Type 0 where
+pub record Breaks (form : Form) (before now : SinkSeen) (bytes rest : List ℕ) (why : Stop) : Type 0 where
   pub text : List ℕ
-  pub added : output (bytes ++ rest) ≡ whole_text bytes ++ text
+  pub added : output form (bytes ++ rest) ≡ whole_text form bytes ++ text
   pub stops : Stops before now text why
 
 -- the text that the end of the log adds was written, or the session stopped on the way
-pub record Closes (before now : SinkSeen) (bytes : List ℕ) (result : Result Bool Stop) : Type 0 where
+pub record Closes (form : Form) (before now : SinkSeen) (bytes : List ℕ) (result : Result Bool Stop) : Type 0 where
   pub text : List ℕ
-  pub added : output bytes ≡ whole_text bytes ++ text
+  pub added : output form bytes ≡ whole_text form bytes ++ text
   pub ends : Ends before now text result
   pub refused : MatchResult result (λ refused. refused ≡ has_refusal bytes) (λ _. ⊤)

@@ -7,6 +7,7 @@ ghost use Rattle.rsp_engine.specs.Reports.{reports, world_behind};
 ghost use Rattle.rsp_engine.specs.World.{World, empty_world};
 ghost use Rattle.rsp_engine.specs.Stands.{Stands, is_idle};
 ghost use Rattle.rsp_call.specs.FileAnswers.{AnswersFiles};
+ghost use Rattle.rsp_call.specs.declared.form.Form.TheVariants.{Table};
 ghost use Rattle.rsp_call.specs.Output.{a_summary, event_step, run, text_of, text_of_saying};
 ghost use Rattle.rsp_call.specs.Runs.{event_world, world_from};
 ghost use Rattle.rsp_call.specs.Shelves.{ShelfSeen};
@@ -43,7 +44,7 @@ pub(crate) fn generate<K: Sink, L: Ledger>(
     steps: &mut Steps<L>,
 ) -> Status
     requires { count ≤ 1000000 }
-    ensures text { (shelf : ShelfSeen) → AnswersFiles [] (counted count) shelf shelf
+    ensures text { (shelf : ShelfSeen) → AnswersFiles Table [] (counted count) shelf shelf
         (sink_seen (K.taken out.old) (K.room out.old) (K.faults out.old))
         (sink_seen (K.taken out.new) (K.room out.new) (K.faults out.new))
         result }
@@ -68,7 +69,7 @@ fn tell_summary<K: Sink, L: Ledger>(
     ensures text { Ends
         (sink_seen (K.taken out.old) (K.room out.old) (K.faults out.old))
         (sink_seen (K.taken out.new) (K.room out.new) (K.faults out.new))
-        (text_of (counted count [])) result }
+        (text_of Table (counted count [])) result }
     ensures refused { IfOk result (λ refused. refused ≡ false) }
 {
     match tally_of(alloc, engine, count, steps) {
@@ -86,7 +87,7 @@ fn write_summary<K: Sink>(
     ensures text { Ends
         (sink_seen (K.taken out.old) (K.room out.old) (K.faults out.old))
         (sink_seen (K.taken out.new) (K.room out.new) (K.faults out.new))
-        (text_of_saying (a_summary count tally.reports tally.rows)) result }
+        (text_of_saying Table (a_summary count tally.reports tally.rows)) result }
     ensures refused { IfOk result (λ refused. refused ≡ false) }
 {
     let Tally { reports, rows } = tally;

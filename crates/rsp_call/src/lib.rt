@@ -5,9 +5,11 @@
 //! the real objects and calls it. Below: the engine, the event log, the readers of queries, reports and io.
 #![tactic(auto)]
 
+mod apart;
 mod checking;
 mod counting;
 mod faults;
+mod form;
 mod generating;
 mod reading;
 mod refusing;

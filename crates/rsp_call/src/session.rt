@@ -10,6 +10,7 @@ ghost use Rattle.rsp_call.specs.Sinks.{sink_seen};
 ghost use Rattle.rsp_call.specs.Stops.{Ends};
 ghost use Rattle.rsp_call.specs.Sessions.{IsAt, Adds, Breaks, Closes};
 
+use crate::form::Form;
 use crate::refusing::Place;
 use crate::stop::Stop;
 use crate::taking::take_content;
@@ -57,6 +58,7 @@ impl Session {
     pub(crate) fn work<K: Sink, L: Ledger>(
         &mut self,
         piece: &[u8],
+        form: Form,
         out: &mut K,
         steps: &mut Steps<L>,
     ) -> Result<(), Stop>
@@ -64,18 +66,18 @@ impl Session {
         ensures idle { OnOk result (IsTrue (is_idle self.new.engine)) }
         ensures ok { OnOk result ((bytes : List ℕ) → IsAt self.old.blocks self.old.engine self.old.refused bytes
             → IsAt self.new.blocks self.new.engine self.new.refused (bytes ++ piece.now)
-            × Adds
+            × Adds form
             (sink_seen (K.taken out.old) (K.room out.old) (K.faults out.old))
             (sink_seen (K.taken out.new) (K.room out.new) (K.faults out.new))
             bytes piece.now) }
         ensures err { IfErr result (λ why. (bytes more : List ℕ) → IsAt self.old.blocks self.old.engine self.old.refused bytes
-            → Breaks
+            → Breaks form
             (sink_seen (K.taken out.old) (K.room out.old) (K.faults out.old))
             (sink_seen (K.taken out.new) (K.room out.new) (K.faults out.new))
             bytes (piece.now ++ more) why) }
     {
         match self.blocks.feed(piece) {
-            Ok(given) => match take_blocks(self.alloc, &mut self.engine, given, out, steps) {
+            Ok(given) => match take_blocks(self.alloc, &mut self.engine, given, form, out, steps) {
                 Ok(refused) => {
                     self.refused = either(self.refused, refused);
                     Ok(())
@@ -90,12 +92,13 @@ impl Session {
     /// whether some block of the log was refused.
     pub(crate) fn finish<K: Sink, L: Ledger>(
         &mut self,
+        form: Form,
         out: &mut K,
         steps: &mut Steps<L>,
     ) -> Result<bool, Stop>
         requires { IsTrue (is_idle self.old.engine) }
         ensures closes { (bytes : List ℕ) → IsAt self.old.blocks self.old.engine self.old.refused bytes
-            → Closes
+            → Closes form
             (sink_seen (K.taken out.old) (K.room out.old) (K.faults out.old))
             (sink_seen (K.taken out.new) (K.room out.new) (K.faults out.new))
             bytes result }
@@ -107,6 +110,7 @@ impl Session {
                     &mut self.engine,
                     Place::Block(block.number),
                     block.content,
+                    form,
                     out,
                     steps,
                 ) {
@@ -131,6 +135,7 @@ fn take_blocks<K: Sink, L: Ledger>(
     alloc: Global,
     engine: &mut Engine<Plain>,
     blocks: Listed<Block>,
+    form: Form,
     out: &mut K,
     steps: &mut Steps<L>,
 ) -> Result<bool, Stop>
@@ -141,7 +146,7 @@ fn take_blocks<K: Sink, L: Ledger>(
         → Ends
         (sink_seen (K.taken out.old) (K.room out.old) (K.faults out.old))
         (sink_seen (K.taken out.new) (K.room out.new) (K.faults out.new))
-        (text_from world blocks) result }
+        (text_from form world blocks) result }
     ensures stands { IfOk result (λ refused. (world : World) → Stands engine.old world []
         → (refused ≡ refused_from world blocks) × Stands engine.new (world_from world blocks) []) }
 {
@@ -152,6 +157,7 @@ fn take_blocks<K: Sink, L: Ledger>(
             engine,
             Place::Block(block.number),
             block.content,
+            form,
             out,
             steps,
         ) {

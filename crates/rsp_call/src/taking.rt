@@ -7,6 +7,7 @@ ghost use Rattle.rsp_call.specs.Runs.{content_refused, content_text, content_wor
 ghost use Rattle.rsp_call.specs.Sinks.{sink_seen};
 ghost use Rattle.rsp_call.specs.Stops.{Ends};
 
+use crate::form::Form;
 use crate::refusing::{Answered, Place, refuse};
 use crate::stop::Stop;
 use crate::telling::tell_reports;
@@ -24,6 +25,7 @@ pub(crate) fn take_content<K: Sink, L: Ledger>(
     engine: &mut Engine<Plain>,
     place: Place,
     content: Content,
+    form: Form,
     out: &mut K,
     steps: &mut Steps<L>,
 ) -> Result<bool, Stop>
@@ -34,12 +36,12 @@ pub(crate) fn take_content<K: Sink, L: Ledger>(
         → Ends
         (sink_seen (K.taken out.old) (K.room out.old) (K.faults out.old))
         (sink_seen (K.taken out.new) (K.room out.new) (K.faults out.new))
-        (content_text world place content) result }
+        (content_text form world place content) result }
     ensures stands { IfOk result (λ refused. (world : World) → Stands engine.old world []
         → (refused ≡ content_refused world place content) × Stands engine.new (content_world world place content) []) }
 {
     match content {
-        Content::Event(event) => take_event(alloc, engine, place, event, out, steps),
+        Content::Event(event) => take_event(alloc, engine, place, event, form, out, steps),
         Content::Fault(fault) => refuse(alloc, place, Answered::Fault(fault), out),
     }
 }
@@ -49,6 +51,7 @@ fn take_event<K: Sink, L: Ledger>(
     engine: &mut Engine<Plain>,
     place: Place,
     event: Event,
+    form: Form,
     out: &mut K,
     steps: &mut Steps<L>,
 ) -> Result<bool, Stop>
@@ -59,12 +62,12 @@ fn take_event<K: Sink, L: Ledger>(
         → Ends
         (sink_seen (K.taken out.old) (K.room out.old) (K.faults out.old))
         (sink_seen (K.taken out.new) (K.room out.new) (K.faults out.new))
-        (event_text world place event) result }
+        (event_text form world place event) result }
     ensures stands { IfOk result (λ refused. (world : World) → Stands engine.old world []
         → (refused ≡ event_refused world place event) × Stands engine.new (event_world world place event) []) }
 {
     match engine.offer(event) {
-        Ok(()) => match tell_reports(alloc, engine, out, steps) {
+        Ok(()) => match tell_reports(alloc, engine, form, out, steps) {
             Ok(()) => Ok(false),
             Err(stop) => Err(stop),
         },

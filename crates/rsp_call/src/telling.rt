@@ -1,21 +1,29 @@
 // Writing the reports of an event.
-ghost use Rattle.std.specs.Prelude.{◌≡◌, IsTrue, IfOk, OnOk, List, []};
+ghost use Rattle.std.specs.Prelude.{◌≡◌, IsTrue, IfOk, OnOk, List, [], false};
 ghost use Rattle.rsp_engine.specs.World.{World};
 ghost use Rattle.rsp_engine.specs.Moments.{Moment};
-ghost use Rattle.rsp_engine.specs.Reports.{reports, world_behind};
+ghost use Rattle.rsp_engine.specs.declared.report.Report.{Report};
+ghost use Rattle.rsp_engine.specs.Reports.{IsReport, reports, world_behind};
 ghost use Rattle.rsp_engine.specs.Stands.{Stands, is_idle};
+ghost use Rattle.rsp_streams_out.specs.Json.{report_json};
+ghost use Rattle.rsp_streams_out.specs.Reports.{overfull_text, report_text};
+ghost use Rattle.rsp_call.specs.Apart.{have_tab};
 ghost use Rattle.rsp_call.specs.Output.{text_of_report};
 ghost use Rattle.rsp_call.specs.Runs.{reports_text};
 ghost use Rattle.rsp_call.specs.Sinks.{sink_seen};
 ghost use Rattle.rsp_call.specs.Stops.{Ends};
 
+use crate::apart::have_tab;
+use crate::form::Form;
 use crate::stop::Stop;
 use crate::writing::write_all;
 use rsp_engine::{Engine, Outcome, Report};
 use rsp_eval::Plain;
 use rsp_io::Sink;
+use rsp_multiset::Row;
 use rsp_steps::Steps;
-use rsp_streams_out::{overfull_text, report_text};
+use rsp_streams_out::{overfull_text, report_json, report_text};
+use rsp_terms::{Term, Text};
 use std::alloc::{AllocError, Global};
 use std::sync::ledger::Ledger;
 
@@ -23,6 +31,7 @@ use std::sync::ledger::Ledger;
 pub(crate) fn tell_reports<K: Sink, L: Ledger>(
     alloc: Global,
     engine: &mut Engine<Plain>,
+    form: Form,
     out: &mut K,
     steps: &mut Steps<L>,
 ) -> Result<(), Stop>
@@ -31,13 +40,13 @@ pub(crate) fn tell_reports<K: Sink, L: Ledger>(
         → Ends
         (sink_seen (K.taken out.old) (K.room out.old) (K.faults out.old))
         (sink_seen (K.taken out.new) (K.room out.new) (K.faults out.new))
-        (reports_text (reports world left)) result }
+        (reports_text form (reports world left)) result }
     ensures stands { OnOk result ((world : World) (left : List Moment) → Stands engine.old world left
         → Stands engine.new (world_behind world left) []) }
 {
     'reports: loop {
         match engine.next_report(steps) {
-            Ok(Some(report)) => match tell(alloc, &report, out) {
+            Ok(Some(report)) => match tell(alloc, &report, form, out) {
                 Ok(()) => {}
                 Err(stop) => return Err(stop),
             },
@@ -47,36 +56,72 @@ pub(crate) fn tell_reports<K: Sink, L: Ledger>(
     }
 }
 
-fn tell<K: Sink>(alloc: Global, report: &Report, out: &mut K) -> Result<(), Stop>
-    ensures text { Ends
+fn tell<K: Sink>(alloc: Global, report: &Report, form: Form, out: &mut K) -> Result<(), Stop>
+    ensures text { (wanted : Report) → IsReport report.now wanted
+        → Ends
         (sink_seen (K.taken out.old) (K.room out.old) (K.faults out.old))
         (sink_seen (K.taken out.new) (K.room out.new) (K.faults out.new))
-        (text_of_report report.now) result }
+        (text_of_report form wanted) result }
 {
-    match text_of(alloc, report) {
+    match text_of(alloc, report, form) {
         Ok(text) => write_all(out, text.as_slice()),
         Err(AllocError) => Err(Stop::Memory),
     }
 }
 
-fn text_of(alloc: Global, report: &Report) -> Result<Vec<u8>, AllocError>
-    ensures { IfOk result (λ text. text.items ≡ text_of_report report.now) }
+// the text of the report that is wanted: this one, but for the order of rows of equal texts
+fn text_of(alloc: Global, report: &Report, form: Form) -> Result<Vec<u8>, AllocError>
+    ensures { IfOk result (λ text. (wanted : Report) → IsReport report.now wanted → text.items ≡ text_of_report form wanted) }
 {
-    let mut text = Vec::new(alloc);
     let name = report.query.as_str();
     match &report.outcome {
         Outcome::Rows(rows) => {
             let variables = report.variables.as_slice();
-            report_text(
-                alloc,
-                name,
-                report.at,
-                variables,
-                rows.as_slice(),
-                &mut text,
-            )?;
+            match form {
+                Form::Table => table(alloc, name, report.at, variables, rows.as_slice()),
+                Form::Json => json(alloc, name, report.at, variables, rows.as_slice()),
+            }
         }
-        Outcome::Overfull => overfull_text(alloc, name, report.at, &mut text)?,
+        Outcome::Overfull => overfull(alloc, name, report.at),
     }
+}
+
+fn table(
+    alloc: Global,
+    name: &str,
+    at: u64,
+    variables: &[Text],
+    rows: &[Row<Term>],
+) -> Result<Vec<u8>, AllocError>
+    ensures { IfOk result (λ text. text.items ≡ report_text name.now at variables.now rows.now) }
+{
+    let mut text = Vec::new(alloc);
+    report_text(alloc, name, at, variables, rows, &mut text)?;
+    Ok(text)
+}
+
+// Fails also where the rows' texts may not tell them apart.
+fn json(
+    alloc: Global,
+    name: &str,
+    at: u64,
+    variables: &[Text],
+    rows: &[Row<Term>],
+) -> Result<Vec<u8>, AllocError>
+    ensures { IfOk result (λ text. (text.items ≡ report_json name.now at variables.now rows.now) × (have_tab rows.now ≡ false)) }
+{
+    if have_tab(rows) {
+        return Err(AllocError);
+    }
+    let mut text = Vec::new(alloc);
+    report_json(alloc, name, at, variables, rows, &mut text)?;
+    Ok(text)
+}
+
+fn overfull(alloc: Global, name: &str, at: u64) -> Result<Vec<u8>, AllocError>
+    ensures { IfOk result (λ text. text.items ≡ overfull_text name.now at) }
+{
+    let mut text = Vec::new(alloc);
+    overfull_text(alloc, name, at, &mut text)?;
     Ok(text)
 }

@@ -13,6 +13,7 @@ ghost use Rattle.rsp_call.specs.Answers.{Answers, AnswersLog, AnswersUsage, read
 
 use crate::checking::check;
 use crate::counting::generate;
+use crate::form::Form;
 use crate::session::Session;
 use crate::status::Status;
 use crate::stop::status_of;
@@ -34,10 +35,10 @@ const USAGE: &str =
 
 /// Does all that the program does, by its words without its name.
 ///
-/// On `events` it reads the log from `input` to its end and writes what the log gives to `out`: reports and refusals. On
-/// `check` it reads one file from `shelf` and writes whether the query in it has a fault. On `gen` it works off events that it
-/// makes itself and writes how many reports they gave. On all other words it reads nothing, takes no memory and writes the
-/// usage line.
+/// On `events` it reads the log from `input` to its end and writes what the log gives to `out`: refusals, and reports, as tables
+/// or on `--json` each as a line of JSON. On `check` it reads one file from `shelf` and writes whether the query in it has a fault.
+/// On `gen` it works off events that it makes itself and writes how many reports they gave. On all other words it reads nothing,
+/// takes no memory and writes the usage line.
 pub fn rsp<S: Source, H: Shelf, K: Sink, L: Ledger>(
     alloc: Global,
     words: &[Text],
@@ -57,7 +58,7 @@ pub fn rsp<S: Source, H: Shelf, K: Sink, L: Ledger>(
     ensures shelf { reads_shelf (mode_of words.now) ≡ false → shelf.new ≡ shelf.old }
 {
     match mode_of(words) {
-        Some(Mode::Events) => events(alloc, input, out, steps),
+        Some(Mode::Events(form)) => events(alloc, form, input, out, steps),
         Some(Mode::Check(query)) => check(alloc, query, shelf, out),
         Some(Mode::Generate(count)) => generate(alloc, count, out, steps),
         None => usage(out),
@@ -80,22 +81,24 @@ fn usage<K: Sink>(out: &mut K) -> Status
 // Reads the log to its end and works it off.
 fn events<S: Source, K: Sink, L: Ledger>(
     alloc: Global,
+    form: Form,
     input: &mut S,
     out: &mut K,
     steps: &mut Steps<L>,
 ) -> Status
-    ensures log { AnswersLog (source_seen (S.left input.old) (S.given input.old) (S.faults input.old) (S.sure input.old))
+    ensures log { AnswersLog form (source_seen (S.left input.old) (S.given input.old) (S.faults input.old) (S.sure input.old))
         (source_seen (S.left input.new) (S.given input.new) (S.faults input.new) (S.sure input.new))
         (sink_seen (K.taken out.old) (K.room out.old) (K.faults out.old))
         (sink_seen (K.taken out.new) (K.room out.new) (K.faults out.new)) result }
 {
     let mut session = Session::new(alloc);
-    read_log(&mut session, input, out, steps)
+    read_log(&mut session, form, input, out, steps)
 }
 
 // Works off the log a piece at a time. The session is the caller's, so that no return here drops it.
 fn read_log<S: Source, K: Sink, L: Ledger>(
     session: &mut Session,
+    form: Form,
     input: &mut S,
     out: &mut K,
     steps: &mut Steps<L>,
@@ -104,7 +107,7 @@ fn read_log<S: Source, K: Sink, L: Ledger>(
     requires idle { IsTrue (is_idle session.old.engine) }
     requires prefix { (bytes more : List ℕ) → (rest : List Block)
         × (log_blocks (bytes ++ more) ≡ log_whole_blocks bytes ++ rest) }
-    ensures log { AnswersLog (source_seen (S.left input.old) (S.given input.old) (S.faults input.old) (S.sure input.old))
+    ensures log { AnswersLog form (source_seen (S.left input.old) (S.given input.old) (S.faults input.old) (S.sure input.old))
         (source_seen (S.left input.new) (S.given input.new) (S.faults input.new) (S.sure input.new))
         (sink_seen (K.taken out.old) (K.room out.old) (K.faults out.old))
         (sink_seen (K.taken out.new) (K.room out.new) (K.faults out.new)) result }
@@ -113,13 +116,13 @@ fn read_log<S: Source, K: Sink, L: Ledger>(
     let mut taken = 0;
     'reads: loop {
         match input.read(&mut buffer[..]) {
-            Ok(0) => return status_of(session.finish(out, steps)),
+            Ok(0) => return status_of(session.finish(form, out, steps)),
             Ok(read) => {
                 taken += read as u64;
                 if MOST_BYTES < taken {
                     return Status::TooLong;
                 }
-                match session.work(buffer.split_at(read).0, out, steps) {
+                match session.work(buffer.split_at(read).0, form, out, steps) {
                     Ok(()) => {}
                     Err(stop) => return status_of(Err(stop)),
                 }

@@ -1,9 +1,10 @@
 // The program's words.
-ghost use Rattle.std.specs.Prelude.{◌≡◌, ◌∷◌, [], IfOk, drop, map, option_map, string_bytes};
+ghost use Rattle.std.specs.Prelude.{◌≡◌, ◌∷◌, ◌||◌, ◌&&◌, [], IfOk, drop, map, option_map, string_bytes};
 ghost use Rattle.std.specs.Vec.Iter.{into_iter_items};
 ghost use Rattle.rsp_call.specs.Asked.{mode_for, only_value};
-ghost use Rattle.rsp_call.specs.Words.{check_of, events_of, generate_of, is_dashes, is_file, mode_in, mode_of, table, values};
+ghost use Rattle.rsp_call.specs.Words.{check_of, events_of, form_of, generate_of, is_dashes, is_file, is_json, mode_in, mode_of, table, values, without_json};
 
+use crate::form::Form;
 use rsp_terms::{Listed, Text};
 use rsp_text::read_u64;
 use std::alloc::{AllocError, Global};
@@ -15,8 +16,8 @@ const MOST_ITEMS: u64 = 1_000_000;
 /// What the words ask for.
 #[derive(Clone, Copy)]
 pub(crate) enum Mode<'a> {
-    /// To work off the log on standard input.
-    Events,
+    /// To work off the log on standard input, with reports in this form.
+    Events(Form),
     /// To check the query in the file of this name.
     Check(&'a str),
     /// To work off so many items of the generator, 1 to 1,000,000.
@@ -45,12 +46,14 @@ fn mode_in_table<'a>(word: &str, more: &'a [Text]) -> Option<Mode<'a>>
 }
 
 fn events_of(more: &[Text]) -> Option<Mode<'static>>
-    ensures { option_map mode_for result ≡ events_of (values more.now) }
+    ensures { option_map mode_for result ≡ events_of (form_of more.now) (values (without_json more.now)) }
 {
+    let form = form_of(more);
     match more {
-        [] => Some(Mode::Events),
-        [word] => is_dashes(word).then_some(Mode::Events),
-        [_, _, ..] => None,
+        [] => Some(Mode::Events(form)),
+        [word] => is_option(word).then_some(Mode::Events(form)),
+        [first, second] => is_json_and_dashes(first, second).then_some(Mode::Events(form)),
+        [_, _, _, ..] => None,
     }
 }
 
@@ -92,6 +95,39 @@ fn value_of_two<'a>(first: &'a Text, second: &'a Text) -> Option<&'a str>
         return Some(second.as_str());
     }
     is_dashes(second).then_some(first.as_str())
+}
+
+// the form that the option `--json` asks for
+fn form_of(more: &[Text]) -> Form
+    ensures { result ≡ form_of more.now }
+{
+    for word in more {
+        if is_dashes(word) {
+            return Form::Table;
+        }
+        if is_json(word) {
+            return Form::Json;
+        }
+    }
+    Form::Table
+}
+
+fn is_option(word: &Text) -> bool
+    ensures { result ≡ (is_dashes word.now || is_json word.now) }
+{
+    is_dashes(word) || is_json(word)
+}
+
+fn is_json_and_dashes(first: &Text, second: &Text) -> bool
+    ensures { result ≡ (is_json first.now && is_dashes second.now) }
+{
+    is_json(first) && is_dashes(second)
+}
+
+fn is_json(word: &Text) -> bool
+    ensures { result ≡ is_json word.now }
+{
+    word.as_str() == "--json"
 }
 
 fn is_dashes(word: &Text) -> bool

@@ -6,6 +6,7 @@ use Rattle.rsp_call.proofs.session.take_blocks.Given as goal
 abbrev pub invariant-loop-block : goal.invariant-loop-block
 invariant-loop-block g l =
     Taking
+    l.fn.form
     l.initial.engine
     (sink_seen (g.K.Sink.taken l.initial.out) (g.K.Sink.room l.initial.out) (g.K.Sink.faults l.initial.out))
     l.fn.blocks

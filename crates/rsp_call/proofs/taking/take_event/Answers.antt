@@ -6,14 +6,14 @@ pub returns-in-Err-tell_reports-clause-text : goal.returns-in-Err-tell_reports-c
 returns-in-Err-tell_reports-clause-text g c world stands =
     let accepted = c.in-Ok.ensures.stands world stands in
     rw
-    (accepted_text world c.args.place c.args.event accepted.0 accepted.1)
+    (accepted_text c.args.form world c.args.place c.args.event accepted.0 accepted.1)
     (c.in-Err-tell_reports.ensures.text accepted.0 (moments world c.args.event accepted.0) accepted.2)
 
 pub returns-in-Ok-tell_reports-clause-text : goal.returns-in-Ok-tell_reports-clause-text
 returns-in-Ok-tell_reports-clause-text g c world stands =
     let accepted = c.in-Ok.ensures.stands world stands in
     rw
-    (accepted_text world c.args.place c.args.event accepted.0 accepted.1)
+    (accepted_text c.args.form world c.args.place c.args.event accepted.0 accepted.1)
     (c.in-Ok-tell_reports.ensures.text accepted.0 (moments world c.args.event accepted.0) accepted.2)
 
 pub returns-in-Ok-tell_reports-clause-stands : goal.returns-in-Ok-tell_reports-clause-stands

@@ -6,6 +6,7 @@ use Rattle.rsp_call.proofs.telling.tell_reports.Given as goal
 abbrev pub invariant-reports : goal.invariant-reports
 invariant-reports g l =
     Telling
+    l.fn.form
     l.initial.engine
     (sink_seen (g.K.Sink.taken l.initial.out) (g.K.Sink.room l.initial.out) (g.K.Sink.faults l.initial.out))
     l.engine

@@ -5,7 +5,7 @@ use Rattle.rsp_call.proofs.Going.{going_nothing, going_on, log_ended, read_faile
 use Rattle.rsp_call.proofs.top.read_log.Goals as goal
 
 pub reads-init : goal.reads-init
-reads-init g c = going_nothing _ _ _ _ _ c.requires.at c.requires.idle
+reads-init g c = going_nothing _ _ _ _ _ _ c.requires.at c.requires.idle
 
 pub reads-preserved : goal.reads-preserved
 reads-preserved g c =
@@ -13,7 +13,7 @@ reads-preserved g c =
     let took = rw (← c.split_at.ensures.front) at c.in-Ok.ensures.bytes.0 in
     let low : c.in-Ok.read ≤ length c.read.new.buf = search rules in
     let many = rw (← c.split_at.ensures.front) at (first_many c.read.new.buf c.in-Ok.read low) in
-    going_on _ _ _ _ _ _ _ _ _ _ _ _ _ _ _
+    going_on _ _ _ _ _ _ _ _ _ _ _ _ _ _ _ _
     c.reads.invariant
     many
     took
@@ -32,7 +32,7 @@ returns-in-Ok-eq0 g c =
     record {
       log = rw
           c.status_of.ensures
-          (log_ended _ _ _ _ _ _ _ _ _ _ c.finish.result
+          (log_ended _ _ _ _ _ _ _ _ _ _ _ c.finish.result
           c.reads.invariant
           (rw none at read.0)
           (read.1 c.in-Ok-eq0.field-0-test)
@@ -45,7 +45,7 @@ pub returns-then-taken-gt-MOST_BYTES : goal.returns-then-taken-gt-MOST_BYTES
 returns-then-taken-gt-MOST_BYTES g c =
     let low : c.in-Ok.read ≤ length c.read.new.buf = search rules in
     record {
-      log = too_long c.requires.prefix _ _ _ _ _ _ _ _ _ c.in-Ok.read (take c.in-Ok.read c.read.new.buf) c.reads.invariant
+      log = too_long _ c.requires.prefix _ _ _ _ _ _ _ _ _ c.in-Ok.read (take c.in-Ok.read c.read.new.buf) c.reads.invariant
           (first_many c.read.new.buf c.in-Ok.read low)
           c.in-Ok.ensures.bytes.0
           c.in-Ok.ensures.given
@@ -62,7 +62,7 @@ returns-in-Err-work g c =
     record {
       log = rw
           c.status_of-in-Err-work.ensures
-          (work_stopped _ _ _ _ _ _ _ _ _ _ _ _ c.in-Err-work.stop
+          (work_stopped _ _ _ _ _ _ _ _ _ _ _ _ _ c.in-Err-work.stop
           c.reads.invariant
           many
           took
@@ -74,4 +74,4 @@ returns-in-Err-work g c =
 
 pub returns-in-Err : goal.returns-in-Err
 returns-in-Err g c =
-    record { log = read_failed c.requires.prefix _ _ _ _ _ _ _ _ _ c.reads.invariant c.in-Err.ensures.bytes c.in-Err.ensures.given c.in-Err.ensures.cause.1 (λ sure. true≢false (sym (c.in-Err.ensures.sure sure))) }
+    record { log = read_failed _ c.requires.prefix _ _ _ _ _ _ _ _ _ c.reads.invariant c.in-Err.ensures.bytes c.in-Err.ensures.given c.in-Err.ensures.cause.1 (λ sure. true≢false (sym (c.in-Err.ensures.sure sure))) }

@@ -8,6 +8,7 @@ use Rattle.rsp_call.proofs.top.read_log.Given as goal
 abbrev pub invariant-reads : goal.invariant-reads
 invariant-reads g l =
     Going
+    l.fn.form
     (source_seen (g.S.Source.left l.initial.input) (g.S.Source.given l.initial.input) (g.S.Source.faults l.initial.input) (g.S.Source.sure l.initial.input))
     (sink_seen (g.K.Sink.taken l.initial.out) (g.K.Sink.room l.initial.out) (g.K.Sink.faults l.initial.out))
     (source_seen (g.S.Source.left l.input) (g.S.Source.given l.input) (g.S.Source.faults l.input) (g.S.Source.sure l.input))

@@ -10,7 +10,7 @@ returns-in-Ok g c =
           λ bytes at.
           rw
           c.either.ensures
-          (closed bytes _ _ _ _ c.in-Ok-Some.block _ _
+          (closed _ bytes _ _ _ _ c.in-Ok-Some.block _ _
           at
           (end_as_log bytes _ _ at.document (is bytes at.read))
           c.in-Ok.ensures.text
@@ -23,7 +23,7 @@ returns-in-Err-take_content g c =
     record {
       closes =
           λ bytes at.
-          close_stops bytes _ _ _ c.in-Ok-Some.block _ _ c.in-Err-take_content.stop at (end_as_log bytes _ _ at.document (is bytes at.read)) c.in-Err-take_content.ensures.text;
+          close_stops _ bytes _ _ _ c.in-Ok-Some.block _ _ c.in-Err-take_content.stop at (end_as_log bytes _ _ at.document (is bytes at.read)) c.in-Err-take_content.ensures.text;
     }
 
 pub returns-in-Err : goal.returns-in-Err
@@ -32,5 +32,5 @@ returns-in-Err g c =
       closes =
           λ bytes at.
           let behind = as_log bytes [] _ at.document (c.finish.ensures.prefix bytes []) in
-          close_refused bytes behind.0 _ behind.1;
+          close_refused _ bytes behind.0 _ behind.1;
     }

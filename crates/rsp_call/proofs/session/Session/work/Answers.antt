@@ -8,7 +8,7 @@ returns-in-Ok-take_blocks-clause-ok g c bytes at =
     let took = c.in-Ok-take_blocks.ensures in
     rw
     c.either-self.ensures
-    (worked bytes c.args.piece.now _ _ _ _ _ _ c.in-Ok.given _ _
+    (worked _ bytes c.args.piece.now _ _ _ _ _ _ c.in-Ok.given _ _
     at
     c.feed.ensures.document
     (fed.read bytes at.read)
@@ -20,7 +20,7 @@ pub returns-in-Err-take_blocks-clause-err : goal.returns-in-Err-take_blocks-clau
 returns-in-Err-take_blocks-clause-err g c bytes more at =
     let fed = c.in-Ok.ensures in
     let behind = as_log (bytes ++ c.args.piece.now) more _ at.document (fed.prefix (bytes ++ c.args.piece.now) more) in
-    work_stops bytes c.args.piece.now more c.in-Ok.given behind.0 _ _ c.in-Err-take_blocks.stop
+    work_stops _ bytes c.args.piece.now more c.in-Ok.given behind.0 _ _ c.in-Err-take_blocks.stop
     (more_as_log bytes c.args.piece.now _ _ at.document (fed.given bytes at.read))
     behind.1
     (c.in-Err-take_blocks.ensures.text (world_at bytes) at.stands)
@@ -28,4 +28,4 @@ returns-in-Err-take_blocks-clause-err g c bytes more at =
 pub returns-in-Err-clause-err : goal.returns-in-Err-clause-err
 returns-in-Err-clause-err g c bytes more at =
     let behind = as_log bytes (c.args.piece.now ++ more) _ at.document (c.feed.ensures.prefix bytes (c.args.piece.now ++ more)) in
-    work_refused bytes (c.args.piece.now ++ more) behind.0 _ behind.1
+    work_refused _ bytes (c.args.piece.now ++ more) behind.0 _ behind.1
