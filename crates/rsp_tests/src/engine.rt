@@ -169,14 +169,15 @@ fn each_closing_is_reported_once(rt: HostRuntime) -> Result<(), Fail> {
         "@item <s:a> 6000\n<a:1> <p:v> <a:0> .\n@end",
         "@item <s:a> 6000\n<a:1> <p:v> <a:0> .\n@end",
         "@tick 19000",
+        "@cancel q",
     ];
-    let answers = "taken; held 1
+    let answers = "taken; held 0
+taken; held 0
 taken; held 1
 taken; held 2
 taken; held 3
 taken; held 4
-taken; held 5
-taken; held 5
+taken; held 4
 # report q 10000 3
 ?s
 <a:1>
@@ -185,6 +186,34 @@ taken; held 5
 # report q 15000 1
 ?s
 <a:1>
+taken; held 0
+";
+    assert_eq!(rt; said(rt.alloc(), &events)?.as_slice(), answers.as_bytes());
+    Ok(())
+}
+
+#[test]
+fn an_item_is_kept_while_a_window_needs_it(rt: HostRuntime) -> Result<(), Fail> {
+    let events = [
+        SUBJECTS,
+        "@item <s:b> 1000\n<a:1> <p:v> <a:0> .\n@end",
+        "@item <s:a> 4000\n<a:1> <p:v> <a:0> .\n@end",
+        "@item <s:a> 7000\n<a:2> <p:v> <a:0> .\n@end",
+        "@tick 9999",
+        "@tick 10000",
+        "@cancel q",
+    ];
+    let answers = "taken; held 0
+taken; held 0
+taken; held 1
+taken; held 2
+taken; held 2
+taken; held 2
+# report q 10000 2
+?s
+<a:1>
+<a:2>
+taken; held 0
 ";
     assert_eq!(rt; said(rt.alloc(), &events)?.as_slice(), answers.as_bytes());
     Ok(())
@@ -198,10 +227,10 @@ fn a_late_item_changes_nothing(rt: HostRuntime) -> Result<(), Fail> {
         "@tick 4",
         "@tick 3",
     ];
-    let answers = "taken; held 1
-Late { time: 3, next: 4 }; held 1
-taken; held 1
-Late { time: 3, next: 5 }; held 1
+    let answers = "taken; held 0
+Late { time: 3, next: 4 }; held 0
+taken; held 0
+Late { time: 3, next: 5 }; held 0
 ";
     assert_eq!(rt; said(rt.alloc(), &events)?.as_slice(), answers.as_bytes());
     Ok(())
