@@ -7,7 +7,7 @@ def decimal:
   | (if $n < 0 then "-" else "" end) + ($size / 1000 | floor | tostring) + "." + ("00" + ($size % 1000 | tostring))[-3:];
 
 def is_time: type == "number" and . >= 0 and . < 253402300800000;
-def is_reading: (.sensor | type == "string") and (.at | is_time) and (.celsius | type == "number" and fabs < 1e9);
+def is_reading: (.sensor | type == "string") and (.at | is_time) and (.celsius | type == "number" and (isnan | not) and fabs < 1e9);
 
 # each reading is a node of its own
 def item($number): "@item <http://example.org/readings> \(.at | floor)

@@ -4,7 +4,7 @@ def cell: . + " " * ([26 - length, 1] | max);
 def line: map(cell) | add | sub(" +$"; "");
 
 foreach inputs as $text ({};
-  {old: .head, text: $text, report: ($text | fromjson? // null)} | .head = (.report.head.vars // .old);
+  {old: .head, text: $text, report: (($text | fromjson? | objects) // null)} | .head = (.report.head.vars // .old);
   .report as $report
   | if $report == null then .text
     else
