@@ -1,7 +1,7 @@
 """What people paste: the commands of documents as they stand, the logs and queries in them, and the recipes.
 
 In GUIDE, RECIPES and the pages of the examples each indented block is a command, the output of the command before it, or lines of a
-file of the examples. In EVENTS, QUERIES and REPORTS a block that begins as a report or a refusal is what the log before it gives.
+file of the examples. In EVENTS, QUERIES and REPORTS a block that begins as a report or a refusal is what the log before it gives, if there is one.
 """
 import contextlib
 import os
@@ -165,8 +165,9 @@ def fault_of_command(command, wanted, room):
     return fault_at_end(started(["bash", "-c", command], room, subprocess.DEVNULL), None, wanted.encode())
 
 
-# how an output begins, how a line begins that is a clause of a query or a frame of it, and how a block begins that changes a query
-OUTPUT = re.compile(r"# (report|overfull|refused block) \S+ \d")
+# how an output of a log begins (a report of `query` is one of the mode `run`), how a line begins that is a clause of a query or a
+# frame of it, and how a block begins that changes a query
+OUTPUT = re.compile(r"# (report|overfull|refused block) (?!query )\S+ \d")
 CLAUSE = re.compile(r"(@register|@end|PREFIX|REGISTER|SELECT|FROM|WHERE)\b")
 CHANGE = re.compile(r"(REGISTER|SELECT|WHERE)\b")
 
@@ -214,7 +215,7 @@ class Logs:
             self.last = block.text
         if directives[:1] == ["@item"]:
             self.items[block.part] = block.text
-        if is_query or CHANGE.match(block.text):
+        if is_query or self.queries and CHANGE.match(block.text):
             query = block.text if is_query else changed(self.of(self.queries, block), block.text)
             self.last = self.stored.get(block.section, "") + query + self.of(self.items, block)
 
