@@ -49,10 +49,14 @@ class Skipped:
 
 
 def skipped(recipe):
-    """The first tool of a recipe that isn't installed, or None."""
-    path = f"{os.environ['PATH']}:/usr/sbin"
-    tools = read(f"{RECIPES}/{recipe}/tools").decode().split()
-    return next((Skipped(tool) for tool in tools if not shutil.which(tool, path=path)), None)
+    """The first tool of a recipe that isn't installed, or not in the version that is wanted; or None."""
+    tools = read(f"{RECIPES}/{recipe}/tools").decode().splitlines()
+    return next((Skipped(tool) for tool in tools if not is_installed(*tool.split())), None)
+
+
+def is_installed(name, version=None):
+    found = shutil.which(name, path=f"{os.environ['PATH']}:/usr/sbin")
+    return found and (not version or version in subprocess.run([found, "--version"], capture_output=True, text=True).stdout)
 
 
 @contextlib.contextmanager
