@@ -447,12 +447,14 @@ def read(path):
 
 
 def compare_rows():
-    """How many rows and examples the model answers as they want it; it names the others."""
+    """How many rows and examples with a log the model answers as they want it; it names the others."""
     top = os.path.dirname(os.path.dirname(os.path.realpath(__file__)))
     passed = failed = 0
     for folder, name_of_input in [(f"{top}/tests/rows", "stdin"), (f"{top}/examples", "log")]:
         for name in sorted(os.listdir(folder)):
             row = f"{folder}/{name}"
+            if not os.path.exists(f"{row}/{name_of_input}"):
+                continue
             words = read(f"{row}/words").split(b"\n")[:-1]
             status = int(read(f"{row}/status")) if os.path.exists(f"{row}/status") else 0
             if run(words, read(f"{row}/{name_of_input}")) == (read(f"{row}/stdout"), status):
