@@ -9,7 +9,8 @@ use Rattle.rsp_call.specs.declared.stop.Stop.TheVariants.{Memory, Write}
 use Rattle.rsp_call.specs.FileAnswers.{AnswersFiles}
 use Rattle.rsp_call.specs.Output.{Saying, is_refusal, text_of}
 use Rattle.rsp_call.specs.Readings as readings
-use Rattle.rsp_call.specs.Shelves.{ShelfSeen, ReadsAll, ReadsWhole}
+use Rattle.rsp_call.specs.Sayings.{Says}
+use Rattle.rsp_call.specs.Shelves.{ShelfSeen, EndsAt, ReadsAll, ReadsWhole}
 use Rattle.rsp_call.specs.Sinks.{SinkSeen}
 use Rattle.rsp_call.specs.Stops.{Ends, status_of}
 use Rattle.rsp_call.proofs.Writings.{wrote_nothing}
@@ -30,3 +31,17 @@ pub not_read : (form : Form) (name : List ℕ) (said : List (List ℕ) → List 
 not_read form name said before now sink unread.Memory ends = inl (inl ends, wrote_nothing sink)
 not_read form name said before now sink unread.Fault ends = (inl ends, wrote_nothing sink)
 not_read form name said before now sink unread.TooLong ends = (inl ends, wrote_nothing sink)
+
+-- ---- any files
+
+pub told_says : (form : Form) (names : List (List ℕ)) (said : List (List ℕ) → List Saying) (before now : ShelfSeen) (sink sink' : SinkSeen) (files : List (List ℕ)) (result : Result Bool Stop) → ReadsAll before now names files → Says form sink sink' (said files) result → AnswersFiles form names said before now sink sink' (status_of result)
+told_says form names said before now sink sink' files (Ok false) read says = record { files = files; read = read; written = says.0; refused = sym says.1 }
+told_says form names said before now sink sink' files (Ok true) read says = record { files = files; read = read; written = says.0; refused = sym says.1 }
+told_says form names said before now sink sink' files (Err Memory) read says = inr (record { files = files; read = read; part = says })
+told_says form names said before now sink sink' files (Err Write) read says = record { files = files; read = read; failed = says }
+
+-- one of them wasn't read
+pub not_read_any : (form : Form) (names : List (List ℕ)) (said : List (List ℕ) → List Saying) (before now : ShelfSeen) (sink : SinkSeen) (why : Unread) → EndsAt (readings.Ends why) before now names → AnswersFiles form names said before now sink sink (readings.status_of_unread why)
+not_read_any form names said before now sink unread.Memory ends = inl (ends, wrote_nothing sink)
+not_read_any form names said before now sink unread.Fault ends = (ends, wrote_nothing sink)
+not_read_any form names said before now sink unread.TooLong ends = (ends, wrote_nothing sink)

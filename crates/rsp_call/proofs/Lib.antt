@@ -13,3 +13,10 @@ pub mod Tallying
 pub mod Answering
 pub mod FileFaults
 pub mod WordRows
+pub mod Speaking
+pub mod Optional
+pub mod Cutting
+pub mod Filed
+pub mod Recorded
+pub mod Played
+pub mod Spoken

@@ -7,12 +7,13 @@ use Rattle.rsp_call.specs.declared.form.Form.{Form}
 use Rattle.rsp_call.specs.declared.form.Form.TheVariants.{Table}
 use Rattle.rsp_call.specs.declared.status.Status.{Status}
 use Rattle.rsp_call.specs.declared.status.Status.TheVariants.{Done, DoneWithRefusals, Usage, ReadFault, WriteFault, OutOfMemory, TooLong}
-use Rattle.rsp_call.specs.Words.{Mode, events, check, generate}
+use Rattle.rsp_call.specs.Words.{Mode, events, run, check, generate, names_of}
 use Rattle.rsp_call.specs.Output.{output, has_refusal, usage_text, whole_text}
 use Rattle.rsp_call.specs.Sources.{SourceSeen, Took}
 use Rattle.rsp_call.specs.Shelves.{ShelfSeen}
 use Rattle.rsp_call.specs.Checks.{checked}
 use Rattle.rsp_call.specs.Summaries.{counted}
+use Rattle.rsp_call.specs.Replays.{replayed}
 use Rattle.rsp_call.specs.FileAnswers.{AnswersFiles}
 use Rattle.rsp_call.specs.Sinks.{SinkSeen, Wrote, WrotePart, WriteFailed}
 
@@ -91,6 +92,8 @@ AnswersUsage sink sink' _ = ⊥
 -- by what the words ask for; a check and the generator say no report
 abbrev pub Answers : Option Mode → SourceSeen → SourceSeen → ShelfSeen → ShelfSeen → SinkSeen → SinkSeen → Status → Type 0
 Answers (Some (events form)) before now shelf shelf' sink sink' status = AnswersLog form before now sink sink' status
+Answers (Some (run replay)) before now shelf shelf' sink sink' status =
+    AnswersFiles replay.form (names_of replay) (replayed replay) shelf shelf' sink sink' status
 Answers (Some (check query)) before now shelf shelf' sink sink' status =
     AnswersFiles Table (query ∷ []) checked shelf shelf' sink sink' status
 Answers (Some (generate count)) before now shelf shelf' sink sink' status =
@@ -104,5 +107,6 @@ reads_source _ = false
 
 -- and files alone from the shelf
 abbrev pub reads_shelf : Option Mode → Bool
+reads_shelf (Some (run replay)) = true
 reads_shelf (Some (check query)) = true
 reads_shelf _ = false

@@ -2,10 +2,12 @@
 use Rattle.std.specs.Prelude.{ℕ, Option, Some, None, List, [], ◌∷◌}
 use Rattle.rsp_call.specs.Words as words
 use Rattle.rsp_call.specs.declared.words.Mode.{Mode}
-use Rattle.rsp_call.specs.declared.words.Mode.TheVariants.{Events, Check, Generate}
+use Rattle.rsp_call.specs.declared.words.Mode.TheVariants.{Events, Run, Check, Generate}
+use Rattle.rsp_call.specs.Playing.{replay_for}
 
 abbrev pub mode_for : Mode → words.Mode
 mode_for (Events form) = words.events form
+mode_for (Run replay) = words.run (replay_for replay)
 mode_for (Check query) = words.check query.now
 mode_for (Generate count) = words.generate count
 

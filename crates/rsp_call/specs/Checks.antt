@@ -1,5 +1,6 @@
 -- Definitions: what is said of the file of a query, by its text alone.
 use Rattle.std.specs.Prelude.{ℕ, nat_lt, if◌then◌else◌, Option, None, Some, List, [], ◌∷◌, length}
+use Rattle.std.specs.Option.{option_or}
 use Rattle.std.specs.Str.{is_utf8}
 use Rattle.std.specs.Str.Lossy.{utf8_valid_len}
 use Rattle.rsp_numbering.specs.declared.limit.LimitName.TheVariants as name
@@ -9,12 +10,16 @@ use Rattle.rsp_call.specs.declared.refusing.Place.TheVariants.{Query}
 use Rattle.rsp_call.specs.Refusals.{of_event}
 use Rattle.rsp_call.specs.Output.{Saying, a_refusal, no_fault}
 
--- the first fault of a file: it is longer than a text may be; behind so many bytes it is no UTF-8; or the first of its text
-abbrev pub file_fault : List ℕ → Option Refusal
-file_fault bytes =
+-- why a file can be no text of a query: it is longer than a text may be, or behind so many bytes it is no UTF-8
+abbrev pub bytes_fault : List ℕ → Option Refusal
+bytes_fault bytes =
     if nat_lt 65536 (length bytes)
     then Some (limit name.Text)
-    else (if is_utf8 bytes then text_fault (parse bytes) else Some (bad_token (utf8_valid_len bytes)))
+    else (if is_utf8 bytes then None else Some (bad_token (utf8_valid_len bytes)))
+
+-- the first fault of a file: that of its bytes, or of its text
+abbrev pub file_fault : List ℕ → Option Refusal
+file_fault bytes = option_or (bytes_fault bytes) (text_fault (parse bytes))
 
 abbrev pub verdict : Option Refusal → Saying
 verdict None = no_fault

@@ -5,6 +5,8 @@ pub mod Output
 pub mod Checks
 pub mod Generator
 pub mod Summaries
+pub mod Recordings
+pub mod Replays
 pub mod Sources
 pub mod Shelves
 pub mod Sinks
@@ -19,4 +21,6 @@ pub mod Tallies
 pub mod Readings
 pub mod Runs
 pub mod Stops
+pub mod Sayings
+pub mod Playing
 pub mod Sessions

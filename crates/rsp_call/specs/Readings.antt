@@ -2,7 +2,7 @@
 use Rattle.std.specs.Prelude.{◌≡◌, ℕ, ◌<◌, ◌≤◌, IsTrue, List, Result, Ok, Err, Vec, length}
 use Rattle.std.specs.Io.KnownBytes.{Consumes, IsAtEnd}
 use Rattle.rsp_spec.specs.Faults.{Rose}
-use Rattle.rsp_call.specs.Shelves.{ShelfSeen, most_file_bytes, ReadsWhole, CantRead, IsTooLong, LacksMemory}
+use Rattle.rsp_call.specs.Shelves.{ShelfSeen, most_file_bytes, ReadsWhole, ReadsAll, EndsAt, CantRead, IsTooLong, LacksMemory}
 use Rattle.rsp_call.specs.declared.status.Status.{Status}
 use Rattle.rsp_call.specs.declared.status.Status.TheVariants as status
 use Rattle.rsp_call.specs.declared.reading.Unread.{Unread}
@@ -61,3 +61,9 @@ EndsPicked TooLong = TakesTooMany
 abbrev pub ReadsPicked : {A : Type 0} → ShelfSeen → ShelfSeen → Result (Vec ℕ A) Unread → Type 0
 ReadsPicked before now (Ok bytes) = Takes before now bytes.items × IsAtEnd now.left
 ReadsPicked before now (Err why) = EndsPicked why before now
+
+-- ---- one file after the other
+
+abbrev pub ReadsFiles : ShelfSeen → ShelfSeen → List (List ℕ) → Result (List (List ℕ)) Unread → Type 0
+ReadsFiles before now names (Ok files) = ReadsAll before now names files
+ReadsFiles before now names (Err why) = EndsAt (Ends why) before now names

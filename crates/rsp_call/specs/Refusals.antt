@@ -3,24 +3,30 @@ use Rattle.std.specs.Prelude.{ℕ, Option, Some, option_map, List, [], ◌++◌,
 use Rattle.std.specs.Fmt.{decimal}
 use Rattle.rsp_events.specs.declared.event.BlockFault.{BlockFault}
 use Rattle.rsp_events.specs.declared.event.BlockFault.TheVariants.{BadBody, BadDirective, BlockTooLarge}
+use Rattle.rsp_events.specs.declared.refused.RefusedAs.{RefusedAs}
+use Rattle.rsp_events.specs.declared.refused.RefusedAs.TheVariants.{BadStatement, RelativeIri, NoTimeLine}
 use Rattle.rsp_numbering.specs.declared.limit.LimitName.{LimitName}
 use Rattle.rsp_numbering.specs.declared.limit.LimitName.TheVariants as name
 use Rattle.rsp_engine.specs.Refusals.{Refusal, bad_token, syntax, left_out, limit, graph_shape, exists_shape, scope, policy_mix, late, name_taken, no_query, queries_full, held_full, store_full, item_too_large, start_overfull, refusal_of}
 use Rattle.rsp_call.specs.declared.refusing.Place.{Place}
-use Rattle.rsp_call.specs.declared.refusing.Place.TheVariants.{Block, Query}
+use Rattle.rsp_call.specs.declared.refusing.Place.TheVariants.{Block, Query, Line}
 use Rattle.rsp_call.specs.declared.refusing.Answered.{Answered}
 use Rattle.rsp_call.specs.declared.refusing.Answered.TheVariants as answered
 
--- why: a block is no event, or its event is refused
+-- why: a line of a file isn't taken, a block is no event, or its event is refused
 pub data Reason : Type 0 where
+  of_line : RefusedAs → Reason
   of_block : BlockFault → Reason
   of_event : Refusal → Reason
 
 -- the number and the name of each
 abbrev pub kind : Reason → ℕ × List ℕ
+kind (of_line (BadStatement column)) = (1, codes "BadStatement")
+kind (of_line (RelativeIri column)) = (2, codes "RelativeIri")
 kind (of_block BadDirective) = (3, codes "BadDirective")
 kind (of_block (BadBody line)) = (4, codes "BadBody")
 kind (of_block BlockTooLarge) = (5, codes "BlockTooLarge")
+kind (of_line NoTimeLine) = (6, codes "NoTimeLine")
 kind (of_event (bad_token at)) = (7, codes "BadToken")
 kind (of_event (syntax at)) = (8, codes "Syntax")
 kind (of_event (left_out at what)) = (9, codes "LeftOut")
@@ -52,6 +58,8 @@ limit_word name.Rows = codes "rows"
 
 -- the details of each
 abbrev pub details : Reason → List ℕ
+details (of_line (BadStatement column)) = codes " column=" ++ decimal column
+details (of_line (RelativeIri column)) = codes " column=" ++ decimal column
 details (of_block (BadBody line)) = codes " line=" ++ decimal line
 details (of_event (bad_token at)) = codes " at=" ++ decimal at
 details (of_event (syntax at)) = codes " at=" ++ decimal at
@@ -66,10 +74,11 @@ details (of_event (store_full quads)) = codes " quads=" ++ decimal quads
 details (of_event (item_too_large triples)) = codes " triples=" ++ decimal triples
 details _ = []
 
--- where: a block by its number, or the query that is checked
+-- where: a block by its number, the query that is checked, or a line by its number in the file of a name
 abbrev pub place_text : Place → List ℕ
 place_text (Block number) = codes "block " ++ decimal number
 place_text Query = codes "query"
+place_text (Line file line) = codes "file " ++ (file ++ (codes " line " ++ decimal line))
 
 -- the line
 abbrev pub refusal_line : Place → Reason → List ℕ
@@ -80,5 +89,6 @@ refusal_line place reason =
 
 -- the reason that a fault or an engine's answer names; want of memory is none
 abbrev pub reason_of : Answered → Option Reason
+reason_of (answered.Line fault) = Some (of_line fault)
 reason_of (answered.Fault fault) = Some (of_block fault)
 reason_of (answered.Event why) = option_map of_event (refusal_of why)

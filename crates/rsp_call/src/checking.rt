@@ -57,8 +57,8 @@ fn tell_verdict<K: Sink>(alloc: Global, bytes: &[u8], out: &mut K) -> Result<boo
     }
 }
 
-// why a file wasn't read, as a status
-fn status_of_unread(why: Unread) -> Status
+/// Why a file wasn't read, as a status.
+pub(crate) fn status_of_unread(why: Unread) -> Status
     ensures { result ≡ status_of_unread why }
 {
     match why {

@@ -1,11 +1,12 @@
 // The first fault of a query's file.
-ghost use Rattle.std.specs.Prelude.{IfOk, Result};
+ghost use Rattle.std.specs.Prelude.{◌≡◌, IfOk, MatchResult, None, Result};
 ghost use Rattle.rsp_query.specs.Queries.{Registered, registered};
 ghost use Rattle.rsp_syntax.specs.Answers.{IsParsed};
 ghost use Rattle.rsp_syntax.specs.Parsing.{parse};
 ghost use Rattle.rsp_syntax.specs.declared.fault.SyntaxFault as fault;
 ghost use Rattle.rsp_engine.specs.Refusals as refusals;
-ghost use Rattle.rsp_call.specs.Checks.{file_fault};
+ghost use Rattle.rsp_engine.specs.Passing.{IsFaultOf};
+ghost use Rattle.rsp_call.specs.Checks.{bytes_fault, file_fault};
 ghost use Rattle.rsp_call.specs.Verdicts.{IsFirst};
 
 use rsp_engine::{LimitName, Refused};
@@ -23,15 +24,26 @@ const MOST_BYTES: usize = 65_536;
 pub(crate) fn file_fault(alloc: Global, bytes: &[u8]) -> Result<Option<Refused>, AllocError>
     ensures { IfOk result (λ found. IsFirst found (file_fault bytes.now)) }
 {
+    match text_in(bytes) {
+        Ok(text) => text_fault(alloc, text),
+        Err(why) => Ok(Some(why)),
+    }
+}
+
+/// The text in a file, or why it can be none of a query: it is longer than such a text may be, or no UTF-8.
+pub(crate) fn text_in(bytes: &[u8]) -> Result<&str, Refused>
+    ensures { MatchResult result (λ text. (text.now ≡ bytes.now) × (bytes_fault bytes.now ≡ None))
+        (λ why. IsFaultOf why (bytes_fault bytes.now)) }
+{
     if MOST_BYTES < bytes.len() {
         let what = LimitName::Text;
-        return Ok(Some(Refused::Limit { what }));
+        return Err(Refused::Limit { what });
     }
     match str::from_utf8(bytes) {
-        Ok(text) => text_fault(alloc, text),
-        Err(error) => Ok(Some(Refused::BadToken {
+        Ok(text) => Ok(text),
+        Err(error) => Err(Refused::BadToken {
             at: error.valid_up_to(),
-        })),
+        }),
     }
 }
 

@@ -1,9 +1,13 @@
 // Reading a named file whole.
-ghost use Rattle.std.specs.Prelude.{◌≡◌};
-ghost use Rattle.rsp_call.specs.Shelves.{shelf_seen};
-ghost use Rattle.rsp_call.specs.Readings.{Reads, ReadsPicked};
+ghost use Rattle.std.specs.Prelude.{◌≡◌, MatchResult};
+ghost use Rattle.rsp_call.specs.Playing.{replay_for};
+ghost use Rattle.rsp_call.specs.Shelves.{ReadsWhole, shelf_seen};
+ghost use Rattle.rsp_call.specs.Readings.{Ends, Reads, ReadsFiles, ReadsPicked};
+ghost use Rattle.rsp_call.specs.Words.{names_of};
 
+use crate::replay::{Replay, name_at};
 use rsp_io::{Failed, Shelf};
+use rsp_terms::Listed;
 use std::alloc::{AllocError, Global};
 
 // The most bytes of a named file, and the bytes of one read.
@@ -36,6 +40,49 @@ pub(crate) fn read_named<H: Shelf>(
     match shelf.pick(name) {
         Ok(()) => read_picked(alloc, shelf),
         Err(Failed) => Err(Unread::Fault),
+    }
+}
+
+/// The files that a replay names, in the order of their names, each whole.
+pub(crate) fn read_files<H: Shelf>(
+    alloc: Global,
+    shelf: &mut H,
+    replay: &Replay<'_>,
+) -> Result<Listed<Listed<u8>>, Unread>
+    ensures files { ReadsFiles
+        (shelf_seen (H.files shelf.old) (H.left shelf.old) (H.given shelf.old) (H.faults shelf.old) (H.sure shelf.old))
+        (shelf_seen (H.files shelf.new) (H.left shelf.new) (H.given shelf.new) (H.faults shelf.new) (H.sure shelf.new))
+        (names_of (replay_for replay.now)) result }
+{
+    let mut files = Listed::new(alloc);
+    'files: loop {
+        match name_at(replay, files.as_slice().len()) {
+            Some(name) => match read_file(alloc, shelf, name) {
+                Ok(bytes) => match files.push(bytes) {
+                    Ok(()) => {}
+                    Err(_) => return Err(Unread::Memory),
+                },
+                Err(unread) => return Err(unread),
+            },
+            None => return Ok(files),
+        }
+    }
+}
+
+fn read_file<H: Shelf>(alloc: Global, shelf: &mut H, name: &str) -> Result<Listed<u8>, Unread>
+    ensures file { MatchResult result
+        (λ bytes. ReadsWhole
+        (shelf_seen (H.files shelf.old) (H.left shelf.old) (H.given shelf.old) (H.faults shelf.old) (H.sure shelf.old))
+        (shelf_seen (H.files shelf.new) (H.left shelf.new) (H.given shelf.new) (H.faults shelf.new) (H.sure shelf.new))
+        name.now bytes)
+        (λ why. Ends why
+        (shelf_seen (H.files shelf.old) (H.left shelf.old) (H.given shelf.old) (H.faults shelf.old) (H.sure shelf.old))
+        (shelf_seen (H.files shelf.new) (H.left shelf.new) (H.given shelf.new) (H.faults shelf.new) (H.sure shelf.new))
+        name.now) }
+{
+    match read_named(alloc, shelf, name) {
+        Ok(bytes) => Ok(Listed::from_vec(bytes)),
+        Err(unread) => Err(unread),
     }
 }
 

@@ -7,24 +7,28 @@ ghost use Rattle.rsp_call.specs.Stops.{Ends, IsLineOf};
 use crate::stop::Stop;
 use crate::writing::write_all;
 use rsp_engine::{LimitName, Refused};
-use rsp_events::BlockFault;
+use rsp_events::{BlockFault, RefusedAs};
 use rsp_io::Sink;
+use rsp_terms::Text;
 use std::alloc::{AllocError, Global};
 
 /// Where something is refused.
-#[derive(Clone, Copy)]
+#[derive(Drop)]
 pub(crate) enum Place {
     /// The block of this number.
     Block(u64),
     /// The query that is checked.
     Query,
+    /// The line of this number in the file of this name.
+    Line(Text, u64),
 }
 
-/// What a block was answered that isn't taken: it is no event, or the engine doesn't take its event.
+/// What was answered that isn't taken: a block is no event, the engine doesn't take its event, or a line of a file isn't taken.
 #[derive(Drop)]
 pub(crate) enum Answered {
     Fault(BlockFault),
     Event(Refused),
+    Line(RefusedAs),
 }
 
 /// Writes the line of a refusal. Stops for want of memory where the engine's answer is that and no refusal.
@@ -88,6 +92,7 @@ fn place_text(alloc: Global, place: Place) -> Result<String, AllocError>
     match place {
         Place::Block(number) => format!(in alloc; "block {number}"),
         Place::Query => String::from_str(alloc, "query"),
+        Place::Line(file, line) => format!(in alloc; "file {file} line {line}"),
     }
 }
 
@@ -96,9 +101,12 @@ fn kind(answered: &Answered) -> Option<(u64, &'static str)>
     ensures { option_map (λ k. (k.0, k.1.now)) result ≡ option_map kind (reason_of answered.now) }
 {
     match answered {
+        Answered::Line(RefusedAs::BadStatement { .. }) => Some((1, "BadStatement")),
+        Answered::Line(RefusedAs::RelativeIri { .. }) => Some((2, "RelativeIri")),
         Answered::Fault(BlockFault::BadDirective) => Some((3, "BadDirective")),
         Answered::Fault(BlockFault::BadBody { .. }) => Some((4, "BadBody")),
         Answered::Fault(BlockFault::BlockTooLarge) => Some((5, "BlockTooLarge")),
+        Answered::Line(RefusedAs::NoTimeLine) => Some((6, "NoTimeLine")),
         Answered::Event(Refused::BadToken { .. }) => Some((7, "BadToken")),
         Answered::Event(Refused::Syntax { .. }) => Some((8, "Syntax")),
         Answered::Event(Refused::LeftOut { .. }) => Some((9, "LeftOut")),
@@ -125,6 +133,8 @@ fn details(alloc: Global, answered: &Answered) -> Result<String, AllocError>
         → string_bytes text ≡ details reason) }
 {
     match answered {
+        Answered::Line(RefusedAs::BadStatement { column }) => format!(in alloc; " column={column}"),
+        Answered::Line(RefusedAs::RelativeIri { column }) => format!(in alloc; " column={column}"),
         Answered::Fault(BlockFault::BadBody { line }) => format!(in alloc; " line={line}"),
         Answered::Event(Refused::BadToken { at }) => format!(in alloc; " at={at}"),
         Answered::Event(Refused::Syntax { at }) => format!(in alloc; " at={at}"),

@@ -124,14 +124,15 @@ impl Session {
     }
 }
 
-fn either(a: bool, b: bool) -> bool
+/// Whether one of the two holds.
+pub(crate) fn either(a: bool, b: bool) -> bool
     ensures { result ≡ (a || b) }
 {
     a || b
 }
 
-// Works off blocks in order. The answer is whether some block was refused.
-fn take_blocks<K: Sink, L: Ledger>(
+/// Works off blocks in order. The answer is whether some block was refused.
+pub(crate) fn take_blocks<K: Sink, L: Ledger>(
     alloc: Global,
     engine: &mut Engine<Plain>,
     blocks: Listed<Block>,

@@ -46,7 +46,8 @@ pub(crate) fn take_content<K: Sink, L: Ledger>(
     }
 }
 
-fn take_event<K: Sink, L: Ledger>(
+/// Works off an event, and writes what it gives. The answer is whether it was refused.
+pub(crate) fn take_event<K: Sink, L: Ledger>(
     alloc: Global,
     engine: &mut Engine<Plain>,
     place: Place,

@@ -14,6 +14,7 @@ ghost use Rattle.rsp_call.specs.Answers.{Answers, AnswersLog, AnswersUsage, read
 use crate::checking::check;
 use crate::counting::generate;
 use crate::form::Form;
+use crate::replaying::replay;
 use crate::session::Session;
 use crate::status::Status;
 use crate::stop::status_of;
@@ -59,6 +60,7 @@ pub fn rsp<S: Source, H: Shelf, K: Sink, L: Ledger>(
 {
     match mode_of(words) {
         Some(Mode::Events(form)) => events(alloc, form, input, out, steps),
+        Some(Mode::Run(asked)) => replay(alloc, &asked, shelf, out, steps),
         Some(Mode::Check(query)) => check(alloc, query, shelf, out),
         Some(Mode::Generate(count)) => generate(alloc, count, out, steps),
         None => usage(out),

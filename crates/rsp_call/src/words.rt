@@ -2,9 +2,11 @@
 ghost use Rattle.std.specs.Prelude.{◌≡◌, ◌∷◌, ◌||◌, ◌&&◌, [], IfOk, drop, map, option_map, string_bytes};
 ghost use Rattle.std.specs.Vec.Iter.{into_iter_items};
 ghost use Rattle.rsp_call.specs.Asked.{mode_for, only_value};
-ghost use Rattle.rsp_call.specs.Words.{check_of, events_of, form_of, generate_of, is_dashes, is_file, is_json, mode_in, mode_of, table, values, without_json};
+ghost use Rattle.rsp_call.specs.Words.{check_of, events_of, form_of, generate_of, is_dashes, is_file, is_json, mode_in, mode_of, run_of, table, values, without_json};
 
 use crate::form::Form;
+use crate::options::read_options;
+use crate::replay::{Replay, replay_of};
 use rsp_terms::{Listed, Text};
 use rsp_text::read_u64;
 use std::alloc::{AllocError, Global};
@@ -14,10 +16,12 @@ use std::vec::IntoIter;
 const MOST_ITEMS: u64 = 1_000_000;
 
 /// What the words ask for.
-#[derive(Clone, Copy)]
+#[derive(Drop)]
 pub(crate) enum Mode<'a> {
     /// To work off the log on standard input, with reports in this form.
     Events(Form),
+    /// To replay recorded streams for a query.
+    Run(Replay<'a>),
     /// To check the query in the file of this name.
     Check(&'a str),
     /// To work off so many items of the generator, 1 to 1,000,000.
@@ -39,6 +43,7 @@ fn mode_in_table<'a>(word: &str, more: &'a [Text]) -> Option<Mode<'a>>
 {
     match word {
         "events" => events_of(more),
+        "run" => run_of(more),
         "check" => check_of(more),
         "gen" => generate_of(more),
         _ => None,
@@ -54,6 +59,15 @@ fn events_of(more: &[Text]) -> Option<Mode<'static>>
         [word] => is_option(word).then_some(Mode::Events(form)),
         [first, second] => is_json_and_dashes(first, second).then_some(Mode::Events(form)),
         [_, _, _, ..] => None,
+    }
+}
+
+fn run_of(more: &[Text]) -> Option<Mode<'_>>
+    ensures { option_map mode_for result ≡ run_of more.now }
+{
+    match replay_of(read_options(more)?) {
+        Some(asked) => Some(Mode::Run(asked)),
+        None => None,
     }
 }
 
@@ -124,19 +138,22 @@ fn is_json_and_dashes(first: &Text, second: &Text) -> bool
     is_json(first) && is_dashes(second)
 }
 
-fn is_json(word: &Text) -> bool
+/// Whether a word is the option of JSON.
+pub(crate) fn is_json(word: &Text) -> bool
     ensures { result ≡ is_json word.now }
 {
     word.as_str() == "--json"
 }
 
-fn is_dashes(word: &Text) -> bool
+/// Whether a word ends the options.
+pub(crate) fn is_dashes(word: &Text) -> bool
     ensures { result ≡ is_dashes word.now }
 {
     word.as_str() == "--"
 }
 
-fn is_file(name: &[u8]) -> bool
+/// Whether this can be a file's name on the command line.
+pub(crate) fn is_file(name: &[u8]) -> bool
     ensures { result ≡ is_file name.now }
 {
     match name {

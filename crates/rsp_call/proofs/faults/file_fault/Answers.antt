@@ -1,18 +1,8 @@
-use Rattle.std.proofs.Common.{◌≡◌, ◌∙◌, IsUtf8, false, length, nat_lt, refl, rules}
-use Rattle.std.proofs.lemmas.Str.{is_utf8-from_IsUtf8}
-use Rattle.rsp_scan.proofs.Spelling.{not_utf8}
-use Rattle.rsp_call.proofs.FileFaults.{fault_of_bytes, fault_of_text}
+use Rattle.rsp_call.proofs.FileFaults.{fault_of_file, fault_of_text}
 use Rattle.rsp_call.proofs.faults.file_fault.Goals as goal
 
 pub returns-in-Ok : goal.returns-in-Ok
-returns-in-Ok c =
-    let short : nat_lt 65536 (length c.args.bytes.now) ≡ false = search rules in
-    let whole : IsUtf8 c.args.bytes.now = search rules in
-    let same : c.in-Ok.text.now ≡ c.args.bytes.now = search rules in
-    rw (fault_of_text c.args.bytes.now short (is_utf8-from_IsUtf8 _ whole)) (rw same at c.text_fault.ensures)
+returns-in-Ok c = rw (fault_of_text c.args.bytes.now c.in-Ok.ensures.1) (rw c.in-Ok.ensures.0 at c.text_fault.ensures)
 
 pub returns-in-Err : goal.returns-in-Err
-returns-in-Err c =
-    let short : nat_lt 65536 (length c.args.bytes.now) ≡ false = search rules in
-    let place = c.valid_up_to.ensures ∙ c.in-Err.ensures.valid_len in
-    (fault_of_bytes c.args.bytes.now _ short (not_utf8 _ c.in-Err.ensures.cases.0) place, refl)
+returns-in-Err c = (fault_of_file c.args.bytes.now _ c.in-Err.ensures.0 c.in-Err.ensures.1, c.in-Err.ensures.1)

@@ -2,8 +2,8 @@ use Rattle.rsp_engine.specs.Moments.{moments}
 use Rattle.rsp_call.proofs.Tellings.{accepted_stands, accepted_text}
 use Rattle.rsp_call.proofs.taking.take_event.Goals as goal
 
-pub returns-in-Err-tell_reports-clause-text : goal.returns-in-Err-tell_reports-clause-text
-returns-in-Err-tell_reports-clause-text g c world stands =
+pub returns-in-Ok-clause-text : goal.returns-in-Ok-clause-text
+returns-in-Ok-clause-text g c world stands =
     let accepted = c.in-Ok.ensures.stands world stands in
     rw
     (accepted_text c.args.form world c.args.place c.args.event accepted.0 accepted.1)

@@ -1,0 +1,77 @@
+-- The files of recorded streams, and their events.
+use Rattle.std.proofs.Common.{◌≡◌, ℕ, zero, suc, ◌+◌, ◌-◌, List, [], ◌∷◌, ◌++◌, length, drop, map, Option, None, Some, refl, sym, ◌∙◌, ap, append_assoc, arith, ◌≤◌}
+use Rattle.std.specs.List.{AllByRecursion, slice_get}
+use Rattle.std.specs.Option.{option_map, option_to_list}
+use Rattle.rsp_spec.specs.Windows.{last_instant}
+use Rattle.rsp_events.specs.declared.event.Event.{Event}
+use Rattle.rsp_events.specs.declared.event.Event.TheVariants as event
+use Rattle.rsp_events.specs.declared.recording.RecordedItems.{RecordedItems}
+use Rattle.rsp_events.specs.Instants.{AllTimed, IsInstant}
+use Rattle.rsp_events.specs.Merged.{item_time}
+use Rattle.rsp_events.specs.Recorded.{recorded}
+use Rattle.rsp_call.specs.declared.replay.Stream as stream_read
+use Rattle.rsp_call.specs.Playing.{AreTimed, stream_for}
+use Rattle.rsp_call.specs.Recordings.{items_of, last_tick, recordings, with_tick}
+use Rattle.rsp_call.specs.Summaries.{numbered}
+use Rattle.rsp_call.proofs.Filed.{behind_place}
+
+-- ---- the files
+
+-- some of them are read
+pub record Recording (first : ℕ) (streams : List stream_read.Stream) (files : List (List ℕ)) (reads : List RecordedItems) (document place : ℕ) : Type 0 where
+  pub all : reads ++ recordings document (map stream_for (drop place streams)) (drop place files) ≡ recordings first (map stream_for streams) files
+  pub timed : AreTimed reads
+
+timed_end : (P : RecordedItems → Type 0) (xs : List RecordedItems) (x : RecordedItems) → AllByRecursion P xs → P x → AllByRecursion P (xs ++ x ∷ [])
+timed_end P [] x all this = (this, tt)
+timed_end P (first ∷ xs) x all this = (all.0, timed_end P xs x all.1 this)
+
+pub recording_none : (first : ℕ) (streams : List stream_read.Stream) (files : List (List ℕ)) → Recording first streams files [] first 0
+recording_none first streams files = record { all = refl; timed = tt }
+
+pub recording_on : (first : ℕ) (streams : List stream_read.Stream) (files : List (List ℕ)) (reads : List RecordedItems) (document place : ℕ) (stream : stream_read.Stream) (file : List ℕ) (read : RecordedItems) → Recording first streams files reads document place → slice_get streams place ≡ Some stream → slice_get files place ≡ Some file → read ≡ recorded stream.iri.now document file → AllByRecursion IsInstant read.items → Recording first streams files (reads ++ read ∷ []) (document + 1) (place + 1)
+recording_on first streams files reads document place stream file read so_far is_stream is_file is timed =
+    let next : recordings document (map stream_for (drop place streams)) (drop place files) ≡ read ∷ recordings (document + 1) (map stream_for (drop (place + 1) streams)) (drop (place + 1) files) =
+    rw (behind_place streams place stream is_stream, behind_place files place file is_file, is) refl in
+    record {
+      all = append_assoc reads (read ∷ []) _ ∙ (ap (λ rest. reads ++ rest) (sym next) ∙ so_far.all);
+      timed = timed_end (λ (r : RecordedItems). AllByRecursion IsInstant r.items) reads read so_far.timed timed;
+    }
+
+no_streams : (document : ℕ) (streams : List stream_read.Stream) (files : List (List ℕ)) → streams ≡ [] → recordings document (map stream_for streams) files ≡ []
+no_streams document streams files none = rw none refl
+
+no_files : (document : ℕ) (streams : List stream_read.Stream) (files : List (List ℕ)) → files ≡ [] → recordings document (map stream_for streams) files ≡ []
+no_files document [] files none = refl
+no_files document (stream ∷ streams) files none = rw none refl
+
+-- ---- times
+
+pub lists_timed : (reads : List RecordedItems) → AreTimed reads → AllByRecursion (λ events. AllByRecursion IsInstant events) (items_of reads)
+lists_timed [] timed = tt
+lists_timed (read ∷ reads) timed = (timed.0, lists_timed reads timed.1)
+
+pub numbered_timed : (number : ℕ) (events : List Event) → AllByRecursion IsInstant events → AllTimed (numbered number events)
+numbered_timed number [] timed = tt
+numbered_timed number (event ∷ events) timed = (timed.0, numbered_timed (number + 1) events timed.1)
+
+time_timed : (e : Event) → IsInstant e → item_time e ≤ last_instant
+time_timed (event.Register name text) is = omega arith
+time_timed (event.Cancel name) is = omega arith
+time_timed (event.Item stream time graph) is = is
+time_timed (event.Tick time) is = omega arith
+time_timed (event.Insert quads) is = omega arith
+time_timed (event.Delete quads) is = omega arith
+
+tick_timed : (items : List Event) (k : ℕ) → AllByRecursion IsInstant items → AllByRecursion IsInstant (option_to_list (option_map (λ item. event.Tick (item_time item)) (slice_get items k)))
+tick_timed [] zero timed = tt
+tick_timed [] (suc k) timed = tt
+tick_timed (item ∷ items) zero timed = (time_timed item timed.0, tt)
+tick_timed (item ∷ items) (suc k) timed = tick_timed items k timed.1
+
+events_timed : (xs ys : List Event) → AllByRecursion IsInstant xs → AllByRecursion IsInstant ys → AllByRecursion IsInstant (xs ++ ys)
+events_timed [] ys all more = more
+events_timed (first ∷ xs) ys all more = (all.0, events_timed xs ys all.1 more)
+
+pub with_tick_timed : (items : List Event) → AllByRecursion IsInstant items → AllByRecursion IsInstant (with_tick items)
+with_tick_timed items timed = events_timed items (last_tick items) timed (tick_timed items (length items - 1) timed)
