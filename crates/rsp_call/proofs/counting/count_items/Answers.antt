@@ -1,4 +1,4 @@
-use Rattle.rsp_call.proofs.Tallying.{going_none, going_on}
+use Rattle.rsp_call.proofs.Tallying.{going_all, going_none, going_on}
 use Rattle.rsp_call.proofs.counting.count_items.Goals as goal
 
 pub items-init : goal.items-init
@@ -13,3 +13,7 @@ items-preserved g c =
     c.in_ok-item.ensures.item
     c.in_ok-count_event.ensures.idle
     c.in_ok-count_event.ensures.counts
+
+pub returns-clause-counts : goal.returns-clause-counts
+returns-clause-counts g c world stands =
+    going_all c.args.engine.now c.items.engine c.args.tally.now c.items.tally c.args.count c.items.made c.items.x world c.items.invariant c.items-test.false stands
