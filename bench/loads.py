@@ -31,7 +31,7 @@ def statements(size):
 
 
 def items(size):
-    """So many items of one triple, a millisecond apart. Those behind the thousandth are read and then refused."""
+    """So many items of one triple, a millisecond apart. No query reads them, so none is kept."""
     return b"".join(block(f"@item <s:a> {at}", [f'<a:{at}> <p:v> "{at}" .\n']) for at in range(1, size + 1))
 
 
@@ -211,6 +211,69 @@ def terms(size):
     most = (MOST_BYTES - 100) // max(map(len, quads), default=1)
     inserts = [block("@insert", quads[at:at + most]) for at in range(0, len(quads), most)]
     return block("@register q", [text + "WHERE { ?s <p:v> ?o }\n"]) + b"".join(inserts) + b"@tick 1\n@tick 10000\n"
+
+
+# ---- what is kept: items of one triple, two milliseconds apart, under queries that never report
+
+MOST_HELD, MOST_KEPT_ITEMS = 1_000_000, 1_200_000
+NEVER = "REPORT EVERY P365D TICK TIME"
+
+
+def short_items(size, streams):
+    """So many items, in turn over these streams."""
+    names = [f"<s:{stream}>" for stream in streams]
+    return b"".join(
+        b"@item %s %d\n<a:%d> <p:v> <o:1> .\n@end\n" % (names[k % len(names)].encode(), 2 * k + 1, k) for k in range(size)
+    )
+
+
+def kept(count):
+    """A load of so many items under one query, of which about this many are kept once as many have come."""
+    window = f"FROM NAMED WINDOW <w:1> ON <s:a> [RANGE PT{2 * count / 1000}S STEP PT0.002S]"
+    return lambda size: registration("q", NEVER, window, PATTERN) + short_items(size, ["a"])
+
+
+def unread(count):
+    """The same where each second item is of one of a hundred streams that no query reads."""
+    window = f"FROM NAMED WINDOW <w:1> ON <s:a> [RANGE PT{4 * count / 1000}S STEP PT0.002S]"
+    others = [name for number in range(100) for name in ("a", f"b{number}")]
+    return lambda size: registration("q", NEVER, window, PATTERN) + short_items(size, others)
+
+
+def each_its_stream(size):
+    """So many items over a hundred streams, each of which has a query of its own that keeps what comes in ten seconds."""
+    streams = [f"b{number}" for number in range(100)]
+    window = "FROM NAMED WINDOW <w:1> ON <s:%s> [RANGE PT10S STEP PT0.002S]"
+    return b"".join(registration(f"q{s}", NEVER, window % s, PATTERN) for s in streams) + short_items(size, streams)
+
+
+def one_stream(size):
+    """So many items of one stream, under 256 queries over windows of ten seconds and more, of which none reports."""
+    live = [
+        registration(f"q{k}", NEVER, f"FROM NAMED WINDOW <w:1> ON <s:a> [RANGE PT{10 + k}S STEP PT{1 + k % 7}S]", PATTERN)
+        for k in range(256)
+    ]
+    return b"".join(live) + short_items(size, ["a"])
+
+
+def full(items, before):
+    """A log that begins with these queries and makes the list of kept items full, or nearly so, by so many items."""
+    triples = [f"<a:{k}> <p:v> <o:1> .\n" for k in range(MOST_HELD // items)]
+    return before + block("@item <s:a> 1000", triples) * items
+
+
+def cancels(size):
+    """256 cancellations where as many triples are kept as can be, by so many items."""
+    window = "FROM NAMED WINDOW <w:1> ON <s:a> [RANGE PT1H]"
+    live = b"".join(registration(f"q{k}", NEVER, window, PATTERN) for k in range(256))
+    return full(max(size, 10), live) + b"".join(b"@cancel q%d\n" % k for k in range(256))
+
+
+def full_refusals(size):
+    """So many items that are refused since as many triples are kept as can be, by a hundred items."""
+    window = "FROM NAMED WINDOW <w:1> ON <s:a> [RANGE PT1H]"
+    live = registration("q", NEVER, window, PATTERN)
+    return full(100, live) + b"@item <s:a> 2000\n<a:1> <p:v> <o:1> .\n@end\n" * size
 
 
 # ---- ticks far apart

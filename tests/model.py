@@ -10,14 +10,15 @@ from collections import Counter, namedtuple
 import query_model
 from algebra_model import DEFAULT, Overfull, solutions, translated
 from json_reports import as_json
-from policy_model import content, instants, is_due, is_due_on_arrival, is_mixed, policy_of, window_of
+from policy_model import content, instants, is_due, is_due_on_arrival, is_mixed, is_needed, policy_of, window_of
 from query_model import LAST_INSTANT, instant
 from shape_model import fault
 from term_model import XSD_STRING, Blank, Iri, Literal, Tagged, is_absolute, printed
 
 USAGE = b"usage: rsp events [--json] | run [--json] [--store FILE] QUERY STREAM=FILE.. | check QUERY | gen COUNT\n"
 MOST_BYTES = 16_777_216
-MOST_ITEMS = MOST_TRIPLES = 1_000
+MOST_TRIPLES = 100_000
+MOST_HELD = 1_000_000
 MOST_QUERIES = 256
 MOST_QUADS = 1_000_000
 
@@ -385,11 +386,20 @@ class World:
         if least < (self.next or 0):
             raise Refused(f"15 Late time={time} next={self.next}")
 
+    def held(self, items, time):
+        """The triples, as listed, of those of the items that are still needed once all before the time is complete."""
+        needed = (any(is_needed(query, number, item, time) for query in self.queries) for number, item in enumerate(items))
+        return sum(len(graph) for (_, _, graph), is_kept in zip(items, needed) if is_kept)
+
     def item(self, stream, time, graph):
-        if len(graph) > MOST_TRIPLES or len(self.items) >= MOST_ITEMS:
-            raise Refused("22 Unbuilt")
         self.check_time(time, time)
-        self.items.append((stream, time, graph))
+        if len(graph) > MOST_TRIPLES:
+            raise Refused(f"21 ItemTooLarge triples={len(graph)}")
+        items = [*self.items, (stream, time, graph)]
+        # where all items together are few, so are those that are needed
+        if sum(len(graph) for _, _, graph in items) > MOST_HELD and (held := self.held(items, time)) > MOST_HELD:
+            raise Refused(f"19 HeldFull held={held}")
+        self.items = items
         yield from self.pass_to(time)
         yield from self.arrive()
 

@@ -71,6 +71,20 @@ def contents(query, items, at):
     return [content(query, window, items, at) for window in query.windows]
 
 
+def last_closing(window, time):
+    """The last closing of the windows that contain the time, or None. The last that opens before it is the last to close."""
+    opened = -(-(time - window.origin) // window.slide) - 1
+    closing = window.origin + opened * window.slide + window.width
+    return closing if opened >= 0 and time <= closing else None
+
+
+def is_needed(query, number, item, next_instant):
+    """Whether some window of the query that sees the item contains it and closes at `next_instant` or later."""
+    stream, time, _ = item
+    ends = [last_closing(window, time) for window in query.windows if window.stream == stream]
+    return number >= query.first and any(end is not None and next_instant <= end for end in ends)
+
+
 # ---- when a query is due: each strategy holds by some window, maybe each by another
 
 
