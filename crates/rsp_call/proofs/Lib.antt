@@ -20,3 +20,4 @@ pub mod Filed
 pub mod Recorded
 pub mod Played
 pub mod Spoken
+pub mod Generated

@@ -1,8 +1,7 @@
 -- The steps of a replay.
-use Rattle.std.proofs.Common.{◌≡◌, ℕ, Bool, true, Result, Ok, Err, IfOk, OnOk, List, [], ◌++◌, Option, Some, None, map, refl}
+use Rattle.std.proofs.Common.{◌≡◌, ℕ, Bool, true, Result, Ok, Err, IfOk, OnOk, List, Option, Some, None, refl}
 use Rattle.std.specs.Option.{is_some, option_map}
 use Rattle.std.specs.Prelude.{codes}
-use Rattle.std.specs.List.{list_any}
 use Rattle.rsp_events.specs.declared.event.Event.{Event}
 use Rattle.rsp_events.specs.declared.event.Event.TheVariants.{Register}
 use Rattle.rsp_engine.specs.declared.refused.Refused.{Refused}
@@ -10,18 +9,16 @@ use Rattle.rsp_engine.specs.Passing.{IsFaultOf}
 use Rattle.rsp_engine.specs.Refusals.{Refusal, refusal_of}
 use Rattle.rsp_engine.specs.World.{World}
 use Rattle.rsp_call.specs.declared.form.Form.{Form}
-use Rattle.rsp_call.specs.declared.refusing.Place.{Place}
 use Rattle.rsp_call.specs.declared.refusing.Place.TheVariants.{Block}
 use Rattle.rsp_call.specs.declared.stop.Stop.{Stop}
 use Rattle.rsp_call.specs.Checks.{bytes_fault}
-use Rattle.rsp_call.specs.Output.{event_step, is_refusal}
+use Rattle.rsp_call.specs.Output.{event_step}
 use Rattle.rsp_call.specs.Refusals.{of_event}
 use Rattle.rsp_call.specs.Replays.{query_step}
-use Rattle.rsp_call.specs.Runs.{event_refused, event_text, event_world}
 use Rattle.rsp_call.specs.Sayings.{Says}
 use Rattle.rsp_call.specs.Sinks.{SinkSeen}
 use Rattle.rsp_call.specs.Stops.{Ends, IsLineOf}
-use Rattle.rsp_call.proofs.Speaking.{refusal_says, says_of}
+use Rattle.rsp_call.proofs.Speaking.{refusal_says}
 
 pub on_ok_from : {T E : Type 0} (result : Result T E) {P : T → Type 0} {Q : Type 0} → IfOk result P → ((value : T) → P value → Q) → OnOk result Q
 on_ok_from (Ok value) is gives = gives value is

@@ -1,3 +1,4 @@
+use Rattle.std.proofs.Common.{arith}
 use Rattle.rsp_call.proofs.Tallying.{going_all, going_none, going_on}
 use Rattle.rsp_call.proofs.counting.count_items.Goals as goal
 
@@ -16,4 +17,4 @@ items-preserved g c =
 
 pub returns-clause-counts : goal.returns-clause-counts
 returns-clause-counts g c world stands =
-    going_all c.args.engine.now c.items.engine c.args.tally.now c.items.tally c.args.count c.items.made c.items.x world c.items.invariant c.items-test.false stands
+    going_all c.args.engine.now c.items.engine c.args.tally.now c.items.tally c.args.count c.items.made c.items.x world c.items.invariant (λ below. let past = c.items-test.false in omega (arith, below, past)) stands

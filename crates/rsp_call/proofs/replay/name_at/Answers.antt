@@ -1,6 +1,6 @@
 use Rattle.std.proofs.Common.{◌≡◌, ◌+◌, ◌∙◌, sym, rules}
 use Rattle.rsp_call.specs.Playing.{replay_for}
-use Rattle.rsp_call.specs.Words.{names_behind, names_of}
+use Rattle.rsp_call.specs.Words.{names_behind}
 use Rattle.rsp_call.proofs.Filed.{after_first}
 use Rattle.rsp_call.proofs.replay.name_at.Goals as goal
 

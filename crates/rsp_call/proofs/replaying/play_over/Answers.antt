@@ -1,5 +1,3 @@
-use Rattle.std.proofs.Common.{◌≡◌, IfOk}
-use Rattle.std.proofs.lemmas.Result.{IfOk-weaker}
 use Rattle.rsp_engine.specs.World.{empty_world}
 use Rattle.rsp_call.proofs.Speaking.{first_stopped, says_both, second_stopped}
 use Rattle.rsp_call.proofs.replaying.play_over.Goals as goal

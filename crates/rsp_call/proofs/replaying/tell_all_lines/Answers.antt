@@ -1,7 +1,7 @@
 use Rattle.rsp_call.proofs.Speaking.{said_all, said_on, said_stopped}
 use Rattle.rsp_call.proofs.Spoken.{file_next, files_end, files_end_2}
 use Rattle.rsp_call.proofs.Filed.{found_at}
-use Rattle.std.proofs.Common.{sym, None, Some}
+use Rattle.std.proofs.Common.{None, Some}
 use Rattle.rsp_call.proofs.replaying.tell_all_lines.Goals as goal
 
 pub files-preserved : goal.files-preserved

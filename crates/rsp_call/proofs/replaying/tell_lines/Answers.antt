@@ -1,4 +1,4 @@
-use Rattle.std.proofs.Common.{◌≡◌, ◌+◌, [], ◌∷◌, ap, drop, get_or, drop_of_length-le}
+use Rattle.std.proofs.Common.{◌+◌, [], ◌∷◌, ap, drop, get_or, drop_of_length-le}
 use Rattle.std.proofs.lemmas.List.{drop_more}
 use Rattle.rsp_events.specs.declared.refused.LineRefused.{LineRefused}
 use Rattle.rsp_events.specs.declared.refused.RefusedAs.TheVariants.{BadStatement}

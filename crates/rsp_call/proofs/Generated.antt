@@ -1,0 +1,83 @@
+-- What the generator is asked for, and what is answered.
+use Rattle.std.proofs.Common.{◌≡◌, ℕ, ◌≤◌, ◌&&◌, Bool, true, false, true≢false, nat_le, List, [], ◌∷◌, Option, None, Some, Result, Ok, Err, refl, codes, bytes_eq, option_map, inr}
+use Rattle.std.specs.Prelude.{IfOk, if◌then◌else◌}
+use Rattle.std.specs.List.{list_any}
+use Rattle.std.proofs.lemmas.Bool.{leb-true}
+use Rattle.rsp_text.specs.Digits.{read_u64}
+use Rattle.rsp_call.specs.declared.form.Form.{Form}
+use Rattle.rsp_call.specs.declared.stop.Stop.{Stop}
+use Rattle.rsp_call.specs.declared.stop.Stop.TheVariants.{Memory, Write}
+use Rattle.rsp_call.specs.FileAnswers.{AnswersFiles, SayingOf}
+use Rattle.rsp_call.specs.Output.{is_refusal, text_of}
+use Rattle.rsp_call.specs.Shelves.{ShelfSeen}
+use Rattle.rsp_call.specs.Sinks.{SinkSeen}
+use Rattle.rsp_call.specs.Stops.{Ends, status_of}
+use Rattle.rsp_call.specs.Words.{Mode, Replay, check, check_of, events_of, form_of, generate, generate_of, generate_so_many, is_count, is_file, mode_of, run, values, without_json}
+
+-- ---- at most a million items
+
+and_second : (a b : Bool) → (a && b) ≡ true → b ≡ true
+and_second true b h = h
+and_second false b h = cc
+
+few_of_number : (read : Option ℕ) (count : ℕ) → generate_so_many read ≡ Some (generate count) → count ≤ 1000000
+few_of_number None count is = cc
+few_of_number (Some n) count is = by (is_count n) refl is
+  where
+    by : (b : Bool) → is_count n ≡ b → (if b then Some (generate n) else None) ≡ Some (generate count) → count ≤ 1000000
+    by false test is = cc
+    by true test is =
+        let same : n ≡ count = cc in
+        let low : n ≤ 1000000 = leb-true n 1000000 (and_second (nat_le 1 n) (nat_le n 1000000) test) in
+        rw (← same) low
+
+few_generated : (words : List (List ℕ)) (count : ℕ) → generate_of words ≡ Some (generate count) → count ≤ 1000000
+few_generated [] count is = cc
+few_generated (word ∷ []) count is = few_of_number (read_u64 word) count is
+few_generated (word ∷ other ∷ more) count is = cc
+
+no_events : (form : Form) (words : List (List ℕ)) (count : ℕ) → events_of form words ≡ Some (generate count) → count ≤ 1000000
+no_events form [] count is = cc
+no_events form (word ∷ more) count is = cc
+
+no_run : (replay : Option Replay) (count : ℕ) → option_map run replay ≡ Some (generate count) → count ≤ 1000000
+no_run None count is = cc
+no_run (Some replay) count is = cc
+
+no_check : (words : List (List ℕ)) (count : ℕ) → check_of words ≡ Some (generate count) → count ≤ 1000000
+no_check [] count is = cc
+no_check (query ∷ []) count is = by (is_file query) is
+  where
+    by : (b : Bool) → (if b then Some (check query) else None) ≡ Some (generate count) → count ≤ 1000000
+    by true is = cc
+    by false is = cc
+no_check (query ∷ other ∷ more) count is = cc
+
+-- by the row of the table
+few_by_row : (a b c d : Bool) (e r k g : Option Mode) (count : ℕ) → (e ≡ Some (generate count) → count ≤ 1000000) → (r ≡ Some (generate count) → count ≤ 1000000)
+    → (k ≡ Some (generate count) → count ≤ 1000000) → (g ≡ Some (generate count) → count ≤ 1000000)
+    → (if a then e else (if b then r else (if c then k else (if d then g else None)))) ≡ Some (generate count) → count ≤ 1000000
+few_by_row true b c d e r k g count of_e of_r of_k of_g is = of_e is
+few_by_row false true c d e r k g count of_e of_r of_k of_g is = of_r is
+few_by_row false false true d e r k g count of_e of_r of_k of_g is = of_k is
+few_by_row false false false true e r k g count of_e of_r of_k of_g is = of_g is
+few_by_row false false false false e r k g count of_e of_r of_k of_g is = cc
+
+pub few_asked : (words : List (List ℕ)) (count : ℕ) → mode_of words ≡ Some (generate count) → count ≤ 1000000
+few_asked [] count is = cc
+few_asked (word ∷ more) count is =
+    few_by_row (bytes_eq word (codes "events")) (bytes_eq word (codes "run")) (bytes_eq word (codes "check")) (bytes_eq word (codes "gen")) _ _ _ _ count
+    (no_events (form_of more) (values (without_json more)) count)
+    (no_run _ count)
+    (no_check (values more) count)
+    (few_generated (values more) count)
+    is
+
+-- ---- the answer, where no file is read and nothing is refused
+
+pub none_read : (form : Form) (said : SayingOf) (shelf : ShelfSeen) (sink sink' : SinkSeen) (result : Result Bool Stop) → Ends sink sink' (text_of form (said [])) result
+    → IfOk result (λ refused. refused ≡ false) → list_any is_refusal (said []) ≡ false → AnswersFiles form [] said shelf shelf sink sink' (status_of result)
+none_read form said shelf sink sink' (Ok false) ends refused none = record { files = []; read = refl; written = ends; refused = none }
+none_read form said shelf sink sink' (Ok true) ends refused none = absurd (true≢false refused)
+none_read form said shelf sink sink' (Err Memory) ends refused none = inr (record { files = []; read = refl; part = ends })
+none_read form said shelf sink sink' (Err Write) ends refused none = record { files = []; read = refl; failed = ends }
