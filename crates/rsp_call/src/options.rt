@@ -86,7 +86,8 @@ fn with_word<'a>(
 fn store_in<'a>(word: &'a Text, behind: &'a [Text]) -> Option<(&'a str, &'a [Text])>
     requires { is_dashes word.now ≡ false }
     ensures option { MatchOption result
-        ((store_of (word.now ∷ behind.now) ≡ store_of behind.now) × (without_store (word.now ∷ behind.now) ≡ word.now ∷ without_store behind.now))
+        ((store_of (word.now ∷ behind.now) ≡ store_of behind.now)
+        × (without_store (word.now ∷ behind.now) ≡ word.now ∷ without_store behind.now))
         (λ x. (store_of (word.now ∷ behind.now) ≡ Some x.0.now) × (without_store (word.now ∷ behind.now) ≡ x.1.now)) }
     ensures shorter { IfSome result (λ x. length x.1.now < length (word.now ∷ behind.now)) }
 {
@@ -161,8 +162,8 @@ fn pushed<'a>(
 
 // with words that are all values
 fn with_values<'a>(so_far: Options<'a>, words: &'a [Text]) -> Option<Options<'a>>
-    ensures { MatchOption result (17 < length (values_in so_far.entry ++ words.now)) (λ now. options_in now ≡ record (options_in so_far.entry)
-        { values = values_in so_far.entry ++ words.now }) }
+    ensures { MatchOption result (17 < length (values_in so_far.entry ++ words.now))
+        (λ now. options_in now ≡ record (options_in so_far.entry) { values = values_in so_far.entry ++ words.now }) }
 {
     let Options {
         form,

@@ -32,7 +32,8 @@ pub(crate) struct Replay<'a> {
 
 /// What these options and values ask `run` for; None where they aren't as the table wants them. Takes no memory.
 pub(crate) fn replay_of(options: Options<'_>) -> Option<Replay<'_>>
-    ensures { option_map replay_for result ≡ replay_of options.entry.form (option_map (λ file. file.now) options.entry.store) (values_in options.entry) }
+    ensures { option_map replay_for result
+        ≡ replay_of options.entry.form (option_map (λ file. file.now) options.entry.store) (values_in options.entry) }
 {
     let Options {
         form,
@@ -133,7 +134,8 @@ fn name_behind<'a>(replay: &Replay<'a>, place: usize) -> Option<&'a str>
 }
 
 fn name_of_stream<'a>(streams: &[Stream<'a>], place: usize) -> Option<&'a str>
-    ensures { option_map (λ name. name.now) result ≡ slice_get (map (λ (stream : words.Stream). stream.file) (map stream_for streams.now)) place }
+    ensures { option_map (λ name. name.now) result
+        ≡ slice_get (map (λ (stream : words.Stream). stream.file) (map stream_for streams.now)) place }
 {
     match streams.get(place) {
         Some(stream) => Some(stream.file),

@@ -143,15 +143,6 @@ pub may_change : (held now : List Fact) (changes : List (Fact × ℤ)) → ((q :
 may_change held now changes once once_now changed q =
     turn (times fact_eq held q) (times fact_eq now q) (weight fact_eq changes q) (once q) (once_now q) (changed q)
 
--- one entry more
-pub one_entry : (before after left rest : List (Fact × ℤ)) (fact shared : Fact) (n whole : ℤ) (q : Fact) → left ≡ (fact, n) ∷ rest → shared ≡ fact
-    → weight fact_eq after q ≡ weight fact_eq before q +ℤ only (fact_eq q shared) n → weight fact_eq before q +ℤ weight fact_eq left q ≡ whole
-    → weight fact_eq after q +ℤ weight fact_eq rest q ≡ whole
-one_entry before after left rest fact shared n whole q is same altered whole_is =
-    let front = ap (λ es. weight fact_eq es q) is in
-    let there = ap (λ f. only (fact_eq q f) n) same in
-    omega (arith, ints, front, there, altered, whole_is)
-
 -- ---- the stored quads
 
 or_none : (a b : Bool) → (a || b) ≡ false → (a ≡ false) × (b ≡ false)

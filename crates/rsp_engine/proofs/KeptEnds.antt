@@ -1,15 +1,18 @@
 -- The ends of the kept items by the windows of the live queries, and what is let go.
-use Rattle.std.proofs.Common.{◌≡◌, ℕ, ◌+◌, ◌≤◌, true, false, cond, min, nat_le, nat_lt, Option, None, Some, List, [], ◌∷◌, All, length, refl, sym, ap, subst, arith}
+use Rattle.std.proofs.Common.{◌≡◌, ℕ, zero, suc, ◌+◌, ◌≤◌, Bool, true, false, true≢false, cond, ◌||◌, min, nat_le, nat_lt, Option, None, Some, List, [], ◌∷◌, All, length, slice_get, refl, sym, ap, ◌∙◌, subst, le-leb, leb-true, arith}
 use Rattle.std.proofs.lemmas.Bool.Decides.{nat_tests}
-use Rattle.std.proofs.lemmas.List.Elements.{All-cons, All-filter, All-head, All-nil, All-tail}
+use Rattle.std.proofs.lemmas.List.Elements.{All-cons, All-filter, All-head, All-nil, All-tail, All-weaker}
+use Rattle.std.proofs.lemmas.List.Folds.{list_any-append}
+use Rattle.std.proofs.lemmas.Option.{same_Some}
 use Rattle.rsp_scope.specs.Contents.{Accepted, Numbered, Watch, as_accepted}
 use Rattle.rsp_scope.specs.Ends.{AreEnds, EndsAt, IsKept}
 use Rattle.rsp_scope.specs.Kept.{Kept, needed, shortened, triples_of}
-use Rattle.rsp_scope.specs.Needed.{is_needed}
+use Rattle.rsp_scope.specs.Needed.{is_needed, is_needed_by}
 use Rattle.rsp_scope.specs.declared.item.Item.{Item}
 use Rattle.rsp_scope.proofs.Endings.{filter-most, needed-later}
 use Rattle.rsp_scope.proofs.Needed.{held_falls, lowered, passed}
-use Rattle.rsp_engine.specs.Keeping.{IsLess, excess}
+use Rattle.rsp_engine.specs.Keeping.{EndsBy, IsLess, excess, watches_by, watches_followed}
+use Rattle.rsp_engine.specs.declared.live_query.LiveQuery.{LiveQuery}
 
 -- ---- the ends
 
@@ -17,14 +20,66 @@ use Rattle.rsp_engine.specs.Keeping.{IsLess, excess}
 abbrev pub no_item : Item
 no_item = record { number = 0; stream = []; time = 0; graph = []; end = 0 }
 
+both : (a b : Bool) → (b ≡ true → a ≡ true) → (a ≡ true → b ≡ true) → a ≡ b
+both true b back on = sym (on refl)
+both false true back on = back refl
+both false false back on = refl
+
+-- what some of the windows need up to `most`, and none of them beyond it, ends there by all of them
+capped : (some all : List Watch) (entry : Numbered) (most : ℕ)
+    → ((n : ℕ) → is_needed n some entry ≡ true → is_needed n all entry ≡ true)
+    → EndsAt some entry (Some most) → EndsBy all entry most → EndsAt all entry (Some most)
+capped some all entry most more ends within n =
+    both (is_needed n all entry) (nat_le n most) (λ is. more n (ends n ∙ is)) (λ is. le-leb n most (within n is))
+
+or_front : (a b : Bool) → a ≡ true → (a || b) ≡ true
+or_front true b is = refl
+or_front false b is = absurd (true≢false (sym is))
+
+or_back : (a b : Bool) → b ≡ true → (a || b) ≡ true
+or_back true b is = refl
+or_back false b is = is
+
+-- what one of the queries needs is needed
+needed_by_one : {A : Type 0} (queries : List (LiveQuery A)) (place : ℕ) (live : LiveQuery A) (entry : Numbered) (n : ℕ)
+    → slice_get queries place ≡ Some live
+    → is_needed n (watches_followed live.contents.items) entry ≡ true → is_needed n (watches_by queries) entry ≡ true
+needed_by_one [] place live entry n is needed = absurd (cc)
+needed_by_one {A} (query ∷ queries) zero live entry n is needed =
+    list_any-append (is_needed_by n entry) (watches_followed query.contents.items) (watches_by queries)
+    ∙ or_front (is_needed n (watches_followed query.contents.items) entry) (is_needed n (watches_by queries) entry)
+    (subst (λ (l : LiveQuery A). is_needed n (watches_followed l.contents.items) entry ≡ true) (sym (same_Some query live is)) needed)
+needed_by_one (query ∷ queries) (suc place) live entry n is needed =
+    list_any-append (is_needed_by n entry) (watches_followed query.contents.items) (watches_by queries)
+    ∙ or_back (is_needed n (watches_followed query.contents.items) entry) (is_needed n (watches_by queries) entry)
+    (needed_by_one queries place live entry n is needed)
+
+-- the end that one query gives is the item's, where none gives a later one
+pub given_end : {A : Type 0} (queries : List (LiveQuery A)) (place : ℕ) (live : LiveQuery A) (entry : Numbered) (end most : ℕ)
+    → slice_get queries place ≡ Some live → end ≡ most
+    → EndsAt (watches_followed live.contents.items) entry (Some end)
+    → EndsBy (watches_by queries) entry most → EndsAt (watches_by queries) entry (Some most)
+given_end queries place live entry end most is same ends within =
+    capped (watches_followed live.contents.items) (watches_by queries) entry most (λ n. needed_by_one queries place live entry n is)
+    (subst (λ e. EndsAt (watches_followed live.contents.items) entry (Some e)) same ends) within
+
+-- kept items end by what fewer windows need of them
+pub ends_by : (before : ℕ) (all fewer : List Watch) (items : List Accepted) (kept : Kept)
+    → ((n : ℕ) (entry : Numbered) → is_needed n fewer entry ≡ true → is_needed n all entry ≡ true)
+    → IsKept before all items kept → All (λ (item : Item). EndsBy fewer (as_accepted item) item.end) kept.items
+ends_by before all fewer items kept less h =
+    All-weaker (λ (item : Item). EndsAt all (as_accepted item) (Some item.end)) (λ (item : Item). EndsBy fewer (as_accepted item) item.end)
+    (λ item ends n needed. leb-true n item.end (sym (ends n) ∙ less n (as_accepted item) needed)) kept.items h.ends
+
 -- the end that was found by the fields of an item is the item's own
-pub end_of_item : (watches : List Watch) (item : Item) (number : ℕ) (stream : List ℕ) (time : ℕ) (end : Option ℕ)
-    → number ≡ item.number → stream ≡ item.stream → time ≡ item.time
-    → EndsAt watches (record { number = number; item = record { stream = stream; time = time; graph = item.graph } }) end
-    → EndsAt watches (as_accepted item) end
-end_of_item watches item number stream time end number_is stream_is time_is h =
-    subst (λ (entry : Numbered). EndsAt watches entry end)
-    (λ i. record { number = number_is i; item = record { stream = stream_is i; time = time_is i; graph = item.graph } }) h
+pub end_of_item : (watches : List Watch) (item : Item) (number : ℕ) (stream : List ℕ) (time most : ℕ) (end : Option ℕ)
+    → number ≡ item.number → stream ≡ item.stream → time ≡ item.time → most ≡ item.end
+    → (EndsBy watches (record { number = number; item = record { stream = stream; time = time; graph = item.graph } }) most
+        → EndsAt watches (record { number = number; item = record { stream = stream; time = time; graph = item.graph } }) end)
+    → EndsBy watches (as_accepted item) item.end → EndsAt watches (as_accepted item) end
+end_of_item watches item number stream time most end number_is stream_is time_is most_is =
+    subst (λ (found : Numbered × ℕ). EndsBy watches found.0 found.1 → EndsAt watches found.0 end)
+    (λ i. (record { number = number_is i; item = record { stream = stream_is i; time = time_is i; graph = item.graph } }, most_is i))
 
 -- ---- the triples that would be kept
 

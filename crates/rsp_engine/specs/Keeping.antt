@@ -4,10 +4,11 @@ use Rattle.std.specs.List.{All, flat_map}
 use Rattle.rsp_terms.specs.declared.statement.Fact.{Fact}
 use Rattle.rsp_terms.specs.Same.{fact_eq}
 use Rattle.rsp_multiset.specs.Weights.{times}
-use Rattle.rsp_scope.specs.Contents.{Accepted, Watch}
+use Rattle.rsp_scope.specs.Contents.{Accepted, Numbered, Watch}
 use Rattle.rsp_scope.specs.Kept.{Kept, needed, triples_of}
 use Rattle.rsp_scope.specs.Logged.{since}
 use Rattle.rsp_scope.specs.Moves.{Followed, HasSeen}
+use Rattle.rsp_scope.specs.Needed.{is_needed}
 use Rattle.rsp_scope.specs.declared.item.Item.{Item}
 use Rattle.rsp_scope.specs.declared.pieces.Piece.{Piece}
 use Rattle.rsp_engine.specs.declared.keeping.Arrival.{Arrival}
@@ -18,6 +19,10 @@ watches_followed contents = map (λ (seen : Followed). seen.watch) contents
 
 abbrev pub watches_by : {A : Type 0} → List (LiveQuery A) → List Watch
 watches_by queries = flat_map (λ live. watches_followed live.contents.items) queries
+
+-- the windows need the item at no instant behind `most`
+abbrev pub EndsBy : List Watch → Numbered → ℕ → Type 0
+EndsBy watches entry most = (n : ℕ) → is_needed n watches entry ≡ true → n ≤ most
 
 -- a window that hasn't moved to an instant
 pub record IsUnmoved (window : Followed) : Type 0 where

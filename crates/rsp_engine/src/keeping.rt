@@ -4,13 +4,13 @@ ghost use Rattle.std.specs.List.{All};
 ghost use Rattle.std.specs.Option.{option_map_or};
 ghost use Rattle.rsp_spec.specs.Windows.{last_instant};
 ghost use Rattle.rsp_terms.specs.declared.statement.Triple.{Triple};
-ghost use Rattle.rsp_scope.specs.Contents.{Accepted, Numbered, Watch};
+ghost use Rattle.rsp_scope.specs.Contents.{Accepted, Numbered, Watch, as_accepted};
 ghost use Rattle.rsp_scope.specs.Ends.{AreEnds, EndsAt, IsKept};
 ghost use Rattle.rsp_scope.specs.Kept.{taken};
 ghost use Rattle.rsp_scope.specs.Needed.{is_needed};
 ghost use Rattle.rsp_scope.specs.declared.item.Item.{Item};
 ghost use Rattle.rsp_engine.specs.Inside.{asked, fixed, parts_of};
-ghost use Rattle.rsp_engine.specs.Keeping.{IsLess, accepted_of, excess, watches_by, watches_followed};
+ghost use Rattle.rsp_engine.specs.Keeping.{EndsBy, IsLess, accepted_of, excess, watches_by, watches_followed};
 ghost use Rattle.rsp_engine.specs.Passing.{is_overfull_outcome};
 ghost use Rattle.rsp_engine.specs.Watching.{IsPrompt, IsWatching, Tells};
 ghost use Rattle.rsp_engine.specs.declared.finding.Pending.{Pending};
@@ -186,18 +186,74 @@ fn lower_settled<A>(
     streams.drop_before(cut);
 }
 
-// the ends of all kept items
+// The ends of all kept items, where none is needed beyond the one it has. The query that gave the last item's end is asked
+// first, since it mostly gives this one's too.
 fn fill<A>(queries: &[LiveQuery<A>], streams: &Streams, ends: &mut Vec<Option<u64>>)
     requires room { length streams.now.items ≤ ends.old.cap }
     requires timed { All (λ (item : Item). item.time ≤ 2 ^ 48) streams.now.items }
-    ensures ends { AreEnds (watches_by queries.now) streams.now.items ends.new.items }
+    ensures ends { All (λ (item : Item). EndsBy (watches_by queries.now) (as_accepted item) item.end) streams.now.items
+        → AreEnds (watches_by queries.now) streams.now.items ends.new.items }
+    ensures many { length ends.new.items ≡ length streams.now.items }
     ensures room { ends.new.cap ≡ ends.old.cap }
 {
     ends.clear();
+    let mut giver = 0;
     for index in 0..streams.count() {
         let number = streams.number_at(index);
         let time = streams.time_at(index);
-        let end = end_of(queries, number, streams.stream_at(index), time);
+        let most = streams.end_at(index);
+        let end = end_within(queries, &mut giver, number, streams.stream_at(index), time, most);
         ends.push_reserved(end);
+    }
+}
+
+// Until when an item is needed that isn't needed beyond `most`. Where some query needs it so long, no other is asked.
+fn end_within<A>(
+    queries: &[LiveQuery<A>],
+    giver: &mut usize,
+    number: u64,
+    stream: &Text,
+    time: u64,
+    most: u64,
+) -> Option<u64>
+    requires { time ≤ 2 ^ 48 }
+    ensures { (graph : List Triple) → EndsBy (watches_by queries.now)
+        (record { number = number; item = record { stream = stream.now; time = time; graph = graph } }) most
+        → EndsAt (watches_by queries.now)
+        (record { number = number; item = record { stream = stream.now; time = time; graph = graph } }) result }
+{
+    if needs(queries, *giver, number, stream, time, most) {
+        return Some(most);
+    }
+    for place in 0..queries.len() {
+        if needs(queries, place, number, stream, time, most) {
+            *giver = place;
+            return Some(most);
+        }
+    }
+    end_of(queries, number, stream, time)
+}
+
+// whether the query at this place needs the item up to `most`
+fn needs<A>(
+    queries: &[LiveQuery<A>],
+    place: usize,
+    number: u64,
+    stream: &Text,
+    time: u64,
+    most: u64,
+) -> bool
+    requires { time ≤ 2 ^ 48 }
+    ensures { result ≡ true → (graph : List Triple) → EndsBy (watches_by queries.now)
+        (record { number = number; item = record { stream = stream.now; time = time; graph = graph } }) most
+        → EndsAt (watches_by queries.now)
+        (record { number = number; item = record { stream = stream.now; time = time; graph = graph } }) (Some most) }
+{
+    let Some(live) = queries.get(place) else {
+        return false;
+    };
+    match end_by(live.contents.as_slice(), number, stream, time) {
+        Some(end) => end == most,
+        None => false,
     }
 }

@@ -156,18 +156,7 @@ fn move_window(
         × (window.new.accepted ≡ length items)) }
 {
     let moved = window.move_to(streams, at)?;
-    add_all(changes, &moved)
-}
-
-fn add_all(changes: &mut Changes<Fact>, others: &Changes<Fact>) -> Result<(), AllocError>
-    ensures { OnOk result ((q : Fact)
-        → weight fact_eq changes.new q ≡ weight fact_eq changes.old q +ℤ weight fact_eq others.now q) }
-{
-    for index in 0..others.distinct() {
-        let (fact, count) = others.counted_at(index);
-        changes.add(fact.share()?, count)?;
-    }
-    Ok(())
+    changes.join_changes(moved)
 }
 
 fn shared(alloc: Global, texts: &[Text]) -> Result<Listed<Text>, AllocError>

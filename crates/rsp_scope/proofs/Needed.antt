@@ -2,7 +2,6 @@
 use Rattle.std.proofs.Common.{◌≡◌, ℕ, ◌+◌, ◌<◌, ◌≤◌, Bool, true, false, cond, nat_le, Option, None, Some, List, [], ◌∷◌, ◌++◌, All, Contains, length, filter, map, slice_index_or, take, refl, sym, ap, subst, ◌∙◌, append-nil, length-append, le-leb, arith}
 use Rattle.std.proofs.lemmas.List.{map-append, take_more}
 use Rattle.std.proofs.lemmas.List.Elements.{All-cons, All-filter, All-head, All-nil, All-push, All-tail, filter-append}
-use Rattle.std.proofs.lemmas.Slice.Zip.{AllZip-long}
 use Rattle.std.proofs.lemmas.List.Sums.{sum_by-cons, sum_by-le-sum_by}
 use Rattle.rsp_scope.specs.Contents.{Accepted, HasContent, Numbered, Watch, as_accepted, numbered}
 use Rattle.rsp_scope.specs.Ends.{AreEnds, EndsAt, IsKept}
@@ -163,11 +162,6 @@ pub ends_more : (watches : List Watch) (items : List Item) (untils : List (Optio
 ends_more watches items untils i d until below ends at =
     subst (λ l. AreEnds watches l (untils ++ until ∷ [])) (sym (take_more items i d below))
     (ends-push watches (take i items) untils (slice_index_or items i d) until ends at)
-
--- there are as many ends as items
-pub ends_many : (watches : List Watch) (items : List Item) (untils : List (Option ℕ)) → AreEnds watches items untils
-    → length untils ≡ length items
-ends_many watches items untils ends = AllZip-long (λ (item : Item) (until : Option ℕ). EndsAt watches (as_accepted item) until) items untils ends
 
 -- windows go: each kept item gets its end under those that are left, and what then ends before the cut is forgotten
 pub lowered : (cut : ℕ) (watches fewer : List Watch) (items : List Accepted) (kept : Kept) (untils : List (Option ℕ))

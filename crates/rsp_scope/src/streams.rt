@@ -173,6 +173,14 @@ impl Streams {
         self.item_at(index).number
     }
 
+    /// The end of the kept item with this index: the instant up to which it is needed.
+    pub fn end_at(&self, index: usize) -> u64
+        requires { index < length self.now.items }
+        ensures { (d : Item) → result ≡ (slice_index_or self.now.items index d).end }
+    {
+        self.item_at(index).end
+    }
+
     /// How many items were accepted: each has a smaller number.
     pub fn accepted(&self) -> u64
         ensures { result ≡ self.now.accepted }

@@ -1,15 +1,13 @@
 use Rattle.std.proofs.Common.{length, sym, ap, subst, ◌∙◌, arith}
 use Rattle.rsp_scope.specs.Ends.{AreEnds, IsKept}
 use Rattle.rsp_scope.specs.Kept.{Kept, needed}
-use Rattle.rsp_scope.proofs.Needed.{ends_many}
 use Rattle.rsp_engine.specs.Keeping.{IsLess, watches_by}
-use Rattle.rsp_engine.proofs.KeptEnds.{few_lowered, kept_lowered, less_lowered}
+use Rattle.rsp_engine.proofs.KeptEnds.{ends_by, few_lowered, kept_lowered, less_lowered}
 use Rattle.rsp_engine.proofs.keeping.lower_settled.Goals as goal
 
 pub shorten-requires : goal.shorten-requires
 shorten-requires g c =
-    ap length c.as_slice.ensures.value
-    ∙ ends_many (watches_by c.args.queries.now) c.args.streams.now.items c.fill.new.ends.items c.fill.ensures.ends
+    ap length c.as_slice.ensures.value ∙ c.fill.ensures.many
 
 pub returns-clause-less : goal.returns-clause-less
 returns-clause-less g c =
@@ -31,6 +29,7 @@ pub returns-clause-kept : goal.returns-clause-kept
 returns-clause-kept g c before all items on less h =
     let watches = watches_by c.args.queries.now in
     let new_is = c.drop_before.ensures ∙ ap (λ (k : Kept). record k { items = needed c.args.cut k.items }) c.shorten.ensures in
-    let ends = subst (AreEnds watches c.args.streams.now.items) (sym c.as_slice.ensures.value) c.fill.ensures.ends in
+    let ends = subst (AreEnds watches c.args.streams.now.items) (sym c.as_slice.ensures.value)
+    (c.fill.ensures.ends (ends_by before all watches items c.args.streams.now less h)) in
     subst (IsKept c.args.cut watches items) (sym new_is)
     (kept_lowered before c.args.cut all watches items c.args.streams.now c.as_slice.result.now ends on less h)
