@@ -13,19 +13,23 @@ def block(directive, statements):
     return f"{directive}\n{''.join(statements)}@end\n".encode()
 
 
-def reading(number):
-    """The two statements of a sensor's reading: which sensor, and a decimal."""
-    observation, graph = f"_:o{number}", f"<http://example.org/g{number}>"
+def graph_of(number):
+    return f"<http://example.org/g{number}>"
+
+
+def reading(number, graph=""):
+    """The two statements of a sensor's reading, in a graph or in none: which sensor, and a decimal."""
+    observation, end = f"_:o{number}", f"{graph} .\n".lstrip()
     value = f'"{number % 40}.{number % 10}"^^<{XSD}decimal>'
     return (
-        f"{observation} <{SOSA}madeBySensor> <http://example.org/sensor{number % 100}> {graph} .\n"
-        f"{observation} <{SOSA}hasSimpleResult> {value} {graph} .\n"
+        f"{observation} <{SOSA}madeBySensor> <http://example.org/sensor{number % 100}> {end}"
+        f"{observation} <{SOSA}hasSimpleResult> {value} {end}"
     )
 
 
 def statements(size):
     """A sensor log of so many statements, in as few blocks as their limit allows: deletes of what isn't stored."""
-    readings = [reading(number) for number in range(size // 2)]
+    readings = [reading(number, graph_of(number)) for number in range(size // 2)]
     most = (MOST_BYTES - 100) // max(map(len, readings))
     return b"".join(block("@delete", readings[at:at + most]) for at in range(0, len(readings), most))
 
@@ -274,6 +278,50 @@ def full_refusals(size):
     window = "FROM NAMED WINDOW <w:1> ON <s:a> [RANGE PT1H]"
     live = registration("q", NEVER, window, PATTERN)
     return full(100, live) + b"@item <s:a> 2000\n<a:1> <p:v> <o:1> .\n@end\n" * size
+
+
+# ---- recorded streams: items of a sensor's reading, a millisecond apart, beside a query that reads another stream
+
+# not quite 64 MB as a file, the most that one may have
+MOST_RECORDED = 180_000
+ELSEWHERE = "FROM NAMED WINDOW <w:1> ON <s:elsewhere> [RANGE PT10S]"
+
+
+class Run:
+    """A run that reads no log: its words, and the files in its folder, by name."""
+
+    def __init__(self, words, files):
+        self.words, self.files = words, files
+
+
+def readings_in_a_log(size):
+    """So many items as a log, and a tick at the time of the last one."""
+    live = registration("query", NEVER, ELSEWHERE, PATTERN)
+    return live + b"".join(block(f"@item <s:a> {at}", [reading(at)]) for at in range(1, size + 1)) + b"@tick %d\n" % size
+
+
+def recorded(at):
+    """An item of a recorded stream: its time line, and a reading in its graph."""
+    time = f'"{at}"^^<{XSD}integer>'
+    return f"{graph_of(at)} <http://www.w3.org/ns/prov#generatedAtTime> {time} .\n{reading(at, graph_of(at))}".encode()
+
+
+def readings_in_files(count):
+    """The same items for `run`, in turn over so many files."""
+    names = [f"stream{number}.nq" for number in range(count)]
+    words = ["run", "query.rq", *(f"s:{name}={name}" for name in names)]
+    query = registration("query", NEVER, ELSEWHERE, PATTERN).split(b"\n")[1]
+
+    def load(size):
+        files = {name: b"".join(map(recorded, range(1 + k, size + 1, count))) for k, name in enumerate(names)}
+        return Run(words, {"query.rq": query, **files})
+
+    return load
+
+
+def generated(size):
+    """So many items of the generator."""
+    return Run(["gen", str(size)], {})
 
 
 # ---- ticks far apart
