@@ -2,7 +2,7 @@
 ghost use Rattle.std.specs.Prelude.{◌≡◌, ◌<◌};
 
 use rsp_call::{Status, rsp};
-use rsp_io::{MemorySink, MemorySource, SteadyShelf};
+use rsp_io::{MemoryShelf, MemorySink, MemorySource};
 use rsp_steps::Steps;
 use rsp_terms::Text;
 use std::alloc::{AllocError, Global};
@@ -87,6 +87,7 @@ fn status_of<L: Ledger>(
     blank: Blank,
     words: &[Text],
     input: &mut MemorySource,
+    shelf: &mut MemoryShelf,
     out: &mut MemorySink,
 ) -> Status
     requires name { blank.name ≡ L.name }
@@ -94,25 +95,26 @@ fn status_of<L: Ledger>(
     requires some { 0 < blank.parts }
 {
     let mut steps: Steps<L> = Steps::new(blank);
-    let mut shelf = SteadyShelf::new(Vec::new(alloc), 1);
-    rsp(alloc, words, input, &mut shelf, out, &mut steps)
+    rsp(alloc, words, input, shelf, out, &mut steps)
 }
 
-fn uncounted(
+pub(crate) fn uncounted(
     alloc: Global,
     words: &[Text],
     input: &mut MemorySource,
+    shelf: &mut MemoryShelf,
     out: &mut MemorySink,
 ) -> Status {
-    status_of::<Brand>(alloc, Blank::new(1), words, input, out)
+    status_of::<Brand>(alloc, Blank::new(1), words, input, shelf, out)
 }
 
 // whether a call ends with this status and leaves this text in the sink
 fn gives(alloc: Global, case: Case<'_>, status: Status, text: &str) -> Result<bool, AllocError> {
     let words = texts_of(alloc, case.words)?;
     let mut input = source_of(alloc, case)?;
+    let mut shelf = MemoryShelf::new(Vec::new(alloc), Vec::new(alloc), 1);
     let mut out = sink_of(alloc, case)?;
-    let given = uncounted(alloc, words.as_slice(), &mut input, &mut out);
+    let given = uncounted(alloc, words.as_slice(), &mut input, &mut shelf, &mut out);
     Ok(given == status && out.taken() == text.as_bytes())
 }
 

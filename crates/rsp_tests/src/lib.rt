@@ -16,6 +16,8 @@ mod events;
 #[cfg(test)]
 mod files;
 #[cfg(test)]
+mod modes;
+#[cfg(test)]
 mod multisets;
 #[cfg(test)]
 mod nquads;
