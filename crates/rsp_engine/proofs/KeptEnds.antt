@@ -75,7 +75,7 @@ ends_by before all fewer items kept less h =
 pub end_of_item : (watches : List Watch) (item : Item) (number : ℕ) (stream : List ℕ) (time most : ℕ) (end : Option ℕ)
     → number ≡ item.number → stream ≡ item.stream → time ≡ item.time → most ≡ item.end
     → (EndsBy watches (record { number = number; item = record { stream = stream; time = time; graph = item.graph } }) most
-        → EndsAt watches (record { number = number; item = record { stream = stream; time = time; graph = item.graph } }) end)
+    → EndsAt watches (record { number = number; item = record { stream = stream; time = time; graph = item.graph } }) end)
     → EndsBy watches (as_accepted item) item.end → EndsAt watches (as_accepted item) end
 end_of_item watches item number stream time most end number_is stream_is time_is most_is =
     subst (λ (found : Numbered × ℕ). EndsBy watches found.0 found.1 → EndsAt watches found.0 end)

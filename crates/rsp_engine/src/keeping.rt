@@ -202,7 +202,14 @@ fn fill<A>(queries: &[LiveQuery<A>], streams: &Streams, ends: &mut Vec<Option<u6
         let number = streams.number_at(index);
         let time = streams.time_at(index);
         let most = streams.end_at(index);
-        let end = end_within(queries, &mut giver, number, streams.stream_at(index), time, most);
+        let end = end_within(
+            queries,
+            &mut giver,
+            number,
+            streams.stream_at(index),
+            time,
+            most,
+        );
         ends.push_reserved(end);
     }
 }
