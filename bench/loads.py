@@ -266,11 +266,14 @@ def full(items, before):
     return before + block("@item <s:a> 1000", triples) * items
 
 
-def cancels(size):
-    """256 cancellations where as many triples are kept as can be, by so many items."""
-    window = "FROM NAMED WINDOW <w:1> ON <s:a> [RANGE PT1H]"
-    live = b"".join(registration(f"q{k}", NEVER, window, PATTERN) for k in range(256))
-    return full(max(size, 10), live) + b"".join(b"@cancel q%d\n" % k for k in range(256))
+def cancels(order):
+    """A load of 256 cancellations, in this order, where as many triples are kept as can be, by so many items.
+
+    The windows are of an hour and of a second more for each query, so that an item ends as the last of them says.
+    """
+    window = "FROM NAMED WINDOW <w:1> ON <s:a> [RANGE PT%dS]"
+    live = b"".join(registration(f"q{k}", NEVER, window % (3600 + k), PATTERN) for k in range(256))
+    return lambda size: full(max(size, 10), live) + b"".join(b"@cancel q%d\n" % k for k in order)
 
 
 def full_refusals(size):
