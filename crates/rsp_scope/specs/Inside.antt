@@ -1,5 +1,5 @@
 -- Words of the way: what the fields of the kept items say of each other.
-use Rattle.std.specs.Prelude.{◌≡◌, length}
+use Rattle.std.specs.Prelude.{◌≡◌, ◌≤◌, ◌*◌, length}
 use Rattle.rsp_scope.specs.Kept.{Kept, needed, triples_of}
 use Rattle.rsp_scope.specs.Moves.{Followed}
 use Rattle.rsp_scope.specs.Lanes.{AreFiled}
@@ -19,6 +19,8 @@ pub record IsStreams (s : Inside) : Type 0 where
   pub order : AreInOrder s.accepted s.items.items
   pub peaks : s.peaks.items ≡ peaks_from 0 s.items.items
   pub filed : AreFiled s.lanes.entries s.items.items
+  -- what has left is no more than what is kept
+  pub few : length s.items.items ≤ 2 * s.count
 
 abbrev pub followed_of : Window → Followed
 followed_of s =

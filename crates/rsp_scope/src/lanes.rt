@@ -99,7 +99,8 @@ fn clear(lanes: &mut IndexMap<Text, Lane>)
 /// Lets go of the lanes where no item is left.
 pub(crate) fn tidy(lanes: &mut IndexMap<Text, Lane>, items: &VecDeque<Item, Global>)
     requires { AreFiled lanes.old.entries items.now.items }
-    ensures { AreFiled lanes.new.entries items.now.items }
+    ensures filed { AreFiled lanes.new.entries items.now.items }
+    ensures none { items.now.items ≡ [] → lanes.new.entries ≡ [] }
 {
     if items.is_empty() {
         lanes.clear();

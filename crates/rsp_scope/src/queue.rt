@@ -1,5 +1,5 @@
 // Walks over the queue of kept items. None takes memory.
-ghost use Rattle.std.specs.Prelude.{◌≡◌, ◌<◌, ◌≤◌, ◌++◌, ℕ, List, drop, length, slice_index_or, OnOk};
+ghost use Rattle.std.specs.Prelude.{◌≡◌, ◌<◌, ◌≤◌, ◌*◌, ◌++◌, ℕ, List, drop, length, slice_index_or, OnOk};
 ghost use Rattle.rsp_scope.specs.Kept.{ended, needed, shortened};
 ghost use Rattle.rsp_scope.specs.Lanes.{AreFiled, room_of};
 ghost use Rattle.rsp_scope.specs.Order.{AreInOrder, peaks_from};
@@ -65,6 +65,29 @@ pub(crate) fn close_up(
     lanes::fill(lanes, items);
 }
 
+/// Closes the queue up once more has left than is kept, which are `count` items.
+pub(crate) fn close_up_if_sparse(
+    items: &mut VecDeque<Item, Global>,
+    peaks: &mut VecDeque<u64, Global>,
+    lanes: &mut IndexMap<Text, Lane>,
+    cut: u64,
+    count: usize,
+)
+    requires count { count ≡ length (needed cut items.old.items) }
+    requires peaks { peaks.old.items ≡ peaks_from 0 items.old.items }
+    requires filed { AreFiled lanes.old.entries items.old.items }
+    ensures few { length items.new.items ≤ 2 * count }
+    ensures kept { needed cut items.new.items ≡ needed cut items.old.items }
+    ensures peaks { peaks.new.items ≡ peaks_from 0 items.new.items }
+    ensures filed { AreFiled lanes.new.entries items.new.items }
+    ensures order { (accepted : ℕ) → AreInOrder accepted items.old.items → AreInOrder accepted items.new.items }
+{
+    if count < items.len() - count {
+        close_up(items, peaks, lanes, cut);
+        lanes::tidy(lanes, items);
+    }
+}
+
 /// A cut that keeps the same items and one with this end too. Lets go of the others, where the cut would fall.
 pub(crate) fn lowered(
     items: &mut VecDeque<Item, Global>,
@@ -76,6 +99,7 @@ pub(crate) fn lowered(
     requires peaks { peaks.old.items ≡ peaks_from 0 items.old.items }
     requires filed { AreFiled lanes.old.entries items.old.items }
     ensures low { result ≤ end }
+    ensures few { length items.new.items ≤ length items.old.items }
     ensures kept { needed result items.new.items ≡ needed cut items.old.items }
     ensures peaks { peaks.new.items ≡ peaks_from 0 items.new.items }
     ensures filed { AreFiled lanes.new.entries items.new.items }

@@ -3,7 +3,7 @@ use crate::ends::{Run, ending_of};
 use crate::gate::Gate;
 use crate::lanes::{Lane, places_in};
 use crate::peaks::{fill_peaks, first_fresh, peak_with};
-use crate::queue::{close_up, lowered, make_room, place, shorten_all};
+use crate::queue::{close_up, close_up_if_sparse, lowered, make_room, place, shorten_all};
 use crate::tally::{Tally, take_in, take_none};
 use crate::{Item, Shared, lanes, runs};
 use indexmap::IndexMap;
@@ -101,7 +101,13 @@ impl Streams {
             runs::drop_before(&mut self.ends, next);
             self.count = runs::count(self.ends.as_slice(), self.count);
             self.cut = next;
-            self.close_up();
+            close_up_if_sparse(
+                &mut self.items,
+                &mut self.peaks,
+                &mut self.lanes,
+                next,
+                self.count,
+            );
         }
     }
 
@@ -216,15 +222,6 @@ impl Streams {
             return &self.items[index];
         }
         &self.items[place(&self.items, self.cut, index)]
-    }
-
-    // closes the queue up once more has left than is kept
-    fn close_up(&mut self)
-        ensures { self.new ≡ self.old }
-    {
-        if self.count < self.items.len() - self.count {
-            self.settle();
-        }
     }
 
     // gives a number and keeps nothing

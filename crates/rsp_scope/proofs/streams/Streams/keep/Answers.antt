@@ -22,6 +22,7 @@ invariant_of-self c =
       order = subst (λ l. AreInOrder c.self.inside.accepted l) (sym c.make_room.ensures.items) (c.lowered-self-inside.ensures.order c.self.inside.accepted c.self.invariant.order);
       peaks = c.make_room.ensures.peaks ∙ (c.lowered-self-inside.ensures.peaks ∙ ap (λ l. peaks_from 0 l) (sym c.make_room.ensures.items));
       filed = λ s. c.lowered-self-inside.ensures.filed s ∙ ap (λ l. places_of s 0 l) (sym c.make_room.ensures.items);
+      few = omega (arith, ap (λ (l : List Item). length l) c.make_room.ensures.items, c.lowered-self-inside.ensures.few, c.self.invariant.few);
     }
 
 pub invariant_of-self-in_err-make_place : goal.invariant_of-self-in_err-make_place
@@ -34,6 +35,7 @@ invariant_of-self-in_err-make_place c =
       order = subst (λ l. AreInOrder c.self.inside.accepted l) (sym c.make_room.ensures.items) (c.lowered-self-inside.ensures.order c.self.inside.accepted c.self.invariant.order);
       peaks = c.make_room.ensures.peaks ∙ (c.lowered-self-inside.ensures.peaks ∙ ap (λ l. peaks_from 0 l) (sym c.make_room.ensures.items));
       filed = λ s. c.make_place.ensures.same s ∙ (c.lowered-self-inside.ensures.filed s ∙ ap (λ l. places_of s 0 l) (sym c.make_room.ensures.items));
+      few = omega (arith, ap (λ (l : List Item). length l) c.make_room.ensures.items, c.lowered-self-inside.ensures.few, c.self.invariant.few);
     }
 
 pub invariant_of-self-in_err-put : goal.invariant_of-self-in_err-put
@@ -46,6 +48,7 @@ invariant_of-self-in_err-put c =
       order = subst (λ l. AreInOrder c.self.inside.accepted l) (sym c.make_room.ensures.items) (c.lowered-self-inside.ensures.order c.self.inside.accepted c.self.invariant.order);
       peaks = c.make_room.ensures.peaks ∙ (c.lowered-self-inside.ensures.peaks ∙ ap (λ l. peaks_from 0 l) (sym c.make_room.ensures.items));
       filed = λ s. c.make_place.ensures.same s ∙ (c.lowered-self-inside.ensures.filed s ∙ ap (λ l. places_of s 0 l) (sym c.make_room.ensures.items));
+      few = omega (arith, ap (λ (l : List Item). length l) c.make_room.ensures.items, c.lowered-self-inside.ensures.few, c.self.invariant.few);
     }
 
 pub overflow_add-self : goal.overflow_add-self
@@ -86,4 +89,12 @@ invariant_of-self-2 c =
           c.file.ensures.lane
           s
           ∙ ap (λ l. places_of s 0 l) (sym c.push_back_reserved-2.ensures.items);
+      few = omega (
+        arith,
+        ap (λ (l : List Item). length l) c.push_back_reserved-2.ensures.items,
+        length-append c.make_room.new.items.items (c.args.item ∷ []),
+        ap (λ (l : List Item). length l) c.make_room.ensures.items,
+        c.lowered-self-inside.ensures.few,
+        c.self.invariant.few,
+      );
     }

@@ -69,6 +69,7 @@ invariant_of-self c =
           (order-needed c.self.inside.accepted c.self.inside.cut c.self.inside.items.items c.self.invariant.order));
       peaks = c.fill_peaks.ensures.peaks;
       filed = c.fill.ensures.filed;
+      few = omega (arith, c.len-self-inside.ensures, c.shorten_all.new.items.ok.0);
     }
 
 pub returns : goal.returns
