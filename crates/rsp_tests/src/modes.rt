@@ -89,8 +89,8 @@ fn calls_of(files: Files<'_>) -> u64 {
     calls
 }
 
-// The first call that doesn't end in a fault and without output as it fails, or doesn't end well as none fails, in a mode
-// that reads these files.
+// The number of the first call of the shelf that is passed over as it fails: what reads these files answers something else
+// than ReadFault, or writes something. Where no call fails, its end is looked at too.
 fn first_passed_over(
     alloc: Global,
     words: &[&str],
