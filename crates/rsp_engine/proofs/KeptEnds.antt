@@ -1,9 +1,10 @@
 -- The ends of the kept items by the windows of the live queries, and what is let go.
-use Rattle.std.proofs.Common.{◌≡◌, ℕ, zero, suc, ◌+◌, ◌≤◌, Bool, true, false, true≢false, cond, ◌||◌, min, nat_le, nat_lt, Option, None, Some, List, [], ◌∷◌, All, length, slice_get, refl, sym, ap, ◌∙◌, subst, le-leb, leb-true, arith}
+use Rattle.std.proofs.Common.{◌≡◌, ℕ, zero, suc, ◌+◌, ◌≤◌, Bool, true, false, true≢false, cond, ◌||◌, min, nat_eq, nat_le, nat_lt, Option, None, Some, List, [], ◌∷◌, All, length, slice_get, refl, sym, ap, ◌∙◌, subst, eqb-true, le-leb, leb-true, arith}
 use Rattle.std.proofs.lemmas.Bool.Decides.{nat_tests}
 use Rattle.std.proofs.lemmas.List.Elements.{All-cons, All-filter, All-head, All-nil, All-tail, All-weaker}
 use Rattle.std.proofs.lemmas.List.Folds.{list_any-append}
 use Rattle.std.proofs.lemmas.Option.{same_Some}
+use Rattle.std.specs.Option.{option_eq}
 use Rattle.rsp_scope.specs.Contents.{Accepted, Numbered, Watch, as_accepted}
 use Rattle.rsp_scope.specs.Ends.{AreEnds, EndsAt, IsKept}
 use Rattle.rsp_scope.specs.Kept.{Kept, needed, shortened, triples_of}
@@ -55,13 +56,14 @@ needed_by_one (query ∷ queries) (suc place) live entry n is needed =
     (needed_by_one queries place live entry n is needed)
 
 -- the end that one query gives is the item's, where none gives a later one
-pub given_end : {A : Type 0} (queries : List (LiveQuery A)) (place : ℕ) (live : LiveQuery A) (entry : Numbered) (end most : ℕ)
-    → slice_get queries place ≡ Some live → end ≡ most
-    → EndsAt (watches_followed live.contents.items) entry (Some end)
+pub given_end : {A : Type 0} (queries : List (LiveQuery A)) (place : ℕ) (live : LiveQuery A) (entry : Numbered) (until : Option ℕ) (most : ℕ)
+    → slice_get queries place ≡ Some live → option_eq nat_eq until (Some most) ≡ true
+    → EndsAt (watches_followed live.contents.items) entry until
     → EndsBy (watches_by queries) entry most → EndsAt (watches_by queries) entry (Some most)
-given_end queries place live entry end most is same ends within =
+given_end queries place live entry None most is same ends within = absurd (true≢false (sym same))
+given_end queries place live entry (Some end) most is same ends within =
     capped (watches_followed live.contents.items) (watches_by queries) entry most (λ n. needed_by_one queries place live entry n is)
-    (subst (λ e. EndsAt (watches_followed live.contents.items) entry (Some e)) same ends) within
+    (subst (λ e. EndsAt (watches_followed live.contents.items) entry (Some e)) (eqb-true end most same) ends) within
 
 -- kept items end by what fewer windows need of them
 pub ends_by : (before : ℕ) (all fewer : List Watch) (items : List Accepted) (kept : Kept)

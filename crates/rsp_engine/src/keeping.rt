@@ -214,7 +214,7 @@ fn fill<A>(queries: &[LiveQuery<A>], streams: &Streams, ends: &mut Vec<Option<u6
     }
 }
 
-// Until when an item is needed that isn't needed beyond `most`. Where some query needs it so long, no other is asked.
+// Until when an item is needed that isn't needed beyond `most`. Once some query needs it so long, no other is asked.
 fn end_within<A>(
     queries: &[LiveQuery<A>],
     giver: &mut usize,
@@ -232,13 +232,16 @@ fn end_within<A>(
     if needs(queries, *giver, number, stream, time, most) {
         return Some(most);
     }
-    for place in 0..queries.len() {
-        if needs(queries, place, number, stream, time, most) {
+    let mut end = None;
+    for (place, live) in queries.iter().enumerate() {
+        let until = end_by(live.contents.as_slice(), number, stream, time);
+        if until == Some(most) {
             *giver = place;
             return Some(most);
         }
+        end = later(end, until);
     }
-    end_of(queries, number, stream, time)
+    end
 }
 
 // whether the query at this place needs the item up to `most`
@@ -259,8 +262,5 @@ fn needs<A>(
     let Some(live) = queries.get(place) else {
         return false;
     };
-    match end_by(live.contents.as_slice(), number, stream, time) {
-        Some(end) => end == most,
-        None => false,
-    }
+    end_by(live.contents.as_slice(), number, stream, time) == Some(most)
 }

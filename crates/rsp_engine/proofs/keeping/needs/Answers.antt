@@ -1,4 +1,4 @@
-use Rattle.std.proofs.Common.{Some, length, refl, sym, eqb-true, subst}
+use Rattle.std.proofs.Common.{length, refl, sym, ◌∙◌, subst}
 use Rattle.std.proofs.lemmas.Bool.{ltb-true}
 use Rattle.std.proofs.lemmas.Option.{slice_get_read}
 use Rattle.rsp_scope.specs.Contents.{Numbered}
@@ -7,12 +7,12 @@ use Rattle.rsp_engine.specs.Keeping.{watches_followed}
 use Rattle.rsp_engine.proofs.KeptEnds.{given_end}
 use Rattle.rsp_engine.proofs.keeping.needs.Goals as goal
 
-pub returns-in-Some-end_by : goal.returns-in-Some-end_by
-returns-in-Some-end_by g c same graph =
+pub returns : goal.returns
+returns g c same graph =
     let entry : Numbered = record { number = c.args.number; item = record { stream = c.args.stream.now; time = c.args.time; graph = graph } } in
-    given_end c.args.queries.now c.args.place c.in-Some.live.now entry c.in-Some-end_by.end c.args.most
+    given_end c.args.queries.now c.args.place c.in-Some.live.now entry c.end_by.result c.args.most
     (slice_get_read c.args.queries.now (length c.args.queries.now) c.args.place c.in-Some.live.now refl
     (ltb-true c.args.place (length c.args.queries.now) (sym c.in-Some.ensures.lookup.0)) c.in-Some.ensures.lookup.1)
-    (eqb-true c.in-Some-end_by.end c.args.most same)
-    (subst (λ contents. EndsAt (watches_followed contents) entry (Some c.in-Some-end_by.end)) c.as_slice.ensures.value
-    (c.in-Some-end_by.ensures graph))
+    (sym c.eq.ensures ∙ same)
+    (subst (λ contents. EndsAt (watches_followed contents) entry c.end_by.result) c.as_slice.ensures.value
+    (c.end_by.ensures graph))
