@@ -5,7 +5,7 @@ use Rattle.rsp_terms.specs.declared.term.Term.TheVariants.{Iri}
 use Rattle.rsp_terms.specs.declared.statement.Fact.{Fact}
 use Rattle.rsp_terms.specs.declared.statement.Spot.TheVariants as spot
 use Rattle.rsp_expr.specs.Formulas.{Formula, variable}
-use Rattle.rsp_expr.specs.declared.aggregate.Kind.TheVariants.{Count}
+use Rattle.rsp_functions.specs.declared.aggregate.Kind.TheVariants.{Count}
 use Rattle.rsp_expr.specs.declared.slot.Slot.TheVariants.{Variable, Constant}
 use Rattle.rsp_algebra.specs.declared.tree.Place.TheVariants as place
 use Rattle.rsp_algebra.specs.declared.tree.TriplePattern.{TriplePattern}

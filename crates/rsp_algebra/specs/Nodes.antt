@@ -6,8 +6,8 @@ use Rattle.rsp_terms.specs.declared.term.Term.{Term}
 use Rattle.rsp_expr.specs.Formulas as formula
 use Rattle.rsp_expr.specs.Formulas.{Formula, Formulas, no_formula, formula_then, formula_of, Aggregation, aggregation_of}
 use Rattle.rsp_expr.specs.declared.aggregate.Aggregate.{Aggregate}
-use Rattle.rsp_expr.specs.declared.aggregate.Kind.{Kind}
-use Rattle.rsp_expr.specs.declared.aggregate.Kind.TheVariants.{Count}
+use Rattle.rsp_functions.specs.declared.aggregate.Kind.{Kind}
+use Rattle.rsp_functions.specs.declared.aggregate.Kind.TheVariants.{Count}
 use Rattle.rsp_expr.specs.declared.slot.Slot.{Slot}
 use Rattle.rsp_expr.specs.declared.slot.Slot.TheVariants.{Variable, Constant}
 use Rattle.rsp_algebra.specs.declared.tree.Place.{Place}

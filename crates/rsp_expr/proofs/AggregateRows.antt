@@ -5,7 +5,7 @@ use Rattle.rsp_number.specs.Decimals.{greatest}
 use Rattle.rsp_terms.specs.declared.term.Term.{Term}
 use Rattle.rsp_terms.specs.declared.term.Term.TheVariants.{Iri, Literal}
 use Rattle.rsp_expr.specs.Aggregates.{aggregate_of, counted_values, value_over}
-use Rattle.rsp_expr.specs.declared.aggregate.Kind.TheVariants.{Count, Sum, Avg, Min, Max}
+use Rattle.rsp_functions.specs.declared.aggregate.Kind.TheVariants.{Count, Sum, Avg, Min, Max}
 
 abbrev integer : List ℕ → Option Term
 integer text = Some (Literal text (codes "http://www.w3.org/2001/XMLSchema#integer"))

@@ -6,7 +6,7 @@ use Rattle.rsp_terms.specs.declared.term.Term.TheVariants.{Iri, Literal, Tagged}
 use Rattle.rsp_expr.specs.BooleanValues.{boolean_literal}
 use Rattle.rsp_expr.specs.Strings.{string_literal}
 use Rattle.rsp_expr.specs.Comparing.{equality, comparison, membership}
-use Rattle.rsp_expr.specs.declared.function.Sign.TheVariants as sign
+use Rattle.rsp_functions.specs.declared.function.Sign.TheVariants as sign
 
 abbrev integer : List ℕ → Term
 integer text = Literal text (codes "http://www.w3.org/2001/XMLSchema#integer")

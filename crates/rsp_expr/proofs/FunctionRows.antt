@@ -8,8 +8,8 @@ use Rattle.rsp_terms.specs.declared.term.Term.TheVariants.{Iri, Blank, Literal, 
 use Rattle.rsp_expr.specs.BooleanValues.{boolean_literal}
 use Rattle.rsp_expr.specs.Strings.{string_literal}
 use Rattle.rsp_expr.specs.Functions.{call_value, arithmetic}
-use Rattle.rsp_expr.specs.declared.function.Function.TheVariants as function
-use Rattle.rsp_expr.specs.declared.function.Sign.TheVariants as sign
+use Rattle.rsp_functions.specs.declared.function.Function.TheVariants as function
+use Rattle.rsp_functions.specs.declared.function.Sign.TheVariants as sign
 
 abbrev integer : List ℕ → Term
 integer text = Literal text (codes "http://www.w3.org/2001/XMLSchema#integer")

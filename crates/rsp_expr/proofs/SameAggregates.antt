@@ -21,8 +21,8 @@ use Rattle.rsp_expr.specs.Forms.{number_of}
 use Rattle.rsp_expr.specs.Functions.{numeral_result}
 use Rattle.rsp_expr.specs.Order.{term_order}
 use Rattle.rsp_expr.specs.Values.{value}
-use Rattle.rsp_expr.specs.declared.aggregate.Kind.{Kind}
-use Rattle.rsp_expr.specs.declared.aggregate.Kind.TheVariants.{Count, Sum, Avg, Min, Max}
+use Rattle.rsp_functions.specs.declared.aggregate.Kind.{Kind}
+use Rattle.rsp_functions.specs.declared.aggregate.Kind.TheVariants.{Count, Sum, Avg, Min, Max}
 use Rattle.rsp_expr.proofs.Extremes.{min_commutes, min_turns, max_commutes, max_turns}
 use Rattle.rsp_expr.proofs.Reordered.{IsReordered, added_in_turn, nothing, behind, exchanged, onward, fold-reordered, reduce-reordered, count_by-reordered, length-reordered, map-reordered, given_all-reordered, reordered}
 use Rattle.rsp_expr.proofs.TermOrder.{term_order_total, same_in_order}

@@ -19,8 +19,8 @@ use Rattle.rsp_expr.specs.Formulas.{Formula, Aggregation}
 use Rattle.rsp_expr.specs.Functions.{numeral_result}
 use Rattle.rsp_expr.specs.Order.{term_order}
 use Rattle.rsp_expr.specs.Values.{value}
-use Rattle.rsp_expr.specs.declared.aggregate.Kind.{Kind}
-use Rattle.rsp_expr.specs.declared.aggregate.Kind.TheVariants.{Count, Sum, Avg, Min, Max}
+use Rattle.rsp_functions.specs.declared.aggregate.Kind.{Kind}
+use Rattle.rsp_functions.specs.declared.aggregate.Kind.TheVariants.{Count, Sum, Avg, Min, Max}
 
 -- under DISTINCT each term counts once, and an error stays an error
 abbrev pub counted_values : Bool → List (Option Term) → List (Option Term)

@@ -16,8 +16,8 @@ use Rattle.rsp_expr.specs.Forms.{number_of}
 use Rattle.rsp_expr.specs.Strings.{string_of, is_inexact}
 use Rattle.rsp_expr.specs.Booleans.{disjunction_of, logical_not}
 use Rattle.rsp_expr.specs.Errors.{value_of_both}
-use Rattle.rsp_expr.specs.declared.function.Sign.{Sign}
-use Rattle.rsp_expr.specs.declared.function.Sign.TheVariants as sign
+use Rattle.rsp_functions.specs.declared.function.Sign.{Sign}
+use Rattle.rsp_functions.specs.declared.function.Sign.TheVariants as sign
 
 -- what a literal is compared by
 pub data Comparable : Type 0 where

@@ -1,13 +1,13 @@
 -- Definitions: expressions as plain trees (SPARQL 1.1 Query, section 19.8, Expression), and aggregates over them.
 use Rattle.std.specs.Prelude.{ℕ, Bool, List, [], ◌∷◌, Option, Some, None}
 use Rattle.rsp_terms.specs.declared.term.Term.{Term}
-use Rattle.rsp_expr.specs.declared.function.Sign.{Sign}
-use Rattle.rsp_expr.specs.declared.function.Function.{Function}
+use Rattle.rsp_functions.specs.declared.function.Sign.{Sign}
+use Rattle.rsp_functions.specs.declared.function.Function.{Function}
 use Rattle.rsp_expr.specs.declared.expression.Expression.{Expression}
 use Rattle.rsp_expr.specs.declared.expression.Expression.TheOpen.{Expression-F}
 use Rattle.rsp_expr.specs.declared.expression.Expression.TheOpen as layer
 use Rattle.rsp_expr.specs.declared.expression.Expression.TheFolds.{fold-Expression}
-use Rattle.rsp_expr.specs.declared.aggregate.Kind.{Kind}
+use Rattle.rsp_functions.specs.declared.aggregate.Kind.{Kind}
 use Rattle.rsp_expr.specs.declared.aggregate.Aggregate.{Aggregate}
 
 mutual

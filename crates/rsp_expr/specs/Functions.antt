@@ -21,10 +21,10 @@ use Rattle.rsp_expr.specs.Strings.{string_of, string_literal, is_inexact}
 use Rattle.rsp_expr.specs.Booleans.{truth_of, boolean_result}
 use Rattle.rsp_expr.specs.Comparing.{is_literal}
 use Rattle.rsp_expr.specs.Errors.{value_of_both, all_values, first_value}
-use Rattle.rsp_expr.specs.declared.function.Function.{Function}
-use Rattle.rsp_expr.specs.declared.function.Function.TheVariants as function
-use Rattle.rsp_expr.specs.declared.function.Sign.{Sign}
-use Rattle.rsp_expr.specs.declared.function.Sign.TheVariants as sign
+use Rattle.rsp_functions.specs.declared.function.Function.{Function}
+use Rattle.rsp_functions.specs.declared.function.Function.TheVariants as function
+use Rattle.rsp_functions.specs.declared.function.Sign.{Sign}
+use Rattle.rsp_functions.specs.declared.function.Sign.TheVariants as sign
 
 -- ---- results
 

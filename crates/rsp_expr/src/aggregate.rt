@@ -2,18 +2,8 @@
 ghost use Rattle.std.specs.Prelude.{◌≡◌, IfOk};
 ghost use Rattle.rsp_expr.specs.Formulas.{aggregation_of, maybe_formula};
 
-use crate::Expression;
+use crate::{Expression, Kind};
 use std::alloc::{AllocError, Global};
-
-/// What an aggregate makes of the values of a group (SPARQL 1.1 Query, section 18.5.1).
-#[derive(Clone, Copy, PartialEq, Eq, Debug)]
-pub enum Kind {
-    Count,
-    Sum,
-    Avg,
-    Min,
-    Max,
-}
 
 /// An aggregate of an argument; COUNT(*) has none.
 #[derive(Drop)]

@@ -9,11 +9,10 @@
 mod aggregate;
 mod datatypes;
 mod expression;
-mod function;
 mod slot;
 
-pub use aggregate::{Aggregate, Kind};
+pub use aggregate::Aggregate;
 pub use datatypes::{Datatype, WholeType};
 pub use expression::Expression;
-pub use function::{Function, Sign};
+pub use rsp_functions::{Function, Kind, Sign};
 pub use slot::Slot;

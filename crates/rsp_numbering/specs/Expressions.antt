@@ -3,12 +3,12 @@ use Rattle.std.specs.Prelude.{ℕ, Bool, false, List, [], ◌∷◌, ◌++◌, O
 use Rattle.rsp_terms.specs.declared.term.Term.TheVariants as term
 use Rattle.rsp_expr.specs.Formulas.{Formula, Aggregation, formulas_in}
 use Rattle.rsp_expr.specs.Formulas as formula
-use Rattle.rsp_expr.specs.declared.function.Sign.{Sign}
-use Rattle.rsp_expr.specs.declared.function.Sign.TheVariants as sign
-use Rattle.rsp_expr.specs.declared.function.Function.{Function}
-use Rattle.rsp_expr.specs.declared.function.Function.TheVariants as function
-use Rattle.rsp_expr.specs.declared.aggregate.Kind.{Kind}
-use Rattle.rsp_expr.specs.declared.aggregate.Kind.TheVariants as fold
+use Rattle.rsp_functions.specs.declared.function.Sign.{Sign}
+use Rattle.rsp_functions.specs.declared.function.Sign.TheVariants as sign
+use Rattle.rsp_functions.specs.declared.function.Function.{Function}
+use Rattle.rsp_functions.specs.declared.function.Function.TheVariants as function
+use Rattle.rsp_functions.specs.declared.aggregate.Kind.{Kind}
+use Rattle.rsp_functions.specs.declared.aggregate.Kind.TheVariants as fold
 use Rattle.rsp_written.specs.declared.said.Keyword.{Keyword}
 use Rattle.rsp_written.specs.declared.said.Keyword.TheVariants as keyword
 use Rattle.rsp_written.specs.declared.said.Symbol.TheVariants as symbol

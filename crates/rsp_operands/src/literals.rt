@@ -2,7 +2,7 @@
 ghost use Rattle.std.specs.Prelude.{◌≡◌, IfOk};
 ghost use Rattle.rsp_expr.specs.Strings.{string_of as string_of_term};
 ghost use Rattle.rsp_expr.specs.Functions.{lexical_form, language_tag, datatype_iri, iri_of, iri_in, unary_value, binary_value};
-ghost use Rattle.rsp_expr.specs.declared.function.Function.TheVariants as function;
+ghost use Rattle.rsp_functions.specs.declared.function.Function.TheVariants as function;
 ghost use Rattle.rsp_operands.specs.Operands.{term_for, value_for};
 
 use crate::operand::Operand;

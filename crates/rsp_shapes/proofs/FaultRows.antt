@@ -2,7 +2,7 @@
 use Rattle.std.proofs.Common.{◌≡◌, ℕ, Bool, true, false, List, [], ◌∷◌, refl, Option, Some, None, codes}
 use Rattle.rsp_terms.specs.declared.term.Term.TheVariants as term
 use Rattle.rsp_expr.specs.declared.slot.Slot.TheVariants as slot
-use Rattle.rsp_expr.specs.declared.aggregate.Kind.TheVariants as kind
+use Rattle.rsp_functions.specs.declared.aggregate.Kind.TheVariants as kind
 use Rattle.rsp_expr.specs.Formulas as formula
 use Rattle.rsp_expr.specs.Formulas.{Formula, Aggregation}
 use Rattle.rsp_query.specs.Paths.{step}

@@ -4,7 +4,7 @@ use Rattle.rsp_terms.specs.declared.term.Term.{Term}
 use Rattle.rsp_terms.specs.declared.term.Term.TheVariants as term
 use Rattle.rsp_expr.specs.declared.slot.Slot.{Slot}
 use Rattle.rsp_expr.specs.declared.slot.Slot.TheVariants as slot
-use Rattle.rsp_expr.specs.declared.aggregate.Kind.TheVariants as kind
+use Rattle.rsp_functions.specs.declared.aggregate.Kind.TheVariants as kind
 use Rattle.rsp_expr.specs.Formulas as formula
 use Rattle.rsp_expr.specs.Formulas.{Formula, Aggregation, formulas_in}
 use Rattle.rsp_query.specs.Paths.{Way, step, inverse, sequence, choice, ways_in}

@@ -9,7 +9,7 @@ use Rattle.rsp_expr.specs.Formulas.{formula_of}
 use Rattle.rsp_expr.specs.Functions.{binary_value, ternary_value, value_by_number}
 use Rattle.rsp_expr.specs.Values.{value}
 use Rattle.rsp_expr.specs.declared.expression.Expression.{Expression}
-use Rattle.rsp_expr.specs.declared.function.Function.{Function}
+use Rattle.rsp_functions.specs.declared.function.Function.{Function}
 use Rattle.rsp_values.specs.Parts.{argument_values, both_values, of_two, of_third}
 
 of_two_arguments : (name : Function) (first second : Option Term)

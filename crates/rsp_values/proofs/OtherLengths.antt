@@ -12,7 +12,7 @@ use Rattle.rsp_expr.specs.Formulas.{formula_of}
 use Rattle.rsp_values.specs.Parts.{argument_values}
 use Rattle.rsp_expr.specs.Values.{value}
 use Rattle.rsp_expr.specs.declared.expression.Expression.{Expression}
-use Rattle.rsp_expr.specs.declared.function.Function.{Function}
+use Rattle.rsp_functions.specs.declared.function.Function.{Function}
 
 -- an error is no member of a list that isn't empty
 all_errors : (values : List (Option Term)) (value : Option Term) → member_truth None (value ∷ values) ≡ None

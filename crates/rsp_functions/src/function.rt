@@ -17,7 +17,7 @@ pub enum Sign {
 }
 
 /// A function that is called by its name (SPARQL 1.1 Query, section 17.4). BOUND is none of these: it looks at a variable
-/// and not at a value (see [`crate::Expression::Bound`]).
+/// and not at a value.
 #[derive(Clone, Copy, PartialEq, Eq, Debug)]
 pub enum Function {
     If,
