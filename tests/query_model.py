@@ -13,6 +13,7 @@ from collections import namedtuple
 sys.setrecursionlimit(1_000_000)
 
 LAST_INSTANT = 253402300799999
+MOST_TEXT, MOST_OPEN = 65536, 32
 XSD = "http://www.w3.org/2001/XMLSchema#"
 RDF_TYPE = "http://www.w3.org/1999/02/22-rdf-syntax-ns#type"
 
@@ -55,6 +56,24 @@ BLANK = re.compile(r"(?:[ \t\n\r]|#[^\n]*)*")
 NAMED_CHARACTERS = {"t": "\t", "b": "\b", "n": "\n", "r": "\r", "f": "\f", '"': '"', "'": "'", "\\": "\\"}
 
 Token = namedtuple("Token", "kind text start end")
+
+
+class Name(str):
+    """A text that a token says, with the byte at which the token begins; else it is that text."""
+
+    def __new__(cls, text, start=None):
+        made = super().__new__(cls, text)
+        made.start = start
+        return made
+
+
+class Numbered(int):
+    """The number of a variable, with the byte at which the variable is named here; else it is that number."""
+
+    def __new__(cls, number, start=None):
+        made = super().__new__(cls, number)
+        made.start = start
+        return made
 
 
 class Refused(Exception):
@@ -180,6 +199,10 @@ def token(test, value=lambda said: said):
     return lambda go_on: [Way(test, lambda said: go_on(value(said)))]
 
 
+def named_value(said):
+    return Name(said.value, said.token.start)
+
+
 def one_of(*kinds):
     return token(lambda said: said.kind in kinds)
 
@@ -237,17 +260,20 @@ def kept(place, *rules):
 
 # ---- names and literals
 
-iri = token(lambda said: said.kind == "Iri", lambda said: said.value)
-variable = token(lambda said: said.kind == "Variable", lambda said: said.value)
+iri = token(lambda said: said.kind == "Iri", named_value)
+variable = token(lambda said: said.kind == "Variable", named_value)
 TYPES = {"Integer": XSD + "integer", "Decimal": XSD + "decimal", "Double": XSD + "double"}
 
 
 def number(sign):
-    return token(lambda said: said.kind in TYPES, lambda said: ("literal", sign + said.value, TYPES[said.kind]))
+    return token(
+        lambda said: said.kind in TYPES,
+        lambda said: ("literal", Name(sign + said.value, said.token.start), TYPES[said.kind]),
+    )
 
 
 string = then(
-    token(lambda said: said.kind == "String", lambda said: said.value),
+    token(lambda said: said.kind == "String", named_value),
     lambda text: either(
         nothing(("literal", text, XSD + "string")),
         token(lambda said: said.kind == "Tag", lambda said: ("tagged", text, said.value)),
@@ -322,7 +348,7 @@ with_aggregates = expression(either(counted, folded))
 
 
 def path():
-    name = either(mapped(lambda x: ("step", x), iri), mapped(lambda word: ("step", RDF_TYPE), one_of("a")))
+    name = either(mapped(lambda x: ("step", x), iri), mapped(lambda word: ("step", Name(RDF_TYPE, word.token.start)), one_of("a")))
     part = mapped(
         lambda v: ("inverse", v[1]) if v[0] else v[1], row(maybe(one_of("^")), either(name, in_parens(lazy(path))))
     )
@@ -361,7 +387,7 @@ value = either(mapped(lambda x: ("iri", x), iri), literal, mapped(lambda word: N
 
 
 def new_names(names):
-    fresh = token(lambda said: said.kind == "Variable" and said.value not in names, lambda said: said.value)
+    fresh = token(lambda said: said.kind == "Variable" and said.value not in names, named_value)
     return either(nothing(names), then(fresh, lambda name: new_names([*names, name])))
 
 
@@ -386,7 +412,7 @@ def items(rule):
 
 select_clause = mapped(
     lambda v: (v[1] is not None, v[2]),
-    row(one_of("SELECT"), maybe(one_of("DISTINCT")), either(mapped(lambda star: "*", one_of("*")), items(with_aggregates))),
+    row(one_of("SELECT"), maybe(one_of("DISTINCT")), either(mapped(lambda star: Name("*", star.token.start), one_of("*")), items(with_aggregates))),
 )
 tail = row(
     mapped(lambda keys: keys or [], maybe(kept(2, one_of("GROUP"), one_of("BY"), items(plain)))),
@@ -462,7 +488,7 @@ def origin_of(said):
     return instant(said.value) if said.kind == "String" else None
 
 
-span = token(lambda said: said.kind == "Span", lambda said: said.value)
+span = token(lambda said: said.kind == "Span", named_value)
 origin = token(lambda said: origin_of(said) is not None, origin_of)
 window = mapped(
     lambda v: {"at": at(v[0]), "name": v[3], "stream": v[5], "range": v[8], "step": v[9], "start": v[10]},
@@ -472,8 +498,8 @@ window = mapped(
     ),
 )
 strategy = either(
-    mapped(lambda word: (word.kind, None), one_of("CLOSE", "CHANGE", "NONEMPTY")),
-    mapped(lambda text: ("EVERY", text), kept(1, one_of("EVERY"), span)),
+    mapped(lambda word: (Name(word.kind, at(word)), None), one_of("CLOSE", "CHANGE", "NONEMPTY")),
+    mapped(lambda v: (Name("EVERY", at(v[0])), v[1]), row(one_of("EVERY"), span)),
 )
 policy = either(
     mapped(lambda word: ("profile", word.kind), kept(1, one_of("UNDER"), one_of("CSPARQL", "CQELS"))),
@@ -515,38 +541,48 @@ def resolved(said, prefixes):
     return said._replace(kind="Iri", value=prefixes[name] + local) if name in prefixes else said._replace(kind="Nowhere")
 
 
-def read(text, saids):
-    """The tree of the text, by all leftmost expansions side by side."""
-    # in a declaration the prefix itself is taken as it is written; prefixes are read one by one, so they are tracked outside
-    prefixes, place = {}, 0
-    for place in range(len(saids) + 1):
-        front = saids[place:place + 1]
-        if not front or front[0].kind != "PREFIX":
-            break
-    place = 0
-    while place < len(saids) and saids[place].kind == "PREFIX":
-        ways = prefix(lambda value: [Whole(value)])
-        for said_here in saids[place:place + 3]:
-            is_name = said_here.kind == "Prefixed" and said_here is saids[place + 1]
-            seen = said_here if is_name else resolved(said_here, prefixes)
-            ways = [found for way in ways if isinstance(way, Way) and way.test(seen) for found in way.behind(seen)]
-            if not ways:
-                raise wrong(text, said_here.token)
-        if not any(isinstance(way, Whole) for way in ways):
-            raise Refused("Syntax", len(text.encode()))
-        _, name, target = next(way.value for way in ways if isinstance(way, Whole))
-        prefixes[name] = target
-        place += 3
-    ways = query_body(lambda value: [Whole(value)])
-    for said_here in saids[place:]:
-        seen = resolved(said_here, prefixes)
-        ways = [found for way in ways if isinstance(way, Way) and way.test(seen) for found in way.behind(seen)]
+Declared = namedtuple("Declared", "name target")
+BEGINNING = [*prefix(lambda found: [Declared(found[1], found[2])]), *query_body(lambda value: [Whole(value)])]
+
+
+class Reading:
+    """A text as far as it is read: all leftmost expansions of it side by side, and the prefixes that are declared so far."""
+
+    def __init__(self):
+        self.prefixes, self.ways, self.last = {}, BEGINNING, None
+
+    def seen(self, said_here):
+        """What the token says here. In a declaration the prefix itself is taken as it is written."""
+        return said_here if self.last == "PREFIX" else resolved(said_here, self.prefixes)
+
+    def ways_behind(self, seen):
+        return [found for way in self.ways if isinstance(way, Way) and way.test(seen) for found in way.behind(seen)]
+
+    def take(self, said_here):
+        """Whether the token can stand here; then the text is read up to its end, else nothing is changed."""
+        ways = self.ways_behind(self.seen(said_here))
         if not ways:
+            return False
+        self.ways, self.last = ways, said_here.kind
+        for way in ways:
+            if isinstance(way, Declared):
+                self.prefixes[way.name], self.ways = way.target, BEGINNING
+        return True
+
+    def whole(self):
+        """The tree of the text where it may end here, else None."""
+        return next((way.value for way in self.ways if isinstance(way, Whole)), None)
+
+
+def read(text, saids):
+    """The tree of the text."""
+    reading = Reading()
+    for said_here in saids:
+        if not reading.take(said_here):
             raise wrong(text, said_here.token)
-    whole = [way.value for way in ways if isinstance(way, Whole)]
-    if not whole:
+    if reading.whole() is None:
         raise Refused("Syntax", len(text.encode()))
-    return whole[0]
+    return reading.whole()
 
 
 def wrong(text, token_there):
@@ -585,7 +621,7 @@ def owner(scopes, name):
 
 
 def named(numbers, scopes, name):
-    return numbers.number(("name", owner(scopes, name), name))
+    return Numbered(numbers.number(("name", owner(scopes, name), name)), getattr(name, "start", None))
 
 
 def numbered(numbers, scopes, e, aggregates):
@@ -688,8 +724,8 @@ def numbered_select(numbers, outer, select):
     keys = numbered_items(numbers, scopes, select["keys"], [])
     having = select["having"] and numbered(numbers, scopes, select["having"], aggregates)
     return {
-        "distinct": select["distinct"], "star": star, "items": made, "body": body, "keys": keys, "having": having,
-        "aggregates": aggregates, "grouped": bool(keys or having or aggregates),
+        "distinct": select["distinct"], "star": star and select["items"], "items": made, "body": body, "keys": keys,
+        "having": having, "aggregates": aggregates, "grouped": bool(keys or having or aggregates),
     }
 
 
@@ -762,45 +798,66 @@ def all_parts(body):
             yield from all_parts(group_there)
 
 
-def check_limits(tree, numbers, select):
+def spans_of(tree):
+    """The spans of a query, as they are written: those of its policy, then those of its windows."""
     strategies = tree["policy"][1] if tree["policy"] and tree["policy"][0] == "report" else []
-    spans = [text for _, text in strategies if text]
-    spans += [text for there in tree["windows"] for text in (there["range"], there["step"]) if text]
+    within = [text for there in tree["windows"] for text in (there["range"], there["step"])]
+    return [text for text in [*(text for _, text in strategies), *within] if text]
+
+
+def is_span(text):
+    return 1 <= milliseconds(text) <= LAST_INSTANT
+
+
+def counts(tree, numbers, select):
+    """What has a limit but the spans: its name, how many there are, and how many there may be."""
     parts = list(all_parts(select["body"]))
     ways = [part[2] for part in parts if part[0] == "triple"]
-    for name, passed in [
-        ("windows", len(tree["windows"]) > 16),
-        ("span", any(not 1 <= milliseconds(text) <= LAST_INSTANT for text in spans)),
-        ("variables", len(numbers.variables) + sum(map(slashes, ways)) > 64),
-        ("patterns", sum(map(steps, ways)) > 64),
-        ("operators", operators_in(tree["select"]) > 512),
-        ("elements", sum(part[0] != "triple" for part in parts) > 256),
-        ("rows", sum(len(part[2]) for part in parts if part[0] == "values") > 4096),
-    ]:
-        if passed:
-            raise Refused("Limit", name)
+    return [
+        ("windows", len(tree["windows"]), 16),
+        ("variables", len(numbers.variables) + sum(map(slashes, ways)), 64),
+        ("patterns", sum(map(steps, ways)), 64),
+        ("operators", operators_in(tree["select"]), 512),
+        ("elements", sum(part[0] != "triple" for part in parts), 256),
+        ("rows", sum(len(part[2]) for part in parts if part[0] == "values"), 4096),
+    ]
 
 
-def check_nesting(tokens):
+def check_limits(tree, numbers, select):
+    passed = [name for name, count, most in counts(tree, numbers, select) if count > most]
+    if passed[:1] != ["windows"] and not all(map(is_span, spans_of(tree))):
+        raise Refused("Limit", "span")
+    if passed:
+        raise Refused("Limit", passed[0])
+
+
+def too_deep(tokens):
+    """The first token at which more signs are open than may be, or None."""
     depth = 0
     for there in tokens:
         if there.kind == "Symbol":
             depth = depth + 1 if there.text in "{([" else max(0, depth - 1) if there.text in "})]" else depth
-            if depth > 32:
-                raise Refused("Limit", "nesting")
+            if depth > MOST_OPEN:
+                return there
+    return None
 
 
 def parse(text):
     """The query of a text; else Refused."""
-    if len(text.encode()) > 65536:
+    if len(text.encode()) > MOST_TEXT:
         raise Refused("Limit", "text")
     tokens = tokens_of(text)
-    check_nesting(tokens)
-    tree = read(text, [said(there) for there in tokens])
-    numbers = Numbers()
-    select = numbered_select(numbers, [], tree["select"])
+    if too_deep(tokens):
+        raise Refused("Limit", "nesting")
+    tree, numbers, select = numbered_tree(text, tokens)
     check_limits(tree, numbers, select)
     return {**tree, "select": select, "variables": numbers.variables}
+
+
+def numbered_tree(text, tokens):
+    """The tree, its variables, and its SELECT with numbers in place of names; the limits aren't looked at."""
+    tree, numbers = read(text, [said(there) for there in tokens]), Numbers()
+    return tree, numbers, numbered_select(numbers, [], tree["select"])
 
 
 # ---- rows

@@ -107,14 +107,20 @@ def item_faults(select, inside, before, variable, e):
     keys, shown = [v for v, _ in select["keys"]], [v for v, _ in before]
     if e is None:
         is_known = variable in keys or any(v == variable and made for v, made in before)
-        return [variable] if variable in shown or (select["grouped"] and not is_known) else []
-    return unknown(select, before, e) + ([variable] if variable in inside or variable in shown + keys else [])
+        if variable in shown:
+            yield "shown twice", variable
+        elif select["grouped"] and not is_known:
+            yield "no key", variable
+        return
+    yield from (("no key", v) for v in unknown(select, before, e))
+    if variable in inside or variable in shown + keys:
+        yield "made in SELECT", variable
 
 
 def faults_of_group(query, body):
     for place, part in enumerate(body):
         if part[0] == "bind" and part[1] in visible(query, body[:place]):
-            yield part[1]
+            yield "made by BIND", part[1]
         if part[0] == "sub":
             yield from scope_faults(query, part[1])
         for inner in groups_in(part):
@@ -122,18 +128,18 @@ def faults_of_group(query, body):
 
 
 def scope_faults(query, select):
-    """In the order of the text; `*` where it stands in a grouped SELECT."""
+    """Each with what it is, in the order of the text; `*` where it stands in a grouped SELECT."""
     inside = visible(query, select["body"])
     if select["star"] and select["grouped"]:
-        yield "*"
+        yield "all shown", select["star"]
     for place, (variable, e) in enumerate(select["items"]):
         yield from item_faults(select, inside, select["items"][:place], variable, e)
     yield from faults_of_group(query, select["body"])
     for place, (variable, e) in enumerate(select["keys"]):
         if e and (variable in inside or variable in [v for v, _ in select["keys"][:place]]):
-            yield variable
+            yield "made as a key", variable
     if select["having"]:
-        yield from unknown(select, select["items"], select["having"])
+        yield from (("no key in HAVING", v) for v in unknown(select, select["items"], select["having"]))
 
 
 # ---- all
@@ -147,7 +153,7 @@ def fault(query):
     at = first(exists_faults(query["select"]["body"]))
     if at is not None:
         return "ExistsShape", at
-    name = first(scope_faults(query, query["select"]))
-    if name is not None:
-        return "Scope", name if name == "*" else query["variables"][name][2]
+    found = first(scope_faults(query, query["select"]))
+    if found is not None:
+        return "Scope", found[1] if found[1] == "*" else query["variables"][found[1]][2]
     return None
