@@ -2,6 +2,7 @@
 
 `python3 tests/model.py events < LOG` writes it; `python3 tests/model.py --rows` compares all rows and examples with it.
 """
+import io
 import os
 import re
 import sys
@@ -183,11 +184,17 @@ class BadBlock(Exception):
 
 
 def lines_of(log):
-    *ended, last = log.split(b"\n")
-    for number, raw in enumerate(ended, 1):
-        yield Line(number, raw[:-1] if raw.endswith(b"\r") else raw, len(raw) + 1, len(raw) > MOST_BYTES)
-    if last:
-        yield Line(len(ended) + 1, last, len(last), len(last) > MOST_BYTES)
+    """The lines of a log, which is a file. Of a line that is too long its front is kept."""
+    raw, number = log.readline(MOST_BYTES + 2), 0
+    while raw:
+        size, piece = len(raw), raw
+        while not piece.endswith(b"\n") and len(piece) == MOST_BYTES + 2:
+            piece = log.readline(MOST_BYTES + 2)
+            size += len(piece)
+        number, text = number + 1, raw[:-1] if raw.endswith(b"\n") else raw
+        is_long = size - piece.endswith(b"\n") > MOST_BYTES
+        yield Line(number, text[:-1] if raw.endswith(b"\r\n") else text, size, is_long)
+        raw = log.readline(MOST_BYTES + 2)
 
 
 def is_end(line):
@@ -441,7 +448,7 @@ def run(words, log):
     if words not in ([b"events"], [b"events", b"--"]):
         return USAGE, 2
     world, written, refused = World(), [], False
-    for number, group in enumerate(groups(lines_of(log)), 1):
+    for number, group in enumerate(groups(lines_of(io.BytesIO(log))), 1):
         text, why = answer(world, group)
         written.append(text if why is None else b"# refused block %d %s\n" % (number, why.encode()))
         refused = refused or why is not None

@@ -103,6 +103,10 @@ def unknown(select, before, e):
     return [v for v in variables_in(e) if v not in known] if select["grouped"] else []
 
 
+def lack_of_key(select):
+    return "no key" if select["keys"] else "no GROUP BY"
+
+
 def item_faults(select, inside, before, variable, e):
     keys, shown = [v for v, _ in select["keys"]], [v for v, _ in before]
     if e is None:
@@ -110,9 +114,9 @@ def item_faults(select, inside, before, variable, e):
         if variable in shown:
             yield "shown twice", variable
         elif select["grouped"] and not is_known:
-            yield "no key", variable
+            yield lack_of_key(select), variable
         return
-    yield from (("no key", v) for v in unknown(select, before, e))
+    yield from ((lack_of_key(select), v) for v in unknown(select, before, e))
     if variable in inside or variable in shown + keys:
         yield "made in SELECT", variable
 
