@@ -7,13 +7,13 @@ from term_model import Literal, XSD
 from .inputs import file_of
 
 TIME = b"http://www.w3.org/ns/prov#generatedAtTime"
-# the stream, its time, the triples, and of the time line the file, the line, and whether its time is a number
-Item = namedtuple("Item", "stream time graph file line is_number")
+# the stream, its time, the triples and their lines, and of the time line the file, the line, and whether its time is a number
+Item = namedtuple("Item", "stream time graph lines file line is_number")
 Quad = namedtuple("Quad", "fact line")
 
 
-def statements(file, content):
-    """Each line's number and its terms, or the column at which it is none; blank lines and comments are passed over."""
+def statements(content):
+    """The number and the terms of each line that is a statement."""
     for number, raw in enumerate(content.split(b"\n"), 1):
         try:
             terms = model.statement(raw[:-1] if raw.endswith(b"\r") else raw)
@@ -37,13 +37,14 @@ def time_in(terms):
 def items_of(stream, file):
     """The items of a recorded stream: each is a time line, and behind it the quads of the graph that this names."""
     items, name = [], None
-    for number, terms in statements(file, file_of(file)):
+    for number, terms in statements(file_of(file)):
         time = time_in(terms)
         if time is not None:
-            items.append(Item(stream, time, [], file, number, terms[2].datatype == XSD + b"integer"))
+            items.append(Item(stream, time, [], [], file, number, terms[2].datatype == XSD + b"integer"))
             name = terms[0]
         elif name is not None and terms[3:] == (name,):
             items[-1].graph.append(terms[:3])
+            items[-1].lines.append(number)
     return items
 
 
@@ -54,4 +55,4 @@ def merged(streams):
 
 def quads_of(file):
     """What a store's file says."""
-    return [model.stored_fact(terms[:3], *terms[3:]) for _, terms in statements(file, file_of(file))]
+    return [Quad(model.stored_fact(terms[:3], *terms[3:]), line) for line, terms in statements(file_of(file))]

@@ -1,0 +1,81 @@
+"""What a log or the files of a run bring, event by event: streams, times, values, what is stored, and which queries are live."""
+from collections import namedtuple
+
+from policy_model import policy_of, window_of
+
+from .values import Values
+
+MOST_QUERIES, MOST_TRIPLES = 256, 100_000
+
+# an item as it is seen here: its place is that of its stream's name, or of its time line; `is_number` says how its time is written
+Seen = namedtuple("Seen", "stream time is_number place")
+
+
+class Watched:
+    """A query that was live: its text, from which instant on and up to which one, and the streams that fed it."""
+
+    def __init__(self, name, query, text, start):
+        self.name, self.query, self.text, self.start = name, query, text, start
+        self.policy = policy_of(query["policy"])
+        self.windows = [window_of(clause, query["policy"]) for clause in query["windows"]]
+        self.streams, self.fed, self.stop = {window.stream for window in self.windows}, set(), None
+
+
+class Course:
+    """All of it so far. `next` is the first instant that isn't complete, None before any item or tick."""
+
+    def __init__(self):
+        self.next, self.live, self.watched, self.values = None, {}, [], Values()
+        self.items, self.late, self.graphs = [], [], set()
+        self.streams = {}
+
+    # ---- queries
+
+    def register(self, name, query, text):
+        if len(self.live) < MOST_QUERIES:
+            self.live[name] = Watched(name, query, text, self.next)
+            self.watched.append(self.live[name])
+
+    def cancel(self, name):
+        query = self.live.pop(name, None)
+        if query:
+            query.stop = self.next
+
+    def end(self):
+        for name in list(self.live):
+            self.cancel(name)
+
+    # ---- time, items, what is stored
+
+    def move(self, time):
+        """Time goes on; the first event sets it and completes nothing."""
+        if self.next is None:
+            for query in self.live.values():
+                query.start = time
+        self.next = time
+
+    def tick(self, time):
+        if self.next is None or time + 1 >= self.next:
+            self.move(time + 1)
+
+    def item(self, stream, time, graph, is_number, place, lines):
+        """An item that isn't refused feeds the live queries of its stream. `lines` are the places of its triples."""
+        seen = Seen(stream, time, is_number, place)
+        self.items.append(seen)
+        if self.next is not None and time < self.next:
+            self.late.append((self.next - time, seen))
+            return
+        if len(graph) > MOST_TRIPLES:
+            return
+        self.move(time)
+        self.streams.setdefault(stream, seen)
+        for query in self.live.values():
+            if stream in query.streams:
+                query.fed.add(stream)
+        for (_, predicate, term), line in zip(graph, lines):
+            self.values.add(("stream", stream), predicate, term, line)
+
+    def insert(self, facts, lines):
+        for (spot, _, predicate, term), line in zip(facts, lines):
+            self.graphs.add(spot)
+            self.values.add(spot, predicate, term, line)

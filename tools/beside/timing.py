@@ -1,0 +1,78 @@
+"""Time: reports that can't come, since time ends before; times that look like seconds; items that come too late."""
+import datetime
+
+from policy_model import first_closing
+
+from .findings import Finding
+from .pages import TOOLS, page_of
+
+# as seconds these are the years 2001 to 2128, and as milliseconds some days of January and February 1970
+SECONDS = range(1_000_000_000, 5_000_000_000)
+# times from here on are told with their date
+MODERN = 100_000_000_000
+
+
+def told(time):
+    """The instant as a number; one that can be the time of a clock also as a date."""
+    if time < MODERN:
+        return str(time)
+    date = datetime.datetime(1970, 1, 1) + datetime.timedelta(milliseconds=time)
+    return f"{time} ({date.isoformat(timespec='milliseconds')}Z)"
+
+
+def unclosed(watched, mode):
+    """A query of which no report can come, since time ends before the first instant at which it is asked."""
+    place, policy = watched.text.place(watched.query["windows"][0]["at"]), dict(watched.policy.strategies)
+    if watched.policy.is_by_tuple:
+        return
+    end = {"events": "a `@tick` behind the last item", "run": "a time line without quads at the end of a file"}[mode]
+    if watched.start is None:
+        yield of_unclosed(place, "nothing moves time while the query is live, so no report can come", f"write {end}")
+        return
+    first = first_asked(watched, policy)
+    if watched.stop > first:
+        return
+    if watched.stop == watched.start:
+        said = f"no instant gets complete while the query is live, as time stays at {told(watched.stop)}"
+    else:
+        said = f"time ends at {told(watched.stop - 1)}"
+    what = "the first window closes" if "CLOSE" in policy else "the first report is due"
+    yield of_unclosed(place, f"{said}, and {what} at {told(first)}, so no report can come", f"write {end}, at {first} or later")
+
+
+def first_asked(watched, policy):
+    """The first instant at which the query can be asked."""
+    closing = min(first_closing(window, watched.start) for window in watched.windows)
+    first = closing if "CLOSE" in policy else watched.start
+    period = policy.get("EVERY")
+    return max(first, -(-watched.start // period) * period) if period else first
+
+
+def of_unclosed(place, said, write):
+    return Finding(place, "unclosed", said, write, page_of(TOOLS, "unclosed"))
+
+
+def seconds(course):
+    """Streams all of whose times are numbers that look like seconds."""
+    of_stream = {}
+    for item in course.items:
+        of_stream.setdefault(item.stream, []).append(item)
+    for items in of_stream.values():
+        if all(item.is_number and item.time in SECONDS for item in items):
+            as_date = datetime.datetime(1970, 1, 1) + datetime.timedelta(seconds=items[0].time)
+            said = (
+                f"the {'time' if len(items) == 1 else f'times of all {len(items)} items'} of this stream "
+                f"{'looks' if len(items) == 1 else 'look'} like seconds since 1970: {items[0].time} would be {as_date:%Y-%m-%d}"
+            )
+            write = f"write milliseconds, as {items[0].time}000"
+            yield Finding(items[0].place, "seconds", said, write, page_of(TOOLS, "seconds"))
+
+
+def late(course):
+    """The items that come too late, at the first of them."""
+    if course.late:
+        most, first = max(by for by, _ in course.late), course.late[0][1]
+        count, whole = len(course.late), len(course.items)
+        said = f"{count} of {whole} items {'comes' if count == 1 else 'come'} too late, by {most} ms at most, and {'is' if count == 1 else 'are'} refused"
+        write = f"write them in the order of their times, or let ticks lag by {most} ms more"
+        yield Finding(first.place, "late", said, write, page_of(TOOLS, "late"))
