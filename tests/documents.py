@@ -15,7 +15,7 @@ import time
 TOP = os.path.dirname(os.path.dirname(os.path.realpath(__file__)))
 SECONDS = 60
 # documents with commands, beside the pages of the examples, and documents with logs
-WITH_COMMANDS = ("docs/GUIDE.md", "docs/RECIPES.md")
+WITH_COMMANDS = ("docs/GUIDE.md", "docs/RECIPES.md", "docs/TOOLS.md")
 WITH_LOGS = ("docs/EVENTS.md", "docs/QUERIES.md", "docs/REPORTS.md")
 RECIPES = f"{TOP}/examples/recipes"
 
@@ -61,9 +61,10 @@ def is_installed(name, version=None):
 
 @contextlib.contextmanager
 def a_room(program):
-    """A folder in which commands run as at the top: it has the program as `rsp`, and the examples."""
+    """A folder in which commands run as at the top: it has the program as `rsp`, the tools, and the examples."""
     with tempfile.TemporaryDirectory(prefix="rsp-room-") as room:
         os.symlink(program, f"{room}/rsp")
+        os.symlink(f"{TOP}/tools", f"{room}/tools")
         shutil.copytree(f"{TOP}/examples", f"{room}/examples")
         yield room
 
@@ -139,7 +140,7 @@ def blocks(document):
 
 
 # how a block begins that is a command
-COMMAND = re.compile(r"\(?(\./rsp|cd|sed|tail|head|cat|grep|examples/\S+) ")
+COMMAND = re.compile(r"\(?(\./rsp|cd|sed|tail|head|cat|grep|examples/\S+|tools/\S+) ")
 
 
 def files_of_examples():

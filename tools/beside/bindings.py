@@ -121,6 +121,9 @@ def of_unbound(query, text, variable, use, everywhere):
         similar = difflib.get_close_matches(name, others, 1)
         said = f"`?{name}` is {use}, and nothing binds it"
         write = f"`?{similar[0]}`, if that is meant" if similar else f"a triple, a BIND or VALUES that binds `?{name}`, or nothing"
+        if name in others:
+            said = f"{said}: the `?{name}` of a select within is another variable, as that select doesn't show it"
+            write = f"`?{name}` among what the select within shows"
     return Finding(text.place(variable.start), "unbound", said, f"write {write}", page_of(TOOLS, "unbound"))
 
 

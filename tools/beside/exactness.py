@@ -164,11 +164,10 @@ def of_constant(use, operand, text):
     sort = sort_of(term[2], use.how) if term and term[0] == "literal" else None
     if sort is None:
         return None
-    said = f"{quoted(term[1])} is an {sort}, which isn't exact: {WHY[use.how]}"
-    if sort in DATES.values():
-        said = f"{quoted(term[1])} is an {sort}, of which no order is known: {WHY[use.how]}"
-        return Finding(text.place(term[1].start), "inexact", said, f"write {NUMBERS}", page_of(TOOLS, "inexact"))
-    return Finding(text.place(term[1].start), "inexact", said, f"write {as_decimal(term[1])}", page_of(TOOLS, "inexact"))
+    is_date = sort in DATES.values()
+    said = f"{quoted(term[1])} is an {sort}, which {'has no order' if is_date else 'is not exact'}: {WHY[use.how]}"
+    write = f"write {NUMBERS if is_date else as_decimal(term[1])}"
+    return Finding(text.place(term[1].start), "inexact", said, write, page_of(TOOLS, "inexact"))
 
 
 NUMBERS = "times as numbers, as milliseconds since 1970, here and where they come from"
@@ -199,7 +198,7 @@ def told_of_values(use, place, found, predicate):
     file, line, _ = found.first
     is_date = found.sort in DATES.values()
     said = (
-        f"{found.inexact} of {found.total} values {where} are {'of which no order is known' if is_date else 'not exact'}, "
+        f"{found.inexact} of {found.total} values {where} {'have no order' if is_date else 'are not exact'}, "
         f"as the {found.sort} of {file}:{line}: {WHY[use.how]}"
     )
     write = f"write {NUMBERS}" if is_date else "write xsd:decimal where they come from, or `STRDT(STR(..), xsd:decimal)` here"

@@ -14,7 +14,7 @@ from .limits import SECONDS, within_limits
 from .mistakes import advice
 from .pages import QUERIES, limit_of, page_of, paragraph
 from .places import Place, Text, with_caret
-from .refusals import Cut, OfBlock, OfLine, OfQuery, Overfull, details_of, kind_of, written
+from .refusals import OfBlock, OfLine, OfQuery, Overfull, details_of, kind_of, written
 from .stands import in_words
 from .texts import looked
 from .words import parsed
@@ -59,7 +59,7 @@ def of_text(text, why, at_end=0):
         write.append(in_words(its.could))
     found = its.sign and advice(its.sign)
     if found:
-        write.append(f"write {found[0]}")
+        write.append(f"write instead: {found[0]}")
         page = found[1]
     elif "what" in details and number_of(why) == 10:
         page, write = paragraph(kind_of(why))[0], [f"at most {limit_of(details['what'])}"]
@@ -75,8 +75,13 @@ def of_unread_text(text, why, at):
 
 
 def differing(place, why, other):
+    """`other` is what the model says: another refusal, or None where it takes what the program refuses."""
+    return differing_in(place, why, f"the model says `{other}`" if other else "the model takes it")
+
+
+def differing_in(place, why, other):
     return Finding(
-        place, kind_of(why), f"the program says `{why}`, and the model says `{other or 'no fault'}`",
+        place, kind_of(why), f"the program says `{why}`, and {other}",
         "a message to us: the program is right, and the model or the words of this call are wrong",
         page_of("docs/TOOLS.md", "Where model and program differ"),
     )
@@ -113,9 +118,8 @@ class Entries:
 
     def refusal_of(self, number, history):
         """Why the block is refused, or None; what stands in the output before it is handed to the history."""
-        while isinstance(self.next, (Overfull, Cut)):
-            if isinstance(self.next, Overfull):
-                history.note_overfull(*self.next)
+        while isinstance(self.next, Overfull):
+            history.note_overfull(*self.next)
             self.next = next(self.rest, None)
         if not isinstance(self.next, OfBlock) or self.next.block != number:
             return None
@@ -127,7 +131,7 @@ class Entries:
         """What is left when the log is over can't be of this log."""
         while self.next is not None:
             if isinstance(self.next, (OfBlock, OfQuery, OfLine)):
-                yield Differs(differing(Place(file, 1, 1), self.next.text, "that there is no such block"))
+                yield Differs(differing_in(Place(file, 1, 1), self.next.text, "this log has no such block"))
             self.next = next(self.rest, None)
 
 
@@ -155,7 +159,7 @@ def of_block(block, why, history):
     if kind in REASONS:
         found = REASONS[kind](history, block, details_of(why))
         if found is None:
-            raise Differs(differing(place, why, "something else by the log so far"))
+            raise Differs(differing_in(place, why, "by the log so far it isn't so"))
         said, write = found
     return Finding(Place(place.file, place.line, column_of(block, kind)), kind, said, write, page, caret_of(block, kind))
 
@@ -203,8 +207,7 @@ def fault_of_line(block, text):
     try:
         model.statement(text)
     except model.BadLine as why:
-        reasons = {"BadStatement": "no part of a statement that is wanted stands here", "RelativeIri": "this IRI isn't absolute"}
-        return why.column, reasons[why.name]
+        return why.column, said_of_line(text, why.name, why.column)
     return 1, "this statement has a graph, and in an `@item` none may stand"
 
 
@@ -216,8 +219,8 @@ def of_check(words, entries):
     for entry in entries:
         if isinstance(entry, OfQuery):
             yield from guarded_finding(of_text, text, entry.text)
-        elif not isinstance(entry, Cut):
-            yield Differs(differing(text.place(0), getattr(entry, "text", "0 overfull"), "that `check` writes no such line"))
+        else:
+            yield Differs(differing_in(text.place(0), getattr(entry, "text", "overfull"), "`check` writes no such line"))
 
 
 def of_run(words, entries):
@@ -238,15 +241,37 @@ def of_file_line(words, entry, files):
     named = [name for name in (words.store, *(stream.file for stream in words.streams)) if name]
     place, kind = Place(entry.file, entry.line, details_of(entry.text).get("column", 1)), kind_of(entry.text)
     if entry.file not in named:
-        raise Differs(differing(place, entry.text, "that no such file is named"))
+        raise Differs(differing_in(place, entry.text, "the words name no such file"))
     lines = files.setdefault(entry.file, None) or file_of(entry.file).split(b"\n")
     files[entry.file] = lines
     line = lines[entry.line - 1] if entry.line <= len(lines) else b""
     check_line(place, entry.text, line[:-1] if line.endswith(b"\r") else line)
     page, sentence = paragraph(kind)
-    said = {"1 BadStatement": "no part of a statement that is wanted stands here", "2 RelativeIri": "this IRI isn't absolute"}
-    write = sentence if kind in said else ""
-    return Finding(place, kind, said.get(kind, sentence), write, page, with_caret(line, place.column))
+    if kind == "6 NoTimeLine":
+        return Finding(place, kind, sentence, "", page, with_caret(line, place.column))
+    return Finding(place, kind, said_of_line(line, kind.split(" ")[1], place.column), sentence, page, with_caret(line, place.column))
+
+
+# what could stand at a place of a statement, by what makes it one that is whole
+PARTS = [
+    (b"", "the end of the line"), (b".", "a graph or a dot"), (b"<a:a> .", "an object: an IRI, a blank node or a literal"),
+    (b"<a:a> <a:a> .", "a predicate: an IRI"), (b"<a:a> <a:a> <a:a> .", "a subject: an IRI or a blank node"),
+]
+
+
+def said_of_line(line, name, column):
+    """What is wrong at the column of a line that is no statement."""
+    if name == "RelativeIri":
+        return "this IRI isn't absolute"
+    part = next((part for rest, part in PARTS if is_statement(line[:column - 1] + b" " + rest)), "no part of a statement")
+    return f"here should stand {part}"
+
+
+def is_statement(line):
+    try:
+        return model.statement(line) is not None
+    except model.BadLine as why:
+        return why.name == "RelativeIri"
 
 
 def check_line(place, why, line):
@@ -267,6 +292,6 @@ def of_item(words, entry, place_among_all, items):
     if place_among_all == -2 and words.store:
         return Finding(Place(words.store, 1, 1), kind, sentence, "", page)
     if not 0 <= place_among_all < len(items):
-        raise Differs(differing(Place(words.query, 1, 1), entry.text, "that there is no such block"))
+        raise Differs(differing_in(Place(words.query, 1, 1), entry.text, "this run has no such block"))
     item = items[place_among_all]
     return Finding(Place(item.file, item.line, 1), kind, sentence, "", page)

@@ -93,7 +93,7 @@ def of_name_taken(history, block, details):
     if name not in history.live:
         return None
     line = history.live[name][0]
-    return f"{quoted(name)} is live since line {line}, where it is registered", f"another name, or `@cancel {name.decode()}` before it"
+    return f"{quoted(name)} is live since line {line}, where it is registered", f"write another name, or `@cancel {name.decode()}` before it"
 
 
 def of_no_query(history, block, details):
@@ -102,9 +102,9 @@ def of_no_query(history, block, details):
         return None
     ended = history.ended.get(name)
     if ended is None:
-        return f"no query {quoted(name)} is registered before it", "the name of a live query, or nothing"
+        return f"no query {quoted(name)} is registered before it", "write the name of a live query, or nothing"
     where = "" if ended.line is None else f" at line {ended.line}"
-    return f"the query {quoted(name)} {ended.how}{where}, so none of this name is live", "nothing, or a `@register` before it"
+    return f"the query {quoted(name)} {ended.how}{where}, so none of this name is live", "write nothing, or a `@register` before it"
 
 
 def of_full_queries(history, block, details):
@@ -112,7 +112,7 @@ def of_full_queries(history, block, details):
         return None
     name, (line, *_) = next(iter(history.live.items()))
     said = f"{MOST_QUERIES} queries are live, and no more may be; the first is {quoted(name)} of line {line}"
-    return said, f"a `@cancel` before it, as `@cancel {name.decode()}`"
+    return said, f"write a `@cancel` before it, as `@cancel {name.decode()}`"
 
 
 def of_late(history, block, details):
@@ -121,14 +121,14 @@ def of_late(history, block, details):
     if history.next != details["next"] or time != details["time"] or least >= history.next:
         return None
     said = f"it is {details['next'] - least} ms too late: all before {details['next']} is complete since line {history.next_line}"
-    return said, f"a time of {details['next'] - least + time} or later, or the block before line {history.next_line}"
+    return said, f"write a time of {details['next'] - least + time} or later, or the block before line {history.next_line}"
 
 
 def of_full_items(history, block, details):
     """The items that some window still needs, as of the time of the item that comes."""
     queries = [windows_of(live) for live in history.live.values()]
     if None in queries:
-        return f"with it {details['held']} triples would be kept, and {MOST_HELD} may be", "shorter windows, or less at a time"
+        return f"with it {details['held']} triples would be kept, and {MOST_HELD} may be", "write shorter windows, or less at a time"
     own, time = len(block.event[3]), block.event[2]
     kept = [item for number, item in enumerate(history.items) if is_needed(queries, number, item, time)]
     held = sum(item.triples for item in kept)
@@ -138,7 +138,7 @@ def of_full_items(history, block, details):
         f"with its {own} triples {details['held']} would be kept, and {MOST_HELD} may be: {len(kept)} items are still needed, "
         f"of {held} triples, the first at line {kept[0].line}"
     )
-    return said, "shorter windows, less at a time, or a `@cancel` of a query that needs them"
+    return said, "write shorter windows, less at a time, or a `@cancel` of a query that needs them"
 
 
 def windows_of(live):
@@ -160,7 +160,7 @@ def of_full_store(history, block, details):
     if history.inserts:
         most, line = max(history.inserts)
         said += f"; {len(history.inserts)} inserts stand before it, the largest at line {line}, of {most} quads"
-    return said, "a `@delete` before it, of what isn't needed any more"
+    return said, "write a `@delete` before it, of what isn't needed any more"
 
 
 REASONS = {

@@ -51,7 +51,7 @@ def of_check(words):
     its = looked_at(text.content, text)
     if its is None:
         return []
-    return [of_fault(its, text)] if its.why else of_text(its.query, text)
+    return [of_fault(its, text)] if its.why else in_order(of_text(its.query, text))
 
 
 # ---- a run, whose events are the store, the query, the items and a last tick
@@ -130,11 +130,16 @@ def register(block, course, faults):
 
 
 def findings_of(course, mode, named):
-    """All findings, in the order of their places in each file."""
+    """All findings, behind the last event."""
     course.end()
     found = [*unread(course, named), *seconds(course), *late(course)]
     for watched in course.watched:
         found += of_text(watched.query, watched.text, course.values)
         found += [*unfed(watched, course, mode), *unstored(watched, course, mode), *unclosed(watched, mode)]
+    return in_order(found)
+
+
+def in_order(found):
+    """The findings by their files, as they come first, and in each by their places."""
     files = list(dict.fromkeys(finding.place.file for finding in found))
     return sorted(found, key=lambda finding: (files.index(finding.place.file), finding.place.line, finding.place.column))

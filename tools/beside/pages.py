@@ -59,6 +59,9 @@ def first_block(document, heading):
     return re.sub(r"\n    ", "\n", found[1]) + "\n"
 
 
+UNKNOWN = "it is refused."
+
+
 @functools.lru_cache(maxsize=None)
 def paragraph(kind):
     """What REPORTS says of a refusal behind its number and name: its page and its first sentence."""
@@ -70,7 +73,7 @@ def paragraph(kind):
             end = next(n for n in range(place, len(lines)) if not lines[n])
             text = " ".join(lines[place:end])[len(f"**{kind}.** "):]
             return page_of(REPORTS, heading), sentence_of(text)
-    return page_of(REPORTS, "Refusals"), "it is refused."
+    return page_of(REPORTS, "Refusals"), UNKNOWN
 
 
 def sentence_of(text):

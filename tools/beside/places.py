@@ -37,7 +37,7 @@ def printable(text):
 
 def quoted(piece):
     """A piece of a text in backquotes, cut where it is long."""
-    text = printable(piece.decode("utf-8", "replace") if isinstance(piece, bytes) else piece).replace("\t", " ")
+    text = printable(piece.decode("utf-8", "replace") if isinstance(piece, bytes) else piece).replace("\t", " ").strip("\ufffd")
     return f"`{text if len(text) <= MOST_QUOTED else text[:MOST_QUOTED] + '..'}`"
 
 
@@ -46,7 +46,9 @@ def width(text):
 
 
 def with_caret(line, column):
-    """Two lines: this one, and a caret below the byte at the column. Of a long line the part round it is shown."""
+    """Two lines: this one, and a caret below the byte at the column. Of a long line the part round it is shown, of an empty one none."""
+    if not line:
+        return []
     before, behind = (printable(part.decode("utf-8", "replace")) for part in (line[:column - 1], line[column - 1:]))
     if len(before) + len(behind) > MOST_SHOWN:
         before, behind = shortened(before, behind)

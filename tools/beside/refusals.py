@@ -3,32 +3,43 @@ import os
 import re
 from collections import namedtuple
 
+from .inputs import complain
+from .places import quoted
+
 # of a block by its number, of a query's file, or of a line of a file; `text` is what stands behind the place
 OfBlock = namedtuple("OfBlock", "block text")
 OfQuery = namedtuple("OfQuery", "text")
 OfLine = namedtuple("OfLine", "file line text")
 Overfull = namedtuple("Overfull", "name time")
-# a line that begins as a refusal and isn't one, as where the output is cut
-Cut = namedtuple("Cut", "text")
 
-KIND = r"[0-9]{1,2} [A-Z][A-Za-z]+"
+NAMES = (
+    "1 BadStatement|2 RelativeIri|3 BadDirective|4 BadBody|5 BlockTooLarge|6 NoTimeLine|7 BadToken|8 Syntax|9 LeftOut|10 Limit|"
+    "11 GraphShape|12 ExistsShape|13 Scope|14 PolicyMix|15 Late|16 NameTaken|17 NoQuery|18 QueriesFull|19 HeldFull|20 StoreFull|"
+    "21 ItemTooLarge|25 StartOverfull"
+)
+KIND = f"(?:{NAMES})"
 DETAILS = r"(?: [a-z]+=[^ ]*)*"
 # no line that matters is longer; a name of a file may have some thousand bytes
 MOST_LINE = 1 << 16
 
 
 def written(output):
-    """Each refusal and overfull report of an output, in order."""
+    """Each refusal and overfull report of an output, in order. A line that only begins so is passed over, and told of."""
     line = output.readline(MOST_LINE)
     while line:
         if line.startswith((b"# refused ", b"# overfull ")):
-            yield told(line)
+            found = told(line)
+            if found:
+                yield found
+            else:
+                complain("explain", f"a line is no refusal, though it begins as one, as where it is cut: {quoted(line)}")
         while not line.endswith(b"\n") and len(line) == MOST_LINE:
             line = output.readline(MOST_LINE)
         line = output.readline(MOST_LINE)
 
 
 def told(line):
+    """What the line says, or None."""
     text = os.fsdecode(line)
     found = re.fullmatch(rf"# refused block ([0-9]{{1,18}}) ({KIND}{DETAILS})\n", text)
     if found:
@@ -40,7 +51,7 @@ def told(line):
     if found:
         return OfLine(found[1], int(found[2]), found[3])
     found = re.fullmatch(r"# overfull ([A-Za-z0-9_-]{1,64}) ([0-9]{1,18})\n", text)
-    return Overfull(found[1], int(found[2])) if found else Cut(text)
+    return Overfull(found[1], int(found[2])) if found else None
 
 
 def kind_of(text):

@@ -214,6 +214,7 @@ def of_policy(query):
     names = [name for name, _ in query["policy"][1]]
     for place, name in enumerate(names):
         if name in names[:place]:
-            return Looked("14 PolicyMix", name.start, f"{quoted(name)} stands twice in the policy", Sign("14", "twice"))
+            sign = Sign("14", "EVERY twice" if name == "EVERY" else "twice")
+            return Looked("14 PolicyMix", name.start, f"{quoted(name)} stands twice in the policy", sign)
     name = next(name for name in names if name in ("CLOSE", "EVERY"))
     return Looked("14 PolicyMix", name.start, f"{quoted(name)} can't stand with TICK TUPLE", Sign("14", "tuple"))
