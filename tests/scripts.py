@@ -1,0 +1,179 @@
+"""What `./rsp` and `./try` do beside the program: its output and status pass through as they are, and hints stand on standard
+error alone. They run in a room that has the program, and an `rt` that proves nothing: it says what the real one says, and hands
+the program over.
+"""
+import contextlib
+import os
+import shutil
+import subprocess
+import tempfile
+
+from documents import SECONDS, TOP, read
+
+USAGE = read(f"{TOP}/tests/rows/no-words/stdout")
+EVENTS, RUN, CHECK, GEN = (f"  ./rsp {mode} " for mode in ("events", "run", "check", "gen"))
+# three crates of which the program is made, and one of tests
+CRATES = "rsp_tests: rsp_main\nrsp_main: rsp_steps rsp_spec\nrsp_steps: rsp_spec indexmap\nrsp_spec:\n"
+# what stands in the place of the toolchain; FAILS makes it fail
+RT = """#!/bin/sh
+case $1 in
+version) echo "a kit of tests" ;;
+all)
+    printf '== rsp_spec\\nproved\\n== rsp_steps\\nproved\\n== summary\\n2 of 2 crates ok\\n'
+    [ "$FAILS" != all ]
+    ;;
+run)
+    [ "$FAILS" != run ] && cp "$PROGRAM" out/rsp_main
+    ;;
+try)
+    shift
+    folder=$(mktemp -d) || exit 2
+    while [ "$1" != -- ]; do
+        mkdir -p "$folder/$(dirname "${2%%=*}")" && cp "${2#*=}" "$folder/${2%%=*}" && shift 2
+    done
+    shift && cd "$folder" && "$PROGRAM" "$@"
+    ended=$?
+    rm -rf "$folder"
+    exit $ended
+    ;;
+esac
+"""
+
+
+class Room:
+    """A repository with the scripts and without crates, and a folder from which they are called."""
+
+    def __init__(self, folder, program):
+        self.top, self.caller = f"{folder}/top", f"{folder}/caller"
+        self.program = f"{self.top}/crates/rsp_main/out/rsp_main"
+        for path in (f"{self.top}/tools", f"{self.top}/crates/rsp_main/src", os.path.dirname(self.program), self.caller):
+            os.makedirs(path)
+        for name in ("rsp", "try", "CHANGELOG.md"):
+            shutil.copy(f"{TOP}/{name}", self.top)
+        for name, text in (("crates.txt", CRATES), ("tools/rt", RT)):
+            with open(f"{self.top}/{name}", "w") as file:
+                file.write(text)
+        os.chmod(f"{self.top}/tools/rt", 0o755)
+        shutil.copy(program, self.program)
+        self.env = {"PATH": f"{self.top}/tools:{os.environ['PATH']}", "PROGRAM": program}
+
+    def make_stale(self):
+        """Makes a source that is newer than the program."""
+        path = f"{self.top}/crates/rsp_main/src/main.rt"
+        with open(path, "w"):
+            pass
+        later = os.stat(self.program).st_mtime + 1
+        os.utime(path, (later, later))
+
+    def run(self, script, words, given=b"", folder=None, **env):
+        command = [f"{self.top}/{script}", *words]
+        try:
+            return subprocess.run(
+                command, cwd=folder or self.caller, env={**self.env, **env}, input=given, capture_output=True, timeout=SECONDS
+            )
+        except subprocess.TimeoutExpired:
+            return subprocess.CompletedProcess(command, None, b"", b"it hadn't ended")
+
+
+@contextlib.contextmanager
+def a_room(program):
+    with tempfile.TemporaryDirectory(prefix="rsp-scripts-") as folder:
+        yield Room(folder, program)
+
+
+def fault(ran, output, status, hints):
+    """What is wrong with a run, or None. Each line of standard error has its hint in it, and there are no others."""
+    said = ran.stderr.decode().splitlines()
+    if ran.returncode != status or ran.stdout != output:
+        return f"status {ran.returncode}, and {status} is wanted; it printed {ran.stdout[:200]}"
+    if len(said) != len(hints) or any(hint not in line for hint, line in zip(hints, said)):
+        return f"it said {said} to standard error, and {hints} is wanted"
+    return None
+
+
+def fault_of_row(room, row):
+    """A row by `./rsp`: the same bytes and status, and no hint but at the statuses 2 and 3."""
+    with tempfile.TemporaryDirectory(prefix="rsp-row-") as folder:
+        if row.files:
+            shutil.copytree(row.files, folder, dirs_exist_ok=True)
+        ran = room.run("rsp", row.words, row.input, folder, RSP_STALE="1")
+    if ran.stdout != row.output or ran.returncode != row.status:
+        return f"status {ran.returncode}, and {row.status} is wanted; it printed {ran.stdout[:200]}"
+    hints = {2: b"  ./rsp ", 3: b"rsp: no file that can be read: "}
+    good = ran.stderr.startswith(hints[row.status]) if row.status in hints else not ran.stderr
+    return None if good else f"it said {ran.stderr[:200]} to standard error"
+
+
+def hints(room):
+    """Words, the output and the status, and the lines on standard error."""
+    query = f"{room.caller}/q.rq"
+    shutil.copy(f"{TOP}/examples/sensors/averages.rq", query)
+    yield "help", ["--help"], USAGE, 2, [EVENTS, RUN, CHECK, GEN]
+    yield "help by a letter", ["-h"], USAGE, 2, [EVENTS, RUN, CHECK, GEN]
+    yield "the version", ["--version"], USAGE, 2, [f"rsp: version {version()}, commit unknown, a kit of tests"]
+    yield "no words", [], USAGE, 2, [EVENTS, RUN, CHECK, GEN]
+    yield "a word that is like no mode", ["frob"], USAGE, 2, [EVENTS, RUN, CHECK, GEN]
+    yield "an option that there isn't", ["events", "--csv"], USAGE, 2, [EVENTS]
+    yield "a mode with a letter left out", ["chek", "q.rq"], USAGE, 2, [CHECK]
+    yield "a run without streams", ["run", "q.rq"], USAGE, 2, [RUN]
+    yield "a count that is none", ["gen", "many"], USAGE, 2, [GEN]
+    yield "a query that isn't there", ["check", "p.rq"], b"", 3, ["rsp: no file that can be read: p.rq"]
+    yield "a stream that isn't there", ["run", "q.rq", "s:a=a=b.nq"], b"", 3, ["rsp: no file that can be read: s:a=a=b.nq"]
+    store = ["run", "--json", "--store=p.nq", "q.rq", "s:a=q.rq"]
+    yield "a store that isn't there", store, b"", 3, ["rsp: no file that can be read: --store=p.nq"]
+    yield "a folder as a query", ["check", "--", "."], b"", 3, ["rsp: no file that can be read: ."]
+    yield "a file whose read fails", ["check", "/proc/self/mem"], b"", 3, ["couldn't be read to its end"]
+    yield "a file that can be read", ["check", "q.rq"], b"ok\n", 0, []
+
+
+def version():
+    """The number of the newest version in the change log."""
+    heads = [line.split()[1] for line in read(f"{TOP}/CHANGELOG.md").decode().splitlines() if line.startswith("## ")]
+    return heads[0].rstrip(",")
+
+
+def builds(room):
+    """`./rsp` where the program isn't there or is older than a source, each as its name and what is wrong with it."""
+    log, wanted = read(f"{TOP}/examples/first/log"), read(f"{TOP}/examples/first/stdout")
+    done = [f"rsp: {at} of 3 crates: {name}, after " for at, name in ((1, "rsp_spec"), (2, "rsp_steps"))]
+    told = ["rsp: proves and builds the program, ", done[0], "proved", done[1], "proved", "== summary", "2 of 2 crates ok"]
+    os.remove(room.program)
+    yield "a crate that can't be proved", fault(room.run("rsp", ["events"], log, FAILS="all"), b"", 125, told)
+    yield "a program that can't be linked", fault(room.run("rsp", ["events"], log, FAILS="run"), b"", 125, told)
+    yield "help builds nothing", fault(room.run("rsp", ["--help"]), USAGE, 2, [EVENTS, RUN, CHECK, GEN])
+    yield "stale where nothing was built", fault(room.run("rsp", ["events"], log, RSP_STALE="1"), wanted, 0, told)
+    yield "a program that is newer than its sources", fault(room.run("rsp", ["events"], log), wanted, 0, [])
+    room.make_stale()
+    stale = ["rsp: sources are newer than the program"]
+    yield "a stale program", fault(room.run("rsp", ["events"], log, RSP_STALE="1"), wanted, 0, stale)
+    yield "a program that is older than a source", fault(room.run("rsp", ["events"], log), wanted, 0, told)
+
+
+def tries(room):
+    """`./try`: the program's output and status, and each time what it doesn't do."""
+    log, wanted = read(f"{TOP}/examples/first/log"), read(f"{TOP}/examples/first/stdout")
+    says = ["try: builds the program in about a minute, without its proofs: this run proves nothing"]
+    yield "an unproved run", fault(room.run("try", ["events"], log), wanted, 0, says)
+    yield "an unproved run with wrong words", fault(room.run("try", ["frob"]), USAGE, 2, says)
+    example = f"{TOP}/examples/sensors"
+    words = read(f"{example}/words").decode().splitlines()
+    yield "an unproved run on the caller's files", fault(
+        room.run("try", words, folder=example), read(f"{example}/stdout"), 0, says)
+    beside = [word.replace("averages.rq", "../sensors/averages.rq").replace("=north", f"={example}/north") for word in words]
+    yield "an unproved run on files elsewhere", fault(
+        room.run("try", beside, folder=example), read(f"{example}/stdout"), 0, says)
+    yield "an unproved run on a file that isn't there", fault(room.run("try", ["check", "p.rq"]), b"", 3, says)
+    os.remove(f"{room.top}/tools/rt")
+    lacks = room.run("try", ["events"], log, PATH="/usr/bin:/bin")
+    yield "a try without a toolchain", fault(lacks, b"", 125, ["try: there is no rt on the path"])
+
+
+def checks(program, rows):
+    """Each check as its name and what it found wrong."""
+    with a_room(program) as room:
+        for row in rows:
+            yield f"{row.name}, by ./rsp", fault_of_row(room, row)
+        for name, words, output, status, wanted in hints(room):
+            yield f"./rsp: {name}", fault(room.run("rsp", words), output, status, wanted)
+        for name, wrong in [*builds(room), *tries(room)]:
+            yield f"the scripts: {name}", wrong
