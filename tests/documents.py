@@ -1,7 +1,8 @@
 """What people paste: the commands of documents as they stand, the logs and queries in them, and the recipes.
 
-In GUIDE, RECIPES and the pages of the examples each indented block is a command, the output of the command before it, or lines of a
-file of the examples. In EVENTS, QUERIES and REPORTS a block that begins as a report or a refusal is what the log before it gives, if there is one.
+In README, GUIDE, RECIPES, TOOLS and the pages of the examples each indented block is a command, the output of the command before it,
+or lines of a file of the examples. In EVENTS, QUERIES and REPORTS a block that begins as a report or a refusal is what the log before
+it gives, if there is one.
 """
 import contextlib
 import os
@@ -15,7 +16,7 @@ import time
 TOP = os.path.dirname(os.path.dirname(os.path.realpath(__file__)))
 SECONDS = 60
 # documents with commands, beside the pages of the examples, and documents with logs
-WITH_COMMANDS = ("docs/GUIDE.md", "docs/RECIPES.md", "docs/TOOLS.md")
+WITH_COMMANDS = ("README.md", "docs/GUIDE.md", "docs/RECIPES.md", "docs/TOOLS.md")
 WITH_LOGS = ("docs/EVENTS.md", "docs/QUERIES.md", "docs/REPORTS.md")
 RECIPES = f"{TOP}/examples/recipes"
 
@@ -61,9 +62,10 @@ def is_installed(name, version=None):
 
 @contextlib.contextmanager
 def a_room(program):
-    """A folder in which commands run as at the top: it has the program as `rsp`, the tools, and the examples."""
+    """A folder in which commands run as at the top: it has the program as `rsp` and as `try`, the tools, and the examples."""
     with tempfile.TemporaryDirectory(prefix="rsp-room-") as room:
-        os.symlink(program, f"{room}/rsp")
+        for name in ("rsp", "try"):
+            os.symlink(program, f"{room}/{name}")
         os.symlink(f"{TOP}/tools", f"{room}/tools")
         shutil.copytree(f"{TOP}/examples", f"{room}/examples")
         yield room
@@ -140,7 +142,7 @@ def blocks(document):
 
 
 # how a block begins that is a command
-COMMAND = re.compile(r"\(?(\./rsp|cd|sed|tail|head|cat|grep|examples/\S+|tools/\S+) ")
+COMMAND = re.compile(r"\(?(\./rsp|\./try|cd|sed|tail|head|cat|grep|examples/\S+|tools/\S+) ")
 
 
 def files_of_examples():

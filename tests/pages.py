@@ -1,0 +1,97 @@
+"""What pages say of the repository's own files: links lead somewhere, and what is named is there."""
+import glob
+import os
+import re
+
+from documents import TOP, examples, read
+
+ARCHITECTURE, CHANGING, DEFINITIONS = "docs/ARCHITECTURE.md", "docs/CHANGING.md", "docs/DEFINITIONS.md"
+
+
+def text(path):
+    return read(f"{TOP}/{path}").decode()
+
+
+def pages():
+    """The paths of all pages."""
+    found = [os.path.relpath(path, TOP) for path in glob.glob(f"{TOP}/docs/*.md")]
+    return ["README.md", "CHANGELOG.md", "bench/README.md", *sorted(found), *(f"examples/{name}/README.md" for name in examples())]
+
+
+def anchors(path):
+    """The anchors of a page's headings: small letters, a hyphen for each blank, and no other signs."""
+    heads = re.findall(r"^#+ (.*)$", text(path), re.M)
+    return {re.sub(r"[^\w -]", "", head.lower()).replace(" ", "-") for head in heads}
+
+
+def fault_of_links(page):
+    """The first link of a page that leads to no file or no heading of this repository, or None."""
+    for target in re.findall(r"\]\(([^)\s]+)\)", text(page)):
+        if target.startswith("http"):
+            continue
+        file, _, anchor = target.partition("#")
+        path = os.path.normpath(f"{os.path.dirname(page)}/{file}") if file else page
+        if not os.path.exists(f"{TOP}/{path}") or anchor and anchor not in anchors(path):
+            return f"{target} leads nowhere"
+    return None
+
+
+def below():
+    """Each crate with the libraries that crates.txt has for it."""
+    lines = [line.partition(":") for line in text("crates.txt").splitlines() if not line.startswith("#")]
+    return {name.split()[0]: set(uses.split()) for name, _, uses in lines}
+
+
+def rows_of_crates():
+    """Each row of ARCHITECTURE's tables of crates: its crate, and the libraries that it says this one stands on."""
+    for table in text(ARCHITECTURE).split("\n\n"):
+        head, *rows = table.splitlines() or [""]
+        if head.endswith("| Stands on |"):
+            for cells in (row.strip("|").split(" | ") for row in rows[1:]):
+                yield cells[0].strip(" `"), set(re.findall(r"`(\w+)`", cells[-1]))
+
+
+def fault_of_crates():
+    """What differs between ARCHITECTURE's tables and crates.txt, or None."""
+    told, there = list(rows_of_crates()), below()
+    if sorted(name for name, _ in told) != sorted(there):
+        return f"not once in a table, or not in crates.txt: {sorted({name for name, _ in told} ^ set(there)) or 'some twice'}"
+    wrong = next(((name, uses) for name, uses in told if uses != there[name]), None)
+    return wrong and f"{wrong[0]} differs in {sorted(wrong[1] ^ there[wrong[0]])}"
+
+
+def fault_of_definitions():
+    """The files of definitions that DEFINITIONS doesn't name, or None."""
+    parts = re.split(r"^(?=#+ )", text(DEFINITIONS), flags=re.M)
+    files = sorted(glob.glob(f"{TOP}/crates/*/specs/**/*.antt", recursive=True))
+    missing = [os.path.relpath(path, TOP) for path in files if is_definitions(path) and not is_named(path, parts)]
+    return f"it doesn't name {missing}" if missing else None
+
+
+def is_definitions(path):
+    return read(path).startswith(b"-- Definitions") and os.path.basename(path) != "Lib.antt"
+
+
+def is_named(path, parts):
+    """Some part that names the crate has the file, as `Windows` or as `Windows: opening`."""
+    crate, file = re.search(r"crates/(\w+)/specs/(.*)\.antt", path).groups()
+    return any(f"`{crate}`" in part and re.search(rf"`{file}[`:]", part) for part in parts)
+
+
+def fault_of_places(page):
+    """The first `file: word` of a page whose file isn't there or hasn't that word, or None."""
+    for path, word in re.findall(r"`([\w./-]+/[\w./-]+): ([^`]+)`", text(page)):
+        if not os.path.isfile(f"{TOP}/{path}"):
+            return f"there is no file {path}"
+        if not re.search(rf"(?<!\w){re.escape(word)}(?!\w)", text(path)):
+            return f"{path} hasn't {word}"
+    return None
+
+
+def checks():
+    """Each check as its name and what it found wrong."""
+    for page in pages():
+        yield f"{page}: links", fault_of_links(page)
+    yield f"{ARCHITECTURE}: what crates stand on", fault_of_crates()
+    yield f"{DEFINITIONS}: files of definitions", fault_of_definitions()
+    yield f"{CHANGING}: files and words", fault_of_places(CHANGING)
