@@ -7,7 +7,8 @@ use Rattle.std.proofs.lemmas.Bool.{cases_lt}
 use Rattle.std.proofs.lemmas.Bool.Decides.{nat_tests}
 use Rattle.std.proofs.lemmas.Nat.{mod_below, mod-mul-add}
 use Rattle.std.proofs.lemmas.List.Folds.{list_any_more}
-use Rattle.rsp_spec.specs.Windows.{Shape, closes_at, IsNextClosing}
+use Rattle.rsp_spec.specs.Windows.{Shape, closes_at}
+use Rattle.rsp_spec.specs.Relations.{IsNextClosing}
 use Rattle.rsp_spec.specs.Instants.{IsLeastIn}
 use Rattle.rsp_spec.proofs.InstantLaws.{least_alike}
 use Rattle.rsp_spec.proofs.WindowLaws.{closes_at_is}
