@@ -4,7 +4,8 @@ use Rattle.std.specs.List.{All, IsDistinct}
 use Rattle.std.proofs.lemmas.List.{append_assoc, drop_all, drop_more, map-append}
 use Rattle.std.proofs.lemmas.List.Elements.{All-cons, All-nil}
 use Rattle.rsp_report.specs.declared.contents.Watched.{Watched}
-use Rattle.rsp_report.specs.Due.{IsFreshAt, seen_at}
+use Rattle.rsp_report.specs.Due.{IsFreshAt}
+use Rattle.rsp_report.specs.Seen.{seen_at}
 use Rattle.rsp_terms.specs.declared.statement.Fact.{Fact}
 use Rattle.rsp_algebra.specs.Changing.{IsSet}
 use Rattle.rsp_scope.specs.Contents.{Accepted, Watch}

@@ -7,11 +7,11 @@ use Rattle.std.proofs.lemmas.Simd.{map-map}
 use Rattle.rsp_terms.specs.declared.statement.Fact.{Fact}
 use Rattle.rsp_terms.specs.Same.{fact_eq}
 use Rattle.rsp_multiset.specs.Weights.{times}
-use Rattle.rsp_scope.specs.Contents.{Accepted, HasContent, Watch}
-use Rattle.rsp_scope.specs.Ends.{IsKept}
+use Rattle.rsp_scope.specs.Contents.{Accepted, Watch}
+use Rattle.rsp_scope.specs.Ends.{HasContent, IsKept}
 use Rattle.rsp_scope.specs.Kept.{Kept, needed}
 use Rattle.rsp_scope.specs.Moves.{Followed, HasSeen}
-use Rattle.rsp_scope.specs.declared.pieces.Piece.{Piece}
+use Rattle.rsp_scope.specs.Logged.{Log}
 use Rattle.rsp_scope.proofs.Needed.{content_kept, passed}
 use Rattle.rsp_engine.specs.Contents.{watches}
 use Rattle.rsp_engine.specs.Kept.{watches_of}
@@ -54,7 +54,7 @@ module _ (items more : List Accepted) where
   facts_more (seen ∷ contents) all =
       rw (seen_more seen (all 0 seen (omega arith)), facts_more contents (λ k d below. all (suc k) d (omega (arith, below)))) refl
 
-  pub follows_more : (stored : List Fact) (log : List Piece) (live : Live) → Follows items stored log live → Follows (items ++ more) stored log live
+  pub follows_more : (stored : List Fact) (log : Log) (live : Live) → Follows items stored log live → Follows (items ++ more) stored log live
   follows_more stored log live follows = record {
     contents = All-weaker (λ (seen : Followed). HasSeen seen (take seen.accepted items)) (λ (seen : Followed). HasSeen seen (take seen.accepted (items ++ more)))
         (λ seen has. subst (HasSeen seen) (sym (seen_more seen has)) has) live.contents follows.contents;
@@ -62,7 +62,7 @@ module _ (items more : List Accepted) where
   }
 
 -- what a query watches makes no difference
-pub follows_alike : (items : List Accepted) (stored : List Fact) (log : List Piece) (one other : Live) → unwatched one ≡ unwatched other
+pub follows_alike : (items : List Accepted) (stored : List Fact) (log : Log) (one other : Live) → unwatched one ≡ unwatched other
     → Follows items stored log one → Follows items stored log other
 follows_alike items stored log one other is follows = record {
   contents = subst (λ (l : Live). All (λ (seen : Followed). HasSeen seen (take seen.accepted items)) l.contents) is follows.contents;
@@ -70,7 +70,7 @@ follows_alike items stored log one other is follows = record {
       subst (λ (l : Live). times fact_eq l.seen q +ℤ unseen stored log l q ≡ times fact_eq stored q +ℤ times fact_eq (facts_followed items l.contents) q) is (follows.seen q);
 }
 
-all_follow : (items : List Accepted) (stored : List Fact) (log : List Piece) (olds news : List Live) → map unwatched olds ≡ map unwatched news
+all_follow : (items : List Accepted) (stored : List Fact) (log : Log) (olds news : List Live) → map unwatched olds ≡ map unwatched news
     → All (Follows items stored log) olds → All (Follows items stored log) news
 all_follow items stored log olds [] is all = λ k d below. absurd (omega (arith, below))
 all_follow items stored log [] (new ∷ news) is all = cc

@@ -12,11 +12,12 @@ use Rattle.rsp_algebra.specs.Changing.{IsSet, MayChange}
 use Rattle.rsp_multiset.specs.Weights.{IsChanged, IsSameMultiset, only, times, weight}
 use Rattle.rsp_multiset.proofs.Changing.{times-append}
 use Rattle.rsp_multiset.proofs.Sums.{sum_z-append, sum_z-flat_map}
-use Rattle.rsp_scope.specs.Contents.{Accepted, HasContent, window_facts}
+use Rattle.rsp_scope.specs.Contents.{Accepted, window_facts}
+use Rattle.rsp_scope.specs.Ends.{HasContent}
 use Rattle.rsp_scope.specs.Kept.{Kept}
 use Rattle.rsp_scope.specs.Moves.{Followed, HasSeen}
 use Rattle.rsp_scope.specs.Logged.{since}
-use Rattle.rsp_scope.specs.declared.pieces.Piece.{Piece}
+use Rattle.rsp_scope.specs.Logged.{Log}
 use Rattle.rsp_engine.specs.Contents.{facts_over, facts_seen, watches}
 use Rattle.rsp_engine.specs.Keeping.{watches_followed}
 use Rattle.rsp_engine.specs.Passing.{HasContents, IsFollowed, facts_at}
@@ -195,7 +196,7 @@ followed_is items t (x ∷ xs) at accepted =
     let rest = followed_is items t xs (All-tail (λ (seen : Followed). seen.at ≡ Some t) x xs at) (All-tail (λ (seen : Followed). seen.accepted ≡ length items) x xs accepted) in
     (λ i. window_facts x.watch (here i) (all i) ++ rest i)
 
-module _ (items : List Accepted) (stored : List Fact) (log : List Piece) (live : Live) (t : ℕ) (news : List Followed) (fresh changes : List (Fact × ℤ))
+module _ (items : List Accepted) (stored : List Fact) (log : Log) (live : Live) (t : ℕ) (news : List Followed) (fresh changes : List (Fact × ℤ))
     (follows : Follows items stored log live)
     (watched : watches_followed news ≡ watches live.first live.windows)
     (at : All (λ (seen : Followed). seen.at ≡ Some t) news)
@@ -246,7 +247,7 @@ contents_back live news same =
 
 -- ---- a live query whose windows have moved to t
 
-module _ (kept : Kept) (stored : List Fact) (log : List Piece) (t : ℕ) (live : Live) (news : List Followed) (fresh changes : List (Fact × ℤ))
+module _ (kept : Kept) (stored : List Fact) (log : Log) (t : ℕ) (live : Live) (news : List Followed) (fresh changes : List (Fact × ℤ))
     (watches_old : watches_followed live.contents ≡ watches live.first live.windows)
     (watches_new : watches_followed news ≡ watches_followed live.contents)
     (at : All (λ (seen : Followed). seen.at ≡ Some t) news)

@@ -5,8 +5,8 @@ use Rattle.std.proofs.lemmas.List.Elements.{All-cons, All-filter, All-head, All-
 use Rattle.std.proofs.lemmas.List.Folds.{list_any-append}
 use Rattle.std.proofs.lemmas.Option.{same_Some}
 use Rattle.std.specs.Option.{option_eq}
-use Rattle.rsp_scope.specs.Contents.{Accepted, Numbered, Watch, as_accepted}
-use Rattle.rsp_scope.specs.Ends.{AreEnds, EndsAt, IsKept}
+use Rattle.rsp_scope.specs.Contents.{Accepted, Numbered, Watch}
+use Rattle.rsp_scope.specs.Ends.{as_accepted, AreEnds, EndsAt, IsKept}
 use Rattle.rsp_scope.specs.Kept.{Kept, needed, shortened, triples_of}
 use Rattle.rsp_scope.specs.Needed.{is_needed, is_needed_by}
 use Rattle.rsp_scope.specs.declared.item.Item.{Item}

@@ -5,7 +5,7 @@ use Rattle.std.proofs.lemmas.List.{drop-append-le}
 use Rattle.std.proofs.lemmas.List.Elements.{filter-append}
 use Rattle.rsp_spec.specs.Windows.{in_content}
 use Rattle.rsp_report.specs.declared.contents.Watched.{Watched}
-use Rattle.rsp_report.specs.Due.{seen_at}
+use Rattle.rsp_report.specs.Seen.{seen_at}
 use Rattle.rsp_scope.specs.Contents.{Accepted}
 use Rattle.rsp_engine.specs.World.{Registration}
 use Rattle.rsp_engine.specs.declared.live_query.StreamWindow.{StreamWindow}

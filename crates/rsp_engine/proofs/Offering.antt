@@ -16,7 +16,7 @@ use Rattle.rsp_multiset.specs.Weights.{IsSameMultiset, times}
 use Rattle.rsp_terms.specs.declared.statement.Fact.{Fact}
 use Rattle.rsp_terms.specs.declared.statement.Quad.{Quad}
 use Rattle.rsp_scope.specs.declared.stored.StoredFault.TheVariants.{StoreFull}
-use Rattle.rsp_scope.specs.declared.pieces.Piece.{Piece}
+use Rattle.rsp_scope.specs.Logged.{Log}
 use Rattle.rsp_scope.specs.Contents.{Accepted, Numbered, Watch, numbered}
 use Rattle.rsp_scope.specs.Ends.{EndsAt, IsKept}
 use Rattle.rsp_scope.specs.Faults.{IsStoredFault}
@@ -398,7 +398,7 @@ none_followed items (seen ∷ contents) all =
     let first = all 0 seen (omega arith) in
     rw (first.at, none_followed items contents (λ k d below. all (suc k) d (omega (arith, below)))) refl
 
-pub new_follows : (items : List Accepted) (stored : List Fact) (log : List Piece) (live : Live) → live.reported ≡ false → live.seen ≡ [] → All IsUnmoved live.contents → Follows items stored log live
+pub new_follows : (items : List Accepted) (stored : List Fact) (log : Log) (live : Live) → live.reported ≡ false → live.seen ≡ [] → All IsUnmoved live.contents → Follows items stored log live
 new_follows items stored log live unreported unseen unmoved = record {
   contents = All-weaker IsUnmoved (λ (seen : Followed). HasSeen seen (take seen.accepted items))
       (λ (seen : Followed) (new : IsUnmoved seen). let none : seen.accepted ≡ 0 = new.seen.accepted in subst (λ n. HasSeen seen (take n items)) (sym none) new.seen) live.contents unmoved;
@@ -480,12 +480,12 @@ cancel_leads old new name place live world idle names listed is stands next stor
 -- ---- stored quads: no moment
 
 -- what came and went is logged for a query that has reported
-abbrev pub IsLoggedFor : List Fact → List Piece → List Fact → List Piece → Live → Type 0
+abbrev pub IsLoggedFor : List Fact → Log → List Fact → Log → Live → Type 0
 IsLoggedFor stored log stored_now log_now live = live.reported ≡ true
     → (q : Fact) → since log_now live.place q +ℤ times fact_eq stored q ≡ since log live.place q +ℤ times fact_eq stored_now q
 
 -- so it leads on from what the query has seen
-follows_logged : (items : List Accepted) (stored stored_now : List Fact) (log log_now : List Piece) (live : Live)
+follows_logged : (items : List Accepted) (stored stored_now : List Fact) (log log_now : Log) (live : Live)
     → IsLoggedFor stored log stored_now log_now live → Follows items stored log live → Follows items stored_now log_now live
 follows_logged items stored stored_now log log_now live logged follows = record {
   contents = follows.contents;
@@ -498,7 +498,7 @@ follows_logged items stored stored_now log log_now live logged follows = record 
     by true q logged before = let change = logged refl q in omega (arith, ints, change, before)
     by false q logged before = omega (arith, ints, before)
 
-pub fits_logged : (old : State) (stored : List Fact) (log : List Piece) (items : List Accepted) → All (IsLoggedFor old.stored old.log stored log) old.queries → Fits old items
+pub fits_logged : (old : State) (stored : List Fact) (log : Log) (items : List Accepted) → All (IsLoggedFor old.stored old.log stored log) old.queries → Fits old items
     → Fits (record old { stored = stored; log = log }) items
 fits_logged old stored log items logged fits = record {
   kept = fits.kept;
@@ -507,7 +507,7 @@ fits_logged old stored log items logged fits = record {
 }
 
 -- an engine that is idle, with other quads, stands for the world with these
-other_quads : (old : State) (stored wanted : List Fact) (log : List Piece) (world : World) → old.first ≡ None → IsSameMultiset fact_eq stored wanted
+other_quads : (old : State) (stored wanted : List Fact) (log : Log) (world : World) → old.first ≡ None → IsSameMultiset fact_eq stored wanted
     → All (IsLoggedFor old.stored old.log stored log) old.queries → Stands old world []
     → Stands (record old { stored = stored; log = log }) (record world { stored = wanted }) (option_map_or (λ from. moments_from (record world { stored = wanted }) from) world.next [] ++ [])
 other_quads old stored wanted log world idle same logged stands =
@@ -528,7 +528,7 @@ other_quads old stored wanted log world idle same logged stands =
     })
 
 -- the quads that weren't stored are stored
-pub insert_leads : (old : State) (quads : List Quad) (log : List Piece) (world : World) → old.first ≡ None → length (stored_with old.stored quads) ≤ most_quads
+pub insert_leads : (old : State) (quads : List Quad) (log : Log) (world : World) → old.first ≡ None → length (stored_with old.stored quads) ≤ most_quads
     → All (IsLoggedFor old.stored old.log (stored_with old.stored quads) log) old.queries → Stands old world []
     → Leads world (Insert quads) (record old { stored = stored_with old.stored quads; log = log })
 insert_leads old quads log world idle few logged stands =
@@ -541,7 +541,7 @@ insert_leads old quads log world idle few logged stands =
     )
 
 -- the named quads are no longer stored
-pub delete_leads : (old : State) (quads : List Quad) (stored : List Fact) (log : List Piece) (world : World) → old.first ≡ None → IsSameMultiset fact_eq stored (stored_without old.stored quads)
+pub delete_leads : (old : State) (quads : List Quad) (stored : List Fact) (log : Log) (world : World) → old.first ≡ None → IsSameMultiset fact_eq stored (stored_without old.stored quads)
     → All (IsLoggedFor old.stored old.log stored log) old.queries → Stands old world []
     → Leads world (Delete quads) (record old { stored = stored; log = log })
 delete_leads old quads stored log world idle same logged stands = (

@@ -1,12 +1,16 @@
 -- What a policy asks whose words aren't mixed.
-use Rattle.std.proofs.Common.{◌≡◌, ℕ, ◌≤◌, Bool, true, false, true≢false, cond, ◌&&◌, ◌||◌, List, [], ◌∷◌, None, refl, sym, arith}
+use Rattle.std.proofs.Common.{◌≡◌, ℕ, ◌≤◌, Bool, true, false, true≢false, cond, ◌&&◌, ◌||◌, List, [], ◌∷◌, None, refl, sym, subst, ◌∙◌, ◌<◌, arith}
+use Rattle.std.specs.Option.{ForSome}
 use Rattle.std.proofs.lemmas.Bool.{ltb-false}
 use Rattle.std.proofs.lemmas.List.Sums.{sum_by-cons}
 use Rattle.rsp_report.specs.declared.words.Strategy.{Strategy}
 use Rattle.rsp_report.specs.declared.words.Strategy.TheVariants.{Close, Change, NonEmpty, Every}
 use Rattle.rsp_report.specs.declared.words.PolicyWords.{PolicyWords}
 use Rattle.rsp_report.specs.declared.words.PolicyWords.TheVariants as words
-use Rattle.rsp_report.specs.Policies.{choice_of, count_of, first_period, is_mixed, is_named, same_kind}
+use Rattle.rsp_report.specs.Policies.{choice_of, is_mixed, same_kind}
+use Rattle.rsp_report.specs.Named.{asked_by, mixed_by, count_of, first_period, is_named}
+use Rattle.rsp_report.specs.declared.chosen.Chosen.{Chosen}
+use Rattle.rsp_report.proofs.PolicyLaws.{choice_is, mixed_is}
 use Rattle.rsp_syntax.specs.Periods.{HasPeriods}
 use Rattle.rsp_engine.specs.Watching.{IsPolicy}
 
@@ -32,19 +36,26 @@ no_period (Close ∷ rest) none = no_period rest none
 no_period (Change ∷ rest) none = no_period rest none
 no_period (NonEmpty ∷ rest) none = no_period rest none
 
-pub is_policy : (asked : PolicyWords) → is_mixed asked ≡ false → HasPeriods asked → IsPolicy (choice_of asked)
-is_policy words.Absent clear periods =
+policy_by : (asked : PolicyWords) → mixed_by asked ≡ false → ForSome (asked_by asked).period (λ period. 0 < period)
+    → IsPolicy (asked_by asked)
+policy_by words.Absent clear periods =
     record { period = periods; close_on_items = λ h. absurd (true≢false (sym h)); period_on_items = λ h. refl }
-is_policy words.Csparql clear periods =
+policy_by words.Csparql clear periods =
     record { period = periods; close_on_items = λ h. absurd (true≢false (sym h)); period_on_items = λ h. refl }
-is_policy words.Cqels clear periods = record { period = periods; close_on_items = λ h. refl; period_on_items = λ h. refl }
-is_policy (words.Listed strategies tuple) clear periods =
+policy_by words.Cqels clear periods = record { period = periods; close_on_items = λ h. refl; period_on_items = λ h. refl }
+policy_by (words.Listed strategies tuple) clear periods =
     let mixed = or_none _ (tuple && (is_named Close strategies || is_named (Every 0) strategies)) clear in
     record {
       period = periods;
       close_on_items = λ h. (or_none (is_named Close strategies) (is_named (Every 0) strategies) (and_none tuple _ mixed.1 h)).0;
       period_on_items = λ h. no_period strategies (or_none (is_named Close strategies) (is_named (Every 0) strategies) (and_none tuple _ mixed.1 h)).1;
     }
+
+pub is_policy : (asked : PolicyWords) → is_mixed asked ≡ false → HasPeriods asked → IsPolicy (choice_of asked)
+is_policy asked clear periods =
+    subst IsPolicy (sym (choice_is asked))
+    (policy_by asked (sym (mixed_is asked) ∙ clear)
+    (subst (λ (c : Chosen). ForSome c.period (λ period. 0 < period)) (choice_is asked) periods))
 
 pub not_mixed : (b : Bool) → (b ≡ true → false ≡ true) → b ≡ false
 not_mixed true never = sym (never refl)

@@ -3,7 +3,7 @@ use Rattle.std.proofs.Common.{◌≡◌, ℕ, ◌-◌, ◌||◌, Bool, true, fal
 use Rattle.std.proofs.lemmas.List.Elements.{filter-append}
 use Rattle.rsp_spec.specs.Windows.{Shape, in_content}
 use Rattle.rsp_report.specs.declared.contents.Watched.{Watched}
-use Rattle.rsp_report.specs.Due.{seen_at}
+use Rattle.rsp_report.specs.Seen.{seen_at}
 use Rattle.rsp_engine.specs.Watching.{with_time}
 
 -- whether a time stands in the content at t or at the instant before

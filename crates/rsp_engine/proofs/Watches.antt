@@ -7,7 +7,8 @@ use Rattle.std.proofs.lemmas.Simd.{map-map}
 use Rattle.rsp_terms.specs.declared.statement.Fact.{Fact}
 use Rattle.rsp_report.specs.declared.chosen.Chosen.{Chosen}
 use Rattle.rsp_report.specs.declared.contents.Watched.{Watched}
-use Rattle.rsp_report.specs.Due.{IsWatched, seen_at}
+use Rattle.rsp_report.specs.Due.{IsWatched}
+use Rattle.rsp_report.specs.Seen.{seen_at}
 use Rattle.rsp_report.specs.Due as windows
 use Rattle.rsp_report.proofs.Unseen.{due_on_item_seen, due_seen}
 use Rattle.rsp_scope.specs.Contents.{Accepted}

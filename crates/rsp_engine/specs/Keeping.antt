@@ -10,7 +10,7 @@ use Rattle.rsp_scope.specs.Logged.{since}
 use Rattle.rsp_scope.specs.Moves.{Followed, HasSeen}
 use Rattle.rsp_scope.specs.Needed.{is_needed}
 use Rattle.rsp_scope.specs.declared.item.Item.{Item}
-use Rattle.rsp_scope.specs.declared.pieces.Piece.{Piece}
+use Rattle.rsp_scope.specs.Logged.{Log}
 use Rattle.rsp_engine.specs.declared.keeping.Arrival.{Arrival}
 use Rattle.rsp_engine.specs.declared.live_query.LiveQuery.{LiveQuery}
 
@@ -46,6 +46,6 @@ pub record IsLess (old new : Kept) : Type 0 where
   pub timed : (high : ℕ) → All (λ (item : Item). item.time ≤ high) old.items → All (λ (item : Item). item.time ≤ high) new.items
 
 -- what came to and went from the stored quads is logged for a query that has reported
-abbrev pub IsLogged : {A : Type 0} → List Fact → List Piece → List Fact → List Piece → LiveQuery A → Type 0
+abbrev pub IsLogged : {A : Type 0} → List Fact → Log → List Fact → Log → LiveQuery A → Type 0
 IsLogged stored log stored_now log_now live = live.reported ≡ true
     → (q : Fact) → since log_now live.place q +ℤ times fact_eq stored q ≡ since log live.place q +ℤ times fact_eq stored_now q

@@ -10,9 +10,10 @@ use Rattle.rsp_multiset.specs.Weights.{IsSameMultiset}
 use Rattle.rsp_query.specs.Queries.{Registered}
 use Rattle.rsp_algebra.specs.Nodes.{Node}
 use Rattle.rsp_algebra.specs.Overfull.{overfull}
-use Rattle.rsp_scope.specs.Contents.{Accepted, HasContent, Watch}
+use Rattle.rsp_scope.specs.Contents.{Accepted, Watch}
+use Rattle.rsp_scope.specs.Ends.{HasContent}
 use Rattle.rsp_scope.specs.Kept.{Kept}
-use Rattle.rsp_scope.specs.declared.pieces.Piece.{Piece}
+use Rattle.rsp_scope.specs.Logged.{Log}
 use Rattle.rsp_scope.specs.Moves.{Followed}
 use Rattle.rsp_streams_out.specs.Streams.{reported}
 use Rattle.rsp_engine.specs.declared.finding.Pending.{Pending}
@@ -86,7 +87,7 @@ abbrev pub facts_at : List Accepted → List Fact → Live → ℕ → List Fact
 facts_at items stored live t = stored ++ facts_over items live.first live.windows t
 
 -- there are items of which a live query's windows have seen a beginning, and whose contents at t are kept
-pub record IsFollowed (kept : Kept) (stored : List Fact) (log : List Piece) (t : ℕ) (live : Live) : Type 0 where
+pub record IsFollowed (kept : Kept) (stored : List Fact) (log : Log) (t : ℕ) (live : Live) : Type 0 where
   pub items : List Accepted
   pub follows : Follows items stored log live
   pub contents : HasContents items kept t (watches live.first live.windows)
@@ -94,7 +95,7 @@ pub record IsFollowed (kept : Kept) (stored : List Fact) (log : List Piece) (t :
 -- a live query reported at t, over the stored quads and what its windows see of the accepted items; where it is still live, its
 -- answer stands for that, and it has seen all of the log
 pub record IsReported {A : Type 0} (node : A → Node) (width : A → ℕ) (facts : A → List Fact) (spent : A → Bool)
-    (kept : Kept) (stored : List Fact) (log : List Piece) (t : ℕ) (live new : LiveQuery A) (given : Outcome) : Type 0 where
+    (kept : Kept) (stored : List Fact) (log : Log) (t : ℕ) (live new : LiveQuery A) (given : Outcome) : Type 0 where
   pub outcome : (items : List Accepted) → Follows items stored log (live_of facts live)
       → HasContents items kept t (watches live.first live.windows)
       → IsOutcomeOver given (live_of facts live) (facts_at items stored (live_of facts live) t)

@@ -20,7 +20,7 @@ use Rattle.rsp_scope.specs.Ends.{IsKept}
 use Rattle.rsp_scope.specs.Kept.{Kept}
 use Rattle.rsp_scope.specs.Moves.{Followed, HasSeen, IsReached}
 use Rattle.rsp_scope.specs.Logged.{since}
-use Rattle.rsp_scope.specs.declared.pieces.Piece.{Piece}
+use Rattle.rsp_scope.specs.Logged.{Log}
 use Rattle.rsp_engine.specs.declared.finding.Pending.{Pending}
 use Rattle.rsp_engine.specs.declared.live_query.StreamWindow.{StreamWindow}
 use Rattle.rsp_engine.specs.World.{World, Query, Reading, Registration, registrations}
@@ -58,7 +58,7 @@ pub record State : Type 0 where
   pub queries : List Live
   pub kept : Kept
   pub stored : List Fact
-  pub log : List Piece
+  pub log : Log
   pub arrived : Option (List ℕ)
   pub first : Option Pending
   pub broken : Bool
@@ -143,12 +143,12 @@ facts_followed items contents =
     flat_map (λ (seen : Followed). window_facts seen.watch seen.at (take seen.accepted items)) contents
 
 -- what a live query hasn't seen of the stored quads: what came and went since its last report, and all before the first
-abbrev pub unseen : List Fact → List Piece → Live → Fact → ℤ
+abbrev pub unseen : List Fact → Log → Live → Fact → ℤ
 unseen stored log live q = if live.reported then since log live.place q else times fact_eq stored q
 
 -- a live query's answer stands for what it saw at its last report: what it hasn't seen of the stored quads leads from there to
 -- the stored quads and what its windows saw
-pub record Follows (items : List Accepted) (stored : List Fact) (log : List Piece) (live : Live) : Type 0 where
+pub record Follows (items : List Accepted) (stored : List Fact) (log : Log) (live : Live) : Type 0 where
   pub contents : All (λ (seen : Followed). HasSeen seen (take seen.accepted items)) live.contents
   pub seen : (q : Fact) → times fact_eq live.seen q +ℤ unseen stored log live q
       ≡ times fact_eq stored q +ℤ times fact_eq (facts_followed items live.contents) q

@@ -1,7 +1,8 @@
 -- Words of the way: what a query watches once an item has come over a stream.
 use Rattle.std.specs.Prelude.{◌≡◌, ℕ, ◌≤◌, List, [], ◌∷◌, ⊤, bytes_eq}
 use Rattle.rsp_report.specs.declared.contents.Watched.{Watched}
-use Rattle.rsp_report.specs.Due.{IsFreshAt, seen_at}
+use Rattle.rsp_report.specs.Due.{IsFreshAt}
+use Rattle.rsp_report.specs.Seen.{seen_at}
 use Rattle.rsp_engine.specs.declared.live_query.StreamWindow.{StreamWindow}
 use Rattle.rsp_engine.specs.Watching.{IsTimed, with_time}
 

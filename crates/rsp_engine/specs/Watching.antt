@@ -6,7 +6,8 @@ use Rattle.std.specs.Option.{ForSome, is_some, option_map_or}
 use Rattle.rsp_scope.specs.Contents.{Accepted}
 use Rattle.rsp_report.specs.declared.chosen.Chosen.{Chosen}
 use Rattle.rsp_report.specs.declared.contents.Watched.{Watched}
-use Rattle.rsp_report.specs.Due.{IsFreshAt, IsWatched, seen_at}
+use Rattle.rsp_report.specs.Due.{IsFreshAt, IsWatched}
+use Rattle.rsp_report.specs.Seen.{seen_at}
 use Rattle.rsp_report.specs.Due as windows
 use Rattle.rsp_engine.specs.declared.live_query.StreamWindow.{StreamWindow}
 use Rattle.rsp_engine.specs.Due.{watched_of}

@@ -7,14 +7,16 @@ use Rattle.std.proofs.lemmas.Bool.{cases_lt}
 use Rattle.std.proofs.lemmas.Bool.Decides.{nat_tests}
 use Rattle.std.proofs.lemmas.Nat.{mod_below, mod-mul-add}
 use Rattle.std.proofs.lemmas.List.Folds.{list_any_more}
-use Rattle.rsp_spec.specs.Windows.{Shape, closes_at, IsNextClosing}
+use Rattle.rsp_spec.specs.Windows.{Shape, closes_at}
+use Rattle.rsp_spec.specs.Relations.{IsNextClosing}
 use Rattle.rsp_spec.specs.Instants.{IsLeastIn}
 use Rattle.rsp_spec.proofs.InstantLaws.{least_alike}
 use Rattle.rsp_spec.proofs.WindowLaws.{closes_at_is}
 use Rattle.rsp_spec.proofs.Truths.{both_are, equal_from}
 use Rattle.rsp_report.specs.declared.chosen.Chosen.{Chosen}
 use Rattle.rsp_report.specs.declared.contents.Watched.{Watched}
-use Rattle.rsp_report.specs.Due.{closes, changes, has_content, some_window, unless_asked, divides, is_due}
+use Rattle.rsp_report.specs.Due.{changes, has_content, is_due}
+use Rattle.rsp_report.specs.Leaps.{closes, some_window, unless_asked, divides}
 use Rattle.rsp_report.specs.Searches.{sooner}
 use Rattle.rsp_report.specs.Leaps.{AllHold, HoldsByTime}
 use Rattle.rsp_report.proofs.NextItems.{sooner_least}

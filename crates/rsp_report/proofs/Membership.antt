@@ -6,9 +6,10 @@ use Rattle.std.proofs.Common.{arith, inl, inr, sym, refl, true≢false, ◌∙�
 use Rattle.std.proofs.lemmas.Bool.{cases_lt}
 use Rattle.std.proofs.lemmas.Bool.Decides.{nat_tests, same_from_decides}
 use Rattle.std.proofs.lemmas.List.Folds.{Any-from_list_any, list_any-from_Any, list_any_none}
-use Rattle.rsp_spec.specs.Windows.{Shape, in_content, IsNeeded}
+use Rattle.rsp_spec.specs.Windows.{Shape, in_content}
+use Rattle.rsp_spec.specs.Relations.{IsNeeded}
 use Rattle.rsp_spec.proofs.ContentLaws.{in_content_is}
-use Rattle.rsp_report.specs.Due.{differ}
+use Rattle.rsp_report.specs.Leaps.{differ}
 use Rattle.rsp_report.specs.Searches.{IsFirstAfter, IsFirstReaching, Leaves}
 
 -- an item that passes, among those of a list

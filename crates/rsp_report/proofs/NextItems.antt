@@ -4,10 +4,11 @@ use Rattle.std.specs.List.{Contains, list_any}
 use Rattle.std.proofs.Common.{arith, inl, inr, sym}
 use Rattle.std.proofs.lemmas.Bool.{cases_lt}
 use Rattle.std.proofs.lemmas.Bool.Decides.{nat_tests}
-use Rattle.rsp_spec.specs.Windows.{Shape, opening, closing, in_content, IsNeeded, IsLastNeeded}
+use Rattle.rsp_spec.specs.Windows.{Shape, opening, closing, in_content}
+use Rattle.rsp_spec.specs.Relations.{IsNeeded, IsLastNeeded}
 use Rattle.rsp_spec.specs.Instants.{IsLeastIn}
 use Rattle.rsp_spec.proofs.InstantLaws.{least_alike}
-use Rattle.rsp_report.specs.Due.{differ}
+use Rattle.rsp_report.specs.Leaps.{differ}
 use Rattle.rsp_report.specs.Searches.{IsFirstAfter, IsFirstBehind, IsFirstNeeded, Enters, Leaves, sooner}
 use Rattle.rsp_report.proofs.Searching.{behind_opening}
 use Rattle.rsp_report.proofs.Membership.{IsSeen, Passing, content_is, needed_earlier, needed_between, changes_by_entering, changes_if_left, turn_of}

@@ -4,7 +4,8 @@ use Rattle.rsp_report.specs.declared.contents.Watched.{Watched}
 use Rattle.rsp_report.specs.declared.words.Strategy.TheVariants.{Close, Change, NonEmpty, Every}
 use Rattle.rsp_report.specs.declared.words.PolicyWords.TheVariants as words
 use Rattle.rsp_report.specs.Policies.{is_mixed, choice_of}
-use Rattle.rsp_report.specs.Due.{changes, has_content, divides}
+use Rattle.rsp_report.specs.Due.{changes, has_content}
+use Rattle.rsp_report.specs.Leaps.{divides}
 
 -- two periods are EVERY twice
 two_periods : is_mixed (words.Listed (Every 5 ∷ Every 7 ∷ []) false) ≡ true

@@ -12,7 +12,8 @@ use Rattle.std.proofs.lemmas.Bool.{cases_lt}
 use Rattle.std.proofs.lemmas.Bool.Decides.{nat_tests}
 use Rattle.std.proofs.lemmas.List.Elements.{Contains-get_or}
 use Rattle.std.proofs.lemmas.List.Sorted.{searched}
-use Rattle.rsp_spec.specs.Windows.{Shape, opening, closing, IsNeeded}
+use Rattle.rsp_spec.specs.Windows.{Shape, opening, closing}
+use Rattle.rsp_spec.specs.Relations.{IsNeeded}
 use Rattle.rsp_report.specs.Searches.{IsFirstAfter, IsFirstReaching}
 
 -- the time stands at some place, whatever is taken past the end

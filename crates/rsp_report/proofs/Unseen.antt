@@ -5,7 +5,9 @@ use Rattle.std.proofs.Common.{ap, sym, refl, true≢false}
 use Rattle.rsp_spec.specs.Windows.{in_content}
 use Rattle.rsp_report.specs.declared.chosen.Chosen.{Chosen}
 use Rattle.rsp_report.specs.declared.contents.Watched.{Watched}
-use Rattle.rsp_report.specs.Due.{differ, some_window, closes, changes, has_content, shows_new, is_due, is_due_on_item, seen_at}
+use Rattle.rsp_report.specs.Due.{changes, has_content, shows_new, is_due, is_due_on_item}
+use Rattle.rsp_report.specs.Leaps.{differ, some_window, closes}
+use Rattle.rsp_report.specs.Seen.{seen_at}
 
 -- at the head: it is kept, or it doesn't pass
 kept_head : (p q : ℕ → Bool) (x : ℕ) (xs : List ℕ) (kept passes : Bool) → q x ≡ kept → p x ≡ passes → (passes ≡ true → kept ≡ true)
@@ -20,7 +22,8 @@ any_kept p q implies (x ∷ xs) = kept_head p q x xs (q x) (p x) refl refl (impl
 
 either_differs : (a b : Bool) → differ a b ≡ true → (a || b) ≡ true
 either_differs true b h = refl
-either_differs false b h = h
+either_differs false true h = refl
+either_differs false false h = h
 
 either_first : (a b : Bool) → a ≡ true → (a || b) ≡ true
 either_first true b h = refl

@@ -1,10 +1,33 @@
 -- Words of the way: the strategies by three questions, of which closings and the period are one.
-use Rattle.std.specs.Prelude.{◌≡◌, ℕ, ◌%◌, ◌==◌, ◌<◌, ⊤, Bool, true, ◌&&◌, List}
+use Rattle.std.specs.Prelude.{◌≡◌, ℕ, ◌%◌, ◌==◌, ◌<◌, ⊤, Bool, true, not, ◌&&◌, ◌||◌, Option, List}
+use Rattle.std.specs.Bool.{beq}
+use Rattle.std.specs.List.{list_any}
+use Rattle.std.specs.Option.{option_map_or}
+use Rattle.rsp_spec.specs.Windows.{closes_at}
 use Rattle.rsp_report.specs.declared.chosen.Chosen.{Chosen}
 use Rattle.rsp_report.specs.declared.contents.Watched.{Watched}
 use Rattle.rsp_report.specs.declared.leaps.Question.{Question}
 use Rattle.rsp_report.specs.declared.leaps.Question.TheVariants.{Close, Change, Content}
-use Rattle.rsp_report.specs.Due.{closes, changes, has_content, some_window, unless_asked, divides}
+use Rattle.rsp_report.specs.Due.{changes, has_content}
+
+-- one of two is true, and not both
+abbrev pub differ : Bool → Bool → Bool
+differ a b = not (beq a b)
+
+-- some window of the query passes
+abbrev pub some_window : (Watched → Bool) → List Watched → Bool
+some_window test watched = list_any test watched
+
+abbrev pub closes : ℕ → Watched → Bool
+closes t w = closes_at w.window t
+
+-- the period, where there is one, divides t
+abbrev pub divides : Option ℕ → ℕ → Bool
+divides period t = option_map_or (λ period. t % period == 0) period true
+
+-- a strategy that isn't asked for, or one that holds
+abbrev pub unless_asked : Bool → Bool → Bool
+unless_asked asked holds = not asked || holds
 
 -- the answer of one window
 abbrev pub asks : Question → ℕ → Watched → Bool

@@ -4,3 +4,5 @@ pub mod Due
 -- Words of the way: they link the code to the definitions
 pub mod Searches
 pub mod Leaps
+pub mod Named
+pub mod Seen

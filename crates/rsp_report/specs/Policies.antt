@@ -1,6 +1,7 @@
 -- Definitions: what the words of a policy ask, and which are refused (SECRET, report and tick).
-use Rattle.std.specs.Prelude.{ℕ, Bool, true, false, ◌&&◌, ◌||◌, nat_lt, Option, None, Some, List, [], ◌∷◌}
-use Rattle.std.specs.List.{count_by}
+use Rattle.std.specs.Prelude.{Bool, true, false, ◌&&◌, ◌||◌, nat_lt, is_some, None, Some, List, [], ◌∷◌, fold}
+use Rattle.std.specs.List.{count_by, list_any}
+use Rattle.std.specs.Option.{option_or}
 use Rattle.rsp_report.specs.declared.words.Strategy.{Strategy}
 use Rattle.rsp_report.specs.declared.words.Strategy.TheVariants.{Close, Change, NonEmpty, Every}
 use Rattle.rsp_report.specs.declared.words.PolicyWords.{PolicyWords}
@@ -15,55 +16,27 @@ same_kind NonEmpty NonEmpty = true
 same_kind (Every p) (Every q) = true
 same_kind a b = false
 
--- how often a strategy is named
-abbrev pub count_of : Strategy → List Strategy → ℕ
-count_of kind strategies = count_by (same_kind kind) strategies
+-- the strategies that the words name, and whether the tick is TUPLE; CSPARQL where there are none
+abbrev pub said : PolicyWords → List Strategy × Bool
+said (words.Listed strategies tuple) = (strategies, tuple)
+said words.Cqels = (Change ∷ [], true)
+said _ = (Close ∷ NonEmpty ∷ [], false)
 
-abbrev pub is_named : Strategy → List Strategy → Bool
-is_named kind strategies = nat_lt 0 (count_of kind strategies)
+-- with one strategy more; of several EVERY the first gives the period
+abbrev pub with_strategy : Chosen → Strategy → Chosen
+with_strategy chosen Close = record chosen { close = true }
+with_strategy chosen Change = record chosen { change = true }
+with_strategy chosen NonEmpty = record chosen { nonempty = true }
+with_strategy chosen (Every period) = record chosen { period = option_or chosen.period (Some period) }
 
-abbrev pub is_named_twice : Strategy → List Strategy → Bool
-is_named_twice kind strategies = nat_lt 1 (count_of kind strategies)
-
--- the period of the first EVERY
-abbrev pub first_period : List Strategy → Option ℕ
-first_period [] = None
-first_period (Every period ∷ rest) = Some period
-first_period (Close ∷ rest) = first_period rest
-first_period (Change ∷ rest) = first_period rest
-first_period (NonEmpty ∷ rest) = first_period rest
+abbrev pub choice_of : PolicyWords → Chosen
+choice_of words =
+    fold with_strategy
+    (record { close = false; change = false; nonempty = false; period = None; tuple = (said words).1 })
+    (said words).0
 
 -- a strategy is named twice, or the tick is TUPLE beside CLOSE or EVERY
-abbrev pub is_mixed_list : List Strategy → Bool → Bool
-is_mixed_list strategies tuple =
-    (is_named_twice Close strategies || (is_named_twice Change strategies
-    || (is_named_twice NonEmpty strategies || is_named_twice (Every 0) strategies)))
-    || (tuple && (is_named Close strategies || is_named (Every 0) strategies))
-
 abbrev pub is_mixed : PolicyWords → Bool
-is_mixed words.Absent = false
-is_mixed words.Csparql = false
-is_mixed words.Cqels = false
-is_mixed (words.Listed strategies tuple) = is_mixed_list strategies tuple
-
--- a window closes and some content isn't empty, at every instant
-abbrev pub csparql : Chosen
-csparql = record { close = true; change = false; nonempty = true; period = None; tuple = false }
-
--- the item is in a content, on every item
-abbrev pub cqels : Chosen
-cqels = record { close = false; change = true; nonempty = false; period = None; tuple = true }
-
--- what the words ask; CSPARQL where there are none
-abbrev pub choice_of : PolicyWords → Chosen
-choice_of words.Absent = csparql
-choice_of words.Csparql = csparql
-choice_of words.Cqels = cqels
-choice_of (words.Listed strategies tuple) =
-    record {
-      close = is_named Close strategies;
-      change = is_named Change strategies;
-      nonempty = is_named NonEmpty strategies;
-      period = first_period strategies;
-      tuple = tuple;
-    }
+is_mixed words =
+    list_any (λ kind. nat_lt 1 (count_by (same_kind kind) (said words).0)) (Close ∷ Change ∷ NonEmpty ∷ Every 0 ∷ [])
+    || ((said words).1 && ((choice_of words).close || is_some (choice_of words).period))

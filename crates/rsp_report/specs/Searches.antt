@@ -1,7 +1,8 @@
 -- Words of the way: what a search among sorted times finds.
 use Rattle.std.specs.Prelude.{min, ℕ, ◌-◌, ◌<◌, ◌≤◌, Option, None, Some, List}
 use Rattle.std.specs.List.{Contains}
-use Rattle.rsp_spec.specs.Windows.{Shape, IsNeeded}
+use Rattle.rsp_spec.specs.Windows.{Shape}
+use Rattle.rsp_spec.specs.Relations.{IsNeeded}
 
 -- the least of the times above `low`, and none only where all are at most `low`
 abbrev pub IsFirstAfter : List ℕ → ℕ → Option ℕ → Type 0

@@ -1,6 +1,7 @@
 // From the words of a policy to what is asked.
 ghost use Rattle.std.specs.Prelude.{◌≡◌, ◌↔◌, IfOk, IsErr, IsTrue};
-ghost use Rattle.rsp_report.specs.Policies.{choice_of, count_of, first_period, csparql, is_mixed, is_mixed_list, same_kind};
+ghost use Rattle.rsp_report.specs.Policies.{choice_of, is_mixed, same_kind};
+ghost use Rattle.rsp_report.specs.Named.{asked_by, mixed_by, count_of, first_period, csparql, is_mixed_list};
 
 use crate::words::{PolicyWords, Strategy};
 
@@ -28,6 +29,13 @@ pub struct PolicyMix;
 pub fn policy(words: &PolicyWords) -> Result<Chosen, PolicyMix>
     ensures choice { IfOk result (λ chosen. chosen ≡ choice_of words.now) }
     ensures mix { IsErr result ↔ IsTrue (is_mixed words.now) }
+{
+    asked(words)
+}
+
+fn asked(words: &PolicyWords) -> Result<Chosen, PolicyMix>
+    ensures choice { IfOk result (λ chosen. chosen ≡ asked_by words.now) }
+    ensures mix { IsErr result ↔ IsTrue (mixed_by words.now) }
 {
     match words {
         PolicyWords::Absent => Ok(csparql()),

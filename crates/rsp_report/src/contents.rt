@@ -2,7 +2,8 @@
 ghost use Rattle.std.specs.Prelude.{◌≡◌, ◌^◌, ◌≤◌, ◌↔◌, IsTrue};
 ghost use Rattle.std.specs.List.{Contains};
 ghost use Rattle.std.specs.List.Sorted.{IsNonDecreasing};
-ghost use Rattle.rsp_spec.specs.Windows.{IsNeeded, IsShape};
+ghost use Rattle.rsp_spec.specs.Windows.{IsShape};
+ghost use Rattle.rsp_spec.specs.Relations.{IsNeeded};
 ghost use Rattle.rsp_report.specs.Due.{IsWatched, changes, has_content, shows_new};
 ghost use Rattle.rsp_report.specs.Searches.{IsFirstAfter, IsFirstReaching, Leaves};
 

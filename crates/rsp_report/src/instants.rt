@@ -1,8 +1,9 @@
 // Whether a query is due: at an instant, or on an item.
-ghost use Rattle.std.specs.Prelude.{◌≡◌, ◌^◌, ◌≤◌, ◌<◌, true, false, None, map};
+ghost use Rattle.std.specs.Prelude.{◌≡◌, ◌^◌, ◌≤◌, ◌<◌, true, false, None};
 ghost use Rattle.std.specs.List.{All};
 ghost use Rattle.std.specs.Option.{ForSome};
-ghost use Rattle.rsp_report.specs.Due.{IsWatched, changes, closes, divides, has_content, is_due, is_due_on_item, IsFreshAt, seen_at, shows_new, some_window};
+ghost use Rattle.rsp_report.specs.Due.{IsWatched, changes, has_content, is_due, is_due_on_item, IsFreshAt, shows_new};
+ghost use Rattle.rsp_report.specs.Leaps.{closes, divides, some_window};
 
 use crate::chosen::Chosen;
 use crate::contents;
@@ -17,17 +18,6 @@ pub fn due(policy: &Chosen, watched: &[Watched], t: u64) -> bool
     requires within { t ≤ 2 ^ 48 }
     requires watched { All IsWatched watched.now }
     ensures value { result ≡ is_due policy.now watched.now t }
-    // times that are in no content, neither at t nor at the instant before, change nothing
-    ensures unseen { result ≡ is_due policy.now (map (seen_at t) watched.now) t }
-{
-    all_hold(policy, watched, t)
-}
-
-fn all_hold(policy: &Chosen, watched: &[Watched], t: u64) -> bool
-    requires period { ForSome policy.now.period (λ period. 0 < period) }
-    requires within { t ≤ 2 ^ 48 }
-    requires watched { All IsWatched watched.now }
-    ensures { result ≡ is_due policy.now watched.now t }
 {
     if policy.close && !some_closes(watched, t) {
         return false;
@@ -52,15 +42,6 @@ pub fn due_on_item(policy: &Chosen, watched: &[Watched], t: u64) -> bool
     requires watched { All IsWatched watched.now }
     requires fresh { All (IsFreshAt t) watched.now }
     ensures value { result ≡ is_due_on_item policy.now watched.now t }
-    ensures unseen { result ≡ is_due_on_item policy.now (map (seen_at t) watched.now) t }
-{
-    all_hold_on_item(policy, watched, t)
-}
-
-fn all_hold_on_item(policy: &Chosen, watched: &[Watched], t: u64) -> bool
-    requires within { t ≤ 2 ^ 48 }
-    requires watched { All IsWatched watched.now }
-    ensures { result ≡ is_due_on_item policy.now watched.now t }
 {
     if policy.change && !some_shows_new(watched, t) {
         return false;

@@ -15,7 +15,8 @@ use Rattle.rsp_terms.specs.declared.statement.Fact.{Fact}
 use Rattle.rsp_terms.specs.declared.statement.Spot.TheVariants.{Window}
 use Rattle.rsp_terms.specs.Same.{fact_eq, spot_eq, triple_eq, triple_same}
 use Rattle.rsp_scope.proofs.Endings.{filter-twice}
-use Rattle.rsp_scope.specs.Contents.{Accepted, HasContent, Numbered, Watch, as_accepted, content, content_at, fact_in, facts_in, graph_of, numbered, sees, window_facts}
+use Rattle.rsp_scope.specs.Contents.{Accepted, Numbered, Watch, content, content_at, fact_in, facts_in, graph_of, numbered, sees, window_facts}
+use Rattle.rsp_scope.specs.Ends.{HasContent, as_accepted}
 use Rattle.rsp_scope.specs.Kept.{Kept}
 use Rattle.rsp_scope.specs.Moves.{Followed, HasSeen, IsReached, Moves, Placed, TakesIn, enters, gate_of, is_after, is_fresh, listed, presence}
 use Rattle.rsp_scope.specs.declared.item.Item.{Item}
@@ -123,9 +124,9 @@ gate-one x y a l f i is n = by x y a l ∙ ap (λ b. only (x && (y && b)) (only 
     by true false a l = refl
     by false y a l = refl
 
-module _ (watch : Watch) (since : Option ℕ) (t : ℕ) (slide : 1 ≤ watch.shape.slide) (reached : IsReached since t) (items : List Accepted) (g : ℕ → List Triple → ℤ) where
+module _ (watch : Watch) (since : Option ℕ) (t : ℕ) (slide : 1 ≤ watch.shape.slide) (reached : IsReached since t) (items : List Accepted) (g : ℕ → ℕ → List Triple → ℤ) where
   abbrev value : Numbered → ℤ
-  value n = g n.item.time n.item.graph
+  value n = g n.item.time n.number n.item.graph
 
   abbrev fresh : Numbered → Bool
   fresh n = is_fresh (length items) since n.number n.item.time
@@ -188,13 +189,13 @@ module _ (watch : Watch) (since : Option ℕ) (t : ℕ) (slide : 1 ≤ watch.sha
 
   placed-law : (more : List Accepted) (kept : List Item) (placed placed' : List Placed)
       → content watch t (map as_accepted kept) ≡ content watch t (numbered 0 (items ++ more))
-      → ((f : ℕ → List Triple → ℤ) → sum_z (λ (e : Placed). f e.0.0 e.1) placed ≡ sum_z (λ (n : Numbered). f n.item.time n.item.graph) (content_at watch since (numbered 0 items)))
+      → ((f : ℕ → ℕ → List Triple → ℤ) → sum_z (λ (e : Placed). f e.0.0 e.0.1 e.1) placed ≡ sum_z (λ (n : Numbered). f n.item.time n.number n.item.graph) (content_at watch since (numbered 0 items)))
       → TakesIn (gate_of watch since (length items) t) kept (filter (λ (e : Placed). is_after (option_map (opening watch.shape) (active_window watch.shape t)) e.0.0) placed) placed'
-      → sum_z (λ (e : Placed). g e.0.0 e.1) placed' ≡ sum_z value (content watch t (numbered 0 (items ++ more)))
+      → sum_z (λ (e : Placed). g e.0.0 e.0.1 e.1) placed' ≡ sum_z value (content watch t (numbered 0 (items ++ more)))
   placed-law more kept placed placed' same before took =
-      let a = took (λ (e : Placed). g e.0.0 e.1) in
-      let b = sum_z-filter (λ (e : Placed). g e.0.0 e.1) (λ (e : Placed). is_after (option_map (opening watch.shape) (active_window watch.shape t)) e.0.0) placed
-      ∙ before (λ time graph. only (is_after (option_map (opening watch.shape) (active_window watch.shape t)) time) (g time graph))
+      let a = took (λ (e : Placed). g e.0.0 e.0.1 e.1) in
+      let b = sum_z-filter (λ (e : Placed). g e.0.0 e.0.1 e.1) (λ (e : Placed). is_after (option_map (opening watch.shape) (active_window watch.shape t)) e.0.0) placed
+      ∙ before (λ time number graph. only (is_after (option_map (opening watch.shape) (active_window watch.shape t)) time) (g time number graph))
       in
       let c = entered more kept same ∙ halves (λ n. only (sees watch t n) (only (fresh n) (value n))) more in
       let d = sum_z-filter value (sees watch t) (numbered 0 (items ++ more)) ∙ halves (λ n. only (sees watch t n) (value n)) more in
@@ -235,7 +236,7 @@ facts-once k entries q =
 facts-seen : (seen : Followed) (items : List Accepted) → HasSeen seen items → (q : Fact) → times fact_eq (window_facts seen.watch seen.at items) q ≡ presence (weight fact_eq seen.counts q)
 facts-seen seen items h q =
     facts-once seen.watch.spot (content_at seen.watch seen.at (numbered 0 items)) q
-    ∙ ap presence (sym (h.counted q ∙ h.placed (λ _ graph. times fact_eq (facts_in seen.watch.spot graph) q)))
+    ∙ ap presence (sym (h.counted q ∙ h.placed (λ _ _ graph. times fact_eq (facts_in seen.watch.spot graph) q)))
 
 pub moved : (seen now : Followed) (t : ℕ) (items more : List Accepted) (kept : Kept) (change : List (Fact × ℤ)) → 1 ≤ seen.watch.shape.slide → IsReached seen.at t
     → now.watch ≡ seen.watch
@@ -247,7 +248,7 @@ pub moved : (seen now : Followed) (t : ℕ) (items more : List Accepted) (kept :
     → HasContent seen.watch t kept (items ++ more)
     → HasSeen now (items ++ more) × IsChanged fact_eq (window_facts seen.watch seen.at items) change (window_facts seen.watch (Some t) (items ++ more))
 moved seen now t items more kept change slide reached watched at accepted took moves h has =
-    let placed : (f : ℕ → List Triple → ℤ) → sum_z (λ (e : Placed). f e.0.0 e.1) now.placed ≡ sum_z (λ (n : Numbered). f n.item.time n.item.graph) (content seen.watch t (numbered 0 (items ++ more)))
+    let placed : (f : ℕ → ℕ → List Triple → ℤ) → sum_z (λ (e : Placed). f e.0.0 e.0.1 e.1) now.placed ≡ sum_z (λ (n : Numbered). f n.item.time n.number n.item.graph) (content seen.watch t (numbered 0 (items ++ more)))
     = λ f. placed-law seen.watch seen.at t slide reached items f more kept.items seen.placed now.placed has.same h.placed
     (subst (λ n. TakesIn (gate_of seen.watch seen.at n t) kept.items (filter (λ (e : Placed). is_after (option_map (opening seen.watch.shape) (active_window seen.watch.shape t)) e.0.0) seen.placed) now.placed) h.accepted took) in
     let counted : (q : Fact) → weight fact_eq now.counts q ≡ listed seen.watch.spot now.placed q
@@ -255,7 +256,7 @@ moved seen now t items more kept change slide reached watched at accepted took m
     let new : HasSeen now (items ++ more)
     = record {
       accepted = accepted ∙ has.accepted;
-      placed = λ f. placed f ∙ ap (λ (p : Watch × Option ℕ). sum_z (λ (n : Numbered). f n.item.time n.item.graph) (content_at p.0 p.1 (numbered 0 (items ++ more)))) (sym (λ i. (watched i, at i)));
+      placed = λ f. placed f ∙ ap (λ (p : Watch × Option ℕ). sum_z (λ (n : Numbered). f n.item.time n.number n.item.graph) (content_at p.0 p.1 (numbered 0 (items ++ more)))) (sym (λ i. (watched i, at i)));
       counted = λ q. counted q ∙ ap (λ (w : Watch). listed w.spot now.placed q) (sym watched);
     } in (
       new,

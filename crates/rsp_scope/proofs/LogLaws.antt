@@ -7,7 +7,7 @@ use Rattle.rsp_multiset.specs.Weights.{sum_z, only, weight}
 use Rattle.rsp_multiset.proofs.Sums.{sum_z-alike, sum_z-append, sum_z-filter}
 use Rattle.rsp_terms.specs.declared.statement.Fact.{Fact}
 use Rattle.rsp_terms.specs.Same.{fact_eq}
-use Rattle.rsp_scope.specs.Logged.{since}
+use Rattle.rsp_scope.specs.Logged.{pieces_since}
 use Rattle.rsp_scope.specs.Pieces.{EndBy}
 use Rattle.rsp_scope.specs.declared.pieces.Piece.{Piece}
 use Rattle.rsp_scope.proofs.Endings.{any-default}
@@ -80,7 +80,7 @@ ends-later e later [] more h = tt
 ends-later e later (x ∷ xs) more h = (omega (arith, more, h.0), ends-later e later xs more h.1)
 
 -- from the place at which all pieces end nothing is seen
-pub none-since : (place : ℕ) (pieces : List Piece) → EndBy place pieces → (q : Fact) → since pieces place q ≡ pos 0
+pub none-since : (place : ℕ) (pieces : List Piece) → EndBy place pieces → (q : Fact) → pieces_since pieces place q ≡ pos 0
 none-since place [] ends q = refl
 none-since place (piece ∷ pieces) ends q =
     let early : nat_lt place piece.end ≡ false = grind (arith, nat_tests, ends.0) in
@@ -97,7 +97,7 @@ kept-seen first place end w before = by (nat_lt place end) refl (nat_lt first en
     by false seen false kept = refl
 
 pub since-kept : (first place : ℕ) (pieces : List Piece) (q : Fact) → first ≤ place
-    → since (filter (λ (piece : Piece). nat_lt first piece.end) pieces) place q ≡ since pieces place q
+    → pieces_since (filter (λ (piece : Piece). nat_lt first piece.end) pieces) place q ≡ pieces_since pieces place q
 since-kept first place pieces q before =
     sum_z-filter (λ (piece : Piece). only (nat_lt place piece.end) (weight fact_eq piece.changes q)) (λ (piece : Piece). nat_lt first piece.end) pieces
     ∙ sum_z-alike (λ (piece : Piece). only (nat_lt first piece.end) (only (nat_lt place piece.end) (weight fact_eq piece.changes q)))
@@ -108,7 +108,7 @@ seen-whole : (place end : ℕ) (w : ℤ) → place < end → only (nat_lt place 
 seen-whole place end w before = let early : nat_lt place end ≡ true = grind (arith, nat_tests, before) in ap (λ b. only b w) early
 
 pub since-push : (pieces : List Piece) (piece : Piece) (place : ℕ) (q : Fact) → place < piece.end
-    → since (pieces ++ piece ∷ []) place q ≡ since pieces place q +ℤ weight fact_eq piece.changes q
+    → pieces_since (pieces ++ piece ∷ []) place q ≡ pieces_since pieces place q +ℤ weight fact_eq piece.changes q
 since-push pieces piece place q before =
     let all = sum_z-append (λ (p : Piece). only (nat_lt place p.end) (weight fact_eq p.changes q)) pieces (piece ∷ []) in
     let one = seen-whole place piece.end (weight fact_eq piece.changes q) before in
@@ -117,7 +117,7 @@ since-push pieces piece place q before =
 -- a piece that gains a change and ends where it did
 pub since-set : (pieces : List Piece) (k : ℕ) (old new : Piece) (w : ℤ) (place : ℕ) (q : Fact) → k < length pieces → slice_index_or pieces k old ≡ old → new.end ≡ old.end
     → place < old.end → weight fact_eq new.changes q ≡ weight fact_eq old.changes q +ℤ w
-    → since (slice_set pieces k new) place q ≡ since pieces place q +ℤ w
+    → pieces_since (slice_set pieces k new) place q ≡ pieces_since pieces place q +ℤ w
 since-set pieces k old new w place q below is same before gained =
     let all = sum-set (λ (p : Piece). only (nat_lt place p.end) (weight fact_eq p.changes q)) pieces k new old below in
     let here = ap (λ (p : Piece). only (nat_lt place p.end) (weight fact_eq p.changes q)) is in
@@ -142,7 +142,7 @@ pub since-one : (before less left after : List Piece) (at : ℕ) (x y z d : Piec
     → ((e : Piece) → slice_index_or less at e ≡ slice_index_or before (at + 1) e)
     → after ≡ take at left ++ z ∷ drop at left → z.end ≡ y.end → weight fact_eq z.changes q ≡ weight fact_eq x.changes q +ℤ weight fact_eq y.changes q
     → nat_lt place (slice_index_or before at d).end ≡ nat_lt place (slice_index_or before (at + 1) d).end
-    → since after place q ≡ since before place q
+    → pieces_since after place q ≡ pieces_since before place q
 since-one before less left after at x y z d place q two is-less is-x one is-left is-y shifted is-after ends joined alike =
     let first = sum-remove (seen place q) before at x (omega (arith, two)) in
     let a = ap (λ l. sum_z (seen place q) l) is-less in
@@ -163,7 +163,7 @@ since-one before less left after at x y z d place q two is-less is-x one is-left
 
 -- a walk over the pieces, one further
 pub since-next : (pieces : List Piece) (i : ℕ) (piece : Piece) (place : ℕ) (q : Fact) → i < length pieces → piece ≡ slice_index_or pieces i piece
-    → since (drop i pieces) place q ≡ seen place q piece +ℤ since (drop (i + 1) pieces) place q
+    → pieces_since (drop i pieces) place q ≡ seen place q piece +ℤ pieces_since (drop (i + 1) pieces) place q
 since-next pieces i piece place q below is =
-    at_drop_more (λ l. since l place q) pieces i piece below
-    ∙ ap (λ (p : Piece). seen place q p +ℤ since (drop (i + 1) pieces) place q) (sym is)
+    at_drop_more (λ l. pieces_since l place q) pieces i piece below
+    ∙ ap (λ (p : Piece). seen place q p +ℤ pieces_since (drop (i + 1) pieces) place q) (sym is)

@@ -3,8 +3,8 @@ use Rattle.std.proofs.Common.{◌≡◌, ℕ, ◌+◌, ◌<◌, ◌≤◌, Bool,
 use Rattle.std.proofs.lemmas.List.{map-append, take_more}
 use Rattle.std.proofs.lemmas.List.Elements.{All-cons, All-filter, All-head, All-nil, All-push, All-tail, filter-append}
 use Rattle.std.proofs.lemmas.List.Sums.{sum_by-cons, sum_by-le-sum_by}
-use Rattle.rsp_scope.specs.Contents.{Accepted, HasContent, Numbered, Watch, as_accepted, numbered}
-use Rattle.rsp_scope.specs.Ends.{AreEnds, EndsAt, IsKept}
+use Rattle.rsp_scope.specs.Contents.{Accepted, Numbered, Watch, numbered}
+use Rattle.rsp_scope.specs.Ends.{HasContent, as_accepted, AreEnds, EndsAt, IsKept}
 use Rattle.rsp_scope.specs.Kept.{Kept, needed, shortened, taken, triples_of}
 use Rattle.rsp_scope.specs.Needed.{is_needed, listed_triples, needed_items}
 use Rattle.rsp_scope.specs.declared.item.Item.{Item}

@@ -7,7 +7,8 @@ use Rattle.std.proofs.lemmas.Bool.{cases_lt}
 use Rattle.std.proofs.lemmas.Bool.Decides.{nat_tests, same_from_decides}
 use Rattle.std.proofs.lemmas.List.Folds.{Any-from_list_any, list_any-append, list_any-from_Any, list_any_at, list_any_none}
 use Rattle.std.proofs.lemmas.List.FromFn.{get_or-range_with_len, length-range_with_len}
-use Rattle.rsp_spec.specs.Windows.{Shape, IsAtMost, IsNeeded, active_window, closing, contains, in_content, opening}
+use Rattle.rsp_spec.specs.Windows.{Shape, active_window, closing, contains, in_content, opening}
+use Rattle.rsp_spec.specs.Relations.{IsAtMost, IsNeeded}
 use Rattle.rsp_spec.proofs.Truths.{and_left, and_right}
 use Rattle.rsp_scope.specs.Contents.{Numbered, Watch, sees}
 use Rattle.rsp_scope.specs.Ends.{EndsAt, later}

@@ -1,6 +1,6 @@
 -- Definitions: what a query sees of a window at an instant (SECRET, content; RSP-QL, active window). Times are in milliseconds
 -- since 1970.
-use Rattle.std.specs.Prelude.{◌≡◌, ℕ, ◌+◌, Bool, ◌&&◌, nat_le, Option, None, Some, List, [], ◌∷◌, length, filter, map, bytes_eq}
+use Rattle.std.specs.Prelude.{ℕ, ◌+◌, Bool, ◌&&◌, nat_le, Option, None, Some, List, [], ◌∷◌, filter, map, bytes_eq}
 use Rattle.std.specs.List.{flat_map}
 use Rattle.rsp_spec.specs.Windows.{Shape, in_content}
 use Rattle.rsp_multiset.specs.RowLists.{each_once}
@@ -8,8 +8,6 @@ use Rattle.rsp_terms.specs.declared.statement.Triple.{Triple}
 use Rattle.rsp_terms.specs.declared.statement.Fact.{Fact}
 use Rattle.rsp_terms.specs.declared.statement.Spot.TheVariants as spot
 use Rattle.rsp_terms.specs.Same.{triple_eq}
-use Rattle.rsp_scope.specs.declared.item.Item.{Item}
-use Rattle.rsp_scope.specs.Kept.{Kept}
 
 -- an accepted item
 pub record Accepted : Type 0 where
@@ -26,11 +24,6 @@ pub record Numbered : Type 0 where
 abbrev pub numbered : ℕ → List Accepted → List Numbered
 numbered n [] = []
 numbered n (item ∷ items) = record { number = n; item = item } ∷ numbered (n + 1) items
-
--- a kept item as it was accepted
-abbrev pub as_accepted : Item → Numbered
-as_accepted item =
-    record { number = item.number; item = record { stream = item.stream; time = item.time; graph = item.graph } }
 
 -- a query's window over a stream, by its index in the query; it sees the items from number `first` on
 pub record Watch : Type 0 where
@@ -67,8 +60,3 @@ facts_in k triples = map (fact_in k) triples
 -- the window's graph at an instant, as facts, where these items were accepted
 abbrev pub window_facts : Watch → Option ℕ → List Accepted → List Fact
 window_facts watch at items = facts_in watch.spot (graph_of (content_at watch at (numbered 0 items)))
-
--- of these accepted items, each one in the content at t is kept, as it was accepted
-pub record HasContent (watch : Watch) (t : ℕ) (kept : Kept) (items : List Accepted) : Type 0 where
-  pub accepted : kept.accepted ≡ length items
-  pub same : content watch t (map as_accepted kept.items) ≡ content watch t (numbered 0 items)

@@ -2,10 +2,20 @@
 use Rattle.std.specs.Prelude.{◌≡◌, ℕ, false, nat_le, max, Option, None, Some, List, length, map, All}
 use Rattle.std.specs.List.{AllZip}
 use Rattle.std.specs.Option.{option_map_or}
-use Rattle.rsp_scope.specs.Contents.{Accepted, Numbered, Watch, as_accepted}
+use Rattle.rsp_scope.specs.Contents.{Accepted, Numbered, Watch, content, numbered}
 use Rattle.rsp_scope.specs.Kept.{Kept}
 use Rattle.rsp_scope.specs.Needed.{is_needed, needed_items}
 use Rattle.rsp_scope.specs.declared.item.Item.{Item}
+
+-- a kept item as it was accepted
+abbrev pub as_accepted : Item → Numbered
+as_accepted item =
+    record { number = item.number; item = record { stream = item.stream; time = item.time; graph = item.graph } }
+
+-- of these accepted items, each one in the content at t is kept, as it was accepted
+pub record HasContent (watch : Watch) (t : ℕ) (kept : Kept) (items : List Accepted) : Type 0 where
+  pub accepted : kept.accepted ≡ length items
+  pub same : content watch t (map as_accepted kept.items) ≡ content watch t (numbered 0 items)
 
 -- the end of an item: it is needed exactly up to there, and never where there is none
 abbrev pub EndsAt : List Watch → Numbered → Option ℕ → Type 0

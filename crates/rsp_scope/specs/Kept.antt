@@ -1,4 +1,4 @@
--- Definitions: the kept items. An item is kept until its end; all times are in milliseconds since 1970.
+-- Words of the way: the kept items. An item is kept until its end; all times are in milliseconds since 1970.
 use Rattle.std.specs.Prelude.{ℕ, ◌+◌, nat_le, Option, None, Some, List, [], ◌∷◌, ◌++◌, length, filter, sum_by}
 use Rattle.rsp_terms.specs.declared.statement.Triple.{Triple}
 use Rattle.rsp_scope.specs.declared.item.Item.{Item}

@@ -1,11 +1,11 @@
 -- Definitions: what a reader must believe
-pub mod Kept
 pub mod Contents
 pub mod Needed
 pub mod Quads
 pub mod Faults
-pub mod Logged
 -- Words of the way
+pub mod Kept
+pub mod Logged
 pub mod Ends
 pub mod Inside
 pub mod Moves

@@ -88,6 +88,6 @@ pub record Followed : Type 0 where
 -- it is what the window saw of these items
 pub record HasSeen (seen : Followed) (items : List Accepted) : Type 0 where
   pub accepted : seen.accepted ≡ length items
-  pub placed : (f : ℕ → List Triple → ℤ) → sum_z (λ (e : Placed). f e.0.0 e.1) seen.placed
-      ≡ sum_z (λ (n : Numbered). f n.item.time n.item.graph) (content_at seen.watch seen.at (numbered 0 items))
+  pub placed : (f : ℕ → ℕ → List Triple → ℤ) → sum_z (λ (e : Placed). f e.0.0 e.0.1 e.1) seen.placed
+      ≡ sum_z (λ (n : Numbered). f n.item.time n.number n.item.graph) (content_at seen.watch seen.at (numbered 0 items))
   pub counted : (q : Fact) → weight fact_eq seen.counts q ≡ listed seen.watch.spot seen.placed q

@@ -1,17 +1,14 @@
 -- Definitions: which accepted items are still needed. All times are in milliseconds since 1970.
 use Rattle.std.specs.Prelude.{ℕ, Bool, ◌&&◌, nat_le, List, length, sum_by, filter, bytes_eq}
-use Rattle.std.specs.List.{list_any, range_with_len}
-use Rattle.rsp_spec.specs.Windows.{closing, contains}
+use Rattle.std.specs.List.{list_any}
+use Rattle.rsp_spec.specs.Windows as windows
 use Rattle.rsp_scope.specs.Contents.{Accepted, Numbered, Watch, numbered}
 
--- some window of the watch sees the item, contains it and closes at `next` or later; none opens at the item's time or later
+-- some window of the watch sees the item, contains it and closes at `next` or later
 abbrev pub is_needed_by : ℕ → Numbered → Watch → Bool
 is_needed_by next entry watch =
     nat_le watch.first entry.number
-    && (bytes_eq entry.item.stream watch.stream
-    && list_any
-    (λ k. contains watch.shape k entry.item.time && nat_le next (closing watch.shape k))
-    (range_with_len 0 entry.item.time))
+    && (bytes_eq entry.item.stream watch.stream && windows.is_needed watch.shape entry.item.time next)
 
 -- the item is needed at `next` by one of these windows
 abbrev pub is_needed : ℕ → List Watch → Numbered → Bool

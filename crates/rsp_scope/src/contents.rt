@@ -4,7 +4,8 @@ ghost use Rattle.std.specs.Option.{option_map};
 ghost use Rattle.rsp_spec.specs.Windows.{active_window, opening};
 ghost use Rattle.rsp_multiset.specs.Weights.{IsChanged};
 ghost use Rattle.rsp_terms.specs.Same.{fact_eq};
-ghost use Rattle.rsp_scope.specs.Contents.{Accepted, HasContent, window_facts};
+ghost use Rattle.rsp_scope.specs.Contents.{Accepted, window_facts};
+ghost use Rattle.rsp_scope.specs.Ends.{HasContent};
 ghost use Rattle.rsp_scope.specs.Moves.{HasSeen, IsReached};
 
 use crate::Streams;
@@ -43,8 +44,8 @@ impl Contents {
     ghost use Rattle.rsp_multiset.specs.Weights.{IsChanged};
     ghost use Rattle.rsp_terms.specs.Same.{fact_eq};
     ghost use Rattle.rsp_terms.specs.declared.statement.Triple.{Triple};
-    ghost use Rattle.rsp_scope.specs.Ends.{EndsAt};
-    ghost use Rattle.rsp_scope.specs.Contents.{Accepted, HasContent, window_facts};
+    ghost use Rattle.rsp_scope.specs.Ends.{EndsAt, HasContent};
+    ghost use Rattle.rsp_scope.specs.Contents.{Accepted, window_facts};
     ghost use Rattle.rsp_scope.specs.Moves.{HasSeen, IsReached};
 
     /// The window over the stream, by its index in its query, before its first move. It sees the items from number `first`

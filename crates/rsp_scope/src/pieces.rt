@@ -1,10 +1,10 @@
 // What was logged, in pieces between the places at which queries stand.
 ghost use Rattle.std.specs.Prelude.{◌≡◌, ◌<◌, ◌≤◌, ◌+◌, ◌+ℤ◌, ℕ, nat_lt, false, length, slice_index_or, IfOk, IfSome, OnOk};
-ghost use Rattle.std.specs.List.{Contains};
+ghost use Rattle.std.specs.List.{All, Contains};
 ghost use Rattle.rsp_multiset.specs.Weights.{only, weight};
 ghost use Rattle.rsp_terms.specs.declared.statement.Fact.{Fact};
 ghost use Rattle.rsp_terms.specs.Same.{fact_eq};
-ghost use Rattle.rsp_scope.specs.Logged.{since};
+ghost use Rattle.rsp_scope.specs.Logged.{pieces_since};
 ghost use Rattle.rsp_scope.specs.Pieces.{AreAlike, EndBy};
 ghost use Rattle.rsp_scope.specs.declared.pieces.Piece.{Piece};
 
@@ -21,7 +21,8 @@ pub(crate) struct Piece {
 
 /// The least number above all places. Fails where a place is 2^64 - 1.
 pub(crate) fn end_behind(places: &[u64]) -> Result<u64, AllocError>
-    ensures { IfOk result (λ end. (place : ℕ) → Contains places.now place → place < end) }
+    ensures behind { IfOk result (λ end. (place : ℕ) → Contains places.now place → place < end) }
+    ensures least { IfOk result (λ end. (top : ℕ) → All (λ place. place ≤ top) places.now → end ≤ top + 1) }
 {
     let mut end = 0;
     for place in places {
@@ -44,7 +45,7 @@ pub(crate) fn log(
 ) -> Result<usize, AllocError>
     requires { (place : ℕ) → Contains places.now place → place < end }
     ensures logged { OnOk result ((place : ℕ) → Contains places.now place → (q : Fact)
-        → since pieces.new.items place q ≡ since pieces.old.items place q +ℤ weight fact_eq change q) }
+        → pieces_since pieces.new.items place q ≡ pieces_since pieces.old.items place q +ℤ weight fact_eq change q) }
     ensures ends { (last : ℕ) → end ≤ last → EndBy last pieces.old.items → EndBy last pieces.new.items }
 {
     forget(pieces, places);
@@ -77,7 +78,7 @@ fn first_of(places: &[u64]) -> u64
 // ends earlier
 fn put(pieces: &mut Vec<Piece, Global>, change: Changes<Fact>, end: u64) -> Result<(), AllocError>
     ensures put { OnOk result ((place : ℕ) → place < end → (q : Fact)
-        → since pieces.new.items place q ≡ since pieces.old.items place q +ℤ weight fact_eq change q) }
+        → pieces_since pieces.new.items place q ≡ pieces_since pieces.old.items place q +ℤ weight fact_eq change q) }
     ensures ends { (last : ℕ) → end ≤ last → EndBy last pieces.old.items → EndBy last pieces.new.items }
 {
     let Some(last) = last_reaching(pieces, end) else {
@@ -102,7 +103,7 @@ fn last_reaching(pieces: &Vec<Piece, Global>, end: u64) -> Option<usize>
 
 fn push(pieces: &mut Vec<Piece, Global>, changes: Changes<Fact>, end: u64) -> Result<(), AllocError>
     ensures put { OnOk result ((place : ℕ) → place < end → (q : Fact)
-        → since pieces.new.items place q ≡ since pieces.old.items place q +ℤ weight fact_eq changes q) }
+        → pieces_since pieces.new.items place q ≡ pieces_since pieces.old.items place q +ℤ weight fact_eq changes q) }
     ensures ends { (last : ℕ) → end ≤ last → EndBy last pieces.old.items → EndBy last pieces.new.items }
 {
     pieces.push(Piece { end, changes })?;
@@ -156,7 +157,7 @@ fn make_one(pieces: &mut Vec<Piece, Global>, at: usize) -> Result<(), AllocError
     requires { at + 1 < length pieces.old.items }
     ensures alike { OnOk result ((place : ℕ) (q : Fact) (d : Piece)
         → nat_lt place (slice_index_or pieces.old.items at d).end ≡ nat_lt place (slice_index_or pieces.old.items (at + 1) d).end
-        → since pieces.new.items place q ≡ since pieces.old.items place q) }
+        → pieces_since pieces.new.items place q ≡ pieces_since pieces.old.items place q) }
     ensures ends { (end : ℕ) → EndBy end pieces.old.items → EndBy end pieces.new.items }
 {
     let first = pieces.remove(at);
@@ -190,7 +191,7 @@ pub(crate) fn sum_since(
     pieces: &[Piece],
     place: u64,
 ) -> Result<Changes<Fact>, AllocError>
-    ensures { IfOk result (λ sum. (q : Fact) → weight fact_eq sum q ≡ since pieces.now place q) }
+    ensures { IfOk result (λ sum. (q : Fact) → weight fact_eq sum q ≡ pieces_since pieces.now place q) }
 {
     let mut sum = Changes::new(alloc);
     for piece in pieces {

@@ -1,6 +1,6 @@
 // What came to and went from the stored quads, kept once for all queries.
-ghost use Rattle.std.specs.Prelude.{◌≡◌, ◌+ℤ◌, ℕ, pos, IfOk, OnOk};
-ghost use Rattle.std.specs.List.{Contains};
+ghost use Rattle.std.specs.Prelude.{◌≡◌, ◌+◌, ◌≤◌, ◌+ℤ◌, ℕ, pos, IfOk, OnOk};
+ghost use Rattle.std.specs.List.{All, Contains};
 ghost use Rattle.rsp_multiset.specs.Weights.{weight};
 ghost use Rattle.rsp_terms.specs.declared.statement.Fact.{Fact};
 ghost use Rattle.rsp_terms.specs.Same.{fact_eq};
@@ -27,20 +27,19 @@ pub struct StoreLog {
 }
 
 impl Model for StoreLog {
-    ghost use Rattle.std.specs.Prelude.{List};
+    ghost use Rattle.rsp_scope.specs.Logged.{Log};
     ghost use Rattle.rsp_scope.specs.Pieces.{EndBy};
-    ghost use Rattle.rsp_scope.specs.declared.pieces.Piece.{Piece};
 
-    ghost Value = { List Piece };
+    ghost Value = { Log };
 
-    ghost view = { λ l. l.pieces.items };
+    ghost view = { λ l. record { pieces = l.pieces.items; end = l.end } };
 
     ghost invariant = { λ l. EndBy l.end l.pieces.items };
 }
 
 impl StoreLog {
-    ghost use Rattle.std.specs.Prelude.{◌≡◌, ◌+ℤ◌, ℕ, pos, IfOk, OnOk};
-    ghost use Rattle.std.specs.List.{Contains};
+    ghost use Rattle.std.specs.Prelude.{◌≡◌, ◌+◌, ◌≤◌, ◌+ℤ◌, ℕ, pos, IfOk, OnOk};
+    ghost use Rattle.std.specs.List.{All, Contains};
     ghost use Rattle.rsp_multiset.specs.Weights.{weight};
     ghost use Rattle.rsp_terms.specs.declared.statement.Fact.{Fact};
     ghost use Rattle.rsp_terms.specs.Same.{fact_eq};
@@ -48,7 +47,8 @@ impl StoreLog {
 
     /// Nothing is logged. Takes no memory.
     pub fn new(alloc: Global) -> StoreLog
-        ensures { (place : ℕ) (q : Fact) → since result place q ≡ pos 0 }
+        ensures none { (place : ℕ) (q : Fact) → since result place q ≡ pos 0 }
+        ensures end { result.end ≡ 0 }
     {
         StoreLog {
             alloc,
@@ -60,10 +60,11 @@ impl StoreLog {
 
     /// Logs a change, which is then seen from each of these places, those of the queries that may still ask. What none of
     /// them sees is let go. Fails where memory is refused or a number is out of range; what is then left is only to be
-    /// dropped.
+    /// dropped. As long as each place was a mark, no place is more than the changes that were recorded.
     pub fn record(&mut self, change: Changes<Fact>, places: &[u64]) -> Result<(), AllocError>
-        ensures { OnOk result ((place : ℕ) → Contains places.now place → (q : Fact)
+        ensures logged { OnOk result ((place : ℕ) → Contains places.now place → (q : Fact)
             → since self.new place q ≡ since self.old place q +ℤ weight fact_eq change q) }
+        ensures end { OnOk result (All (λ place. place ≤ self.old.end) places.now → self.new.end ≤ self.old.end + 1) }
     {
         if places.is_empty() {
             self.pieces.clear();
@@ -77,7 +78,8 @@ impl StoreLog {
 
     /// The place behind all that is logged. Takes no memory.
     pub fn mark(&self) -> u64
-        ensures { (q : Fact) → since self.now result q ≡ pos 0 }
+        ensures none { (q : Fact) → since self.now result q ≡ pos 0 }
+        ensures end { result ≡ self.now.end }
     {
         self.end
     }

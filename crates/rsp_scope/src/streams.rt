@@ -45,7 +45,7 @@ impl Model for Streams {
 }
 
 impl Streams {
-    ghost use Rattle.std.specs.Prelude.{◌≡◌, ◌<◌, ◌≤◌, ◌+◌, ◌++◌, ◌∷◌, ℕ, false, [], drop, length, OnOk, OnErr, slice_index_or};
+    ghost use Rattle.std.specs.Prelude.{◌≡◌, ◌<◌, ◌≤◌, ◌+◌, ◌-◌, ◌^◌, ◌++◌, ◌∷◌, ℕ, false, None, [], drop, length, IfErr, OnOk, OnErr, slice_index_or};
     ghost use Rattle.rsp_scope.specs.Kept.{Kept, needed, shortened, taken, triples_of};
     ghost use Rattle.rsp_scope.specs.Moves.{Moves, TakesIn};
     ghost use Rattle.rsp_scope.specs.declared.item.Item.{Item};
@@ -68,7 +68,7 @@ impl Streams {
     }
 
     /// Gives the item the next number, and keeps it if it has an end. Fails where memory is refused or a number is past
-    /// 2^64, and then changes nothing. Without an end it takes no memory.
+    /// 2^64, and then changes nothing. Without an end it takes no memory, so only the number fails it.
     pub fn take(
         &mut self,
         stream: &Text,
@@ -78,6 +78,7 @@ impl Streams {
     ) -> Result<(), AllocError>
         ensures ok { OnOk result (self.new ≡ taken self.old stream.now time graph.items until) }
         ensures err { OnErr result (self.new ≡ self.old) }
+        ensures unkept { until ≡ None → IfErr result (λ _. self.old.accepted ≡ 2 ^ 64 - 1) }
     {
         let Some(end) = until else {
             return self.pass_by();
@@ -228,6 +229,7 @@ impl Streams {
     fn pass_by(&mut self) -> Result<(), AllocError>
         ensures ok { OnOk result (self.new ≡ record self.old { accepted = self.old.accepted + 1 }) }
         ensures err { OnErr result (self.new ≡ self.old) }
+        ensures last { IfErr result (λ _. self.old.accepted ≡ 2 ^ 64 - 1) }
     {
         let Some(accepted) = self.accepted.checked_add(1) else {
             return Err(AllocError);

@@ -6,7 +6,8 @@ use Rattle.std.proofs.Common.{arith, inl, inr}
 use Rattle.std.proofs.Math.Nat.{mul-le-mul_right}
 use Rattle.std.proofs.lemmas.Bool.{cases_lt}
 use Rattle.std.proofs.lemmas.Bool.Decides.{nat_tests}
-use Rattle.rsp_spec.specs.Windows.{Shape, opening, active_window, in_content, IsActive, IsNeeded}
+use Rattle.rsp_spec.specs.Windows.{Shape, opening, active_window, in_content}
+use Rattle.rsp_spec.specs.Relations.{IsActive, IsNeeded}
 use Rattle.rsp_spec.proofs.WindowLaws.{is_active}
 
 opens_no_later : (w : Shape) (k j : ℕ) → k ≤ j → opening w k ≤ opening w j

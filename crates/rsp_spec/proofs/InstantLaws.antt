@@ -1,5 +1,5 @@
 -- The least instant of what is the same by two names.
-use Rattle.std.specs.Prelude.{ℕ, ◌≤◌, Option, None, Some}
+use Rattle.std.specs.Prelude.{ℕ, Option, None, Some}
 use Rattle.rsp_spec.specs.Instants.{IsLeastIn}
 
 pub least_alike : (p q : ℕ → Type 0) → ((t : ℕ) → p t → q t) → ((t : ℕ) → q t → p t) → (from to : ℕ) (r : Option ℕ)

@@ -3,3 +3,4 @@ pub mod WindowLaws
 pub mod WindowRows
 pub mod ContentLaws
 pub mod InstantLaws
+pub mod NeededLaws

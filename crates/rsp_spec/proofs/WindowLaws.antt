@@ -7,7 +7,8 @@ use Rattle.std.proofs.lemmas.Bool.{cases_lt}
 use Rattle.std.proofs.Math.Nat.{le-mul_of_pos_right}
 use Rattle.std.proofs.lemmas.Grind.{common_steps}
 use Rattle.std.proofs.lemmas.Bool.Decides.{nat_tests}
-use Rattle.rsp_spec.specs.Windows.{Shape, opening, closing, contains, active_window, closes_at, IsActive}
+use Rattle.rsp_spec.specs.Windows.{Shape, opening, closing, contains, active_window, closes_at}
+use Rattle.rsp_spec.specs.Relations.{IsActive}
 
 -- each window opens 1 ms or more after the one before
 opens_later : (w : Shape) (k : ℕ) → 1 ≤ w.slide → k ≤ opening w k
@@ -30,7 +31,7 @@ found_is_least p a (suc n) b end =
     least_with_first p a b (p a) (find p (range_with_len (a + 1) n)) refl (found_is_least p (a + 1) n b (omega (arith, end)))
 
 -- a window numbered t or higher opens at t or later
-contains_none_from : (w : Shape) (k t : ℕ) → 1 ≤ w.slide → t ≤ k → contains w k t ≡ false
+pub contains_none_from : (w : Shape) (k t : ℕ) → 1 ≤ w.slide → t ≤ k → contains w k t ≡ false
 contains_none_from w k t slide late = grind (arith, nat_tests, opens_later w k slide)
 
 least_of_all : (w : Shape) (t : ℕ) (found : Option ℕ) → 1 ≤ w.slide → IsLeastIn (λ k. contains w k t) 0 t found
@@ -57,7 +58,7 @@ same_active w t (Some k) (Some j) r s =
 pub active_is : (w : Shape) (t : ℕ) (r : Option ℕ) → 1 ≤ w.slide → IsActive w t r → active_window w t ≡ r
 active_is w t r slide is = same_active w t (active_window w t) r (is_active w t slide) is
 
-any_at : (p : ℕ → Bool) (a n k : ℕ) → a ≤ k → k < a + n → p k ≡ true → list_any p (range_with_len a n) ≡ true
+pub any_at : (p : ℕ → Bool) (a n k : ℕ) → a ≤ k → k < a + n → p k ≡ true → list_any p (range_with_len a n) ≡ true
 any_at p a zero k low high passes = grind arith
 any_at p a (suc n) k low high passes = grind (arith, common_steps, any_at p (a + 1) n k)
 
@@ -66,7 +67,7 @@ any_by_cases : (p : ℕ → Bool) (a : ℕ) (here there : Bool) → p a ≡ here
 any_by_cases p a true there is later some = (a, is)
 any_by_cases p a false there is later some = later some
 
-any_from : (p : ℕ → Bool) (a n : ℕ) → list_any p (range_with_len a n) ≡ true → (k : ℕ) × (p k ≡ true)
+pub any_from : (p : ℕ → Bool) (a n : ℕ) → list_any p (range_with_len a n) ≡ true → (k : ℕ) × (p k ≡ true)
 any_from p a zero some = absurd (grind arith)
 any_from p a (suc n) some =
     any_by_cases p a (p a) (list_any p (range_with_len (a + 1) n)) refl (any_from p (a + 1) n) some

@@ -3,3 +3,5 @@ pub mod Windows
 pub mod Faults
 pub mod Written
 pub mod Instants
+-- Words of the way: they link the code to the definitions
+pub mod Relations

@@ -5,7 +5,8 @@ use Rattle.std.proofs.lemmas.Int.{ints}
 use Rattle.rsp_multiset.specs.Weights.{only, times, above}
 use Rattle.rsp_multiset.proofs.Changing.{times-ge}
 use Rattle.rsp_multiset.proofs.Signs.{above-nonneg}
-use Rattle.rsp_streams_out.specs.Streams.{without_one, less, excess}
+use Rattle.rsp_streams_out.specs.Streams.{without_one, less}
+use Rattle.rsp_streams_out.specs.Turning.{excess}
 
 above-none : (n : ℤ) → n ≤ℤ pos 0 → above n ≡ pos 0
 above-none (pos n) h = ap pos (omega (arith, ints, h))

@@ -4,7 +4,8 @@ use Rattle.rsp_multiset.specs.Rows.{Cells}
 use Rattle.rsp_terms.specs.declared.term.Term.{Term}
 use Rattle.rsp_terms.specs.declared.term.Term.TheVariants.{Iri}
 use Rattle.rsp_streams_out.specs.declared.operator.Operator.TheVariants.{Rstream, Istream, Dstream}
-use Rattle.rsp_streams_out.specs.Streams.{less, reported, times_reported}
+use Rattle.rsp_streams_out.specs.Streams.{less, reported}
+use Rattle.rsp_streams_out.specs.Turning.{times_reported}
 
 -- as often as in the first beyond as often as in the second, and never below 0
 less-by_counts : less nat_eq (5 ∷ 6 ∷ 5 ∷ 7 ∷ 5 ∷ []) (5 ∷ 7 ∷ 7 ∷ 8 ∷ []) ≡ 6 ∷ 5 ∷ 5 ∷ []

@@ -8,7 +8,8 @@ use Rattle.rsp_multiset.specs.Weights.{only, times, weight, above, Holds, IsChan
 use Rattle.rsp_terms.specs.declared.term.Term.{Term}
 use Rattle.rsp_terms.specs.Same.{term_eq, term_same}
 use Rattle.rsp_streams_out.specs.Rows.{AreRows, in_order, put_in, row_text, stands_behind}
-use Rattle.rsp_streams_out.specs.Streams.{excess, less}
+use Rattle.rsp_streams_out.specs.Streams.{less}
+use Rattle.rsp_streams_out.specs.Turning.{excess}
 use Rattle.rsp_streams_out.proofs.Less.{less-times}
 
 -- a row that is put in is there once more, wherever it stands

@@ -5,3 +5,4 @@ pub mod Reports
 pub mod Json
 -- Words of the way: they link code to definitions, and need no belief
 pub mod JsonParts
+pub mod Turning

@@ -5,7 +5,8 @@ ghost use Rattle.rsp_multiset.specs.Weights.{Holds, times, weight};
 ghost use Rattle.rsp_terms.specs.declared.term.Term.{Term};
 ghost use Rattle.rsp_terms.specs.Same.{term_eq};
 ghost use Rattle.rsp_streams_out.specs.Rows.{AreRows, in_order};
-ghost use Rattle.rsp_streams_out.specs.Streams.{reported, times_reported, StandsFor};
+ghost use Rattle.rsp_streams_out.specs.Streams.{reported};
+ghost use Rattle.rsp_streams_out.specs.Turning.{times_reported, StandsFor};
 
 use crate::{Operator, ordered, rows_of};
 use rsp_multiset::{Bag, Changes, Row, negative, positive};

@@ -2,6 +2,7 @@
 use Rattle.std.proofs.Common.{◌≡◌, ℕ, ◌<◌, nat_lt, Bool, true, false, true≢false, cond, List, [], ◌∷◌, Option, None, Some, is_some, map, length, Result, Ok, Err, refl, sym, ap, subst, arith}
 use Rattle.std.specs.Bool.{⊤}
 use Rattle.std.specs.List.{AllByRecursion, list_all}
+use Rattle.std.specs.Option.{ForSome}
 use Rattle.std.specs.Result.{IfOk}
 use Rattle.std.proofs.lemmas.Bool.Decides.{nat_tests}
 use Rattle.rsp_phrases.proofs.Good.{same_some}
@@ -9,7 +10,9 @@ use Rattle.rsp_phrases.proofs.Membership.{and_left, and_right}
 use Rattle.rsp_phrases.specs.Languages.{has, optional}
 use Rattle.rsp_report.specs.declared.words.Strategy as report
 use Rattle.rsp_report.specs.declared.words.Strategy.TheVariants as strategy
-use Rattle.rsp_report.specs.Policies.{first_period}
+use Rattle.rsp_report.specs.Named.{asked_by, first_period}
+use Rattle.rsp_report.specs.declared.chosen.Chosen.{Chosen}
+use Rattle.rsp_report.proofs.PolicyLaws.{choice_is}
 use Rattle.rsp_written.specs.declared.said.Keyword.TheVariants as keyword
 use Rattle.rsp_written.specs.declared.said.Kind.{Kind}
 use Rattle.rsp_written.specs.declared.said.Kind.TheVariants as kind
@@ -62,7 +65,7 @@ strategy_lasts =
 
 -- its first period is 1 ms or more, where its spans are within the limits
 abbrev PolicyLasts : written.Policy → Type 0
-PolicyLasts p = has_periods p ≡ true → HasPeriods (policy_of p)
+PolicyLasts p = has_periods p ≡ true → ForSome (asked_by (policy_of p)).period (λ period. 0 < period)
 
 no_period : {period : ℕ} → None ≡ Some period → 0 < period
 no_period is = absurd (true≢false (sym (ap is_some is)))
@@ -133,7 +136,8 @@ parse_periods : (text : List ℕ) (query : Registered) → parse text ≡ Ok que
 parse_periods text query is =
     let said = (tied text (Ok query)).0 is in
     subst (λ q. HasPeriods q.policy) said.is
-    (query_lasts.each (all_said text said.ts) said.written said.spelled (periods_within said.written said.within))
+    (subst (λ (c : Chosen). ForSome c.period (λ period. 0 < period)) (sym (choice_is (policy_of said.written.policy)))
+    (query_lasts.each (all_said text said.ts) said.written said.spelled (periods_within said.written said.within)))
 
 pub answer_periods : (text : List ℕ) (answer : Result Query SyntaxFault) → IsParsed answer (parse text)
     → IfOk answer (λ query. HasPeriods (registered query).policy)

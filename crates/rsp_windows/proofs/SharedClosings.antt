@@ -2,7 +2,8 @@
 use Rattle.std.specs.Prelude.{ℕ, ◌+◌, ◌≤◌, Option}
 use Rattle.std.proofs.Common.{arith}
 use Rattle.rsp_spec.specs.Windows.{Shape}
-use Rattle.rsp_spec.specs.Instants.{IsLeastIn, ClosesAtMultiple}
+use Rattle.rsp_spec.specs.Instants.{IsLeastIn}
+use Rattle.rsp_spec.specs.Relations.{ClosesAtMultiple}
 use Rattle.rsp_spec.proofs.WindowLaws.{closes_at_is}
 use Rattle.rsp_spec.proofs.InstantLaws.{least_alike}
 use Rattle.rsp_windows.specs.Congruences.{IsShared}

@@ -1,8 +1,10 @@
 // One query's windows, by their width, their distance and their first opening.
 
-ghost use Rattle.std.specs.Prelude.{◌≡◌, ℕ, ◌+◌, ◌*◌, ◌^◌, ◌<◌, ◌≤◌, ◌↔◌, IfSome, IsSome};
-ghost use Rattle.rsp_spec.specs.Instants.{ClosesAtMultiple, IsLeastIn};
-ghost use Rattle.rsp_spec.specs.Windows.{IsActive, IsAtMost, IsLastNeeded, IsNeeded, IsNextClosing, IsShape, Shape, active_window, closes_at, closing, opening};
+ghost use Rattle.std.specs.Prelude.{◌≡◌, Some, false, nat_le, true, ◌%◌, ℕ, ◌+◌, ◌*◌, ◌^◌, ◌<◌, ◌≤◌, ◌↔◌, IfSome, IsSome};
+ghost use Rattle.std.specs.Option.{option_map_or};
+ghost use Rattle.rsp_spec.specs.Instants.{IsLeastIn};
+ghost use Rattle.rsp_spec.specs.Windows.{IsShape, Shape, active_window, closes_at, closing, is_needed, opening};
+ghost use Rattle.rsp_spec.specs.Relations.{IsActive, IsAtMost, IsLastNeeded, IsNeeded, IsNextClosing};
 
 use crate::congruence::next_shared;
 use rsp_spec::LAST_INSTANT;
@@ -94,6 +96,16 @@ impl Window {
     /// The least closing at `from` ms or later. `from` is at most 2^48; the closing is less than 2^50.
     pub fn next_close(&self, from: u64) -> u64
         requires { from ≤ 2 ^ 48 }
+        ensures least { IsLeastIn (λ t. closes_at self.now t ≡ true) from result (Some result) }
+        ensures next { IsNextClosing self.now from result }
+        ensures within { result < 2 ^ 50 }
+        ensures shape { IsShape self.now }
+    {
+        self.first_closing(from)
+    }
+
+    fn first_closing(&self, from: u64) -> u64
+        requires { from ≤ 2 ^ 48 }
         ensures next { IsNextClosing self.now from result }
         ensures within { result < 2 ^ 50 }
         ensures shape { IsShape self.now }
@@ -106,7 +118,7 @@ impl Window {
     pub fn next_close_multiple(&self, period: u64, from: u64, to: u64) -> Option<u64>
         requires period_low { 0 < period }
         requires period_high { period ≤ 2 ^ 48 }
-        ensures { IsLeastIn (ClosesAtMultiple self.now period) from to result }
+        ensures { IsLeastIn (λ t. (closes_at self.now t ≡ true) × (t % period ≡ 0)) from to result }
     {
         next_shared(self.origin + self.width, self.slide, period, from, to)
     }
@@ -114,6 +126,17 @@ impl Window {
     /// The greatest closing among the windows that contain `time` ms: up to this instant an item of that time can be in
     /// a content. None where no window contains it. `time` is at most 2^48.
     pub fn last_needed(&self, time: u64) -> Option<u64>
+        requires { time ≤ 2 ^ 48 }
+        ensures value { (from : ℕ) → is_needed self.now time from ≡ option_map_or (λ last. nat_le from last) result false }
+        ensures last { IsLastNeeded self.now time result }
+        ensures needed { (from : ℕ) → IsNeeded self.now time from ↔ IsAtMost from result }
+        ensures within { IfSome result (λ last. last < 2 ^ 50) }
+        ensures shape { IsShape self.now }
+    {
+        self.last_closing(time)
+    }
+
+    fn last_closing(&self, time: u64) -> Option<u64>
         requires { time ≤ 2 ^ 48 }
         ensures last { IsLastNeeded self.now time result }
         ensures needed { (from : ℕ) → IsNeeded self.now time from ↔ IsAtMost from result }

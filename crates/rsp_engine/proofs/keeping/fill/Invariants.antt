@@ -1,6 +1,5 @@
 use Rattle.std.proofs.Common.{◌≡◌, All, length, take}
-use Rattle.rsp_scope.specs.Contents.{as_accepted}
-use Rattle.rsp_scope.specs.Ends.{AreEnds}
+use Rattle.rsp_scope.specs.Ends.{as_accepted, AreEnds}
 use Rattle.rsp_scope.specs.declared.item.Item.{Item}
 use Rattle.rsp_engine.specs.Keeping.{EndsBy, watches_by}
 use Rattle.rsp_engine.proofs.keeping.fill.Given as goal

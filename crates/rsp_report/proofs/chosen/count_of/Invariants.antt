@@ -1,5 +1,5 @@
 use Rattle.std.proofs.Common.{◌≡◌, ◌+◌, ◌≤◌, drop}
-use Rattle.rsp_report.specs.Policies.{count_of}
+use Rattle.rsp_report.specs.Named.{count_of}
 use Rattle.rsp_report.proofs.chosen.count_of.Given as goal
 
 abbrev pub invariant-loop-strategy : goal.invariant-loop-strategy

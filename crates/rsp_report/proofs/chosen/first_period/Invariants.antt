@@ -1,5 +1,5 @@
 use Rattle.std.proofs.Common.{◌≡◌, drop}
-use Rattle.rsp_report.specs.Policies.{first_period}
+use Rattle.rsp_report.specs.Named.{first_period}
 use Rattle.rsp_report.proofs.chosen.first_period.Given as goal
 
 abbrev pub invariant-loop-strategy : goal.invariant-loop-strategy

@@ -1,5 +1,6 @@
 use Rattle.std.proofs.Common.{◌≡◌, drop}
-use Rattle.rsp_report.specs.Due.{some_window, changes}
+use Rattle.rsp_report.specs.Due.{changes}
+use Rattle.rsp_report.specs.Leaps.{some_window}
 use Rattle.rsp_report.proofs.instants.some_changes.Given as goal
 
 abbrev pub invariant-loop-one : goal.invariant-loop-one

@@ -1,5 +1,5 @@
 use Rattle.std.proofs.Common.{◌≡◌, drop}
-use Rattle.rsp_report.specs.Due.{some_window, closes}
+use Rattle.rsp_report.specs.Leaps.{some_window, closes}
 use Rattle.rsp_report.proofs.instants.some_closes.Given as goal
 
 abbrev pub invariant-loop-one : goal.invariant-loop-one

@@ -1,6 +1,6 @@
 use Rattle.std.proofs.Common.{ℕ, ◌≤◌, ◌<◌, ◌^◌, ◌+◌, ◌-◌}
 use Rattle.std.specs.List.{Contains}
-use Rattle.rsp_spec.specs.Windows.{IsNeeded}
+use Rattle.rsp_spec.specs.Relations.{IsNeeded}
 use Rattle.rsp_report.proofs.jumps.first_needed.Given as goal
 
 abbrev pub invariant-gaps : goal.invariant-gaps

@@ -1,4 +1,5 @@
-use Rattle.rsp_report.specs.Due.{some_window, has_content}
+use Rattle.rsp_report.specs.Due.{has_content}
+use Rattle.rsp_report.specs.Leaps.{some_window}
 use Rattle.rsp_report.proofs.Agreement.{asked_alike}
 use Rattle.rsp_report.proofs.leaps.next_by_content.Goals as goal
 

@@ -1,6 +1,6 @@
 use Rattle.std.proofs.Common.{◌≡◌, true, take}
 use Rattle.rsp_spec.specs.Instants.{IsLeastIn}
-use Rattle.rsp_report.specs.Due.{some_window}
+use Rattle.rsp_report.specs.Leaps.{some_window}
 use Rattle.rsp_report.specs.Leaps.{asks}
 use Rattle.rsp_report.proofs.leaps.next_of_some.Given as goal
 

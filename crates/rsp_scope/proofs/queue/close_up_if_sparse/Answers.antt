@@ -1,4 +1,4 @@
-use Rattle.std.proofs.Common.{rules, ◌≡◌, nat_le, List, length, ap, subst, sym, ◌∙◌, arith}
+use Rattle.std.proofs.Common.{rules, ◌≡◌, nat_le, length, ap, subst, sym, ◌∙◌, arith}
 use Rattle.rsp_scope.specs.Kept.{needed}
 use Rattle.rsp_scope.specs.Order.{AreInOrder}
 use Rattle.rsp_scope.specs.declared.item.Item.{Item}

@@ -1,6 +1,6 @@
 use Rattle.std.proofs.Common.{rules, arith, Some, None, sym}
 use Rattle.std.proofs.lemmas.Grind.{common_steps}
-use Rattle.rsp_spec.specs.Windows.{IsActive}
+use Rattle.rsp_spec.specs.Relations.{IsActive}
 use Rattle.rsp_spec.proofs.WindowLaws.{active_is}
 use Rattle.rsp_windows.proofs.window.Window.active.Goals as goal
 
