@@ -1,6 +1,5 @@
 -- What a line says, for every line: the answer that is read off it is the grammar's, and no other.
 use Rattle.std.proofs.Common.{◌≡◌, ℕ, Bool, true, false, cond, List, [], ◌∷◌, length, refl, sym, ap, subst, ◌∙◌, Option, Some, None, Result, Ok, Err}
-use Rattle.std.specs.Prelude.{◌↔◌, ⊤}
 use Rattle.std.specs.List.{find, cons_option, AllByRecursion}
 use Rattle.std.specs.Option.{option_map}
 use Rattle.rsp_terms.specs.declared.term.Term.{Term}
@@ -8,7 +7,7 @@ use Rattle.rsp_terms.specs.declared.statement.Quad.{Quad}
 use Rattle.rsp_nquads.specs.declared.fault.LineFault.{LineFault}
 use Rattle.rsp_nquads.specs.declared.fault.LineFault.TheVariants.{BadStatement, RelativeIri, OutOfMemory}
 use Rattle.rsp_text.specs.Fronts.{behind_blanks}
-use Rattle.rsp_nquads.specs.Grammar.{IsIriTerm, IsNode, IsObject, IsStatement, terms_in, IsAtColumn, IsFirstFault, IsFirstRelative, Says, SaysNothing}
+use Rattle.rsp_nquads.specs.Grammar.{IsIriTerm, IsNode, IsObject, IsStatement, terms_in, IsAtColumn, IsFirstFault, IsFirstRelative}
 use Rattle.rsp_nquads.specs.Answers.{Answer, nothing, statement, bad_statement, relative_iri, IsTied, IsAnswer, IsByGrammar}
 use Rattle.rsp_nquads.specs.Statements.{is_end, column, answer, statement_of}
 use Rattle.rsp_nquads.proofs.StatementLaws.{Reading, blank, fault, whole, reading, holds_relative, judged_by, answer_at, nothing_at, statement_answer, statement_same, says_from, says_to, nothing_from, nothing_to}
@@ -147,57 +146,3 @@ only document line (relative_iri column) t = relative_to document line column ((
 pub by_grammar : (document : ℕ) (line : List ℕ) (result : Result (Option Quad) LineFault) → IsAnswer result (statement_of document line)
     → IsByGrammar document line result
 by_grammar document line result is = λ given t. subst (IsAnswer result) (only document line given t) is
-
--- ---- what the call said before, by cases over its result
-
-abbrev pub SaysNeither : ℕ → List ℕ → Type 0
-SaysNeither document line = ((quad : Quad) → ¬ (Says document line quad)) × ¬ (SaysNothing line)
-
-abbrev pub IsByCases : ℕ → List ℕ → Result (Option Quad) LineFault → Type 0
-IsByCases document line (Ok None) = SaysNothing line
-IsByCases document line (Ok (Some quad)) = Says document line quad × ((other : Quad) → Says document line other → other ≡ quad)
-IsByCases document line (Err OutOfMemory) = ⊤
-IsByCases document line (Err (BadStatement column)) = SaysNeither document line × IsFirstFault document line column
-IsByCases document line (Err (RelativeIri column)) = SaysNeither document line × IsFirstRelative document line column
-
-neither : (document : ℕ) (line : List ℕ) (other : Answer) → statement_of document line ≡ other → ((quad : Quad) → ¬ (statement quad ≡ other)) → ¬ (nothing ≡ other)
-    → SaysNeither document line
-neither document line other is no_quad not_nothing =
-    (λ quad h. no_quad quad (sym (says_to document line quad h) ∙ is), λ h. not_nothing (sym (nothing_to document line h) ∙ is))
-
-bad_is_none : (column : ℕ) (quad : Quad) → ¬ (statement quad ≡ bad_statement column)
-bad_is_none column quad is = cc
-
-bad_is_something : (column : ℕ) → ¬ (nothing ≡ bad_statement column)
-bad_is_something column is = cc
-
-relative_is_none : (column : ℕ) (quad : Quad) → ¬ (statement quad ≡ relative_iri column)
-relative_is_none column quad is = cc
-
-relative_is_something : (column : ℕ) → ¬ (nothing ≡ relative_iri column)
-relative_is_something column is = cc
-
-by_cases : (document : ℕ) (line : List ℕ) (result : Result (Option Quad) LineFault) → IsAnswer result (statement_of document line)
-    → IsByCases document line result
-by_cases document line (Ok None) is = nothing_from document line is
-by_cases document line (Ok (Some quad)) is =
-    (says_from document line quad is, λ other h. statement_same other quad (sym (says_to document line other h) ∙ is))
-by_cases document line (Err (BadStatement column)) is =
-    (neither document line (bad_statement column) is (bad_is_none column) (bad_is_something column), fault_from document line column is)
-by_cases document line (Err (RelativeIri column)) is =
-    (neither document line (relative_iri column) is (relative_is_none column) (relative_is_something column), relative_from document line column is)
-by_cases document line (Err OutOfMemory) is = tt
-
-answered : (document : ℕ) (line : List ℕ) (result : Result (Option Quad) LineFault) → IsByCases document line result
-    → IsAnswer result (statement_of document line)
-answered document line (Ok None) h = nothing_to document line h
-answered document line (Ok (Some quad)) h = says_to document line quad h.0
-answered document line (Err (BadStatement column)) h = fault_to document line column h.1
-answered document line (Err (RelativeIri column)) h = relative_to document line column h.1
-answered document line (Err OutOfMemory) h = tt
-
--- the clause by cases and the clause by the tied answer say the same
-pub cases_are : (document : ℕ) (line : List ℕ) (result : Result (Option Quad) LineFault)
-    → IsByCases document line result ↔ IsByGrammar document line result
-cases_are document line result =
-    (λ h. by_grammar document line result (answered document line result h), λ h. by_cases document line result (h (statement_of document line) (tied document line)))

@@ -9,4 +9,3 @@ pub mod Pieces
 pub mod RuleLaws
 pub mod ScannedBytes
 pub mod Spelling
-mod Replaced
