@@ -14,7 +14,8 @@ use Rattle.rsp_expr.specs.Formulas.{Formula, Aggregation}
 use Rattle.rsp_expr.specs.Aggregates.{aggregate_value}
 use Rattle.rsp_expr.specs.Values.{truth}
 use Rattle.rsp_algebra.specs.Nodes as node
-use Rattle.rsp_algebra.specs.Nodes.{Node, Fits}
+use Rattle.rsp_algebra.specs.Nodes.{Node}
+use Rattle.rsp_algebra.specs.Fitting.{Fits}
 use Rattle.rsp_algebra.specs.Patterns.{row_by, is_instance, binding, solution}
 use Rattle.rsp_algebra.specs.Solutions.{same_row, pass_together, takes_away, projection, extension, extended_by, group_keys, group_of, with_aggregates, eval}
 

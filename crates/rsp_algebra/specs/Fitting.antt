@@ -1,13 +1,64 @@
--- Words of the way: that a tree fits a width is known in one way at most.
-use Rattle.std.specs.Prelude.{◌≡◌, ℕ, ◌<◌, true, List, length}
+-- Words of the way: that a tree fits a width, which the translation promises and an answer asks, and that this is known in
+-- one way at most.
+use Rattle.std.specs.Prelude.{◌≡◌, ℕ, ◌<◌, ⊤, Bool, true, false, Option, None, Some, List, [], length}
 use Rattle.std.specs.Coded.{Coded-set, coded_ℕ, coded_bool, ×_prop, Unit-prop, le_prop}
-use Rattle.std.specs.List.{AllByRecursion-prop}
+use Rattle.std.specs.List.{AllByRecursion, AllByRecursion-prop}
 use Rattle.rsp_multiset.specs.Rows.{Cells}
 use Rattle.rsp_terms.specs.declared.term.Term.{Term}
-use Rattle.rsp_expr.specs.Formulas.{Aggregation}
+use Rattle.rsp_expr.specs.Formulas.{Formula, Aggregation}
+use Rattle.rsp_functions.specs.declared.aggregate.Kind.{Kind}
+use Rattle.rsp_functions.specs.declared.aggregate.Kind.TheVariants.{Count}
+use Rattle.rsp_algebra.specs.declared.tree.Translated.{Translated}
 use Rattle.rsp_algebra.specs.Nodes as node
-use Rattle.rsp_algebra.specs.Nodes.{Node, AreBelow, AggregateFits, Fits}
-use Rattle.rsp_algebra.specs.Nodes.{pattern_variables, formula_variables, argument_variables, has_form}
+use Rattle.rsp_algebra.specs.Nodes.{Node, node_of, pattern_variables, formula_variables}
+
+-- the variables of an aggregate's argument
+abbrev pub argument_variables : Option Formula → List ℕ
+argument_variables None = []
+argument_variables (Some argument) = formula_variables argument
+
+-- an aggregate without argument counts rows, each as often as it is there
+abbrev pub has_form : Kind → Bool → Option Formula → Bool
+has_form kind once (Some argument) = true
+has_form Count false None = true
+has_form kind once None = false
+
+-- each place of a row that the tree names is below the width of rows, and each of its own rows has that width
+abbrev pub AreBelow : ℕ → List ℕ → Type 0
+AreBelow width variables = AllByRecursion (λ v. v < width) variables
+
+abbrev pub AggregateFits : ℕ → ℕ × Aggregation → Type 0
+AggregateFits width (variable, aggregation) =
+    (variable < width)
+    × (AreBelow width (argument_variables aggregation.argument)
+    × (has_form aggregation.kind aggregation.distinct aggregation.argument ≡ true))
+
+abbrev pub Fits : ℕ → Node → Type 0
+Fits width node.unit = ⊤
+Fits width (node.pattern place triple) = AreBelow width (pattern_variables place triple)
+Fits width (node.join left right) = Fits width left × Fits width right
+Fits width (node.left_join left right condition) =
+    AreBelow width (formula_variables condition) × (Fits width left × Fits width right)
+Fits width (node.union left right) = Fits width left × Fits width right
+Fits width (node.minus left right) = Fits width left × Fits width right
+Fits width (node.exists left right condition) =
+    AreBelow width (formula_variables condition) × (Fits width left × Fits width right)
+Fits width (node.not_exists left right condition) =
+    AreBelow width (formula_variables condition) × (Fits width left × Fits width right)
+Fits width (node.filter child condition) = AreBelow width (formula_variables condition) × Fits width child
+Fits width (node.extend child v expression) = (v < width) × (AreBelow width (formula_variables expression) × Fits width child)
+Fits width (node.values rows) = AllByRecursion (λ row. length row ≡ width) rows
+Fits width (node.project child variables) = AreBelow width variables × Fits width child
+Fits width (node.distinct child) = Fits width child
+Fits width (node.group child keys aggregates) =
+    AreBelow width keys × (AllByRecursion (AggregateFits width) aggregates × Fits width child)
+
+-- each place that a translated query names is below its width
+pub record IsPlaced (query : Translated) : Type 0 where
+  pub tree : Fits query.width (node_of query.tree)
+  pub shown : AreBelow query.width query.shown
+
+-- ---- it is known in one way at most
 
 AreBelow-prop : (width : ℕ) (variables : List ℕ) → IsProp (AreBelow width variables)
 AreBelow-prop width variables = AllByRecursion-prop (λ v. v < width) (λ v. le_prop) variables

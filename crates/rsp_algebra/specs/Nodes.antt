@@ -1,13 +1,11 @@
 -- Definitions: the nodes of an algebra tree (SPARQL 1.1 Query, section 18.2), apart from how the code keeps them.
-use Rattle.std.specs.Prelude.{◌≡◌, ℕ, ◌<◌, ⊤, Bool, true, false, Option, None, Some, List, [], ◌∷◌, ◌++◌, length, map}
-use Rattle.std.specs.List.{AllByRecursion, fold}
+use Rattle.std.specs.Prelude.{ℕ, List, [], ◌∷◌, ◌++◌, map}
+use Rattle.std.specs.List.{fold}
 use Rattle.rsp_multiset.specs.Rows.{Cells}
 use Rattle.rsp_terms.specs.declared.term.Term.{Term}
 use Rattle.rsp_expr.specs.Formulas as formula
 use Rattle.rsp_expr.specs.Formulas.{Formula, Formulas, no_formula, formula_then, formula_of, Aggregation, aggregation_of}
 use Rattle.rsp_expr.specs.declared.aggregate.Aggregate.{Aggregate}
-use Rattle.rsp_functions.specs.declared.aggregate.Kind.{Kind}
-use Rattle.rsp_functions.specs.declared.aggregate.Kind.TheVariants.{Count}
 use Rattle.rsp_expr.specs.declared.slot.Slot.{Slot}
 use Rattle.rsp_expr.specs.declared.slot.Slot.TheVariants.{Variable, Constant}
 use Rattle.rsp_algebra.specs.declared.tree.Place.{Place}
@@ -16,7 +14,6 @@ use Rattle.rsp_algebra.specs.declared.tree.TriplePattern.{TriplePattern}
 use Rattle.rsp_algebra.specs.declared.tree.Tree.{Tree}
 use Rattle.rsp_algebra.specs.declared.tree.Tree.TheVariants.{Unit, Pattern, Join', LeftJoin', Union', Minus', Exists', NotExists'}
 use Rattle.rsp_algebra.specs.declared.tree.Tree.TheVariants.{Filter', Extend', Values, Project', Distinct', Group'}
-use Rattle.rsp_algebra.specs.declared.tree.Translated.{Translated}
 
 pub data Node : Type 0 where
   unit : Node
@@ -98,49 +95,3 @@ abbrev mutual
   pub variables_of_all : Formulas → List ℕ
   variables_of_all no_formula = []
   variables_of_all (formula_then first others) = formula_variables first ++ variables_of_all others
-
--- the variables of an aggregate's argument
-abbrev pub argument_variables : Option Formula → List ℕ
-argument_variables None = []
-argument_variables (Some argument) = formula_variables argument
-
--- an aggregate without argument counts rows, each as often as it is there
-abbrev pub has_form : Kind → Bool → Option Formula → Bool
-has_form kind once (Some argument) = true
-has_form Count false None = true
-has_form kind once None = false
-
--- each place of a row that the tree names is below the width of rows, and each of its own rows has that width
-abbrev pub AreBelow : ℕ → List ℕ → Type 0
-AreBelow width variables = AllByRecursion (λ v. v < width) variables
-
-abbrev pub AggregateFits : ℕ → ℕ × Aggregation → Type 0
-AggregateFits width (variable, aggregation) =
-    (variable < width)
-    × (AreBelow width (argument_variables aggregation.argument)
-    × (has_form aggregation.kind aggregation.distinct aggregation.argument ≡ true))
-
-abbrev pub Fits : ℕ → Node → Type 0
-Fits width unit = ⊤
-Fits width (pattern place triple) = AreBelow width (pattern_variables place triple)
-Fits width (join left right) = Fits width left × Fits width right
-Fits width (left_join left right condition) =
-    AreBelow width (formula_variables condition) × (Fits width left × Fits width right)
-Fits width (union left right) = Fits width left × Fits width right
-Fits width (minus left right) = Fits width left × Fits width right
-Fits width (exists left right condition) =
-    AreBelow width (formula_variables condition) × (Fits width left × Fits width right)
-Fits width (not_exists left right condition) =
-    AreBelow width (formula_variables condition) × (Fits width left × Fits width right)
-Fits width (filter child condition) = AreBelow width (formula_variables condition) × Fits width child
-Fits width (extend child v expression) = (v < width) × (AreBelow width (formula_variables expression) × Fits width child)
-Fits width (values rows) = AllByRecursion (λ row. length row ≡ width) rows
-Fits width (project child variables) = AreBelow width variables × Fits width child
-Fits width (distinct child) = Fits width child
-Fits width (group child keys aggregates) =
-    AreBelow width keys × (AllByRecursion (AggregateFits width) aggregates × Fits width child)
-
--- each place that a translated query names is below its width
-pub record IsPlaced (query : Translated) : Type 0 where
-  pub tree : Fits query.width (node_of query.tree)
-  pub shown : AreBelow query.width query.shown

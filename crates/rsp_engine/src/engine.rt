@@ -83,7 +83,7 @@ impl<A: Answer> Engine<A> {
     ghost use Rattle.rsp_syntax.specs.Periods.{HasPeriods};
     ghost use Rattle.rsp_query.specs.Queries.{registered};
     ghost use Rattle.rsp_report.specs.Policies.{choice_of, is_mixed};
-    ghost use Rattle.rsp_algebra.specs.Nodes.{IsPlaced};
+    ghost use Rattle.rsp_algebra.specs.Fitting.{IsPlaced};
     ghost use Rattle.rsp_shapes.specs.Sound.{IsSound};
     ghost use Rattle.rsp_translation.specs.Translation.{IsTranslated};
     ghost use Rattle.rsp_scope.specs.Ends.{EndsAt};

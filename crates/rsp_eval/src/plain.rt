@@ -3,8 +3,8 @@ ghost use Rattle.std.specs.Prelude.{◌≡◌, false, is_none, IfOk, IfSome, OnO
 ghost use Rattle.std.specs.Option.{ForSome};
 ghost use Rattle.rsp_multiset.specs.Weights.{IsChanged};
 ghost use Rattle.rsp_terms.specs.Same.{fact_eq};
-ghost use Rattle.rsp_algebra.specs.Fitting.{Fits-prop};
-ghost use Rattle.rsp_algebra.specs.Nodes.{node_of, Fits, IsPlaced};
+ghost use Rattle.rsp_algebra.specs.Fitting.{Fits-prop, Fits, IsPlaced};
+ghost use Rattle.rsp_algebra.specs.Nodes.{node_of};
 ghost use Rattle.rsp_algebra.specs.Solutions.{eval};
 ghost use Rattle.rsp_algebra.specs.Overfull.{overfull};
 ghost use Rattle.rsp_algebra.specs.Changing.{IsSet, MayChange};

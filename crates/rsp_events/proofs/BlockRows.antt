@@ -7,7 +7,8 @@ use Rattle.std.specs.Str.{chars, is_utf8}
 use Rattle.std.specs.Str.Lossy.{utf8_valid_len}
 use Rattle.rsp_text.specs.Digits.{read_u64, has_form, fraction}
 use Rattle.rsp_text.specs.Instants.{instant, is_date, is_time, is_offset}
-use Rattle.rsp_scan.specs.Readers.{enclosed, iri_escape, label, sign, spelled, tag, uchar}
+use Rattle.rsp_scan.specs.Enclosed.{sign}
+use Rattle.rsp_scan.specs.Readers.{enclosed, iri_escape, label, spelled, tag, uchar, iri, string}
 use Rattle.rsp_nquads.specs.Parts.{datatype, literal, literal_of, node, object}
 use Rattle.rsp_nquads.specs.Statements.{is_end as is_end_of_line, parts_of, statement_of}
 use Rattle.rsp_nquads.specs.Fields.{absolute_iri}
@@ -86,11 +87,11 @@ unfolding directive_by read_u64 instant is_date is_time is_offset has_form fract
 too_late = refl
 
 pub not_absolute : directive_of (codes "@item <a> 1") ≡ None
-unfolding directive_by absolute_iri enclosed spelled sign iri_escape uchar chars is_utf8 encode_utf8
+unfolding directive_by absolute_iri iri string enclosed spelled sign iri_escape uchar chars is_utf8 encode_utf8
 not_absolute = refl
 
 pub item_of_nothing : content_of_texts 7 1 (codes "@item <s:a> 1" ∷ codes "@end" ∷ []) ≡ Event (event.Item (codes "s:a") 1 [])
-unfolding is_end content_of_texts content_of_directive directive_by read_u64 absolute_iri enclosed spelled sign iri_escape uchar chars is_utf8 encode_utf8
+unfolding is_end content_of_texts content_of_directive directive_by read_u64 absolute_iri iri string enclosed spelled sign iri_escape uchar chars is_utf8 encode_utf8
 item_of_nothing = refl
 
 abbrev statement_to : List ℕ → List ℕ
@@ -98,10 +99,10 @@ statement_to behind = codes "<a:1> <p:v> <a:2>" ++ behind
 
 -- a good line, a comment, and a bad line
 pub bad_quad : content_of_texts 7 1 (codes "@delete" ∷ statement_to (codes ".") ∷ codes " # x" ∷ codes "<a:1> ." ∷ codes "@end" ∷ []) ≡ Fault (BadBody 4)
-unfolding is_end content_of_texts content_of_directive directive_by statement_of is_end_of_line parts_of iri_escape uchar spelled sign enclosed label tag datatype literal_of literal node object chars is_utf8 utf8_valid_len encode_utf8
+unfolding is_end content_of_texts content_of_directive directive_by statement_of is_end_of_line parts_of iri_escape uchar spelled sign iri string enclosed label tag datatype literal_of literal node object chars is_utf8 utf8_valid_len encode_utf8
 bad_quad = refl
 
 -- a graph in an item, and no `@end`: the bad line is the fault
 pub graph_in_item : content_of_texts 7 1 (codes "@item <s:a> 1" ∷ statement_to (codes " <g:1> .") ∷ statement_to (codes ".") ∷ []) ≡ Fault (BadBody 2)
-unfolding is_end content_of_texts content_of_directive directive_by read_u64 absolute_iri statement_of is_end_of_line parts_of iri_escape uchar spelled sign enclosed label tag datatype literal_of literal node object chars is_utf8 utf8_valid_len encode_utf8
+unfolding is_end content_of_texts content_of_directive directive_by read_u64 absolute_iri statement_of is_end_of_line parts_of iri_escape uchar spelled sign iri string enclosed label tag datatype literal_of literal node object chars is_utf8 utf8_valid_len encode_utf8
 graph_in_item = refl

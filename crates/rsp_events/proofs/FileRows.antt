@@ -8,7 +8,8 @@ use Rattle.rsp_terms.specs.declared.term.Term.TheVariants.{Blank, Iri, Literal}
 use Rattle.rsp_terms.specs.declared.statement.Triple.{Triple}
 use Rattle.rsp_text.specs.Digits.{read_u64, has_form, fraction}
 use Rattle.rsp_text.specs.Instants.{instant, is_date, is_time, is_offset}
-use Rattle.rsp_scan.specs.Readers.{enclosed, iri_escape, label, sign, spelled, tag, uchar, echar, string_escape}
+use Rattle.rsp_scan.specs.Enclosed.{sign}
+use Rattle.rsp_scan.specs.Readers.{enclosed, iri_escape, label, spelled, tag, uchar, echar, string_escape, iri, string}
 use Rattle.rsp_nquads.specs.Parts.{datatype, literal, literal_of, node, object}
 use Rattle.rsp_nquads.specs.Statements.{is_end, parts_of, statement_of}
 use Rattle.rsp_events.specs.declared.event.Event.{Event}
@@ -58,7 +59,7 @@ read events lines = record { items = events; refused = lines }
 pub in_order_of_time_lines : recorded (codes "s:a") 7
     (at (codes "<g:1>") (codes "9") ++ (quad (codes "1") (codes "<g:1>") ++ (quad (codes "1") (codes "<g:1>") ++ at (codes "_:g") (codes "5"))))
     ≡ read (item 9 (triple (codes "1") ∷ triple (codes "1") ∷ []) ∷ item 5 [] ∷ []) []
-unfolding statement_of is_end parts_of iri_escape uchar spelled sign enclosed label tag echar string_escape datatype literal_of literal node object chars is_utf8 utf8_valid_len encode_utf8 read_u64
+unfolding statement_of is_end parts_of iri_escape uchar spelled sign iri string enclosed label tag echar string_escape datatype literal_of literal node object chars is_utf8 utf8_valid_len encode_utf8 read_u64
 in_order_of_time_lines = refl
 
 -- a quad of an earlier item is refused; a name that is opened again is a new item
@@ -66,7 +67,7 @@ pub last_opened_counts : recorded (codes "s:a") 7
     (quad (codes "1") (codes "<g:1>") ++ (at (codes "<g:1>") (codes "1") ++ (at (codes "<g:2>") (codes "2") ++ (quad (codes "1") (codes "<g:1>")
     ++ (at (codes "<g:1>") (codes "3") ++ quad (codes "2") (codes "<g:1>"))))))
     ≡ read (item 1 [] ∷ item 2 [] ∷ item 3 (triple (codes "2") ∷ []) ∷ []) (neither 1 ∷ neither 4 ∷ [])
-unfolding statement_of is_end parts_of iri_escape uchar spelled sign enclosed label tag echar string_escape datatype literal_of literal node object chars is_utf8 utf8_valid_len encode_utf8 read_u64
+unfolding statement_of is_end parts_of iri_escape uchar spelled sign iri string enclosed label tag echar string_escape datatype literal_of literal node object chars is_utf8 utf8_valid_len encode_utf8 read_u64
 last_opened_counts = refl
 
 -- a time without a datatype, one with a sign, one past the year 9999: each is refused, and the open item stays open
@@ -74,7 +75,7 @@ pub time_not_read : recorded (codes "s:a") 7
     (at (codes "<g:1>") (codes "1") ++ (timed (codes "<g:2>") (codes "2") [] ++ (at (codes "<g:2>") (codes "+2")
     ++ (at (codes "<g:2>") (codes "253402300800000") ++ quad (codes "1") (codes "<g:1>")))))
     ≡ read (item 1 (triple (codes "1") ∷ []) ∷ []) (neither 2 ∷ neither 3 ∷ neither 4 ∷ [])
-unfolding statement_of is_end parts_of iri_escape uchar spelled sign enclosed label tag echar string_escape datatype literal_of literal node object chars is_utf8 utf8_valid_len encode_utf8 read_u64
+unfolding statement_of is_end parts_of iri_escape uchar spelled sign iri string enclosed label tag echar string_escape datatype literal_of literal node object chars is_utf8 utf8_valid_len encode_utf8 read_u64
 time_not_read = refl
 
 -- the time predicate in the graph of the open item is a triple of it
@@ -85,7 +86,7 @@ pub time_in_graph : recorded (codes "s:a") 7
       predicate = generated_at_time;
       object = Literal (codes "2") (codes "http://www.w3.org/2001/XMLSchema#integer");
     } ∷ []) ∷ []) []
-unfolding statement_of is_end parts_of iri_escape uchar spelled sign enclosed label tag echar string_escape datatype literal_of literal node object chars is_utf8 utf8_valid_len encode_utf8 read_u64
+unfolding statement_of is_end parts_of iri_escape uchar spelled sign iri string enclosed label tag echar string_escape datatype literal_of literal node object chars is_utf8 utf8_valid_len encode_utf8 read_u64
 time_in_graph = refl
 
 -- a date and time, which no number of digits is, nor the other way round
@@ -107,7 +108,7 @@ pub numbers_and_columns : recorded (codes "s:a") 7
     ++ (quad (codes "1") [] ++ codes "<a:2> <p:v> <a:0> <g:1> ."))))))
     ≡ read (item 1 (triple (codes "2") ∷ []) ∷ [])
     (record { line = 4; fault = BadStatement 7 } ∷ record { line = 5; fault = RelativeIri 7 } ∷ neither 6 ∷ [])
-unfolding statement_of is_end parts_of iri_escape uchar spelled sign enclosed label tag echar string_escape datatype literal_of literal node object chars is_utf8 utf8_valid_len encode_utf8 read_u64
+unfolding statement_of is_end parts_of iri_escape uchar spelled sign iri string enclosed label tag echar string_escape datatype literal_of literal node object chars is_utf8 utf8_valid_len encode_utf8 read_u64
 numbers_and_columns = refl
 
 -- ---- stored quads
@@ -120,7 +121,7 @@ pub stored : loaded 7 (quad (codes "1") [] ++ (codes "_:x <p:v> <a:0> _:g ." ++ 
           ∷ record { triple = triple (codes "2"); graph = Some (Iri (codes "g:1")) } ∷ [];
       refused = record { line = 3; fault = BadStatement 4 } ∷ [];
     }
-unfolding statement_of is_end parts_of iri_escape uchar spelled sign enclosed label tag echar string_escape datatype literal_of literal node object chars is_utf8 utf8_valid_len encode_utf8
+unfolding statement_of is_end parts_of iri_escape uchar spelled sign iri string enclosed label tag echar string_escape datatype literal_of literal node object chars is_utf8 utf8_valid_len encode_utf8
 stored = refl
 
 -- ---- several streams

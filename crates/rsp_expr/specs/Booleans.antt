@@ -6,27 +6,17 @@ use Rattle.rsp_expr.specs.BooleanValues.{boolean_value, boolean_literal}
 
 -- `||`
 abbrev pub logical_or : Option Bool → Option Bool → Option Bool
-logical_or (Some true) (Some true) = Some true
-logical_or (Some true) (Some false) = Some true
-logical_or (Some false) (Some true) = Some true
+logical_or (Some true) _ = Some true
+logical_or _ (Some true) = Some true
 logical_or (Some false) (Some false) = Some false
-logical_or (Some true) None = Some true
-logical_or None (Some true) = Some true
-logical_or (Some false) None = None
-logical_or None (Some false) = None
-logical_or None None = None
+logical_or _ _ = None
 
 -- `&&`
 abbrev pub logical_and : Option Bool → Option Bool → Option Bool
+logical_and (Some false) _ = Some false
+logical_and _ (Some false) = Some false
 logical_and (Some true) (Some true) = Some true
-logical_and (Some true) (Some false) = Some false
-logical_and (Some false) (Some true) = Some false
-logical_and (Some false) (Some false) = Some false
-logical_and (Some true) None = None
-logical_and None (Some true) = None
-logical_and (Some false) None = Some false
-logical_and None (Some false) = Some false
-logical_and None None = None
+logical_and _ _ = None
 
 -- `!`
 abbrev pub logical_not : Option Bool → Option Bool

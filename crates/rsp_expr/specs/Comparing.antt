@@ -9,7 +9,7 @@ use Rattle.rsp_number.specs.Numbers as numbers
 use Rattle.rsp_number.specs.declared.number.Number.{Number}
 use Rattle.rsp_strings.specs.CodePoints as code_points
 use Rattle.rsp_terms.specs.declared.term.Term.{Term}
-use Rattle.rsp_terms.specs.declared.term.Term.TheVariants.{Iri, Blank, Literal, Tagged}
+use Rattle.rsp_terms.specs.declared.term.Term.TheVariants.{Literal, Tagged}
 use Rattle.rsp_terms.specs.Same.{term_eq}
 use Rattle.rsp_expr.specs.BooleanValues.{boolean_of}
 use Rattle.rsp_expr.specs.Forms.{number_of}
@@ -47,10 +47,9 @@ value_order (boolean left) (boolean right) = Some (bool_cmp left right)
 value_order left right = None
 
 abbrev pub is_literal : Term → Bool
-is_literal (Iri text) = false
-is_literal (Blank document label) = false
 is_literal (Literal lexical datatype) = true
 is_literal (Tagged lexical language) = true
+is_literal _ = false
 
 -- RDFterm-equal: true of one term, an error of two literals that differ, else false
 abbrev pub term_equality : Term → Term → Option Bool
@@ -77,10 +76,7 @@ comparison sign.Less left right = option_map is_lt (comparison_order left right)
 comparison sign.Greater left right = option_map is_gt (comparison_order left right)
 comparison sign.LessEqual left right = option_map is_le (comparison_order left right)
 comparison sign.GreaterEqual left right = option_map is_ge (comparison_order left right)
-comparison sign.Add left right = None
-comparison sign.Subtract left right = None
-comparison sign.Multiply left right = None
-comparison sign.Divide left right = None
+comparison _ left right = None
 
 -- IN: the `||` of the `=` with each member
 abbrev pub member_truth : Option Term → List (Option Term) → Option Bool

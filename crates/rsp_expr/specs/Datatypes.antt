@@ -54,35 +54,20 @@ abbrev pub datatype_of : List ℕ → Datatype
 datatype_of iri = datatype_among (type_in whole_types iri) (type_in other_types iri)
 
 -- the least and the greatest number of a type, where it has one
-abbrev pub least_of : WholeType → Option ℤ
-least_of Integer = None
-least_of NonPositiveInteger = None
-least_of NegativeInteger = None
-least_of Long = Some (neg_ℤ (pos (2 ^ 63)))
-least_of Int = Some (neg_ℤ (pos (2 ^ 31)))
-least_of Short = Some (neg_ℤ (pos (2 ^ 15)))
-least_of Byte = Some (neg_ℤ (pos (2 ^ 7)))
-least_of NonNegativeInteger = Some (pos 0)
-least_of UnsignedLong = Some (pos 0)
-least_of UnsignedInt = Some (pos 0)
-least_of UnsignedShort = Some (pos 0)
-least_of UnsignedByte = Some (pos 0)
-least_of PositiveInteger = Some (pos 1)
-
-abbrev pub greatest_of : WholeType → Option ℤ
-greatest_of Integer = None
-greatest_of NonPositiveInteger = Some (pos 0)
-greatest_of NegativeInteger = Some (neg_ℤ (pos 1))
-greatest_of Long = Some (pos (2 ^ 63 - 1))
-greatest_of Int = Some (pos (2 ^ 31 - 1))
-greatest_of Short = Some (pos (2 ^ 15 - 1))
-greatest_of Byte = Some (pos (2 ^ 7 - 1))
-greatest_of NonNegativeInteger = None
-greatest_of UnsignedLong = Some (pos (2 ^ 64 - 1))
-greatest_of UnsignedInt = Some (pos (2 ^ 32 - 1))
-greatest_of UnsignedShort = Some (pos (2 ^ 16 - 1))
-greatest_of UnsignedByte = Some (pos (2 ^ 8 - 1))
-greatest_of PositiveInteger = None
+abbrev pub bounds_of : WholeType → Option ℤ × Option ℤ
+bounds_of Integer = (None, None)
+bounds_of NonPositiveInteger = (None, Some (pos 0))
+bounds_of NegativeInteger = (None, Some (neg_ℤ (pos 1)))
+bounds_of Long = (Some (neg_ℤ (pos (2 ^ 63))), Some (pos (2 ^ 63 - 1)))
+bounds_of Int = (Some (neg_ℤ (pos (2 ^ 31))), Some (pos (2 ^ 31 - 1)))
+bounds_of Short = (Some (neg_ℤ (pos (2 ^ 15))), Some (pos (2 ^ 15 - 1)))
+bounds_of Byte = (Some (neg_ℤ (pos (2 ^ 7))), Some (pos (2 ^ 7 - 1)))
+bounds_of NonNegativeInteger = (Some (pos 0), None)
+bounds_of UnsignedLong = (Some (pos 0), Some (pos (2 ^ 64 - 1)))
+bounds_of UnsignedInt = (Some (pos 0), Some (pos (2 ^ 32 - 1)))
+bounds_of UnsignedShort = (Some (pos 0), Some (pos (2 ^ 16 - 1)))
+bounds_of UnsignedByte = (Some (pos 0), Some (pos (2 ^ 8 - 1)))
+bounds_of PositiveInteger = (Some (pos 1), None)
 
 abbrev pub is_at_least : Option ℤ → ℤ → Bool
 is_at_least None n = true
@@ -94,4 +79,4 @@ is_at_most (Some greatest) n = int_le n greatest
 
 -- the number is one of the type
 abbrev pub is_in_range : WholeType → ℤ → Bool
-is_in_range type n = is_at_least (least_of type) n && is_at_most (greatest_of type) n
+is_in_range type n = is_at_least (bounds_of type).0 n && is_at_most (bounds_of type).1 n

@@ -110,20 +110,18 @@ lexical_form (Tagged lexical language) = string_result lexical
 
 -- LANG (section 17.4.2.6)
 abbrev pub language_tag : Term → Option Term
-language_tag (Iri text) = None
-language_tag (Blank document label) = None
 language_tag (Literal lexical datatype) = string_result []
 language_tag (Tagged lexical language) = string_result language
+language_tag _ = None
 
 -- DATATYPE (section 17.4.2.7)
 abbrev pub lang_string : List ℕ
 lang_string = codes "http://www.w3.org/1999/02/22-rdf-syntax-ns#langString"
 
 abbrev pub datatype_iri : Term → Option Term
-datatype_iri (Iri text) = None
-datatype_iri (Blank document label) = None
 datatype_iri (Literal lexical datatype) = Some (Iri datatype)
 datatype_iri (Tagged lexical language) = Some (Iri lang_string)
+datatype_iri _ = None
 
 -- IRI and URI (section 17.4.2.8): a string that is absolute and of IRI characters alone
 abbrev pub iri_in : List ℕ → Option Term
@@ -135,15 +133,11 @@ iri_of term = option_and_then iri_in (string_of term)
 
 abbrev pub is_iri : Term → Bool
 is_iri (Iri text) = true
-is_iri (Blank document label) = false
-is_iri (Literal lexical datatype) = false
-is_iri (Tagged lexical language) = false
+is_iri _ = false
 
 abbrev pub is_blank : Term → Bool
-is_blank (Iri text) = false
 is_blank (Blank document label) = true
-is_blank (Literal lexical datatype) = false
-is_blank (Tagged lexical language) = false
+is_blank _ = false
 
 abbrev pub unary_value : Function → Term → Option Term
 unary_value function.IsIri term = boolean_result (Some (is_iri term))  -- 17.4.2.1

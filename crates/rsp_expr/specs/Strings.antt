@@ -1,7 +1,7 @@
--- Definitions: strings and texts (SPARQL 1.1, section 17.4.3.1), and the literals that have an inexact number.
+-- Definitions: strings (SPARQL 1.1, section 17.4.3.1), and the literals that have an inexact number.
 use Rattle.std.specs.Prelude.{ℕ, Bool, true, false, Option, None, Some, List, codes}
 use Rattle.rsp_terms.specs.declared.term.Term.{Term}
-use Rattle.rsp_terms.specs.declared.term.Term.TheVariants.{Literal, Tagged}
+use Rattle.rsp_terms.specs.declared.term.Term.TheVariants.{Literal}
 use Rattle.rsp_expr.specs.Datatypes.{datatype_of}
 use Rattle.rsp_expr.specs.declared.datatypes.Datatype.{Datatype}
 use Rattle.rsp_expr.specs.declared.datatypes.Datatype.TheVariants.{Double, Float, String}
@@ -14,11 +14,6 @@ typed_string type text = None
 abbrev pub string_of : Term → Option (List ℕ)
 string_of (Literal lexical datatype) = typed_string (datatype_of datatype) lexical
 string_of term = None
-
--- the text of an xsd:string or of a literal with a tag
-abbrev pub text_of : Term → Option (List ℕ)
-text_of (Tagged lexical language) = Some lexical
-text_of term = string_of term
 
 abbrev pub string_literal : List ℕ → Term
 string_literal text = Literal text (codes "http://www.w3.org/2001/XMLSchema#string")

@@ -6,8 +6,6 @@ use Rattle.std.specs.Int.{is_in_range}
 use Rattle.std.specs.List.{list_all}
 use Rattle.rsp_spec.proofs.Truths.{equal_from, differs}
 use Rattle.rsp_terms.specs.Characters.{is_base, is_name_character, last_of}
-use Rattle.rsp_scan.specs.declared.labels.Labels.TheVariants.{Sparql}
-use Rattle.rsp_scan.specs.Names.{starts_label, continues_label, is_label}
 use Rattle.rsp_lex.specs.declared.names.LabelState.TheVariants as label
 use Rattle.rsp_lex.specs.declared.numbers.DecimalState.TheVariants as decimal
 use Rattle.rsp_scan.specs.Fronts.{accepts}
@@ -22,7 +20,7 @@ use Rattle.rsp_lex.specs.declared.names.TagState.TheVariants as tag
 use Rattle.rsp_lex.specs.declared.numbers.IntegerState.TheVariants as integer
 use Rattle.rsp_lex.specs.Names.{is_word_character, starts_name, continues_name}
 use Rattle.rsp_lex.specs.Kinds.{is_token, token_machine}
-use Rattle.rsp_lex.specs.Forms.{is_word, is_integer, is_variable_name, is_variable, is_tag, is_label_token, is_decimal, HasForm}
+use Rattle.rsp_lex.specs.Forms.{is_word, is_integer, is_variable_name, is_variable, is_tag, is_label_token, is_decimal, HasForm, starts_label, continues_label, is_label}
 
 -- ---- words
 
@@ -178,11 +176,11 @@ tag_form (c ∷ cs) = by (c == 64) refl
 -- the character stands in a label, but isn't its end where it is a dot
 record Stands (c : ℕ) (dot : Bool) (goes : Bool) : Type 0 where
   dot_is : (c == 46) ≡ dot
-  goes_is : continues_label Sparql c ≡ goes
+  goes_is : continues_label c ≡ goes
   name_is : dot ≡ false → continues_name c ≡ goes
   dot_goes : dot ≡ true → goes ≡ true
 
-character : (c : ℕ) → Stands c (c == 46) (continues_label Sparql c)
+character : (c : ℕ) → Stands c (c == 46) (continues_label c)
 character c = record {
   dot_is = refl;
   goes_is = refl;
@@ -194,20 +192,20 @@ character c = record {
     or_false true d = refl
     or_false false d = refl
 
-    dot_character : (c : ℕ) → c ≡ 46 → continues_label Sparql c ≡ true
+    dot_character : (c : ℕ) → c ≡ 46 → continues_label c ≡ true
     dot_character c is = rw is refl
 
 in_label : (dot : Bool) (last : ℕ) (cs : List ℕ) → (last == 46) ≡ dot
-    → accepts token_machine (state.Label (if dot then label.Dot else label.Inside)) cs ≡ (list_all (continues_label Sparql) cs && not (last_of last cs == 46))
+    → accepts token_machine (state.Label (if dot then label.Dot else label.Inside)) cs ≡ (list_all continues_label cs && not (last_of last cs == 46))
 in_label true last [] is = rw is refl
 in_label false last [] is = rw is refl
-in_label dot last (c ∷ cs) is = by dot (c == 46) refl (continues_label Sparql c) refl (λ d h. in_label d c cs h)
+in_label dot last (c ∷ cs) is = by dot (c == 46) refl (continues_label c) refl (λ d h. in_label d c cs h)
   where
-    by : (dot here : Bool) → (c == 46) ≡ here → (goes : Bool) → continues_label Sparql c ≡ goes
+    by : (dot here : Bool) → (c == 46) ≡ here → (goes : Bool) → continues_label c ≡ goes
         → ((d : Bool) → (c == 46) ≡ d
-        → accepts token_machine (state.Label (if d then label.Dot else label.Inside)) cs ≡ (list_all (continues_label Sparql) cs && not (last_of c cs == 46)))
+        → accepts token_machine (state.Label (if d then label.Dot else label.Inside)) cs ≡ (list_all continues_label cs && not (last_of c cs == 46)))
         → accepts token_machine (state.Label (if dot then label.Dot else label.Inside)) (c ∷ cs)
-        ≡ (list_all (continues_label Sparql) (c ∷ cs) && not (last_of last (c ∷ cs) == 46))
+        ≡ (list_all continues_label (c ∷ cs) && not (last_of last (c ∷ cs) == 46))
     by true true h true g more = rw (g, h) (more true h)
     by false true h true g more = rw (g, h) (more true h)
     by dot true h false g more = absurd (true≢false (sym ((character c).dot_goes h) ∙ g))
@@ -216,10 +214,10 @@ in_label dot last (c ∷ cs) is = by dot (c == 46) refl (continues_label Sparql 
     by true false h false g more = rw (g, h, (character c).name_is h ∙ g) refl
     by false false h false g more = rw (g, h, (character c).name_is h ∙ g) refl
 
-starts_is : (c : ℕ) → starts_label Sparql c ≡ (starts_name c || is_ascii_digit c)
+starts_is : (c : ℕ) → starts_label c ≡ (starts_name c || is_ascii_digit c)
 starts_is c = by (c == 58) refl
   where
-    at_colon : (c : ℕ) → c ≡ 58 → starts_label Sparql c ≡ (starts_name c || is_ascii_digit c)
+    at_colon : (c : ℕ) → c ≡ 58 → starts_label c ≡ (starts_name c || is_ascii_digit c)
     at_colon c is = rw is refl
 
     regroup : (b u d : Bool) → (((b || (u || false)) || d) && true) ≡ ((b || u) || d)
@@ -228,18 +226,18 @@ starts_is c = by (c == 58) refl
     regroup false false true = refl
     regroup false false false = refl
 
-    by : (a : Bool) → (c == 58) ≡ a → starts_label Sparql c ≡ (starts_name c || is_ascii_digit c)
+    by : (a : Bool) → (c == 58) ≡ a → starts_label c ≡ (starts_name c || is_ascii_digit c)
     by true h = at_colon c (equal_from c 58 h)
     by false h = rw h (regroup (is_base c) (c == 95) (is_ascii_digit c))
 
-no_dot_starts : (c : ℕ) → starts_label Sparql c ≡ true → (c == 46) ≡ false
-no_dot_starts c starts = differs c 46 (λ is. true≢false (sym starts ∙ ap (starts_label Sparql) is))
+no_dot_starts : (c : ℕ) → starts_label c ≡ true → (c == 46) ≡ false
+no_dot_starts c starts = differs c 46 (λ is. true≢false (sym starts ∙ ap starts_label is))
 
-behind_colon : (cs : List ℕ) → accepts token_machine (state.Label label.Begun) cs ≡ is_label Sparql cs
+behind_colon : (cs : List ℕ) → accepts token_machine (state.Label label.Begun) cs ≡ is_label cs
 behind_colon [] = refl
-behind_colon (c ∷ cs) = by (starts_label Sparql c) refl
+behind_colon (c ∷ cs) = by (starts_label c) refl
   where
-    by : (b : Bool) → starts_label Sparql c ≡ b → accepts token_machine (state.Label label.Begun) (c ∷ cs) ≡ is_label Sparql (c ∷ cs)
+    by : (b : Bool) → starts_label c ≡ b → accepts token_machine (state.Label label.Begun) (c ∷ cs) ≡ is_label (c ∷ cs)
     by true is = rw (is, sym (starts_is c) ∙ is) (in_label false c cs (no_dot_starts c is))
     by false is = rw (is, sym (starts_is c) ∙ is) refl
 

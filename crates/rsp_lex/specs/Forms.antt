@@ -3,9 +3,7 @@ use Rattle.std.specs.Prelude.{◌≡◌, ℕ, Bool, false, not, ◌&&◌, ◌||�
 use Rattle.std.specs.Char.{is_ascii_alphabetic, is_ascii_digit}
 use Rattle.std.specs.List.{list_all}
 use Rattle.std.specs.Str.{byte}
-use Rattle.rsp_terms.specs.Characters.{is_tag_text}
-use Rattle.rsp_scan.specs.declared.labels.Labels.TheVariants.{Sparql}
-use Rattle.rsp_scan.specs.Names.{is_label}
+use Rattle.rsp_terms.specs.Characters.{is_label_start, is_label_character, last_of, is_tag_text}
 use Rattle.rsp_lex.specs.declared.token.TokenKind.TheVariants as kind
 use Rattle.rsp_lex.specs.Names.{is_word_character, starts_name, continues_name}
 use Rattle.rsp_lex.specs.Kinds.{is_token}
@@ -36,9 +34,20 @@ abbrev pub is_tag : List ℕ → Bool
 is_tag [] = false
 is_tag (sign ∷ tag) = (sign == byte "@") && is_tag_text tag
 
+-- BLANK_NODE_LABEL behind `_:`: a label as in N-Quads, of which no character is `:`
+abbrev pub starts_label : ℕ → Bool
+starts_label c = is_label_start c && not (c == byte ":")
+
+abbrev pub continues_label : ℕ → Bool
+continues_label c = is_label_character c && not (c == byte ":")
+
+abbrev pub is_label : List ℕ → Bool
+is_label [] = false
+is_label (first ∷ others) = starts_label first && (list_all continues_label others && not (last_of first others == byte "."))
+
 -- BLANK_NODE_LABEL
 abbrev pub is_label_token : List ℕ → Bool
-is_label_token (low ∷ colon ∷ label) = (low == byte "_") && ((colon == byte ":") && is_label Sparql label)
+is_label_token (low ∷ colon ∷ label) = (low == byte "_") && ((colon == byte ":") && is_label label)
 is_label_token _ = false
 
 -- digits or none, `.`, digits

@@ -5,15 +5,14 @@ use Rattle.std.specs.Prelude.{ℕ, ◌+◌, Bool, true, false, ◌||◌, ◌==�
 use Rattle.std.specs.Option.{option_map, option_and_then}
 use Rattle.std.specs.Str.{byte}
 use Rattle.rsp_terms.specs.Characters.{is_iri_character}
-use Rattle.rsp_scan.specs.declared.enclosed.Quote.{Quote}
-use Rattle.rsp_scan.specs.declared.enclosed.Quote.TheVariants.{Double, Single}
 use Rattle.rsp_scan.specs.declared.escaping.Escape.TheVariants.{Begun}
 use Rattle.rsp_scan.specs.declared.escaping.Escaped.{Escaped}
 use Rattle.rsp_scan.specs.declared.escaping.Escaped.TheVariants.{More, Whole}
-use Rattle.rsp_scan.specs.Enclosed.{quote_sign}
 use Rattle.rsp_scan.specs.Escaping.{uchar_step, escape_step}
 use Rattle.rsp_lex.specs.declared.quoted.IriState.{IriState}
 use Rattle.rsp_lex.specs.declared.quoted.IriState.TheVariants as iri
+use Rattle.rsp_lex.specs.declared.quoted.Quote.{Quote}
+use Rattle.rsp_lex.specs.declared.quoted.Quote.TheVariants.{Double, Single}
 use Rattle.rsp_lex.specs.declared.quoted.StringState.{StringState}
 use Rattle.rsp_lex.specs.declared.quoted.StringState.TheVariants as string
 
@@ -42,7 +41,8 @@ iri_ends _ = false
 -- ---- strings
 
 abbrev pub is_quote : Quote → ℕ → Bool
-is_quote quote c = c == quote_sign quote
+is_quote Double c = c == byte "\""
+is_quote Single c = c == byte "'"
 
 abbrev pub string_start : ℕ → Option StringState
 string_start c =

@@ -1,9 +1,8 @@
 // IRIs in brackets and strings, character by character.
 ghost use Rattle.std.specs.Prelude.{◌≡◌};
-ghost use Rattle.rsp_scan.specs.Enclosed.{quote_sign, is_string_character};
 ghost use Rattle.rsp_lex.specs.Quoted as words;
 
-use rsp_scan::{Escape, Escaped, Quote, escape_step, uchar_step};
+use rsp_scan::{Escape, Escaped, escape_step, uchar_step};
 use rsp_terms::characters::is_iri_character;
 
 /// How far an IRI is read.
@@ -13,6 +12,15 @@ pub(crate) enum IriState {
     Inside,
     Escape(Escape),
     Closed,
+}
+
+/// The sign that a string stands between.
+#[derive(Clone, Copy)]
+pub enum Quote {
+    /// `"`
+    Double,
+    /// `'`
+    Single,
 }
 
 /// How far a string is read.

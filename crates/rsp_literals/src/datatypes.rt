@@ -1,6 +1,6 @@
 // The datatypes that expressions know.
 ghost use Rattle.std.specs.Prelude.{◌≡◌};
-ghost use Rattle.rsp_expr.specs.Datatypes.{type_in, unsigned_types, whole_types, other_types, datatype_of, least_of, greatest_of};
+ghost use Rattle.rsp_expr.specs.Datatypes.{type_in, unsigned_types, whole_types, other_types, datatype_of, bounds_of};
 
 use rsp_expr::{Datatype, WholeType};
 use rsp_terms::XSD_STRING;
@@ -47,7 +47,7 @@ const XSD_UNSIGNED_BYTE: &str = "http://www.w3.org/2001/XMLSchema#unsignedByte";
 
 /// The least number of the type, where it has one.
 pub(crate) fn least_of(whole_type: WholeType) -> Option<i128>
-    ensures { result ≡ least_of whole_type }
+    ensures { result ≡ (bounds_of whole_type).0 }
 {
     match whole_type {
         WholeType::Integer | WholeType::NonPositiveInteger | WholeType::NegativeInteger => None,
@@ -66,7 +66,7 @@ pub(crate) fn least_of(whole_type: WholeType) -> Option<i128>
 
 /// The greatest number of the type, where it has one.
 pub(crate) fn greatest_of(whole_type: WholeType) -> Option<i128>
-    ensures { result ≡ greatest_of whole_type }
+    ensures { result ≡ (bounds_of whole_type).1 }
 {
     match whole_type {
         WholeType::Integer | WholeType::NonNegativeInteger | WholeType::PositiveInteger => None,

@@ -3,7 +3,7 @@ ghost use Rattle.std.specs.Prelude.{◌≡◌, ◌≤◌, ◌^◌, Bool, true, m
 ghost use Rattle.rsp_number.specs.Decimals.{with_sign};
 ghost use Rattle.rsp_number.specs.Texts.{is_negative, without_sign, are_digits, number_after, has_integer_form};
 ghost use Rattle.rsp_number.specs.declared.number.Number.TheVariants as number;
-ghost use Rattle.rsp_expr.specs.Datatypes.{is_at_least, is_at_most, is_in_range, least_of, greatest_of};
+ghost use Rattle.rsp_expr.specs.Datatypes.{is_at_least, is_at_most, is_in_range, bounds_of};
 ghost use Rattle.rsp_expr.specs.Forms.{reading_map, value_in, whole_number, whole_reading, numeric_reading, number_of};
 
 use crate::datatypes::{datatype_of, greatest_of, least_of};
@@ -13,7 +13,7 @@ use rsp_terms::Term;
 
 /// What a literal with this lexical form reads as: its number, Beyond, or without the form. None where the datatype
 /// isn't `xsd:decimal` or a type of whole numbers.
-pub fn numeric_reading(datatype: Datatype, lexical: &str) -> Option<Reading<Number>>
+pub(crate) fn numeric_reading(datatype: Datatype, lexical: &str) -> Option<Reading<Number>>
     ensures { result ≡ numeric_reading datatype lexical.now }
 {
     let text = lexical.as_bytes();
@@ -126,7 +126,7 @@ fn is_size_in_range(whole_type: WholeType, negative: bool, size: u128) -> bool
 
 fn is_at_least(whole_type: WholeType, negative: bool, size: u128) -> bool
     requires { size ≤ 2 ^ 64 }
-    ensures { result ≡ is_at_least (least_of whole_type) (with_sign negative size) }
+    ensures { result ≡ is_at_least (bounds_of whole_type).0 (with_sign negative size) }
 {
     match least_of(whole_type) {
         Some(least) => least <= signed(negative, size),
@@ -136,7 +136,7 @@ fn is_at_least(whole_type: WholeType, negative: bool, size: u128) -> bool
 
 fn is_at_most(whole_type: WholeType, negative: bool, size: u128) -> bool
     requires { size ≤ 2 ^ 64 }
-    ensures { result ≡ is_at_most (greatest_of whole_type) (with_sign negative size) }
+    ensures { result ≡ is_at_most (bounds_of whole_type).1 (with_sign negative size) }
 {
     match greatest_of(whole_type) {
         Some(greatest) => signed(negative, size) <= greatest,

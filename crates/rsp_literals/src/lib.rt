@@ -16,7 +16,7 @@ mod strings;
 
 pub use booleans::{boolean_of, boolean_term, boolean_value};
 pub use datatypes::{RDF_LANG_STRING, XSD_BOOLEAN, XSD_DECIMAL, XSD_INTEGER, datatype_of};
-pub use forms::{number_of, numeric_reading};
+pub use forms::number_of;
 pub use numerals::term_of;
 pub use same::{is_boolean_term, is_string_term, is_term_of};
-pub use strings::{is_inexact, string_of, string_term, text_of};
+pub use strings::{is_inexact, string_of};

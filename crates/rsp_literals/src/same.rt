@@ -32,7 +32,7 @@ fn boolean_text(value: bool) -> &'static str
     if value { "true" } else { "false" }
 }
 
-/// Whether the term is the `xsd:string` of the text, which `string_term` makes. Takes no memory.
+/// Whether the term is the `xsd:string` of the text. Takes no memory.
 pub fn is_string_term(term: &Term, text: &str) -> bool
     ensures { result ≡ term_eq term.now (string_literal text.now) }
 {

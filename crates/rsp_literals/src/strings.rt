@@ -1,12 +1,11 @@
-// Strings and texts.
-ghost use Rattle.std.specs.Prelude.{◌≡◌, Some, IfOk};
+// Strings.
+ghost use Rattle.std.specs.Prelude.{◌≡◌};
 ghost use Rattle.std.specs.Option.{option_copied};
-ghost use Rattle.rsp_expr.specs.Strings.{typed_string, string_of, text_of, string_literal, is_floating, is_inexact};
+ghost use Rattle.rsp_expr.specs.Strings.{typed_string, string_of, is_floating, is_inexact};
 
 use crate::datatypes::datatype_of;
 use rsp_expr::Datatype;
-use rsp_terms::{Term, Text, XSD_STRING};
-use std::alloc::{AllocError, Global};
+use rsp_terms::Term;
 
 /// The text of an `xsd:string`; None of every other term.
 pub fn string_of(term: &Term) -> Option<&str>
@@ -27,26 +26,6 @@ fn typed_string(datatype: Datatype, text: &str) -> Option<&str>
         Datatype::String => Some(text),
         _ => None,
     }
-}
-
-/// The text of an `xsd:string` or of a literal with a language tag; None of every other term.
-pub fn text_of(term: &Term) -> Option<&str>
-    ensures { option_copied result ≡ text_of term.now }
-{
-    match term {
-        Term::Tagged { lexical, .. } => Some(lexical.as_str()),
-        _ => string_of(term),
-    }
-}
-
-/// The `xsd:string` of a text. Fails only where memory is refused.
-pub fn string_term(alloc: Global, text: &str) -> Result<Term, AllocError>
-    ensures literal { IfOk result (λ term. term ≡ string_literal text.now) }
-    ensures read_back { IfOk result (λ term. string_of term ≡ Some text.now) }
-{
-    let lexical = Text::new(alloc, text)?;
-    let datatype = Text::new(alloc, XSD_STRING)?;
-    Ok(Term::Literal { lexical, datatype })
 }
 
 /// Whether the term is a literal of `xsd:double` or `xsd:float`, whose numbers aren't exact.

@@ -6,9 +6,9 @@ use Rattle.std.specs.Option.{option_map_or}
 use Rattle.rsp_terms.specs.declared.term.Term.{Term}
 use Rattle.rsp_nquads.specs.declared.statements.Part.{Part}
 use Rattle.rsp_text.specs.Fronts.{is_blank, behind_blanks}
-use Rattle.rsp_scan.specs.Enclosed.{Rule}
+use Rattle.rsp_scan.specs.Enclosed.{Rule, sign}
 use Rattle.rsp_nquads.specs.Grammar.{Stands, IsIriTerm, IsNode, IsObject, IsDot, StandsNowhere, IsLongestPart, Fault, FaultHere, FaultIn, FaultAtEnd, FaultFromDot, FaultFromGraph, FaultFromObject, FaultFromPredicate, FaultFromSubject, IsAtColumn}
-use Rattle.rsp_scan.specs.Readers.{PartReader, sign}
+use Rattle.rsp_scan.specs.Readers.{PartReader}
 use Rattle.rsp_nquads.specs.Parts.{iri_term, node, object}
 use Rattle.rsp_nquads.specs.Statements.{part_of, optional_part, is_end, ends, closes, onward, parts_of, column}
 use Rattle.rsp_scan.proofs.RuleLaws.{Reads}

@@ -16,7 +16,6 @@ use Rattle.rsp_terms.specs.declared.statement.Quad.{Quad}
 use Rattle.rsp_terms.specs.Terms.{xsd_string, escaped_byte, escaped_text, iri_text, string_text, term_text}
 use Rattle.rsp_terms.specs.Characters.{is_iri_character, is_tag_text}
 use Rattle.rsp_scan.specs.Fronts.{accepts}
-use Rattle.rsp_scan.specs.declared.enclosed.Quote.TheVariants.{Double}
 use Rattle.rsp_scan.specs.Enclosed.{Piece, plain, short, long, named, piece_text, StandsFor, IsIriPiece, IsStringPiece, IsPieceOf, IsEnclosed, IsIri, Rule, is_scalar}
 use Rattle.rsp_scan.specs.Names.{IsTag}
 use Rattle.rsp_nquads.specs.Grammar.{IsDatatype, IsQualified, IsLiteral, IsIriTerm, IsNode, IsObject, IsGraph, Stands, Says}
@@ -71,7 +70,7 @@ piece_of d =
 -- each character has its piece, and an ASCII one is escaped to it
 record Escapes (d : ℕ) : Type 0 where
   stands : StandsFor (piece_of d) d
-  may : (IsStringPiece Double) (piece_of d) d
+  may : IsStringPiece (piece_of d) d
   text : piece_text (piece_of d) ≡ (if nat_lt d 128 then escaped_byte d else encode_utf8 d)
 
 ascii_of : (n : ℕ) → n < 128 → (d : ℕ) → d ≡ n → nat_lt d 128 ≡ true
@@ -157,15 +156,15 @@ values_of (d ∷ ds) = ap (λ ys. encode_utf8 d ++ ys) (values_of ds)
 abbrev AreScalars : List ℕ → Type 0
 AreScalars ds = AllByRecursion (λ d. is_scalar d ≡ true) ds
 
-string_characters : (ps : List (Piece × ℕ)) → AllByRecursion (IsPieceOf (IsStringPiece Double)) ps → AreScalars (map (λ x. x.1) ps)
+string_characters : (ps : List (Piece × ℕ)) → AllByRecursion (IsPieceOf IsStringPiece) ps → AreScalars (map (λ x. x.1) ps)
 string_characters [] each = tt
 string_characters (p ∷ ps) each = (each.0.0, string_characters ps each.1)
 
-string_pieces : (ds : List ℕ) → AreScalars ds → AllByRecursion (IsPieceOf (IsStringPiece Double)) (pieces_of ds)
+string_pieces : (ds : List ℕ) → AreScalars ds → AllByRecursion (IsPieceOf IsStringPiece) (pieces_of ds)
 string_pieces [] each = tt
 string_pieces (d ∷ ds) each = ((each.0, (escapes d).stands, (escapes d).may), string_pieces ds each.1)
 
-string_written : (part lexical : List ℕ) → IsEnclosed (IsStringPiece Double) 34 34 part lexical → IsEnclosed (IsStringPiece Double) 34 34 (string_text lexical) lexical
+string_written : (part lexical : List ℕ) → IsEnclosed IsStringPiece 34 34 part lexical → IsEnclosed IsStringPiece 34 34 (string_text lexical) lexical
 string_written part lexical e =
     record {
       pieces = pieces_of (map (λ x. x.1) e.pieces);
@@ -214,7 +213,7 @@ datatype_written part name after e = record {
   name_is = at_front IsIri (iri_text name) after name (iri_written part name e);
 }
 
-qualified : (qualifier : Rule (List ℕ)) (s q after lexical name : List ℕ) → IsEnclosed (IsStringPiece Double) 34 34 s lexical → qualifier q after name
+qualified : (qualifier : Rule (List ℕ)) (s q after lexical name : List ℕ) → IsEnclosed IsStringPiece 34 34 s lexical → qualifier q after name
     → IsQualified qualifier (string_text lexical ++ q) after lexical name
 qualified qualifier s q after lexical name string_is is = record {
   string = string_text lexical;
@@ -232,8 +231,8 @@ literal_written part rest after (Literal lexical name) e = by (bytes_eq name xsd
     text : Bool → List ℕ
     text b = string_text lexical ++ (if b then [] else codes "^^" ++ iri_text name)
 
-    alone : (s : List ℕ) → IsEnclosed (IsStringPiece Double) 34 34 s lexical → IsEnclosed (IsStringPiece Double) 34 34 (string_text lexical ++ []) lexical
-    alone s string_is = subst (λ p. IsEnclosed (IsStringPiece Double) 34 34 p lexical) (sym (append-nil (string_text lexical))) (string_written s lexical string_is)
+    alone : (s : List ℕ) → IsEnclosed IsStringPiece 34 34 s lexical → IsEnclosed IsStringPiece 34 34 (string_text lexical ++ []) lexical
+    alone s string_is = subst (λ p. IsEnclosed IsStringPiece 34 34 p lexical) (sym (append-nil (string_text lexical))) (string_written s lexical string_is)
 
     by : (b : Bool) → bytes_eq name xsd_string ≡ b → IsLiteral part rest (Literal lexical name)
         → IsLiteral (string_text lexical ++ (if b then [] else codes "^^" ++ iri_text name)) (32 ∷ after) (Literal lexical name)

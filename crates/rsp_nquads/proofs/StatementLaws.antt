@@ -12,7 +12,8 @@ use Rattle.rsp_terms.specs.declared.term.Term.TheVariants.{Iri, Blank, Literal, 
 use Rattle.rsp_terms.specs.declared.statement.Quad.{Quad}
 use Rattle.rsp_nquads.specs.declared.statements.Part.{Part}
 use Rattle.rsp_nquads.specs.declared.statements.Parts.{Parts}
-use Rattle.rsp_scan.specs.Readers.{PartReader, sign, enclosed, label, tag}
+use Rattle.rsp_scan.specs.Enclosed.{sign}
+use Rattle.rsp_scan.specs.Readers.{PartReader, enclosed, label, tag, iri, string}
 use Rattle.rsp_nquads.specs.Parts.{iri_term, datatype, node, object}
 use Rattle.rsp_text.specs.Fronts.{is_blank, behind_blanks}
 use Rattle.rsp_nquads.specs.Grammar.{Stands, IsIriTerm, IsNode, IsObject, IsGraph, IsEnd, IsDot, IsStatement, is_relative, terms_of, terms_in, Says, SaysNothing}
@@ -154,7 +155,7 @@ graph_found document text = by (node document (behind_blanks text)) refl
     by (Some x) read = stands_sound (node document) (IsNode document) (node_reads document) text x.1 x.0 read
 
 no_node_at_dot : (document : ℕ) (rest : List ℕ) → node document (46 ∷ rest) ≡ None
-unfolding node enclosed label sign
+unfolding node iri string enclosed label sign
 no_node_at_dot document rest = refl
 
 abbrev pub graph_at : List ℕ → Option Term → Option Part

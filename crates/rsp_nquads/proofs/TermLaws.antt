@@ -8,12 +8,10 @@ use Rattle.std.proofs.lemmas.List.{take-append-drop}
 use Rattle.rsp_terms.specs.declared.term.Term.{Term}
 use Rattle.rsp_terms.specs.declared.term.Term.TheVariants.{Iri, Blank, Literal, Tagged}
 use Rattle.rsp_terms.specs.Terms.{xsd_string}
-use Rattle.rsp_scan.specs.Readers.{PartReader, told, sign, enclosed, iri, string, label, tag}
+use Rattle.rsp_scan.specs.Enclosed.{sign, Rule, IsIri, IsString}
+use Rattle.rsp_scan.specs.Readers.{PartReader, told, enclosed, iri, string, label, tag}
 use Rattle.rsp_nquads.specs.Parts.{datatype, literal_of, literal, iri_term, blank, node, object}
 use Rattle.rsp_text.specs.Fronts.{is_blank, behind_blanks}
-use Rattle.rsp_scan.specs.declared.enclosed.Quote.TheVariants.{Double}
-use Rattle.rsp_scan.specs.declared.labels.Labels.TheVariants.{NQuads}
-use Rattle.rsp_scan.specs.Enclosed.{Rule, IsIri, IsString}
 use Rattle.rsp_scan.specs.Names.{IsLabel, IsTag}
 use Rattle.rsp_nquads.specs.Grammar.{Stands, IsDatatype, IsQualified, IsLiteral, IsIriTerm, IsNode, IsObject}
 use Rattle.rsp_scan.proofs.Pieces.{both_of, all_run}
@@ -71,10 +69,10 @@ module _ {A : Type 0} (reader : PartReader A) (rule : Rule A) (h : Reads reader 
 pub iri_starts : StartsWell IsIri
 iri_starts part rest v e = rw e.part_is refl
 
-pub string_starts : StartsWell (IsString Double)
+pub string_starts : StartsWell IsString
 string_starts part rest v e = rw e.part_is refl
 
-label_starts : StartsWell (IsLabel NQuads)
+label_starts : StartsWell (IsLabel)
 label_starts part rest v e = rw e.part_is refl
 
 tag_starts : StartsWell IsTag
@@ -142,7 +140,7 @@ term_same a b xs ys is =
     (ap (λ (y : Term × List ℕ). y.0) same, ap (λ (y : Term × List ℕ). y.1) same)
 
 -- a text goes on to a part behind blanks
-qualified : (qualifier : Rule (List ℕ)) (s rest lexical name text : List ℕ) → IsString Double s text lexical → (q : Stands qualifier text rest name)
+qualified : (qualifier : Rule (List ℕ)) (s rest lexical name text : List ℕ) → IsString s text lexical → (q : Stands qualifier text rest name)
     → IsQualified qualifier (s ++ (q.blanks ++ q.part)) rest lexical name
 qualified qualifier s rest lexical name text string_is q = record {
   string = s;
@@ -162,7 +160,7 @@ split_again : (s blanks part rest text all : List ℕ) → all ≡ s ++ text →
 split_again s blanks part rest text all first second =
     first ∙ (ap (λ ys. s ++ ys) (second ∙ sym (append_assoc blanks part rest)) ∙ sym (append_assoc s (blanks ++ part) rest))
 
-literal_from : (all s text rest lexical : List ℕ) (term : Term) → all ≡ s ++ text → IsString Double s text lexical → literal_of lexical text ≡ term_of term rest
+literal_from : (all s text rest lexical : List ℕ) (term : Term) → all ≡ s ++ text → IsString s text lexical → literal_of lexical text ≡ term_of term rest
     → (part : List ℕ) × ((all ≡ part ++ rest) × IsLiteral part rest term)
 unfolding literal_of
 literal_from all s text rest lexical term split string_is is =
@@ -195,20 +193,20 @@ literal_from all s text rest lexical term split string_is is =
           s,
           (
             split ∙ ap (λ ys. s ++ ys) same.1,
-            subst (λ y. IsLiteral s rest y) same.0 (inr (refl, subst (λ r. IsString Double s r lexical) same.1 string_is)),
+            subst (λ y. IsLiteral s rest y) same.0 (inr (refl, subst (λ r. IsString s r lexical) same.1 string_is)),
           ),
         )
 
 pub literal_sound : (text rest : List ℕ) (term : Term) → literal text ≡ term_of term rest
     → (part : List ℕ) × ((text ≡ part ++ rest) × IsLiteral part rest term)
 unfolding literal
-literal_sound text rest term is = by (string Double text) refl is
+literal_sound text rest term is = by (string text) refl is
   where
-    by : (o : Option (List ℕ × List ℕ)) → string Double text ≡ o → option_and_then (λ x. literal_of x.0 x.1) o ≡ term_of term rest
+    by : (o : Option (List ℕ × List ℕ)) → string text ≡ o → option_and_then (λ x. literal_of x.0 x.1) o ≡ term_of term rest
         → (part : List ℕ) × ((text ≡ part ++ rest) × IsLiteral part rest term)
     by None read is = absurd (cc)
     by (Some x) read is =
-        let s = (string_reads Double).sound text x.1 x.0 read in
+        let s = string_reads.sound text x.1 x.0 read in
         literal_from text s.0 x.1 rest x.0 term s.1.0 s.1.1 is
 
 -- no datatype and no tag stands behind the blanks
@@ -227,7 +225,7 @@ literal_typed part rest lexical name q =
     let split : part ++ rest ≡ q.string ++ (q.behind ++ rest) = ap (λ ys. ys ++ rest) q.part_is ∙ append_assoc q.string q.behind rest in
     rw (
       split,
-      (string_reads Double).full q.string (q.behind ++ rest) lexical q.is_string,
+      string_reads.full q.string (q.behind ++ rest) lexical q.is_string,
       stands_full datatype IsDatatype datatype_reads datatype_starts (q.behind ++ rest) rest name q.name_is,
     )
     refl
@@ -242,7 +240,7 @@ literal_tagged part rest lexical language q =
     = ap datatype behind ∙ no_datatype_at_tag q.name_is.part rest language q.name_is.is in
     rw (
       split,
-      (string_reads Double).full q.string (q.behind ++ rest) lexical q.is_string,
+      string_reads.full q.string (q.behind ++ rest) lexical q.is_string,
       none,
       stands_full tag IsTag tag_reads tag_starts (q.behind ++ rest) rest language q.name_is,
     )
@@ -254,7 +252,7 @@ literal_full part rest (Iri name) free e = absurd e
 literal_full part rest (Blank number name) free e = absurd e
 literal_full part rest (Literal lexical name) free (inl q) = literal_typed part rest lexical name q
 literal_full part rest (Literal lexical name) free (inr e) =
-    rw ((string_reads Double).full part rest lexical e.1, free.no_datatype, free.no_tag, e.0) refl
+    rw (string_reads.full part rest lexical e.1, free.no_datatype, free.no_tag, e.0) refl
 literal_full part rest (Tagged lexical language) free q = literal_tagged part rest lexical language q
 
 -- what a reader of terms reads leaves no more than this
@@ -304,7 +302,7 @@ literal_less part rest (Literal lexical name) (inl q) =
     record { term = Literal lexical name; behind = rest; is = literal_typed part rest lexical name q; less = omega arith }
 literal_less part rest (Literal lexical name) (inr e) =
     let more = qualified_less lexical rest in
-    record { term = more.term; behind = more.behind; is = rw ((string_reads Double).full part rest lexical e.1) more.is; less = more.less }
+    record { term = more.term; behind = more.behind; is = rw (string_reads.full part rest lexical e.1) more.is; less = more.less }
 literal_less part rest (Tagged lexical language) q =
     record { term = Tagged lexical language; behind = rest; is = literal_tagged part rest lexical language q; less = omega arith }
 
@@ -344,14 +342,14 @@ node_of_iri document part rest (Tagged lexical language) e = absurd e
 
 module _ (document : ℕ) where
   blank_sound : (text rest : List ℕ) (term : Term) → blank document text ≡ term_of term rest → (part : List ℕ) × ((text ≡ part ++ rest) × IsNode document part rest term)
-  blank_sound text rest term is = by (label NQuads text) refl is
+  blank_sound text rest term is = by (label text) refl is
     where
-      by : (o : Option (List ℕ × List ℕ)) → label NQuads text ≡ o → told (λ name. Blank document name) o ≡ term_of term rest
+      by : (o : Option (List ℕ × List ℕ)) → label text ≡ o → told (λ name. Blank document name) o ≡ term_of term rest
           → (part : List ℕ) × ((text ≡ part ++ rest) × IsNode document part rest term)
       by None read is = absurd (cc)
       by (Some x) read is =
           let same = term_same (Blank document x.0) term x.1 rest is in
-          let p = (label_reads NQuads).sound text rest x.0 (read ∙ ap (λ r. both_of x.0 r) same.1) in
+          let p = label_reads.sound text rest x.0 (read ∙ ap (λ r. both_of x.0 r) same.1) in
           (p.0, (p.1.0, subst (λ y. IsNode document p.0 rest y) same.0 (refl, p.1.1)))
 
   node_sound : (text rest : List ℕ) (term : Term) → node document text ≡ term_of term rest → (part : List ℕ) × ((text ≡ part ++ rest) × IsNode document part rest term)
@@ -365,14 +363,14 @@ module _ (document : ℕ) where
           let p = iri_term_sound text rest term (read ∙ is) in
           (p.0, (p.1.0, node_of_iri document p.0 rest term p.1.1))
 
-  no_iri_at_label : (part rest name : List ℕ) → IsLabel NQuads part rest name → iri_term (part ++ rest) ≡ None
-  unfolding enclosed sign
+  no_iri_at_label : (part rest name : List ℕ) → IsLabel part rest name → iri_term (part ++ rest) ≡ None
+  unfolding iri string enclosed sign
   no_iri_at_label part rest name e = rw e.part_is refl
 
   node_full : (part rest : List ℕ) (term : Term) → IsNode document part rest term → node document (part ++ rest) ≡ term_of term rest
   unfolding node
   node_full part rest (Iri name) e = rw (iri_term_full part rest (Iri name) e) refl
-  node_full part rest (Blank number name) e = rw (no_iri_at_label part rest name e.1, (label_reads NQuads).full part rest name e.1, e.0) refl
+  node_full part rest (Blank number name) e = rw (no_iri_at_label part rest name e.1, label_reads.full part rest name e.1, e.0) refl
   node_full part rest (Literal lexical name) e = absurd e
   node_full part rest (Tagged lexical language) e = absurd e
 
@@ -404,7 +402,7 @@ module _ (document : ℕ) where
   quoted part rest (Tagged lexical language) q = (_, ap (λ ys. ys ++ rest) (q.part_is ∙ ap (λ ys. ys ++ q.behind) q.is_string.part_is))
 
   no_node : (more : List ℕ) → node document (34 ∷ more) ≡ None
-  unfolding node enclosed label sign
+  unfolding node iri string enclosed label sign
   no_node more = refl
 
   pub object_full : (part rest : List ℕ) (term : Term) → IsFree rest → IsObject document part rest term → object document (part ++ rest) ≡ term_of term rest

@@ -8,7 +8,7 @@ use Rattle.rsp_nquads.specs.declared.fault.LineFault.{LineFault}
 use Rattle.rsp_nquads.specs.declared.fault.LineFault.TheVariants.{BadStatement, RelativeIri, OutOfMemory}
 use Rattle.rsp_text.specs.Fronts.{behind_blanks}
 use Rattle.rsp_nquads.specs.Grammar.{IsIriTerm, IsNode, IsObject, IsStatement, terms_in, IsAtColumn, IsFirstFault, IsFirstRelative}
-use Rattle.rsp_nquads.specs.Answers.{Answer, nothing, statement, bad_statement, relative_iri, IsTied, IsAnswer, IsByGrammar, SaysNeither}
+use Rattle.rsp_nquads.specs.Answers.{Answer, nothing, statement, bad_statement, relative_iri, IsTied, IsAnswer, IsByGrammar}
 use Rattle.rsp_nquads.specs.Statements.{is_end, column, answer, statement_of}
 use Rattle.rsp_nquads.proofs.StatementLaws.{Reading, blank, fault, whole, reading, holds_relative, judged_by, answer_at, nothing_at, statement_answer, statement_same, says_from, says_to, nothing_from, nothing_to}
 use Rattle.rsp_nquads.proofs.FaultLaws.{EndsWith, ends_behind, halts, faults, subject_within, column_at, column_of}
@@ -137,30 +137,12 @@ tied document line = record {
 
 -- ---- what the call answers
 
-neither : (document : ℕ) (line : List ℕ) (other : Answer) → statement_of document line ≡ other → ((quad : Quad) → ¬ (statement quad ≡ other)) → ¬ (nothing ≡ other)
-    → SaysNeither document line
-neither document line other is no_quad not_nothing =
-    (λ quad h. no_quad quad (sym (says_to document line quad h) ∙ is), λ h. not_nothing (sym (nothing_to document line h) ∙ is))
-
-bad_is_none : (column : ℕ) (quad : Quad) → ¬ (statement quad ≡ bad_statement column)
-bad_is_none column quad is = cc
-
-bad_is_something : (column : ℕ) → ¬ (nothing ≡ bad_statement column)
-bad_is_something column is = cc
-
-relative_is_none : (column : ℕ) (quad : Quad) → ¬ (statement quad ≡ relative_iri column)
-relative_is_none column quad is = cc
-
-relative_is_something : (column : ℕ) → ¬ (nothing ≡ relative_iri column)
-relative_is_something column is = cc
+only : (document : ℕ) (line : List ℕ) (given : Answer) → IsTied document line given → statement_of document line ≡ given
+only document line nothing t = nothing_to document line (t.says_nothing.0 refl)
+only document line (statement quad) t = says_to document line quad ((t.says quad).0 refl)
+only document line (bad_statement column) t = fault_to document line column ((t.first_fault column).0 refl)
+only document line (relative_iri column) t = relative_to document line column ((t.first_relative column).0 refl)
 
 pub by_grammar : (document : ℕ) (line : List ℕ) (result : Result (Option Quad) LineFault) → IsAnswer result (statement_of document line)
     → IsByGrammar document line result
-by_grammar document line (Ok None) is = nothing_from document line is
-by_grammar document line (Ok (Some quad)) is =
-    (says_from document line quad is, λ other h. statement_same other quad (sym (says_to document line other h) ∙ is))
-by_grammar document line (Err (BadStatement column)) is =
-    (neither document line (bad_statement column) is (bad_is_none column) (bad_is_something column), fault_from document line column is)
-by_grammar document line (Err (RelativeIri column)) is =
-    (neither document line (relative_iri column) is (relative_is_none column) (relative_is_something column), relative_from document line column is)
-by_grammar document line (Err OutOfMemory) is = tt
+by_grammar document line result is = λ given t. subst (IsAnswer result) (only document line given t) is

@@ -26,14 +26,6 @@ IsAnswer (Err (BadStatement column)) answer = answer ≡ bad_statement column
 IsAnswer (Err (RelativeIri column)) answer = answer ≡ relative_iri column
 IsAnswer (Err OutOfMemory) answer = ⊤
 
--- a refused line says no quad, and not nothing either
-abbrev pub SaysNeither : ℕ → List ℕ → Type 0
-SaysNeither document line = ((quad : Quad) → ¬ (Says document line quad)) × ¬ (SaysNothing line)
-
--- the result in the grammar's words
+-- the result is the answer that the line has by the grammar
 abbrev pub IsByGrammar : ℕ → List ℕ → Result (Option Quad) LineFault → Type 0
-IsByGrammar document line (Ok None) = SaysNothing line
-IsByGrammar document line (Ok (Some quad)) = Says document line quad × ((other : Quad) → Says document line other → other ≡ quad)
-IsByGrammar document line (Err OutOfMemory) = ⊤
-IsByGrammar document line (Err (BadStatement column)) = SaysNeither document line × IsFirstFault document line column
-IsByGrammar document line (Err (RelativeIri column)) = SaysNeither document line × IsFirstRelative document line column
+IsByGrammar document line result = (answer : Answer) → IsTied document line answer → IsAnswer result answer

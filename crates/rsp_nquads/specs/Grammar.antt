@@ -10,8 +10,6 @@ use Rattle.rsp_terms.specs.declared.term.Term.TheVariants.{Iri, Blank, Literal, 
 use Rattle.rsp_terms.specs.declared.statement.Quad.{Quad}
 use Rattle.rsp_terms.specs.Terms.{xsd_string}
 use Rattle.rsp_terms.specs.Characters.{is_absolute}
-use Rattle.rsp_scan.specs.declared.enclosed.Quote.TheVariants.{Double}
-use Rattle.rsp_scan.specs.declared.labels.Labels.TheVariants.{NQuads}
 use Rattle.rsp_scan.specs.Enclosed.{Rule, IsIri, IsString}
 use Rattle.rsp_scan.specs.Names.{IsLabel, IsTag}
 
@@ -40,13 +38,13 @@ pub record IsQualified (qualifier : Rule (List ℕ)) (part rest lexical name : L
   pub string : List ℕ
   pub behind : List ℕ
   pub part_is : part ≡ string ++ behind
-  pub is_string : IsString Double string (behind ++ rest) lexical
+  pub is_string : IsString string (behind ++ rest) lexical
   pub name_is : Stands qualifier (behind ++ rest) rest name
 
 -- literal ::= STRING_LITERAL_QUOTE ('^^' IRIREF | LANGTAG)?
 abbrev pub IsLiteral : Rule Term
 IsLiteral part rest (Literal lexical name) =
-    IsQualified IsDatatype part rest lexical name ⊎ ((name ≡ xsd_string) × IsString Double part rest lexical)
+    IsQualified IsDatatype part rest lexical name ⊎ ((name ≡ xsd_string) × IsString part rest lexical)
 IsLiteral part rest (Tagged lexical language) = IsQualified IsTag part rest lexical language
 IsLiteral part rest _ = ⊥
 
@@ -59,7 +57,7 @@ IsIriTerm part rest _ = ⊥
 -- subject and graph ::= IRIREF | BLANK_NODE_LABEL
 abbrev pub IsNode : ℕ → Rule Term
 IsNode document part rest (Iri name) = IsIri part rest name
-IsNode document part rest (Blank number name) = (number ≡ document) × IsLabel NQuads part rest name
+IsNode document part rest (Blank number name) = (number ≡ document) × IsLabel part rest name
 IsNode document part rest _ = ⊥
 
 -- object ::= IRIREF | BLANK_NODE_LABEL | literal

@@ -7,9 +7,8 @@ use Rattle.rsp_text.specs.Fronts.{behind_blanks}
 use Rattle.rsp_terms.specs.declared.term.Term.{Term}
 use Rattle.rsp_terms.specs.declared.term.Term.TheVariants.{Iri, Blank, Literal, Tagged}
 use Rattle.rsp_terms.specs.Terms.{xsd_string}
-use Rattle.rsp_scan.specs.declared.enclosed.Quote.TheVariants.{Double}
-use Rattle.rsp_scan.specs.declared.labels.Labels.TheVariants.{NQuads}
-use Rattle.rsp_scan.specs.Readers.{PartReader, told, sign, iri, string, label, tag}
+use Rattle.rsp_scan.specs.Enclosed.{sign}
+use Rattle.rsp_scan.specs.Readers.{PartReader, told, iri, string, label, tag}
 
 -- `^^`, and an IRI behind blanks
 unfoldable pub datatype : PartReader (List ℕ)
@@ -25,7 +24,7 @@ literal_of lexical text =
     (Some (Literal lexical xsd_string, text)))
 
 unfoldable pub literal : PartReader Term
-literal text = option_and_then (λ x. literal_of x.0 x.1) (string Double text)
+literal text = option_and_then (λ x. literal_of x.0 x.1) (string text)
 
 -- ---- the terms of a statement
 
@@ -33,7 +32,7 @@ abbrev pub iri_term : PartReader Term
 iri_term text = told (λ name. Iri name) (iri text)
 
 abbrev pub blank : ℕ → PartReader Term
-blank document text = told (λ name. Blank document name) (label NQuads text)
+blank document text = told (λ name. Blank document name) (label text)
 
 -- subjects and graphs
 unfoldable pub node : ℕ → PartReader Term

@@ -9,7 +9,8 @@ use Rattle.rsp_terms.specs.declared.term.Term.{Term}
 use Rattle.rsp_terms.specs.declared.statement.Quad.{Quad}
 use Rattle.rsp_nquads.specs.declared.statements.Part.{Part}
 use Rattle.rsp_nquads.specs.declared.statements.Parts.{Parts}
-use Rattle.rsp_scan.specs.Readers.{PartReader, sign}
+use Rattle.rsp_scan.specs.Enclosed.{sign}
+use Rattle.rsp_scan.specs.Readers.{PartReader}
 use Rattle.rsp_nquads.specs.Parts.{iri_term, node, object}
 use Rattle.rsp_text.specs.Fronts.{behind_blanks}
 use Rattle.rsp_nquads.specs.Grammar.{is_relative}

@@ -2,7 +2,7 @@
 ghost use Rattle.std.specs.Prelude.{◌≡◌, MatchOption, Some, None, IfOk};
 ghost use Rattle.rsp_nquads.specs.Parts as part;
 
-use rsp_scan::{Labels, Quote, iri, label, sign, string, tag};
+use rsp_scan::{iri, label, sign, string, tag};
 use rsp_terms::{Term, Text, XSD_STRING};
 use rsp_text::behind_blanks;
 use std::alloc::{AllocError, Global};
@@ -45,7 +45,7 @@ fn blank<'a>(
     ensures { IfOk result (λ r. MatchOption r (part.blank document text.now ≡ None)
         (λ x. part.blank document text.now ≡ Some (x.0, x.1.now))) }
 {
-    match label(alloc, Labels::NQuads, text)? {
+    match label(alloc, text)? {
         None => Ok(None),
         Some((label, rest)) => Ok(Some((Term::Blank { document, label }, rest))),
     }
@@ -72,7 +72,7 @@ fn literal<'a>(alloc: Global, text: &'a [u8]) -> Result<Option<(Term, &'a [u8])>
     ensures { IfOk result (λ r. MatchOption r (part.literal text.now ≡ None)
         (λ x. part.literal text.now ≡ Some (x.0, x.1.now))) }
 {
-    match string(alloc, Quote::Double, text)? {
+    match string(alloc, text)? {
         None => Ok(None),
         Some((lexical, rest)) => Ok(Some(literal_of(alloc, lexical, rest)?)),
     }

@@ -6,7 +6,8 @@ use Rattle.std.proofs.lemmas.Int.{ints}
 use Rattle.std.proofs.lemmas.Nat.{div-add-mod', mod_below}
 use Rattle.std.proofs.Math.Nat.{add-mul, one-mul}
 use borrow.Author.Differences.{up, down}
-use Rattle.rsp_number.specs.Numbers.{Fraction, floor_of, IsFloor}
+use Rattle.rsp_number.specs.Numbers.{Fraction, floor_of}
+use Rattle.rsp_number.specs.SecondReadings.{IsFloor}
 use Rattle.rsp_number.proofs.Summing.{up-times, down-times}
 
 at-most : (n : ℤ) (d : ℕ) → 0 < d → (int_div_euclid n (pos d) *ℤ pos d) ≤ℤ n

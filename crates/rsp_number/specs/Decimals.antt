@@ -1,6 +1,6 @@
 -- Definitions: decimals of at most 18 digits after the point, and the decimal that a fraction of whole numbers is cut to
 -- (XML Schema 1.1 part 2, section 3.3.3: a processor may limit the digits of a decimal).
-use Rattle.std.specs.Prelude.{ℕ, zero, suc, ◌*◌, ◌/◌, ◌%◌, ◌^◌, ◌-◌, ◌≤◌, Bool, cond, nat_le, ◌==◌, ℤ, pos, neg_ℤ, unsigned_abs, int_lt, Option, Some, None, option_map, MatchOption, ◌*ℤ◌, ◌<◌, ◌≡◌, ◌≢◌, ◌⊎◌}
+use Rattle.std.specs.Prelude.{ℕ, zero, suc, ◌*◌, ◌/◌, ◌%◌, ◌^◌, ◌-◌, ◌≤◌, Bool, cond, nat_le, ◌==◌, ℤ, pos, neg_ℤ, unsigned_abs, int_lt, Option, Some, None, option_map, ◌*ℤ◌, ◌≡◌, ◌≢◌, ◌⊎◌}
 
 -- the greatest size of an integer, and of a decimal's coefficient
 abbrev pub largest : ℕ
@@ -60,21 +60,6 @@ fit_size negative numerator denominator =
 abbrev pub fit : ℤ → ℕ → Option Scaled
 fit numerator denominator = fit_size (is_below_zero numerator) (unsigned_abs numerator) denominator
 
--- ---- what `fit` gives, in terms of values
-
 -- the number is size / 10 ^ scale, under a sign
 abbrev pub HasValue : Scaled → Bool → ℕ → ℕ → Type 0
 HasValue number negative size scale = number.coefficient *ℤ pos (10 ^ scale) ≡ with_sign negative size *ℤ pos (10 ^ number.scale)
-
--- the scale is the greatest at which the coefficient of the cut number fits
-pub record IsGreatestScale (numerator denominator scale : ℕ) : Type 0 where
-  pub few : scale ≤ most_digits
-  pub fits : cut numerator denominator scale ≤ largest
-  pub greatest : (other : ℕ) → other ≤ most_digits → cut numerator denominator other ≤ largest → other ≤ scale
-
--- The number is the fraction cut at that scale; there is none where the whole part doesn't fit.
-abbrev pub IsFitOf : Bool → ℕ → ℕ → Option Scaled → Type 0
-IsFitOf negative numerator denominator result =
-    MatchOption result (largest < numerator / denominator)
-    (λ number. IsDecimal number
-    × ((scale : ℕ) × (IsGreatestScale numerator denominator scale × HasValue number negative (cut numerator denominator scale) scale)))

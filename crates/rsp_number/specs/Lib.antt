@@ -4,3 +4,5 @@ pub mod Numbers
 pub mod Texts
 pub mod Tallies
 pub mod Totals
+-- Words of the way
+pub mod SecondReadings

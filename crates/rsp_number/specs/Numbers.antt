@@ -1,6 +1,6 @@
 -- Definitions: numbers as fractions of whole numbers, and what each operation on them gives (XPath functions 3.1, sections
 -- 4.2 to 4.4: op:numeric-add to op:numeric-divide, op:numeric-less-than, fn:abs to fn:round).
-use Rattle.std.specs.Prelude.{ℕ, ◌*◌, ◌^◌, Bool, cond, ◌==◌, ℤ, pos, ◌+ℤ◌, ◌-ℤ◌, ◌*ℤ◌, ◌≤ℤ◌, ◌<ℤ◌, neg_ℤ, unsigned_abs, Option, None, option_map}
+use Rattle.std.specs.Prelude.{ℕ, ◌*◌, ◌^◌, Bool, cond, ◌==◌, ℤ, pos, ◌+ℤ◌, ◌-ℤ◌, ◌*ℤ◌, neg_ℤ, unsigned_abs, Option, None, option_map}
 use Rattle.std.specs.Int.{int_div_euclid}
 use Rattle.std.specs.Ordering.{int_cmp}
 use Rattle.std.specs.declared.cmp.Ordering.{Ordering}
@@ -45,11 +45,6 @@ is_zero x = unsigned_abs x.numerator == 0
 -- the greatest whole number that is not above the fraction
 abbrev pub floor_of : Fraction → ℤ
 floor_of x = int_div_euclid x.numerator (pos x.denominator)
-
--- n is not above the fraction, and the next is: a law of `floor_of`
-pub record IsFloor (x : Fraction) (n : ℤ) : Type 0 where
-  pub at_most : (n *ℤ pos x.denominator) ≤ℤ x.numerator
-  pub next_above : x.numerator <ℤ ((n +ℤ pos 1) *ℤ pos x.denominator)
 
 -- the least whole number that is not below it
 abbrev pub ceil_of : Fraction → ℤ

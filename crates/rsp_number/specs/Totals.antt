@@ -1,6 +1,6 @@
 -- Definitions: what is taken into a total and given back, and the value of a total (SPARQL 1.1, section 18.5.1.3, Sum).
-use Rattle.std.specs.Prelude.{ℕ, ◌+◌, ◌-◌, ◌^◌, cond, ◌==◌, ℤ, pos, ◌+ℤ◌, ◌-ℤ◌, ◌*ℤ◌, int_div, Option, ◌≡◌}
-use Rattle.rsp_number.specs.Numbers.{Fraction, integer_result, decimal_result}
+use Rattle.std.specs.Prelude.{ℕ, ◌+◌, ◌-◌, ◌^◌, cond, ◌==◌, ℤ, pos, ◌+ℤ◌, ◌-ℤ◌, ◌*ℤ◌, int_div, Option}
+use Rattle.rsp_number.specs.Numbers.{integer_result, decimal_result}
 use Rattle.rsp_number.specs.Tallies.{Tally}
 use Rattle.rsp_number.specs.declared.number.Number.{Number}
 use Rattle.rsp_number.specs.declared.number.Number.TheVariants.{Integer, Decimal}
@@ -9,10 +9,6 @@ use Rattle.rsp_number.specs.declared.number.Number.TheVariants.{Integer, Decimal
 abbrev pub units : Number → ℤ
 units (Integer n) = n *ℤ pos (10 ^ 18)
 units (Decimal d) = d.coefficient *ℤ pos (10 ^ (18 - d.scale))
-
--- so many units are the fraction: a law of `units`
-abbrev pub AreUnits : Fraction → ℤ → Type 0
-AreUnits x count = count *ℤ pos x.denominator ≡ x.numerator *ℤ pos (10 ^ 18)
 
 -- how many integers, and decimals, that many times the number is
 abbrev pub integers_of : Number → ℕ → ℕ

@@ -1,7 +1,8 @@
 // The decimal that a fraction is cut to, by long division.
 
 ghost use Rattle.std.specs.Prelude.{◌≡◌, ◌≤◌, ◌<◌, ◌*◌, ◌^◌};
-ghost use Rattle.rsp_number.specs.Decimals.{fit, fit_size, IsFitOf};
+ghost use Rattle.rsp_number.specs.Decimals.{fit, fit_size};
+ghost use Rattle.rsp_number.specs.SecondReadings.{IsFitOf};
 
 use crate::decimals::{DecimalNumber, MOST_DIGITS};
 use crate::integers::LARGEST;

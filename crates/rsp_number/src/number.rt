@@ -3,7 +3,8 @@
 ghost use Rattle.std.specs.Prelude.{◌≡◌, ◌≤◌, ◌^◌, unsigned_abs};
 ghost use Rattle.rsp_number.specs.Decimals.{largest};
 ghost use Rattle.rsp_number.specs.Numbers.{value_of};
-ghost use Rattle.rsp_number.specs.Totals.{AreUnits, units};
+ghost use Rattle.rsp_number.specs.Totals.{units};
+ghost use Rattle.rsp_number.specs.SecondReadings.{AreUnits};
 
 use crate::decimals::DecimalNumber;
 use crate::integers::IntegerNumber;

@@ -3,7 +3,8 @@
 ghost use Rattle.std.specs.Prelude.{◌≡◌, ◌≤◌, unsigned_abs};
 ghost use Rattle.rsp_number.specs.Decimals.{largest};
 ghost use Rattle.rsp_number.specs.declared.number.Number.TheVariants.{Decimal};
-ghost use Rattle.rsp_number.specs.Numbers.{value_of, negation, absolute_value, rounding, IsFloor, floor_of, ceil_of, round_of};
+ghost use Rattle.rsp_number.specs.Numbers.{value_of, negation, absolute_value, rounding, floor_of, ceil_of, round_of};
+ghost use Rattle.rsp_number.specs.SecondReadings.{IsFloor};
 
 use crate::decimals::DecimalNumber;
 use crate::integers::IntegerNumber;

@@ -1,6 +1,6 @@
 // Trees over facts, and the plain answer.
 ghost use Rattle.std.specs.Prelude.{◌≡◌, ◌<◌, IfOk, []};
-ghost use Rattle.rsp_algebra.specs.Nodes.{IsPlaced};
+ghost use Rattle.rsp_algebra.specs.Fitting.{IsPlaced};
 ghost use Rattle.rsp_algebra.specs.Changing.{MayChange};
 
 use crate::fitting::fits;

@@ -1,7 +1,7 @@
 -- Worked rows: what some texts say.
 use Rattle.std.proofs.Common.{◌≡◌, [], ◌∷◌, refl, codes, Some, None}
 use Rattle.std.specs.Str.{byte}
-use Rattle.rsp_scan.specs.Readers.{sign}
+use Rattle.rsp_scan.specs.Enclosed.{sign}
 use Rattle.rsp_written.specs.declared.said.Keyword.TheVariants as keyword
 use Rattle.rsp_written.specs.declared.said.Kind.TheVariants as kind
 use Rattle.rsp_written.specs.declared.said.Symbol.TheVariants as symbol

@@ -4,7 +4,7 @@ use Rattle.std.specs.Prelude.{◌==◌, if◌then◌else◌}
 use Rattle.std.specs.Option.{option_map}
 use Rattle.std.proofs.lemmas.Bool.{eqb-true, eq-eqb}
 use Rattle.std.specs.Prelude.{MatchOption}
-use Rattle.rsp_scan.specs.Readers.{sign}
+use Rattle.rsp_scan.specs.Enclosed.{sign}
 use Rattle.rsp_said.specs.Saying.{before_sign}
 
 pub sign_none : (c : ℕ) (text : List ℕ) → ((rest : List ℕ) → text ≢ c ∷ rest) → sign c text ≡ None

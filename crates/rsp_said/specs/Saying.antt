@@ -4,7 +4,7 @@ use Rattle.std.specs.Option.{option_map, option_and_then, option_or}
 use Rattle.std.specs.List.{before_first, after_first}
 use Rattle.std.specs.Str.{byte}
 use Rattle.rsp_terms.specs.Characters.{is_absolute}
-use Rattle.rsp_scan.specs.Readers.{sign}
+use Rattle.rsp_scan.specs.Enclosed.{sign}
 use Rattle.rsp_written.specs.declared.said.Kind.{Kind}
 use Rattle.rsp_written.specs.declared.said.Kind.TheVariants as kind
 use Rattle.rsp_written.specs.declared.said.Said.{Said}

@@ -1,6 +1,6 @@
 // Parts of a token's text, by the signs that it begins and ends with.
 ghost use Rattle.std.specs.Prelude.{◌≡◌, ◌<◌, MatchOption, Some, None};
-ghost use Rattle.rsp_scan.specs.Readers.{sign};
+ghost use Rattle.rsp_scan.specs.Enclosed.{sign};
 ghost use Rattle.rsp_said.specs.Saying as saying;
 
 /// The text behind this ASCII sign, where the sign begins it.

@@ -2,7 +2,7 @@
 ghost use Rattle.std.specs.Prelude.{◌≡◌, IfOk, MatchOption, Some, None};
 ghost use Rattle.std.specs.Option.{option_and_then, option_or};
 ghost use Rattle.std.specs.Str.{byte};
-ghost use Rattle.rsp_scan.specs.Readers.{sign};
+ghost use Rattle.rsp_scan.specs.Enclosed.{sign};
 ghost use Rattle.rsp_said.specs.Saying as saying;
 
 use crate::escapes::{State, unescaped};

@@ -10,8 +10,6 @@ use Rattle.std.proofs.lemmas.List.{take-append-drop}
 use Rattle.rsp_spec.proofs.Truths.{and_left, and_right, equal_from, differs}
 use Rattle.rsp_terms.specs.Characters.{is_iri_character}
 use Rattle.rsp_scan.specs.Readers.{code_point, uchar, echar, iri_escape, string_escape}
-use Rattle.rsp_scan.specs.declared.enclosed.Quote.{Quote}
-use Rattle.rsp_scan.specs.declared.enclosed.Quote.TheVariants.{Double, Single}
 use Rattle.rsp_scan.specs.Enclosed.{Piece, plain, short, long, named, piece_text, IsHexadecimal, StandsFor, IsIriPiece, IsStringPiece, named_character, is_scalar, is_string_character}
 use Rattle.rsp_scan.proofs.Fronts.{take_front, drop_front}
 use Rattle.rsp_scan.proofs.Pieces.{IsEscape, Spells}
@@ -218,63 +216,61 @@ iri_spells = record {
 
 -- ---- in strings
 
-string_wide : (q : Quote) (c : ℕ) → 128 ≤ c → is_string_character q c ≡ true
-string_wide Double c high = grind (arith, nat_tests)
-string_wide Single c high = grind (arith, nat_tests)
+string_wide : (c : ℕ) → 128 ≤ c → is_string_character c ≡ true
+string_wide c high = grind (arith, nat_tests)
 
-string_bar : (q : Quote) → is_string_character q 92 ≡ false
-string_bar Double = refl
-string_bar Single = refl
+string_bar : is_string_character 92 ≡ false
+string_bar = refl
 
-string_found : (quote : Quote) (text rest : List ℕ) (c : ℕ) → string_escape text ≡ found_as c rest
-    → (p : Piece) × ((text ≡ piece_text p ++ rest) × (is_scalar c ≡ true) × StandsFor p c × IsStringPiece quote p c)
+string_found : (text rest : List ℕ) (c : ℕ) → string_escape text ≡ found_as c rest
+    → (p : Piece) × ((text ≡ piece_text p ++ rest) × (is_scalar c ≡ true) × StandsFor p c × IsStringPiece p c)
 unfolding string_escape
-string_found quote text rest c is = by (echar text) refl is
+string_found text rest c is = by (echar text) refl is
   where
-    of_name : Escaped IsNamed text rest c → (p : Piece) × ((text ≡ piece_text p ++ rest) × (is_scalar c ≡ true) × StandsFor p c × IsStringPiece quote p c)
+    of_name : Escaped IsNamed text rest c → (p : Piece) × ((text ≡ piece_text p ++ rest) × (is_scalar c ≡ true) × StandsFor p c × IsStringPiece p c)
     of_name e = kinds e.piece e.kind e.text_is e.scalar e.stands
       where
         kinds : (q : Piece) → IsNamed q → text ≡ piece_text q ++ rest → is_scalar c ≡ true → StandsFor q c
-            → (p : Piece) × ((text ≡ piece_text p ++ rest) × (is_scalar c ≡ true) × StandsFor p c × IsStringPiece quote p c)
+            → (p : Piece) × ((text ≡ piece_text p ++ rest) × (is_scalar c ≡ true) × StandsFor p c × IsStringPiece p c)
         kinds (plain d) kind t s st = absurd kind
         kinds (short ds) kind t s st = absurd kind
         kinds (long ds) kind t s st = absurd kind
         kinds (named d) kind t s st = (named d, (t, s, st, tt))
 
-    of_number : Escaped IsUchar text rest c → (p : Piece) × ((text ≡ piece_text p ++ rest) × (is_scalar c ≡ true) × StandsFor p c × IsStringPiece quote p c)
+    of_number : Escaped IsUchar text rest c → (p : Piece) × ((text ≡ piece_text p ++ rest) × (is_scalar c ≡ true) × StandsFor p c × IsStringPiece p c)
     of_number e = kinds e.piece e.kind e.text_is e.scalar e.stands
       where
         kinds : (q : Piece) → IsUchar q → text ≡ piece_text q ++ rest → is_scalar c ≡ true → StandsFor q c
-            → (p : Piece) × ((text ≡ piece_text p ++ rest) × (is_scalar c ≡ true) × StandsFor p c × IsStringPiece quote p c)
+            → (p : Piece) × ((text ≡ piece_text p ++ rest) × (is_scalar c ≡ true) × StandsFor p c × IsStringPiece p c)
         kinds (plain d) kind t s st = absurd kind
         kinds (named d) kind t s st = absurd kind
         kinds (short ds) kind t s st = (short ds, (t, s, st, tt))
         kinds (long ds) kind t s st = (long ds, (t, s, st, tt))
 
     by : (o : Option (ℕ × List ℕ)) → echar text ≡ o → option_or o (uchar text) ≡ found_as c rest
-        → (p : Piece) × ((text ≡ piece_text p ++ rest) × (is_scalar c ≡ true) × StandsFor p c × IsStringPiece quote p c)
+        → (p : Piece) × ((text ≡ piece_text p ++ rest) × (is_scalar c ≡ true) × StandsFor p c × IsStringPiece p c)
     by None read is = of_number (uchar_found text rest c is)
     by (Some x) read is = of_name (echar_found text rest c (read ∙ is))
 
-string_finds : (quote : Quote) (p : Piece) (c : ℕ) (rest : List ℕ) → IsEscape p → is_scalar c ≡ true → StandsFor p c → IsStringPiece quote p c
+string_finds : (p : Piece) (c : ℕ) (rest : List ℕ) → IsEscape p → is_scalar c ≡ true → StandsFor p c → IsStringPiece p c
     → string_escape (piece_text p ++ rest) ≡ found_as c rest
 unfolding string_escape echar uchar
-string_finds quote (plain d) c rest kind scalar stands may = absurd kind
-string_finds quote (named d) c rest kind scalar stands may = rw (echar_finds d c rest stands) refl
-string_finds quote (short ds) c rest kind scalar stands may = uchar_finds (short ds) c rest tt scalar stands
-string_finds quote (long ds) c rest kind scalar stands may = uchar_finds (long ds) c rest tt scalar stands
+string_finds (plain d) c rest kind scalar stands may = absurd kind
+string_finds (named d) c rest kind scalar stands may = rw (echar_finds d c rest stands) refl
+string_finds (short ds) c rest kind scalar stands may = uchar_finds (short ds) c rest tt scalar stands
+string_finds (long ds) c rest kind scalar stands may = uchar_finds (long ds) c rest tt scalar stands
 
 string_none : (c : ℕ) (rest : List ℕ) → c ≢ 92 → string_escape (c ∷ rest) ≡ None
 unfolding string_escape
 string_none c rest other = rw (echar_none c rest other, uchar_none c rest other) refl
 
-pub string_spells : (quote : Quote) → Spells (is_string_character quote) string_escape (IsStringPiece quote)
-string_spells quote = record {
-  wide = string_wide quote;
+pub string_spells : Spells is_string_character string_escape IsStringPiece
+string_spells = record {
+  wide = string_wide;
   may_from = λ c h. h;
   may_to = λ c h. h;
-  bar = string_bar quote;
-  found = string_found quote;
-  finds = string_finds quote;
+  bar = string_bar;
+  found = string_found;
+  finds = string_finds;
   none = string_none;
 }

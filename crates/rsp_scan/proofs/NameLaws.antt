@@ -10,11 +10,11 @@ use Rattle.std.proofs.lemmas.List.{take-append-drop}
 use Rattle.std.proofs.lemmas.Str.{is_utf8-from_IsUtf8, IsUtf8-from_is_utf8, IsUtf8-nil, length-encode, len_utf8_bounds, encodes-append, chars-encodes, cons_from_encodes}
 use Rattle.std.proofs.lemmas.Bool.{and_from}
 use Rattle.rsp_spec.proofs.Truths.{and_left, and_right, equal_from, differs}
-use Rattle.rsp_terms.specs.Characters.{is_tag_text}
+use Rattle.rsp_terms.specs.Characters.{is_label_text, is_tag_text}
 use Rattle.rsp_scan.specs.Fronts.{longest_front, longest_up_to}
-use Rattle.rsp_scan.specs.declared.labels.Labels.{Labels}
-use Rattle.rsp_scan.specs.Readers.{sign, label, longest_label, some_of, behind, tag}
-use Rattle.rsp_scan.specs.Names.{is_label, IsLabel, IsTag}
+use Rattle.rsp_scan.specs.Enclosed.{sign}
+use Rattle.rsp_scan.specs.Readers.{label, longest_label, some_of, behind, tag}
+use Rattle.rsp_scan.specs.Names.{IsLabel, IsTag}
 use Rattle.rsp_scan.proofs.Fronts.{take_front, drop_front, scalars-take, scalars-drop, parted}
 use Rattle.rsp_scan.proofs.Pieces.{both_of, pair_same}
 use Rattle.rsp_scan.proofs.RuleLaws.{Reads, sign_found, sign_finds, front_longest, no_longer, longest_given, length_take, take_past}
@@ -196,91 +196,90 @@ scalars-join [] ys hx hy = hy
 scalars-join (x ∷ xs) ys hx hy =
     and_from _ _ (and_left _ (all_scalars xs) hx) (scalars-join xs ys (and_right _ (all_scalars xs) hx) hy)
 
-module _ (labels : Labels) where
-  label_from : (inner rest value : List ℕ) → IsThere (longest_label labels inner) inner rest value → (part : List ℕ) × (((95 ∷ 58 ∷ inner) ≡ part ++ rest) × IsLabel labels part rest value)
-  label_from inner rest value t =
-      let c = characters_of inner in
-      let h = front_longest (is_label labels) c.cs in
-      let label_is : longest_label labels inner ≡ encode_utf8_all (longest_front (is_label labels) c.cs)
-      = ap (λ xs. encode_utf8_all (longest_front (is_label labels) xs)) c.is in
-      let n = longest_up_to (length c.cs) (is_label labels) c.cs in
-      let split : inner ≡ encode_utf8_all (longest_front (is_label labels) c.cs) ++ (encode_utf8_all (drop n c.cs) ++ c.others)
-      = c.inner_is ∙ (ap (λ ys. ys ++ c.others) (parted n c.cs)
-      ∙ append_assoc (encode_utf8_all (longest_front (is_label labels) c.cs)) (encode_utf8_all (drop n c.cs)) c.others) in
-      let rest_is : rest ≡ encode_utf8_all (drop n c.cs) ++ c.others
-      = t.rest_is ∙ (ap (λ ys. drop (length ys) inner) label_is
-      ∙ (ap (drop (length (encode_utf8_all (longest_front (is_label labels) c.cs)))) split
-      ∙ drop_front (encode_utf8_all (longest_front (is_label labels) c.cs)) (encode_utf8_all (drop n c.cs) ++ c.others))) in
-      let whole : inner ≡ value ++ rest
-      = split ∙ rw (t.value_is, label_is, rest_is) refl in
-      let some : 0 < length (longest_front (is_label labels) c.cs)
-      = some_characters (longest_front (is_label labels) c.cs) (subst (λ ys. 0 < length ys) label_is t.some) in
-      let size = length_take n c.cs h.within in
-      let scalars = scalars-take n c.cs c.scalars in (
-        95 ∷ 58 ∷ value,
-        (
-          ap (λ ys. 95 ∷ 58 ∷ ys) whole,
-          record {
-            characters = longest_front (is_label labels) c.cs;
-            scalars = scalars-take n c.cs c.scalars;
-            passes = h.passes (omega arith);
-            label_is = t.value_is ∙ label_is;
-            part_is = refl;
-            longest = λ more others more_scalars more_is passes.
-                let all : inner ≡ encode_utf8_all (longest_front (is_label labels) c.cs ++ more) ++ others
-                = whole ∙ (ap (λ ys. ys ++ rest) (t.value_is ∙ label_is)
-                ∙ (ap (λ ys. encode_utf8_all (longest_front (is_label labels) c.cs) ++ ys) more_is
-                ∙ (sym (append_assoc (encode_utf8_all (longest_front (is_label labels) c.cs)) (encode_utf8_all more) others)
-                ∙ ap (λ ys. ys ++ others) (sym (encodes-append (longest_front (is_label labels) c.cs) more))))) in
-                let b = begun (longest_front (is_label labels) c.cs ++ more) inner others
-                (scalars-join (longest_front (is_label labels) c.cs) more scalars more_scalars) all in
-                no_longer (is_label labels) c.cs more b.es (sym c.is ∙ b.is) passes;
-          },
-        ),
-      )
+label_from : (inner rest value : List ℕ) → IsThere (longest_label inner) inner rest value → (part : List ℕ) × (((95 ∷ 58 ∷ inner) ≡ part ++ rest) × IsLabel part rest value)
+label_from inner rest value t =
+    let c = characters_of inner in
+    let h = front_longest is_label_text c.cs in
+    let label_is : longest_label inner ≡ encode_utf8_all (longest_front is_label_text c.cs)
+    = ap (λ xs. encode_utf8_all (longest_front is_label_text xs)) c.is in
+    let n = longest_up_to (length c.cs) is_label_text c.cs in
+    let split : inner ≡ encode_utf8_all (longest_front is_label_text c.cs) ++ (encode_utf8_all (drop n c.cs) ++ c.others)
+    = c.inner_is ∙ (ap (λ ys. ys ++ c.others) (parted n c.cs)
+    ∙ append_assoc (encode_utf8_all (longest_front is_label_text c.cs)) (encode_utf8_all (drop n c.cs)) c.others) in
+    let rest_is : rest ≡ encode_utf8_all (drop n c.cs) ++ c.others
+    = t.rest_is ∙ (ap (λ ys. drop (length ys) inner) label_is
+    ∙ (ap (drop (length (encode_utf8_all (longest_front is_label_text c.cs)))) split
+    ∙ drop_front (encode_utf8_all (longest_front is_label_text c.cs)) (encode_utf8_all (drop n c.cs) ++ c.others))) in
+    let whole : inner ≡ value ++ rest
+    = split ∙ rw (t.value_is, label_is, rest_is) refl in
+    let some : 0 < length (longest_front is_label_text c.cs)
+    = some_characters (longest_front is_label_text c.cs) (subst (λ ys. 0 < length ys) label_is t.some) in
+    let size = length_take n c.cs h.within in
+    let scalars = scalars-take n c.cs c.scalars in (
+      95 ∷ 58 ∷ value,
+      (
+        ap (λ ys. 95 ∷ 58 ∷ ys) whole,
+        record {
+          characters = longest_front is_label_text c.cs;
+          scalars = scalars-take n c.cs c.scalars;
+          passes = h.passes (omega arith);
+          label_is = t.value_is ∙ label_is;
+          part_is = refl;
+          longest = λ more others more_scalars more_is passes.
+              let all : inner ≡ encode_utf8_all (longest_front is_label_text c.cs ++ more) ++ others
+              = whole ∙ (ap (λ ys. ys ++ rest) (t.value_is ∙ label_is)
+              ∙ (ap (λ ys. encode_utf8_all (longest_front is_label_text c.cs) ++ ys) more_is
+              ∙ (sym (append_assoc (encode_utf8_all (longest_front is_label_text c.cs)) (encode_utf8_all more) others)
+              ∙ ap (λ ys. ys ++ others) (sym (encodes-append (longest_front is_label_text c.cs) more))))) in
+              let b = begun (longest_front is_label_text c.cs ++ more) inner others
+              (scalars-join (longest_front is_label_text c.cs) more scalars more_scalars) all in
+              no_longer is_label_text c.cs more b.es (sym c.is ∙ b.is) passes;
+        },
+      ),
+    )
 
-  label_sound : (text rest value : List ℕ) → label labels text ≡ both_of value rest → (part : List ℕ) × ((text ≡ part ++ rest) × IsLabel labels part rest value)
-  unfolding label
-  label_sound text rest value is = by_first (sign 95 text) refl is
-    where
-      Goal : Type 0
-      Goal = (part : List ℕ) × ((text ≡ part ++ rest) × IsLabel labels part rest value)
+label_sound : (text rest value : List ℕ) → label text ≡ both_of value rest → (part : List ℕ) × ((text ≡ part ++ rest) × IsLabel part rest value)
+unfolding label
+label_sound text rest value is = by_first (sign 95 text) refl is
+  where
+    Goal : Type 0
+    Goal = (part : List ℕ) × ((text ≡ part ++ rest) × IsLabel part rest value)
 
-      by_second : (behind_it : List ℕ) → sign 95 text ≡ Some behind_it → (o : Option (List ℕ)) → sign 58 behind_it ≡ o
-          → option_and_then (λ inner. some_of (longest_label labels inner) inner) o ≡ both_of value rest → Goal
-      by_second behind_it first None second is = absurd (cc)
-      by_second behind_it first (Some inner) second is =
-          let all = label_from inner rest value (there (longest_label labels inner) inner rest value is) in
-          let start = sign_found 95 text behind_it first ∙ ap (λ ys. 95 ∷ ys) (sign_found 58 behind_it inner second) in
-          (all.0, (start ∙ all.1.0, all.1.1))
+    by_second : (behind_it : List ℕ) → sign 95 text ≡ Some behind_it → (o : Option (List ℕ)) → sign 58 behind_it ≡ o
+        → option_and_then (λ inner. some_of (longest_label inner) inner) o ≡ both_of value rest → Goal
+    by_second behind_it first None second is = absurd (cc)
+    by_second behind_it first (Some inner) second is =
+        let all = label_from inner rest value (there (longest_label inner) inner rest value is) in
+        let start = sign_found 95 text behind_it first ∙ ap (λ ys. 95 ∷ ys) (sign_found 58 behind_it inner second) in
+        (all.0, (start ∙ all.1.0, all.1.1))
 
-      by_first : (o : Option (List ℕ)) → sign 95 text ≡ o
-          → option_and_then (λ inner. some_of (longest_label labels inner) inner) (option_and_then (sign 58) o) ≡ both_of value rest → Goal
-      by_first None first is = absurd (cc)
-      by_first (Some behind_it) first is = by_second behind_it first (sign 58 behind_it) refl is
+    by_first : (o : Option (List ℕ)) → sign 95 text ≡ o
+        → option_and_then (λ inner. some_of (longest_label inner) inner) (option_and_then (sign 58) o) ≡ both_of value rest → Goal
+    by_first None first is = absurd (cc)
+    by_first (Some behind_it) first is = by_second behind_it first (sign 58 behind_it) refl is
 
-  some_label : (cs : List ℕ) → (is_label labels) cs ≡ true → 0 < length (encode_utf8_all cs)
-  some_label [] is = absurd (true≢false (sym is))
-  some_label (c ∷ cs) is = some_bytes c cs
+some_label : (cs : List ℕ) → is_label_text cs ≡ true → 0 < length (encode_utf8_all cs)
+some_label [] is = absurd (true≢false (sym is))
+some_label (c ∷ cs) is = some_bytes c cs
 
-  label_full : (part rest value : List ℕ) → IsLabel labels part rest value → label labels (part ++ rest) ≡ both_of value rest
-  unfolding label
-  label_full part rest value t =
-      let start : part ++ rest ≡ 95 ∷ 58 ∷ (value ++ rest) = ap (λ ys. ys ++ rest) t.part_is in
-      let split : value ++ rest ≡ encode_utf8_all t.characters ++ rest = ap (λ ys. ys ++ rest) t.label_is in
-      let b = begun t.characters (value ++ rest) rest t.scalars split in
-      let front : longest_front (is_label labels) (t.characters ++ b.es) ≡ t.characters
-      = longest_given (is_label labels) t.characters b.es t.passes
-      (λ more others es_is passes.
-      t.longest more (encode_utf8_all others ++ b.last)
-      (scalars-front more others (ap all_scalars (sym es_is) ∙ b.scalars))
-      (b.others_is ∙ (ap (λ xs. encode_utf8_all xs ++ b.last) es_is
-      ∙ (ap (λ ys. ys ++ b.last) (encodes-append more others) ∙ append_assoc (encode_utf8_all more) (encode_utf8_all others) b.last)))
-      passes) in
-      let label_is : longest_label labels (value ++ rest) ≡ value
-      = ap (λ xs. encode_utf8_all (longest_front (is_label labels) xs)) b.is ∙ (ap encode_utf8_all front ∙ sym t.label_is) in
-      let some : 0 < length value = subst (λ ys. 0 < length ys) (sym t.label_is) (some_label t.characters t.passes) in
-      rw (start, sign_finds 95 (58 ∷ (value ++ rest)), sign_finds 58 (value ++ rest), label_is) (is_there value rest some)
+label_full : (part rest value : List ℕ) → IsLabel part rest value → label (part ++ rest) ≡ both_of value rest
+unfolding label
+label_full part rest value t =
+    let start : part ++ rest ≡ 95 ∷ 58 ∷ (value ++ rest) = ap (λ ys. ys ++ rest) t.part_is in
+    let split : value ++ rest ≡ encode_utf8_all t.characters ++ rest = ap (λ ys. ys ++ rest) t.label_is in
+    let b = begun t.characters (value ++ rest) rest t.scalars split in
+    let front : longest_front is_label_text (t.characters ++ b.es) ≡ t.characters
+    = longest_given is_label_text t.characters b.es t.passes
+    (λ more others es_is passes.
+    t.longest more (encode_utf8_all others ++ b.last)
+    (scalars-front more others (ap all_scalars (sym es_is) ∙ b.scalars))
+    (b.others_is ∙ (ap (λ xs. encode_utf8_all xs ++ b.last) es_is
+    ∙ (ap (λ ys. ys ++ b.last) (encodes-append more others) ∙ append_assoc (encode_utf8_all more) (encode_utf8_all others) b.last)))
+    passes) in
+    let label_is : longest_label (value ++ rest) ≡ value
+    = ap (λ xs. encode_utf8_all (longest_front is_label_text xs)) b.is ∙ (ap encode_utf8_all front ∙ sym t.label_is) in
+    let some : 0 < length value = subst (λ ys. 0 < length ys) (sym t.label_is) (some_label t.characters t.passes) in
+    rw (start, sign_finds 95 (58 ∷ (value ++ rest)), sign_finds 58 (value ++ rest), label_is) (is_there value rest some)
 
-  pub label_reads : Reads (label labels) (IsLabel labels)
-  label_reads = record { sound = label_sound; full = label_full }
+pub label_reads : Reads label IsLabel
+label_reads = record { sound = label_sound; full = label_full }

@@ -1,5 +1,5 @@
 -- Readers and rules: a reader gives what its rule says of the part at the front.
-use Rattle.std.proofs.Common.{◌≡◌, ◌≢◌, ℕ, zero, suc, ◌-◌, ◌<◌, ◌≤◌, Bool, true, false, true≢false, List, [], ◌∷◌, ◌++◌, length, take, drop, refl, sym, ap, ◌∙◌, arith, append_assoc, length-append, Option, Some, None, if◌then◌else◌}
+use Rattle.std.proofs.Common.{◌≡◌, ◌≢◌, ℕ, zero, suc, ◌-◌, ◌<◌, ◌≤◌, Bool, true, false, true≢false, List, [], ◌∷◌, ◌++◌, length, take, drop, refl, sym, ap, ◌∙◌, arith, append_assoc, length-append, Option, Some, None, if◌then◌else◌, MatchOption}
 use Rattle.std.specs.Prelude.{◌==◌}
 use Rattle.std.specs.Char.{encode_utf8}
 use Rattle.std.specs.Option.{option_map, option_and_then}
@@ -9,10 +9,8 @@ use Rattle.std.proofs.lemmas.List.{take-append-drop}
 use Rattle.std.proofs.lemmas.Str.{length-encode, len_utf8_bounds}
 use Rattle.rsp_spec.proofs.Truths.{equal_from}
 use Rattle.rsp_scan.specs.Fronts.{longest_front, longest_up_to}
-use Rattle.rsp_scan.specs.Readers.{PartReader, sign, spelled, enclosed, iri, string}
-use Rattle.rsp_scan.specs.declared.enclosed.Quote.{Quote}
-use Rattle.rsp_scan.specs.declared.enclosed.Quote.TheVariants.{Double, Single}
-use Rattle.rsp_scan.specs.Enclosed.{Rule, Piece, plain, short, long, named, piece_text, IsEnclosed, IsIri, IsString, quote_sign, is_string_character}
+use Rattle.rsp_scan.specs.Readers.{PartReader, spelled, enclosed, iri, string}
+use Rattle.rsp_scan.specs.Enclosed.{Rule, Piece, plain, short, long, named, piece_text, IsEnclosed, IsFront, HasNoFront, HasFront, IsIri, IsString, sign}
 use Rattle.rsp_scan.proofs.Fronts.{take_front}
 use Rattle.rsp_scan.proofs.Longest.{IsLongest, longest_is}
 use Rattle.rsp_scan.proofs.Pieces.{Spells, texts, pieced, pieces_spelled, both_of, pair_same}
@@ -21,6 +19,35 @@ use Rattle.rsp_scan.proofs.EscapeLaws.{iri_spells, string_spells}
 pub record Reads {A : Type 0} (reader : PartReader A) (rule : Rule A) : Type 0 where
   pub sound : (text rest : List ℕ) (v : A) → reader text ≡ Some (v, rest) → (part : List ℕ) × ((text ≡ part ++ rest) × rule part rest v)
   pub full : (part rest : List ℕ) (v : A) → rule part rest v → reader (part ++ rest) ≡ Some (v, rest)
+
+abbrev found : {A : Type 0} → A → List ℕ → Option (A × List ℕ)
+found value rest = Some (value, rest)
+
+-- what a reader gives, in the words of its rule
+module _ {A : Type 0} (reader : PartReader A) (rule : Rule A) (h : Reads reader rule) where
+  same_reading : (a b : A) (xs ys : List ℕ) → found a xs ≡ found b ys → (a ≡ b) × (xs ≡ ys)
+  same_reading a b xs ys is =
+      let same : ◌≡◌ {A = A × List ℕ} (a, xs) (b, ys) = cc in
+      (ap (λ (y : A × List ℕ). y.0) same, ap (λ (y : A × List ℕ). y.1) same)
+
+  read_at : (text rest : List ℕ) (v : A) → IsFront rule text rest v → reader text ≡ found v rest
+  read_at text rest v f = ap reader f.text_is ∙ h.full f.part rest v f.is
+
+  pub no_front : (text : List ℕ) → reader text ≡ None → HasNoFront rule text
+  no_front text none rest v f = let read = read_at text rest v f in absurd (cc)
+
+  pub some_front : (text rest : List ℕ) (v : A) → reader text ≡ found v rest → HasFront rule text v rest
+  some_front text rest v is =
+      let p = h.sound text rest v is in (
+        record { part = p.0; text_is = p.1.0; is = p.1.1 },
+        λ other another f. same_reading another v other rest (sym (read_at text other another f) ∙ is),
+      )
+
+  pub read_by_rule : {X : Type 0} (read : Option X) (value : X → A) (rest : X → List ℕ) (text : List ℕ)
+      → MatchOption read (reader text ≡ None) (λ x. reader text ≡ found (value x) (rest x))
+      → MatchOption read (HasNoFront rule text) (λ x. HasFront rule text (value x) (rest x))
+  read_by_rule None value rest text is = no_front text is
+  read_by_rule (Some x) value rest text is = some_front text (rest x) (value x) is
 
 same_sign : (c : ℕ) → (c == c) ≡ true
 same_sign c = grind (arith, nat_tests)
@@ -113,23 +140,17 @@ module _ (opening closing : ℕ) (test : ℕ → Bool) (escape : PartReader ℕ)
       rw (whole, sign_finds opening (texts e.pieces ++ (closing ∷ rest)), read, sign_finds closing rest, e.value_is) refl
 
 pub iri_reads : Reads iri IsIri
+unfolding iri
 iri_reads = record {
   sound = λ text rest v is. enclosed_sound 60 62 _ _ _ iri_spells refl (omega arith) text rest v is;
   full = λ part rest v e. enclosed_full 60 62 _ _ _ iri_spells refl (omega arith) part rest v e;
 }
 
-quote_ends : (q : Quote) → is_string_character q (quote_sign q) ≡ false
-quote_ends Double = refl
-quote_ends Single = refl
-
-quote_is_no_bar : (q : Quote) → quote_sign q ≢ 92
-quote_is_no_bar Double = omega arith
-quote_is_no_bar Single = omega arith
-
-pub string_reads : (q : Quote) → Reads (string q) (IsString q)
-string_reads q = record {
-  sound = λ text rest v is. enclosed_sound (quote_sign q) (quote_sign q) _ _ _ (string_spells q) (quote_ends q) (quote_is_no_bar q) text rest v is;
-  full = λ part rest v e. enclosed_full (quote_sign q) (quote_sign q) _ _ _ (string_spells q) (quote_ends q) (quote_is_no_bar q) part rest v e;
+pub string_reads : Reads string IsString
+unfolding string
+string_reads = record {
+  sound = λ text rest v is. enclosed_sound 34 34 _ _ _ string_spells refl (omega arith) text rest v is;
+  full = λ part rest v e. enclosed_full 34 34 _ _ _ string_spells refl (omega arith) part rest v e;
 }
 
 -- ---- the longest front

@@ -9,25 +9,40 @@ use Rattle.std.specs.List.{list_all, concat, AllByRecursion}
 use Rattle.std.specs.Str.{encode_utf8_all, byte}
 use Rattle.std.specs.Str.Parse.{digits_value}
 use Rattle.rsp_terms.specs.Characters.{is_iri_character}
-use Rattle.rsp_scan.specs.declared.enclosed.Quote.{Quote}
-use Rattle.rsp_scan.specs.declared.enclosed.Quote.TheVariants.{Double, Single}
 
 -- a rule: the bytes of a part, those that follow it, and its value
 abbrev pub Rule : Type 0 → Type 1
 Rule A = List ℕ → List ℕ → A → Type 0
+
+-- a part of the rule stands at the front of a text, before the rest
+pub record IsFront {A : Type 0} (rule : Rule A) (text rest : List ℕ) (value : A) : Type 0 where
+  pub part : List ℕ
+  pub text_is : text ≡ part ++ rest
+  pub is : rule part rest value
+
+-- none stands there
+abbrev pub HasNoFront : {A : Type 0} → Rule A → List ℕ → Type 0
+HasNoFront {A} rule text = (rest : List ℕ) (value : A) → ¬ (IsFront rule text rest value)
+
+-- one stands there, of this value and before this rest, and no other
+abbrev pub HasFront : {A : Type 0} → Rule A → List ℕ → A → List ℕ → Type 0
+HasFront {A} rule text value rest =
+    IsFront rule text rest value
+    × ((other : List ℕ) (another : A) → IsFront rule text other another → (another ≡ value) × (other ≡ rest))
+
+-- the text behind one byte of its own, where it stands at the front
+unfoldable pub sign : ℕ → List ℕ → Option (List ℕ)
+sign c [] = None
+sign c (d ∷ text) = if c == d then Some text else None
 
 -- ---- characters of IRIs and strings
 
 abbrev pub is_scalar : ℕ → Bool
 is_scalar c = nat_lt c 0xD800 || is_in_range 0xE000 0x10FFFF c
 
-abbrev pub quote_sign : Quote → ℕ
-quote_sign Double = byte "\""
-quote_sign Single = byte "'"
-
--- what may stand unescaped in a string: all but its quote, `\`, line feed and carriage return
-abbrev pub is_string_character : Quote → ℕ → Bool
-is_string_character quote c = not ((c == quote_sign quote) || ((c == byte "\\") || ((c == byte "\n") || (c == byte "\r"))))
+-- what may stand unescaped in a string: all but `"`, `\`, line feed and carriage return
+abbrev pub is_string_character : ℕ → Bool
+is_string_character c = not ((c == byte "\"") || ((c == byte "\\") || ((c == byte "\n") || (c == byte "\r"))))
 
 pub data Piece : Type 0 where
   plain : ℕ → Piece  -- a character as it is
@@ -68,9 +83,9 @@ IsIriPiece (named c) d = ⊥
 IsIriPiece _ d = is_iri_character d ≡ true
 
 -- in a string, a string character as it is, or any as UCHAR or ECHAR
-abbrev pub IsStringPiece : Quote → Piece → ℕ → Type 0
-IsStringPiece quote (plain c) d = is_string_character quote d ≡ true
-IsStringPiece quote _ d = ⊤
+abbrev pub IsStringPiece : Piece → ℕ → Type 0
+IsStringPiece (plain c) d = is_string_character d ≡ true
+IsStringPiece _ d = ⊤
 
 -- a piece beside the character that it stands for, a Unicode scalar value
 abbrev pub IsPieceOf : (Piece → ℕ → Type 0) → Piece × ℕ → Type 0
@@ -87,6 +102,6 @@ pub record IsEnclosed (may : Piece → ℕ → Type 0) (opening closing : ℕ) (
 abbrev pub IsIri : Rule (List ℕ)
 IsIri part rest name = IsEnclosed IsIriPiece (byte "<") (byte ">") part name
 
--- STRING_LITERAL_QUOTE; SPARQL 1.1, section 19.8, STRING_LITERAL1 and STRING_LITERAL2
-abbrev pub IsString : Quote → Rule (List ℕ)
-IsString quote part rest lexical = IsEnclosed (IsStringPiece quote) (quote_sign quote) (quote_sign quote) part lexical
+-- STRING_LITERAL_QUOTE
+abbrev pub IsString : Rule (List ℕ)
+IsString part rest lexical = IsEnclosed IsStringPiece (byte "\"") (byte "\"") part lexical

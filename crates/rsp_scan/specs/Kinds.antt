@@ -8,8 +8,8 @@ use Rattle.rsp_scan.specs.Enclosed.{is_string_character}
 
 abbrev pub is_plain : Kind → ℕ → Bool
 is_plain Iri = is_iri_character
-is_plain (String quote) = is_string_character quote
+is_plain String = is_string_character
 
 abbrev pub escape : Kind → PartReader ℕ
 escape Iri = iri_escape
-escape (String quote) = string_escape
+escape String = string_escape

@@ -10,11 +10,8 @@ use Rattle.std.specs.Option.{option_map, option_map_or, option_and_then, option_
 use Rattle.std.specs.Str.{byte, chars, encode_utf8_all, is_utf8}
 use Rattle.std.specs.Str.Lossy.{utf8_valid_len}
 use Rattle.std.specs.Str.Parse.{digits_value}
-use Rattle.rsp_terms.specs.Characters.{is_iri_character, is_tag_text}
-use Rattle.rsp_scan.specs.declared.enclosed.Quote.{Quote}
-use Rattle.rsp_scan.specs.declared.labels.Labels.{Labels}
-use Rattle.rsp_scan.specs.Enclosed.{is_scalar, quote_sign, is_string_character, named_character}
-use Rattle.rsp_scan.specs.Names.{is_label}
+use Rattle.rsp_terms.specs.Characters.{is_iri_character, is_label_text, is_tag_text}
+use Rattle.rsp_scan.specs.Enclosed.{is_scalar, is_string_character, named_character, sign}
 use Rattle.rsp_scan.specs.Fronts.{longest_front}
 
 -- what reads a part of value A
@@ -79,11 +76,6 @@ spelled (suc most) plain escape text =
     (Some (run, behind run text))
     else None
 
--- one byte of its own
-unfoldable pub sign : ℕ → List ℕ → Option (List ℕ)
-sign c [] = None
-sign c (d ∷ text) = if c == d then Some text else None
-
 -- an opening sign, what is spelled, a closing sign
 unfoldable pub enclosed : ℕ → ℕ → (ℕ → Bool) → PartReader ℕ → PartReader (List ℕ)
 enclosed opening closing plain escape text =
@@ -95,26 +87,26 @@ enclosed opening closing plain escape text =
     (sign opening text)
 
 -- IRIREF
-abbrev pub iri : PartReader (List ℕ)
+unfoldable pub iri : PartReader (List ℕ)
 iri = enclosed (byte "<") (byte ">") is_iri_character iri_escape
 
--- a string of this quote
-abbrev pub string : Quote → PartReader (List ℕ)
-string quote = enclosed (quote_sign quote) (quote_sign quote) (is_string_character quote) string_escape
+-- STRING_LITERAL_QUOTE
+unfoldable pub string : PartReader (List ℕ)
+string = enclosed (byte "\"") (byte "\"") is_string_character string_escape
 
 -- ---- labels and tags
 
 -- BLANK_NODE_LABEL: `_:` and the longest label behind it
-abbrev pub longest_label : Labels → List ℕ → List ℕ
-longest_label labels text = encode_utf8_all (longest_front (is_label labels) (chars (take (utf8_valid_len text) text)))
+abbrev pub longest_label : List ℕ → List ℕ
+longest_label text = encode_utf8_all (longest_front is_label_text (chars (take (utf8_valid_len text) text)))
 
 -- the part is there where something of it is
 abbrev pub some_of : List ℕ → PartReader (List ℕ)
 some_of front text = if length front == 0 then None else Some (front, behind front text)
 
-unfoldable pub label : Labels → PartReader (List ℕ)
-label labels text =
-    option_and_then (λ inner. some_of (longest_label labels inner) inner)
+unfoldable pub label : PartReader (List ℕ)
+label text =
+    option_and_then (λ inner. some_of (longest_label inner) inner)
     (option_and_then (sign (byte ":")) (sign (byte "_") text))
 
 -- LANGTAG: `@` and the longest tag behind it

@@ -4,9 +4,8 @@ use Rattle.std.specs.Prelude.{ℕ, suc, Bool, true, false, not, ◌&&◌, ◌||�
 use Rattle.std.specs.Char.{is_ascii_alphabetic, is_ascii_digit}
 use Rattle.std.specs.Option.{option_map_or}
 use Rattle.std.specs.Str.{byte, encode_utf8_all}
-use Rattle.rsp_scan.specs.declared.labels.Labels.{Labels}
+use Rattle.rsp_terms.specs.Characters.{is_label_start, is_label_character}
 use Rattle.rsp_scan.specs.Fronts.{Machine}
-use Rattle.rsp_scan.specs.Names.{starts_label, continues_label}
 
 -- of one item and so many behind it, where it alone may end or not
 abbrev pub lengthened : Bool → ℕ → ℕ
@@ -22,20 +21,20 @@ abbrev pub scanned_bytes : {S : Type 0} → Machine S → S → List ℕ → ℕ
 scanned_bytes m s cs = length (encode_utf8_all (take (scan m s cs) cs))
 
 -- a label's state is the character read last
-abbrev pub next_of_label : Labels → Option ℕ → ℕ → Option (Option ℕ)
-next_of_label labels None c = if starts_label labels c then Some (Some c) else None
-next_of_label labels (Some last) c = if continues_label labels c then Some (Some c) else None
+abbrev pub next_of_label : Option ℕ → ℕ → Option (Option ℕ)
+next_of_label None c = if is_label_start c then Some (Some c) else None
+next_of_label (Some last) c = if is_label_character c then Some (Some c) else None
 
 abbrev pub ends_label : Option ℕ → Bool
 ends_label None = false
 ends_label (Some last) = not (last == byte ".")
 
-abbrev pub label_machine : Labels → Machine (Option ℕ)
-label_machine labels = record { step = next_of_label labels; ends = ends_label }
+abbrev pub label_machine : Machine (Option ℕ)
+label_machine = record { step = next_of_label; ends = ends_label }
 
 -- the bytes of the longest front behind a label's first character
-abbrev pub further_bytes : Labels → List ℕ → ℕ
-further_bytes labels cs = length (encode_utf8_all (take (scan (label_machine labels) (Some 0) cs) cs))
+abbrev pub further_bytes : List ℕ → ℕ
+further_bytes cs = length (encode_utf8_all (take (scan label_machine (Some 0) cs) cs))
 
 -- a tag's state: within the first subtag, and whether the subtag has begun
 abbrev pub next_of_tag : Bool × Bool → ℕ → Option (Bool × Bool)

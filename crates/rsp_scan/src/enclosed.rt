@@ -3,7 +3,7 @@ ghost use Rattle.std.specs.Prelude.{◌≡◌, ◌≤◌, MatchOption, Some, Non
 ghost use Rattle.std.specs.List.{take_while, prefix_len};
 ghost use Rattle.std.specs.Str.{is_utf8};
 ghost use Rattle.std.specs.String.{string_bytes};
-ghost use Rattle.rsp_scan.specs.Enclosed.{quote_sign, is_string_character as string_character};
+ghost use Rattle.rsp_scan.specs.Enclosed.{IsIri, IsString, HasFront, HasNoFront, is_string_character as string_character};
 ghost use Rattle.rsp_scan.specs.Kinds as kinds;
 ghost use Rattle.rsp_scan.specs.Readers as part;
 
@@ -13,31 +13,11 @@ use rsp_terms::Text;
 use std::alloc::{AllocError, Global};
 use std::str;
 
-/// The sign that a string stands between.
-#[derive(Clone, Copy)]
-pub enum Quote {
-    /// `"`
-    Double,
-    /// `'`
-    Single,
-}
-
-impl Quote {
-    fn sign(self) -> u8
-        ensures { result ≡ quote_sign self }
-    {
-        match self {
-            Quote::Double => b'"',
-            Quote::Single => b'\'',
-        }
-    }
-}
-
 /// What is enclosed.
 #[derive(Clone, Copy)]
 pub(crate) enum Kind {
     Iri,
-    String(Quote),
+    String,
 }
 
 impl Kind {
@@ -47,7 +27,7 @@ impl Kind {
         match self {
             Kind::Iri =>
                 !matches!(c, 0..=b' ' | b'"' | b'<' | b'>' | b'\\' | b'^' | b'`' | b'{'..=b'}'),
-            Kind::String(quote) => is_string_character(quote, c),
+            Kind::String => is_string_character(c),
         }
     }
 
@@ -57,7 +37,7 @@ impl Kind {
     {
         match self {
             Kind::Iri => iri_escape(text),
-            Kind::String(_) => string_escape(text),
+            Kind::String => string_escape(text),
         }
     }
 
@@ -83,15 +63,25 @@ impl Kind {
     }
 }
 
-fn is_string_character(quote: Quote, c: u8) -> bool
-    ensures { result ≡ string_character quote c }
+fn is_string_character(c: u8) -> bool
+    ensures { result ≡ string_character c }
 {
-    c != quote.sign() && !matches!(c, b'\\' | b'\n' | b'\r')
+    !matches!(c, b'"' | b'\\' | b'\n' | b'\r')
 }
 
-/// The IRI at the front of a text, with escapes replaced, and the text behind it.
-#[tactic(auto, unfolding(crate::specs::Readers::enclosed))]
+/// The IRI in brackets at the front of a text (RDF 1.1 N-Quads, section 4: IRIREF), with escapes replaced, and the text
+/// behind it; None exactly where none stands there. Fails only where memory is refused.
 pub fn iri<'a>(alloc: Global, text: &'a [u8]) -> Result<Option<(Text, &'a [u8])>, AllocError>
+    ensures value { IfOk result (λ r. MatchOption r (part.iri text.now ≡ None)
+        (λ x. part.iri text.now ≡ Some (x.0, x.1.now))) }
+    ensures grammar { IfOk result (λ r. MatchOption r (HasNoFront IsIri text.now)
+        (λ x. HasFront IsIri text.now x.0 x.1.now)) }
+{
+    enclosed_iri(alloc, text)
+}
+
+#[tactic(auto, unfolding(crate::specs::Readers::iri, crate::specs::Readers::enclosed))]
+fn enclosed_iri<'a>(alloc: Global, text: &'a [u8]) -> Result<Option<(Text, &'a [u8])>, AllocError>
     ensures { IfOk result (λ r. MatchOption r (part.iri text.now ≡ None)
         (λ x. part.iri text.now ≡ Some (x.0, x.1.now))) }
 {
@@ -107,22 +97,31 @@ pub fn iri<'a>(alloc: Global, text: &'a [u8]) -> Result<Option<(Text, &'a [u8])>
     }
 }
 
-/// The string of this quote at the front of a text, with escapes replaced, and the text behind it.
-#[tactic(auto, unfolding(crate::specs::Readers::enclosed))]
-pub fn string<'a>(
+/// The string between two `"` at the front of a text (RDF 1.1 N-Quads, section 4: STRING_LITERAL_QUOTE), with escapes
+/// replaced, and the text behind it; None exactly where none stands there. Fails only where memory is refused.
+pub fn string<'a>(alloc: Global, text: &'a [u8]) -> Result<Option<(Text, &'a [u8])>, AllocError>
+    ensures value { IfOk result (λ r. MatchOption r (part.string text.now ≡ None)
+        (λ x. part.string text.now ≡ Some (x.0, x.1.now))) }
+    ensures grammar { IfOk result (λ r. MatchOption r (HasNoFront IsString text.now)
+        (λ x. HasFront IsString text.now x.0 x.1.now)) }
+{
+    enclosed_string(alloc, text)
+}
+
+#[tactic(auto, unfolding(crate::specs::Readers::string, crate::specs::Readers::enclosed))]
+fn enclosed_string<'a>(
     alloc: Global,
-    quote: Quote,
     text: &'a [u8],
 ) -> Result<Option<(Text, &'a [u8])>, AllocError>
-    ensures { IfOk result (λ r. MatchOption r (part.string quote text.now ≡ None)
-        (λ x. part.string quote text.now ≡ Some (x.0, x.1.now))) }
+    ensures { IfOk result (λ r. MatchOption r (part.string text.now ≡ None)
+        (λ x. part.string text.now ≡ Some (x.0, x.1.now))) }
 {
-    let Some(inner) = sign(quote.sign(), text) else {
+    let Some(inner) = sign(b'"', text) else {
         return Ok(None);
     };
-    match spelled(alloc, Kind::String(quote), inner)? {
+    match spelled(alloc, Kind::String, inner)? {
         None => Ok(None),
-        Some((value, rest)) => match sign(quote.sign(), rest) {
+        Some((value, rest)) => match sign(b'"', rest) {
             None => Ok(None),
             Some(rest) => Ok(Some((value, rest))),
         },

@@ -2,8 +2,9 @@
 ghost use Rattle.std.specs.Prelude.{◌≡◌, ◌≤◌, ◌+◌, MatchOption, Some, None, IfOk, length, take, true, false, if◌then◌else◌};
 ghost use Rattle.std.specs.Str.{chars, encode_utf8_all, IsUtf8};
 ghost use Rattle.std.specs.Str.Lossy.{utf8_valid_len};
-ghost use Rattle.rsp_terms.specs.Characters.{is_tag_text};
-ghost use Rattle.rsp_scan.specs.Names.{is_label, starts_label, continues_label};
+ghost use Rattle.rsp_terms.specs.Characters.{is_label_text, is_tag_text};
+ghost use Rattle.rsp_scan.specs.Enclosed.{HasFront, HasNoFront};
+ghost use Rattle.rsp_scan.specs.Names.{IsLabel, IsTag};
 ghost use Rattle.rsp_scan.specs.Fronts.{longest_front};
 ghost use Rattle.rsp_scan.specs.Readers as part;
 ghost use Rattle.rsp_scan.specs.Scans.{further_bytes, next_of_tag, scan, tag_machine};
@@ -14,44 +15,21 @@ use rsp_terms::characters::{is_label_character, is_label_start};
 use std::alloc::{AllocError, Global};
 use std::str;
 
-/// Which characters a label may have.
-#[derive(Clone, Copy)]
-pub enum Labels {
-    /// As in N-Quads, where `:` is one of them.
-    NQuads,
-    /// As in SPARQL, without `:`.
-    Sparql,
+/// The longest blank node label at the front of a text (RDF 1.1 N-Quads, section 4: BLANK_NODE_LABEL), without `_:`, and
+/// the text behind it; None exactly where none stands there. Fails only where memory is refused.
+pub fn label<'a>(alloc: Global, text: &'a [u8]) -> Result<Option<(Text, &'a [u8])>, AllocError>
+    ensures value { IfOk result (λ r. MatchOption r (part.label text.now ≡ None)
+        (λ x. part.label text.now ≡ Some (x.0, x.1.now))) }
+    ensures grammar { IfOk result (λ r. MatchOption r (HasNoFront IsLabel text.now)
+        (λ x. HasFront IsLabel text.now x.0 x.1.now)) }
+{
+    marked_label(alloc, text)
 }
 
-impl Labels {
-    fn starts(self, character: char) -> bool
-        ensures { result ≡ starts_label self character }
-    {
-        match self {
-            Labels::NQuads => is_label_start(character),
-            Labels::Sparql => is_label_start(character) && character != ':',
-        }
-    }
-
-    fn continues(self, character: char) -> bool
-        ensures { result ≡ continues_label self character }
-    {
-        match self {
-            Labels::NQuads => is_label_character(character),
-            Labels::Sparql => is_label_character(character) && character != ':',
-        }
-    }
-}
-
-/// The blank node label at the front of a text, without `_:`, and the text behind it.
 #[tactic(auto, unfolding(crate::specs::Readers::label))]
-pub fn label<'a>(
-    alloc: Global,
-    labels: Labels,
-    text: &'a [u8],
-) -> Result<Option<(Text, &'a [u8])>, AllocError>
-    ensures { IfOk result (λ r. MatchOption r (part.label labels text.now ≡ None)
-        (λ x. part.label labels text.now ≡ Some (x.0, x.1.now))) }
+fn marked_label<'a>(alloc: Global, text: &'a [u8]) -> Result<Option<(Text, &'a [u8])>, AllocError>
+    ensures { IfOk result (λ r. MatchOption r (part.label text.now ≡ None)
+        (λ x. part.label text.now ≡ Some (x.0, x.1.now))) }
 {
     let Some(behind) = sign(b'_', text) else {
         return Ok(None);
@@ -59,7 +37,7 @@ pub fn label<'a>(
     let Some(inner) = sign(b':', behind) else {
         return Ok(None);
     };
-    let label = label_front(labels, inner);
+    let label = label_front(inner);
     if label.is_empty() {
         return Ok(None);
     }
@@ -67,11 +45,11 @@ pub fn label<'a>(
 }
 
 // the longest label at the front
-fn label_front(labels: Labels, text: &[u8]) -> &str
-    ensures value { result.now ≡ part.longest_label labels text.now }
+fn label_front(text: &[u8]) -> &str
+    ensures value { result.now ≡ part.longest_label text.now }
     ensures bound { length result.now ≤ length text.now }
 {
-    longest_label(labels, valid_front(text))
+    longest_label(valid_front(text))
 }
 
 // the characters before the first byte that isn't UTF-8
@@ -88,38 +66,38 @@ fn valid_front(text: &[u8]) -> &str
     }
 }
 
-fn longest_label(labels: Labels, text: &str) -> &str
-    ensures value { result.now ≡ encode_utf8_all (longest_front (is_label labels) (chars text.now)) }
+fn longest_label(text: &str) -> &str
+    ensures value { result.now ≡ encode_utf8_all (longest_front is_label_text (chars text.now)) }
     ensures bound { length result.now ≤ length text.now }
 {
-    &text[..label_len(labels, text)]
+    &text[..label_len(text)]
 }
 
 // how many bytes the longest label at the front has
-fn label_len(labels: Labels, text: &str) -> usize
-    ensures { result ≡ length (encode_utf8_all (longest_front (is_label labels) (chars text.now))) }
+fn label_len(text: &str) -> usize
+    ensures { result ≡ length (encode_utf8_all (longest_front is_label_text (chars text.now))) }
 {
     let mut characters = text.chars();
     match characters.next() {
         None => 0,
         Some(first) => {
-            if !labels.starts(first) {
+            if !is_label_start(first) {
                 return 0;
             }
-            first.len_utf8() + further_len(labels, characters.as_str())
+            first.len_utf8() + further_len(characters.as_str())
         }
     }
 }
 
 // so many bytes of label characters, without dots at their end
-fn further_len(labels: Labels, text: &str) -> usize
-    ensures value { result ≡ further_bytes labels (chars text.now) }
+fn further_len(text: &str) -> usize
+    ensures value { result ≡ further_bytes (chars text.now) }
     ensures bound { result ≤ length text.now }
 {
     let mut read = 0;
     let mut end = 0;
     for character in text.chars() {
-        if !labels.continues(character) {
+        if !is_label_character(character) {
             return end;
         }
         read += character.len_utf8();
@@ -128,9 +106,19 @@ fn further_len(labels: Labels, text: &str) -> usize
     end
 }
 
-/// The language tag at the front of a text, without `@`, and the text behind it.
-#[tactic(auto, unfolding(crate::specs::Readers::tag))]
+/// The longest language tag at the front of a text (RDF 1.1 N-Quads, section 4: LANGTAG), without `@`, and the text behind
+/// it; None exactly where none stands there. Fails only where memory is refused.
 pub fn tag<'a>(alloc: Global, text: &'a [u8]) -> Result<Option<(Text, &'a [u8])>, AllocError>
+    ensures value { IfOk result (λ r. MatchOption r (part.tag text.now ≡ None)
+        (λ x. part.tag text.now ≡ Some (x.0, x.1.now))) }
+    ensures grammar { IfOk result (λ r. MatchOption r (HasNoFront IsTag text.now)
+        (λ x. HasFront IsTag text.now x.0 x.1.now)) }
+{
+    marked_tag(alloc, text)
+}
+
+#[tactic(auto, unfolding(crate::specs::Readers::tag))]
+fn marked_tag<'a>(alloc: Global, text: &'a [u8]) -> Result<Option<(Text, &'a [u8])>, AllocError>
     ensures { IfOk result (λ r. MatchOption r (part.tag text.now ≡ None)
         (λ x. part.tag text.now ≡ Some (x.0, x.1.now))) }
 {

@@ -2,8 +2,8 @@
 //! their escapes replaced, labels of blank nodes, language tags.
 //!
 //! Each call gives the value of the part that stands there and the text behind it, and None exactly where none stands.
-//! The quote of a string and the characters of a label are arguments. What goes character by character has the steps of an
-//! escape. Above: the readers of statements and of queries.
+//! They are those of N-Quads; SPARQL's strings and labels are more, and have their own tokens. What goes character by
+//! character has the steps of an escape. Above: the readers of statements and of queries.
 //! Below: texts and their characters.
 #![tactic(auto)]
 
@@ -13,7 +13,7 @@ mod escaping;
 mod labels;
 mod signs;
 
-pub use enclosed::{Quote, iri, string};
+pub use enclosed::{iri, string};
 pub use escaping::{Escape, Escaped, escape_step, uchar_step};
-pub use labels::{Labels, label, tag};
+pub use labels::{label, tag};
 pub use signs::sign;

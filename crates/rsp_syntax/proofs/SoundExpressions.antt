@@ -11,7 +11,8 @@ use Rattle.rsp_written.specs.Trees.{Expr, variable, iri, constant, any_of, all_o
 use Rattle.rsp_numbering.specs.Naming.{Scope, Before, behind, named}
 use Rattle.rsp_numbering.specs.Naming as naming
 use Rattle.rsp_numbering.specs.Expressions.{behind_expr, behind_exprs, behind_operands, from_left, numbered_expr, numbered_exprs, numbered_operands, signed_formula, with_aggregates, with_aggregates_of_all, with_aggregates_of_row}
-use Rattle.rsp_algebra.specs.Nodes.{AreBelow, AggregateFits, formula_variables, variables_of_all}
+use Rattle.rsp_algebra.specs.Nodes.{formula_variables, variables_of_all}
+use Rattle.rsp_algebra.specs.Fitting.{AreBelow, AggregateFits}
 use Rattle.rsp_algebra.proofs.Widths.{all-append}
 use Rattle.rsp_syntax.proofs.Numbers.{behind_grows, count, number_below}
 

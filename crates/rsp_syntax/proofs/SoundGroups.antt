@@ -10,7 +10,8 @@ use Rattle.rsp_numbering.specs.Naming.{Scope, Before, behind, behind_select, num
 use Rattle.rsp_numbering.specs.Naming as naming
 use Rattle.rsp_numbering.specs.Expressions.{behind_expr, numbered_expr}
 use Rattle.rsp_numbering.specs.Selections.{behind_element, behind_elements, behind_graph, behind_groups, behind_having, behind_item, behind_items, behind_names, behind_within, graph_of, groups_of, having_of, item_of, items_in, items_of, numbers_of, projection_of, selected_within, with_element, with_elements, with_having_aggregates, with_item_aggregates, with_items_aggregates}
-use Rattle.rsp_algebra.specs.Nodes.{AggregateFits, AreBelow, argument_variables, slot_variables}
+use Rattle.rsp_algebra.specs.Nodes.{slot_variables}
+use Rattle.rsp_algebra.specs.Fitting.{AggregateFits, AreBelow, argument_variables}
 use Rattle.rsp_algebra.proofs.Widths.{all-append}
 use Rattle.rsp_shapes.specs.Sound.{GroupsAreSound, ItemIsBelow, PartIsSound, PartsAreSound, SelectionIsSound}
 use Rattle.rsp_syntax.proofs.Numbers.{behind_grows, count, number_below}

@@ -14,13 +14,13 @@ use Rattle.rsp_query.specs.Groups as query
 use Rattle.rsp_algebra.specs.declared.tree.Place.{Place}
 use Rattle.rsp_algebra.specs.declared.tree.Place.TheVariants as place
 use Rattle.rsp_algebra.specs.Nodes as node
-use Rattle.rsp_algebra.specs.Nodes.{Node, AreBelow, AggregateFits, Fits, argument_variables, formula_variables, place_variables, slot_variables, variables_of_all}
+use Rattle.rsp_algebra.specs.Nodes.{Node, formula_variables, place_variables, slot_variables, variables_of_all}
+use Rattle.rsp_algebra.specs.Fitting.{AreBelow, AggregateFits, Fits, argument_variables, IsPlaced}
 use Rattle.rsp_translation.specs.Paths.{choices, end_of, from_left, path_node, slashes, slashes_among as way_slashes_among, slashes_following, steps}
 use Rattle.rsp_translation.specs.Selects.{every_variable, projected, selected, with_distinct, with_groups, with_having, with_item, with_items}
 use Rattle.rsp_shapes.specs.Sound.{GroupsAreSound, ItemIsBelow, PartIsSound, PartsAreSound, SelectionIsSound, WayIsBelow, WaysAreBelow}
 use Rattle.rsp_query.specs.Queries.{Registered}
 use Rattle.rsp_algebra.specs.declared.tree.Translated.{Translated}
-use Rattle.rsp_algebra.specs.Nodes.{IsPlaced}
 use Rattle.rsp_shapes.specs.Sound.{IsSound}
 use Rattle.rsp_translation.specs.Translation.{IsTranslated, setting_of, width_of}
 use Rattle.rsp_translation.specs.Trees.{Begun, Setting, Test, closed, condition_of, filter_of, filtered, filters, finished, graph_place, group_node, group_nodes, joined, longer, nothing, select_node, slashes_among, slashes_in, slashes_of, slashes_within, tested, value_for, values_row, window_place, with_part, with_parts, with_run, with_test, with_tree, with_triple}

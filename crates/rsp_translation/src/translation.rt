@@ -1,7 +1,8 @@
 // The translation of a query.
 ghost use Rattle.std.specs.Prelude.{◌≡◌, IfOk, length};
 ghost use Rattle.rsp_query.specs.Queries.{registered};
-ghost use Rattle.rsp_algebra.specs.Nodes.{IsPlaced, node_of};
+ghost use Rattle.rsp_algebra.specs.Nodes.{node_of};
+ghost use Rattle.rsp_algebra.specs.Fitting.{IsPlaced};
 ghost use Rattle.rsp_shapes.specs.Sound.{IsSound};
 ghost use Rattle.rsp_translation.specs.Selects as selects;
 ghost use Rattle.rsp_translation.specs.Translation.{IsAnswer, tree_of, width_of};

@@ -2,7 +2,7 @@
 //! the values of aggregates in a group of rows (section 18.5.1).
 //!
 //! All are exactly what `rsp_expr` defines. Parts that can't matter aren't valued, and where only the truth is asked
-//! tests make no term. Below: what a node makes of its parts' values, and totals of numbers.
+//! tests make no term (no clause says so: it is time). Below: what a node makes of its parts' values, and totals of numbers.
 #![tactic(auto)]
 
 mod aggregates;

@@ -1,5 +1,5 @@
 // Sums and averages of numbers.
-ghost use Rattle.std.specs.Prelude.{◌≡◌, ◌≤◌, ◌+◌, ◌^◌, IfOk, option_map, pos};
+ghost use Rattle.std.specs.Prelude.{◌≡◌, ◌≤◌, ◌+◌, ◌^◌, IfOk, OkIff, length, option_map, pos};
 ghost use Rattle.std.specs.Option.{option_and_then};
 ghost use Rattle.rsp_number.specs.Numbers.{integer_result, quotient};
 ghost use Rattle.rsp_number.specs.Totals.{after_taking};
@@ -41,15 +41,15 @@ fn number_in(value: &Option<Term>) -> Option<Number>
     }
 }
 
-/// The sum; None exactly where no number holds it. Fails only for more than 2^32 numbers.
+/// The sum; None exactly where no number holds it. Fails exactly for more than 2^32 numbers.
 pub(crate) fn sum_of(numbers: &[Number]) -> Result<Option<Number>, AllocError>
-    ensures { IfOk result (λ number. number ≡ aggregates.sum_of numbers.now) }
+    ensures { OkIff result (length numbers.now ≤ 2 ^ 32) (aggregates.sum_of numbers.now) }
 {
     Ok(total_of(numbers)?.value())
 }
 
 fn total_of(numbers: &[Number]) -> Result<Total, AllocError>
-    ensures { IfOk result (λ total. total ≡ aggregates.total_of numbers.now) }
+    ensures { OkIff result (length numbers.now ≤ 2 ^ 32) (aggregates.total_of numbers.now) }
 {
     if numbers.len() > MOST_NUMBERS {
         return Err(AllocError);
@@ -70,9 +70,9 @@ fn take_one(total: &mut Total, number: &Number)
 }
 
 /// The sum divided by how many numbers there are, and 0 where there is none; None exactly where no number holds the sum or
-/// the quotient. Fails only for more than 2^32 numbers.
+/// the quotient. Fails exactly for more than 2^32 numbers.
 pub(crate) fn average_of(numbers: &[Number]) -> Result<Option<Number>, AllocError>
-    ensures { IfOk result (λ number. number ≡ aggregates.average_of numbers.now) }
+    ensures { OkIff result (length numbers.now ≤ 2 ^ 32) (aggregates.average_of numbers.now) }
 {
     if numbers.is_empty() {
         return Ok(whole(0));

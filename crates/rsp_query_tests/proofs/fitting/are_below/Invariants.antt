@@ -1,5 +1,5 @@
 use Rattle.std.proofs.Common.{drop}
-use Rattle.rsp_algebra.specs.Nodes.{AreBelow}
+use Rattle.rsp_algebra.specs.Fitting.{AreBelow}
 use Rattle.rsp_query_tests.proofs.fitting.are_below.Given as goal
 
 abbrev pub invariant-loop-variable : goal.invariant-loop-variable

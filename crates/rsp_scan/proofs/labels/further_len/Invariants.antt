@@ -7,7 +7,7 @@ use Rattle.rsp_scan.proofs.labels.further_len.Given as goal
 abbrev pub invariant-loop-character : goal.invariant-loop-character
 invariant-loop-character l = record {
   whole : IsUtf8 (chars_rest l.character-iterator);
-  best : best l.end l.read (further_bytes l.fn.labels (chars (chars_rest l.character-iterator))) ≡ further_bytes l.fn.labels (chars l.fn.text);
+  best : best l.end l.read (further_bytes (chars (chars_rest l.character-iterator))) ≡ further_bytes (chars l.fn.text);
   read : l.read + length (chars_rest l.character-iterator) ≡ length l.fn.text;
   within : l.end ≤ l.read;
 }
