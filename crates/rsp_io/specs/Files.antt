@@ -1,5 +1,5 @@
 -- Definitions: files by name: pairs of a name and its bytes, of which the first of a name counts.
-use Rattle.std.specs.Prelude.{◌≡◌, ℕ, List, [], ◌∷◌, Option, Some, None, Result, MatchResult, IsErr, IsSome, if◌then◌else◌, bytes_eq, ⊤, String, Vec, string_bytes, drop}
+use Rattle.std.specs.Prelude.{◌≡◌, ℕ, List, [], ◌∷◌, Option, Some, None, Result, MatchResult, IsErr, IsSome, if◌then◌else◌, bytes_eq, ⊤, String, Vec, string_bytes}
 
 -- the bytes of the first file of this name
 abbrev pub file_named : List ℕ → List (List ℕ × List ℕ) → Option (List ℕ)
@@ -24,13 +24,3 @@ FailsForName (Some files) name result = IsErr result → file_named name files �
 abbrev pub named_files : {A B : Type 0} → List (String A × Vec ℕ B) → List (List ℕ × List ℕ)
 named_files [] = []
 named_files (file ∷ files) = (string_bytes file.0, file.1.items) ∷ named_files files
-
--- the bytes of the first file
-abbrev pub first_bytes : {A B : Type 0} → List (String A × Vec ℕ B) → List ℕ
-first_bytes [] = []
-first_bytes (file ∷ files) = file.1.items
-
--- the bytes of the file that was picked by its index; none before any pick
-abbrev pub picked_bytes : {A B : Type 0} → List (String A × Vec ℕ B) → Option ℕ → List ℕ
-picked_bytes files None = []
-picked_bytes files (Some index) = first_bytes (drop index files)

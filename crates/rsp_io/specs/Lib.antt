@@ -4,3 +4,5 @@ pub mod Reading
 pub mod Writing
 pub mod Files
 pub mod Objects
+-- Words of the way
+pub mod Parts

@@ -47,21 +47,6 @@ pub record MemorySinkState : Type 0 where
   pub failing : List ℕ
   pub piece : ℕ
 
--- bytes taken, and the room that is left for more
-pub record ReserveState : Type 0 where
-  pub taken : List ℕ
-  pub room : ℕ
-
--- files, and what is left of the one that was picked last
-pub record FilesState : Type 0 where
-  pub files : List (List ℕ × List ℕ)
-  pub left : List ℕ
-
--- the next call's number, and the numbers of those that fail
-pub record CallsState : Type 0 where
-  pub calls : ℕ
-  pub failing : List ℕ
-
 pub record StdSourceState : Type 0 where
   pub given : ℕ
   pub faults : ℕ

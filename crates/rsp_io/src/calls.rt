@@ -12,7 +12,7 @@ pub(crate) struct Calls {
 }
 
 impl Model for Calls {
-    ghost use Rattle.rsp_io.specs.Objects.{CallsState};
+    ghost use Rattle.rsp_io.specs.Parts.{CallsState};
 
     ghost Value = { CallsState };
 

@@ -1,6 +1,7 @@
 // Files in memory, by name.
 ghost use Rattle.std.specs.Prelude.{◌≡◌, [], Some, None, IsTrue, IsFalse, MatchOption, is_some, min, length, take, drop};
-ghost use Rattle.rsp_io.specs.Files.{file_named, named_files, first_bytes, picked_bytes};
+ghost use Rattle.rsp_io.specs.Files.{file_named, named_files};
+ghost use Rattle.rsp_io.specs.Parts.{first_bytes, picked_bytes};
 
 use crate::portion::hand_out;
 use std::marker::Model;
@@ -14,9 +15,10 @@ pub(crate) struct Files {
 }
 
 impl Model for Files {
-    ghost use Rattle.rsp_io.specs.Objects.{FilesState};
+    ghost use Rattle.rsp_io.specs.Parts.{FilesState};
     ghost use Rattle.std.specs.Prelude.{◌≤◌, drop, length};
-    ghost use Rattle.rsp_io.specs.Files.{named_files, picked_bytes};
+    ghost use Rattle.rsp_io.specs.Files.{named_files};
+    ghost use Rattle.rsp_io.specs.Parts.{picked_bytes};
 
     ghost Value = { FilesState };
 

@@ -13,7 +13,7 @@ pub(crate) struct Reserve {
 
 impl Model for Reserve {
     ghost use Rattle.std.specs.Prelude.{◌+◌, ◌≤◌, vec_len, vec_capacity};
-    ghost use Rattle.rsp_io.specs.Objects.{ReserveState};
+    ghost use Rattle.rsp_io.specs.Parts.{ReserveState};
 
     ghost Value = { ReserveState };
 
