@@ -3,9 +3,10 @@ import glob
 import os
 import re
 
-from documents import TOP, examples, read
+from documents import TOP, blocks, examples, read
 
-ARCHITECTURE, CHANGING, DEFINITIONS = "docs/ARCHITECTURE.md", "docs/CHANGING.md", "docs/DEFINITIONS.md"
+ARCHITECTURE, CHANGING, COMING_FROM = "docs/ARCHITECTURE.md", "docs/CHANGING.md", "docs/COMING-FROM.md"
+DEFINITIONS = "docs/DEFINITIONS.md"
 
 
 def text(path):
@@ -42,13 +43,22 @@ def below():
     return {name.split()[0]: set(uses.split()) for name, _, uses in lines}
 
 
+def rows(page, column):
+    """Each row of the page's tables with such a column: its first cell, and the one of this column."""
+    for table in text(page).split("\n\n"):
+        head, *lines = (line.strip("|").split(" | ") for line in table.splitlines())
+        names = [cell.strip() for cell in head]
+        if column in names:
+            yield from ((cells[0].strip(), cells[names.index(column)]) for cells in lines[1:])
+
+
+def quoted(cell):
+    return re.findall(r"`([^`]+)`", cell)
+
+
 def rows_of_crates():
     """Each row of ARCHITECTURE's tables of crates: its crate, and the libraries that it says this one stands on."""
-    for table in text(ARCHITECTURE).split("\n\n"):
-        head, *rows = table.splitlines() or [""]
-        if head.endswith("| Stands on |"):
-            for cells in (row.strip("|").split(" | ") for row in rows[1:]):
-                yield cells[0].strip(" `"), set(re.findall(r"`(\w+)`", cells[-1]))
+    return ((first.strip("`"), set(quoted(uses))) for first, uses in rows(ARCHITECTURE, "Stands on"))
 
 
 def fault_of_crates():
@@ -88,6 +98,16 @@ def fault_of_places(page):
     return None
 
 
+def fault_of_fragments():
+    """The first fragment in a column "Here" of COMING-FROM that no block of the page has, or None; `..` stands for anything."""
+    shown = " ".join("".join(block.text for block in blocks(COMING_FROM)).split())
+    for _, cell in rows(COMING_FROM, "Here"):
+        for fragment in quoted(cell):
+            if any(part.strip() not in shown for part in fragment.split("..")):
+                return f"no block has {fragment}"
+    return None
+
+
 def checks():
     """Each check as its name and what it found wrong."""
     for page in pages():
@@ -95,3 +115,4 @@ def checks():
     yield f"{ARCHITECTURE}: what crates stand on", fault_of_crates()
     yield f"{DEFINITIONS}: files of definitions", fault_of_definitions()
     yield f"{CHANGING}: files and words", fault_of_places(CHANGING)
+    yield f"{COMING_FROM}: what is here", fault_of_fragments()
