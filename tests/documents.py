@@ -1,8 +1,8 @@
 """What people paste: the commands of documents as they stand, the logs and queries in them, and the recipes.
 
 In README, GUIDE, RECIPES, TOOLS and the pages of the examples each indented block is a command, the output of the command before
-it, or lines of a file of the examples. In COMING-FROM, EVENTS, QUERIES and REPORTS a block that begins as a report or a refusal is
-what the log before it gives, if there is one.
+it, or lines of a file of the examples. In COMING-FROM, EVENTS, QUERIES and REPORTS a block that begins as a report or a refusal
+is what the log before it gives, if there is one.
 """
 import contextlib
 import os

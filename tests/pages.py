@@ -15,8 +15,8 @@ def text(path):
 
 def pages():
     """The paths of all pages."""
-    found = [os.path.relpath(path, TOP) for path in glob.glob(f"{TOP}/docs/*.md")]
-    return ["README.md", "CHANGELOG.md", "bench/README.md", *sorted(found), *(f"examples/{name}/README.md" for name in examples())]
+    docs = sorted(os.path.relpath(path, TOP) for path in glob.glob(f"{TOP}/docs/*.md"))
+    return ["README.md", "CHANGELOG.md", "bench/README.md", *docs, *(f"examples/{name}/README.md" for name in examples())]
 
 
 def anchors(path):
@@ -89,13 +89,16 @@ def is_named(path, parts):
 
 
 def fault_of_places(page):
-    """The first `file: word` of a page whose file isn't there or hasn't that word, or None."""
-    for path, word in re.findall(r"`([\w./-]+/[\w./-]+): ([^`]+)`", text(page)):
-        if not os.path.isfile(f"{TOP}/{path}"):
-            return f"there is no file {path}"
-        if not re.search(rf"(?<!\w){re.escape(word)}(?!\w)", text(path)):
-            return f"{path} hasn't {word}"
-    return None
+    """The `file: word` of a page whose file isn't there or hasn't that word, or None."""
+    wrong = [f"{path}: {word}" for path, word in re.findall(r"`([\w./-]+): ([^`]+)`", text(page)) if not has_word(path, word)]
+    return f"no such place: {wrong}" if wrong else None
+
+
+def has_word(path, word):
+    """A file of a crate is named from its crate on; a folder has the words of all its files."""
+    path = f"{TOP}/crates/{path}" if path.startswith("rsp_") else f"{TOP}/{path}"
+    files = [path] if os.path.isfile(path) else glob.glob(f"{path}/**", recursive=True)
+    return any(re.search(rf"(?<!\w){re.escape(word)}(?![\w])", read(file).decode()) for file in files if os.path.isfile(file))
 
 
 def fault_of_fragments():
