@@ -64,7 +64,10 @@ def unfed(watched, course, mode):
 
 
 def unread(course, places):
-    """Each stream that no window reads, with the most similar one, best one that nothing feeds. `places` has where each is named."""
+    """Each stream that no window reads, with the most similar one, best one that nothing feeds.
+
+    `places` has where each is named first.
+    """
     read = sorted(stream.decode() for stream in streams_read(course))
     lonely = [stream for stream in read if stream.encode() not in course.streams]
     for stream, place in places.items():

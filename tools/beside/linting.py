@@ -14,6 +14,7 @@ from .inputs import complain, file_of, name_of_input, opened
 from .limits import SECONDS, within_limits
 from .pages import TOOLS, page_of
 from .places import Place, Text
+from .refusals import kind_of
 from .texts import looked
 from .timing import late, seconds, unclosed
 from .words import parsed
@@ -37,7 +38,7 @@ def of_text(query, text, values=None):
 
 def of_fault(its, text):
     said = f"the program refuses this text, as `{its.why}`"
-    return Finding(text.place(its.at), " ".join(its.why.split(" ")[:2]), said, "write as `tools/explain` says", page_of(TOOLS, "explain"))
+    return Finding(text.place(its.at), kind_of(its.why), said, "write as `tools/explain` says", page_of(TOOLS, "explain"))
 
 
 def looked_at(content, text):
