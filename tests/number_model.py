@@ -10,8 +10,9 @@ from fractions import Fraction
 
 from term_model import XSD, Literal
 
-# a text may have up to 65,536 digits in a row
-sys.set_int_max_str_digits(0)
+# a text may have up to 65,536 digits in a row; older Pythons have no limit
+if hasattr(sys, "set_int_max_str_digits"):
+    sys.set_int_max_str_digits(0)
 
 LARGEST = 2 ** 63 - 1
 MOST_DIGITS = 18

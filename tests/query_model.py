@@ -348,7 +348,8 @@ with_aggregates = expression(either(counted, folded))
 
 
 def path():
-    name = either(mapped(lambda x: ("step", x), iri), mapped(lambda word: ("step", Name(RDF_TYPE, word.token.start)), one_of("a")))
+    a = mapped(lambda word: ("step", Name(RDF_TYPE, word.token.start)), one_of("a"))
+    name = either(mapped(lambda x: ("step", x), iri), a)
     part = mapped(
         lambda v: ("inverse", v[1]) if v[0] else v[1], row(maybe(one_of("^")), either(name, in_parens(lazy(path))))
     )
@@ -412,7 +413,10 @@ def items(rule):
 
 select_clause = mapped(
     lambda v: (v[1] is not None, v[2]),
-    row(one_of("SELECT"), maybe(one_of("DISTINCT")), either(mapped(lambda star: Name("*", star.token.start), one_of("*")), items(with_aggregates))),
+    row(
+        one_of("SELECT"), maybe(one_of("DISTINCT")),
+        either(mapped(lambda star: Name("*", star.token.start), one_of("*")), items(with_aggregates)),
+    ),
 )
 tail = row(
     mapped(lambda keys: keys or [], maybe(kept(2, one_of("GROUP"), one_of("BY"), items(plain)))),

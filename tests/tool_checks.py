@@ -17,7 +17,7 @@ sys.path.insert(0, f"{TOP}/tools")
 import documents  # noqa: E402
 import model  # noqa: E402
 import tool_cases  # noqa: E402
-from beside import explaining, mistakes, pages, refusals, words  # noqa: E402
+from beside import explaining, limits, mistakes, pages, refusals, words  # noqa: E402
 from documents import read  # noqa: E402
 
 EXPECTED = f"{TOP}/tests/tools.expected"
@@ -63,7 +63,7 @@ def fault_of_row(said, folder, output):
 
 
 def fault_of_place(entry, finding, asked, groups):
-    """A place is one of a file that is named, or a line of the block; `at` counts the bytes of the text, `column` those of a line."""
+    """A place is in a file that is named, or in the block; `at` counts the bytes of the text, `column` those of a line."""
     details = refusals.details_of(entry.text)
     file, line, column = finding.place
     if isinstance(entry, refusals.OfLine):
@@ -80,6 +80,44 @@ def fault_of_place(entry, finding, asked, groups):
 
 def offset(lines, line, column):
     return sum(len(there) + 1 for there in lines[:line - 1]) + column - 1
+
+
+# ---- words
+
+
+def faults_of_words():
+    """The tools take the words of the program, and no others: those that a row wants the usage for are wrong."""
+    for name in sorted(os.listdir(f"{TOP}/tests/rows")):
+        row = f"{TOP}/tests/rows/{name}"
+        said = os.fsdecode(read(f"{row}/words")).split("\n")[:-1]
+        is_wrong = os.path.exists(f"{row}/status") and int(read(f"{row}/status")) == 2
+        if said[:1] == ["gen"]:
+            continue
+        try:
+            words.parsed(said)
+            given = False
+        except words.WrongWords:
+            given = True
+        if given != is_wrong:
+            yield name
+
+
+# ---- what the model can't read in time
+
+
+def fault_of_slow_text():
+    """A text that the model hasn't read in time gets its place alone."""
+    text, seconds = b"REGISTER RSTREAM <q:o> AS SELECT ?x " + b"SELECT " * 1000, limits.SECONDS
+    limits.SECONDS = 0
+    try:
+        with tempfile.NamedTemporaryFile(prefix="rsp-tool-") as file:
+            file.write(text)
+            file.flush()
+            output = io.BytesIO(b"# refused query 8 Syntax at=36\n")
+            (found,) = explaining.explained(words.parsed(["check", file.name]), output)
+    finally:
+        limits.SECONDS = seconds
+    return None if (found.place.column, found.said) == (37, explaining.UNREAD) else f"it says {found}"
 
 
 # ---- the mistakes of QUERIES
@@ -102,7 +140,7 @@ def fault_of_mistake(mistake):
 
 
 def calls():
-    """Each example, then each command of GUIDE that runs the program: as a name, and the command with `tools/lint` in its place."""
+    """Each example and each command of GUIDE that runs the program: a name, and the command with `tools/lint` in its place."""
     for name in documents.examples():
         folder = f"examples/{name}"
         said = " ".join(read(f"{TOP}/{folder}/words").decode().split())
@@ -115,7 +153,7 @@ def calls():
 
 
 def findings_of(command):
-    ran = subprocess.run(["bash", "-c", command], cwd=TOP, stdout=subprocess.PIPE, stderr=subprocess.PIPE, timeout=documents.SECONDS)
+    ran = subprocess.run(["bash", "-c", command], cwd=TOP, capture_output=True, timeout=documents.SECONDS)
     return [line.split(": ")[1] for line in ran.stdout.decode().splitlines()] + ([ran.stderr.decode()] if ran.stderr else [])
 
 
@@ -160,6 +198,9 @@ def checks():
     yield from tool_cases.checks()
     for name, said, folder in refused_rows():
         yield f"explain of tests/rows/{name}", fault_of_row(said, folder, read(f"{TOP}/tests/rows/{name}/stdout"))
+    wrong = list(faults_of_words())
+    yield "the tools take the words of the program", f"not so in {wrong}" if wrong else None
+    yield "a text that the model hasn't read in time", fault_of_slow_text()
     for mistake in mistakes.mistakes():
         yield f"explain of the mistake {mistake.mistake}", fault_of_mistake(mistake)
     yield from checks_of_calls()

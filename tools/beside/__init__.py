@@ -1,6 +1,6 @@
 """Tools that stand beside the program: they read what it reads and what it writes, and say where something is and what to write.
 
-They share the models of tests/, which are a second reading of the definitions. The program is right; a tool that disagrees says so.
+They share the models of tests/, a second reading of the definitions. The program is right; a tool that disagrees says so.
 """
 import os
 import sys

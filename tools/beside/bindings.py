@@ -120,7 +120,9 @@ def of_unbound(query, text, variable, use, everywhere):
         others = [name_of(query, other) for other in sorted(everywhere) if is_given(query, other)]
         similar = difflib.get_close_matches(name, others, 1)
         said = f"`?{name}` is {use}, and nothing binds it"
-        write = f"`?{similar[0]}`, if that is meant" if similar else f"a triple, a BIND or VALUES that binds `?{name}`, or nothing"
+        write = f"a triple, a BIND or VALUES that binds `?{name}`, or nothing"
+        if similar:
+            write = f"`?{similar[0]}`, if that is meant"
         if name in others:
             said = f"{said}: the `?{name}` of a select within is another variable, as that select doesn't show it"
             write = f"`?{name}` among what the select within shows"

@@ -14,7 +14,7 @@ from .limits import SECONDS, within_limits
 from .mistakes import advice
 from .pages import QUERIES, limit_of, page_of, paragraph
 from .places import Place, Text, with_caret
-from .refusals import OfBlock, OfLine, OfQuery, Overfull, details_of, kind_of, written
+from .refusals import Good, OfBlock, OfLine, OfQuery, Overfull, details_of, kind_of, written
 from .stands import in_words
 from .texts import looked
 from .words import parsed
@@ -118,8 +118,9 @@ class Entries:
 
     def refusal_of(self, number, history):
         """Why the block is refused, or None; what stands in the output before it is handed to the history."""
-        while isinstance(self.next, Overfull):
-            history.note_overfull(*self.next)
+        while isinstance(self.next, (Overfull, Good)):
+            if isinstance(self.next, Overfull):
+                history.note_overfull(*self.next)
             self.next = next(self.rest, None)
         if not isinstance(self.next, OfBlock) or self.next.block != number:
             return None
@@ -219,6 +220,10 @@ def of_check(words, entries):
     for entry in entries:
         if isinstance(entry, OfQuery):
             yield from guarded_finding(of_text, text, entry.text)
+        elif isinstance(entry, Good):
+            its = within_limits(looked, text.content)
+            if its is not None and its.why:
+                yield Differs(differing_in(text.place(its.at), "ok", f"the model says `{its.why}`"))
         else:
             yield Differs(differing_in(text.place(0), getattr(entry, "text", "overfull"), "`check` writes no such line"))
 
@@ -249,7 +254,8 @@ def of_file_line(words, entry, files):
     page, sentence = paragraph(kind)
     if kind == "6 NoTimeLine":
         return Finding(place, kind, sentence, "", page, with_caret(line, place.column))
-    return Finding(place, kind, said_of_line(line, kind.split(" ")[1], place.column), sentence, page, with_caret(line, place.column))
+    said = said_of_line(line, kind.split(" ")[1], place.column)
+    return Finding(place, kind, said, sentence, page, with_caret(line, place.column))
 
 
 # what could stand at a place of a statement, by what makes it one that is whole

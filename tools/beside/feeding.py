@@ -12,10 +12,13 @@ from .places import quoted
 SOURCES = {"events": ("item", "an `@insert` of quads into it"), "run": ("file", "`--store FILE` with quads of it")}
 
 
-def similar(name, names):
-    """The most similar of the names, or None."""
-    found = difflib.get_close_matches(name, [other for other in names if other != name], 1, 0.5)
-    return found[0] if found else None
+def similar(name, lonely, others=()):
+    """The most similar of the names that have no counterpart, else one of the others that is hardly another; or None."""
+    for names, least in ((lonely, 0.5), (others, 0.8)):
+        found = difflib.get_close_matches(name, [other for other in names if other != name], 1, least)
+        if found:
+            return found[0]
+    return None
 
 
 def iri(name):
@@ -38,14 +41,19 @@ def unlooked(query, text):
 # ---- streams
 
 
+def streams_read(course):
+    return {stream for watched in course.watched for stream in watched.streams}
+
+
 def unfed(watched, course, mode):
-    """Each window of a query whose stream no file and no item feeds."""
-    names = [stream.decode() for stream in course.streams]
+    """Each window of a query whose stream no file and no item feeds, with the most similar one, best one that no window reads."""
+    read, fed = streams_read(course), [stream.decode() for stream in course.streams]
+    lonely = [stream for stream in fed if stream.encode() not in read]
     for clause, window in zip(watched.query["windows"], watched.windows):
         if window.stream in watched.fed:
             continue
         said = f"no {SOURCES[mode][0]} feeds the stream {iri(clause['stream'])} of this window"
-        other = similar(clause["stream"], names)
+        other = similar(clause["stream"], lonely, fed)
         if window.stream in course.streams:
             said, write = f"{said} while the query is live", "write the `@register` before its items"
         elif other:
@@ -56,11 +64,15 @@ def unfed(watched, course, mode):
 
 
 def unread(course, places):
-    """Each stream that no window reads; `places` has where a stream is named first."""
-    read = {stream for watched in course.watched for stream in watched.streams}
+    """Each stream that no window reads, with the most similar one, best one that nothing feeds.
+
+    `places` has where each is named first.
+    """
+    read = sorted(stream.decode() for stream in streams_read(course))
+    lonely = [stream for stream in read if stream.encode() not in course.streams]
     for stream, place in places.items():
-        if stream not in read:
-            other = similar(stream.decode(), [name.decode() for name in read])
+        if stream.decode() not in read:
+            other = similar(stream.decode(), lonely, read)
             write = f"write {iri(other)}, if that is meant" if other else "write a window over it, or leave it out"
             said = f"no window reads the stream {iri(stream.decode())}"
             yield Finding(place, "unread", said, write, page_of(TOOLS, "unread"))

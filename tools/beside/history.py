@@ -92,8 +92,8 @@ def of_name_taken(history, block, details):
     name = block.event[1]
     if name not in history.live:
         return None
-    line = history.live[name][0]
-    return f"{quoted(name)} is live since line {line}, where it is registered", f"write another name, or `@cancel {name.decode()}` before it"
+    said = f"{quoted(name)} is live since line {history.live[name][0]}, where it is registered"
+    return said, f"write another name, or `@cancel {name.decode()}` before it"
 
 
 def of_no_query(history, block, details):
@@ -104,7 +104,8 @@ def of_no_query(history, block, details):
     if ended is None:
         return f"no query {quoted(name)} is registered before it", "write the name of a live query, or nothing"
     where = "" if ended.line is None else f" at line {ended.line}"
-    return f"the query {quoted(name)} {ended.how}{where}, so none of this name is live", "write nothing, or a `@register` before it"
+    said = f"the query {quoted(name)} {ended.how}{where}, so none of this name is live"
+    return said, "write nothing, or a `@register` before it"
 
 
 def of_full_queries(history, block, details):
@@ -128,7 +129,8 @@ def of_full_items(history, block, details):
     """The items that some window still needs, as of the time of the item that comes."""
     queries = [windows_of(live) for live in history.live.values()]
     if None in queries:
-        return f"with it {details['held']} triples would be kept, and {MOST_HELD} may be", "write shorter windows, or less at a time"
+        said = f"with it {details['held']} triples would be kept, and {MOST_HELD} may be"
+        return said, "write shorter windows, or less at a time"
     own, time = len(block.event[3]), block.event[2]
     kept = [item for number, item in enumerate(history.items) if is_needed(queries, number, item, time)]
     held = sum(item.triples for item in kept)

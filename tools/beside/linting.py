@@ -14,6 +14,7 @@ from .inputs import complain, file_of, name_of_input, opened
 from .limits import SECONDS, within_limits
 from .pages import TOOLS, page_of
 from .places import Place, Text
+from .refusals import kind_of
 from .texts import looked
 from .timing import late, seconds, unclosed
 from .words import parsed
@@ -24,7 +25,10 @@ USAGE = "usage: tools/lint [--lines] events [--json] < LOG | run [--json] [--sto
 def lint(words):
     """The findings of the words, as they stand in the files and the log."""
     words = parsed(words)
-    return {"events": of_log, "run": of_run, "check": of_check}[words.mode](words)
+    if words.mode == "events":
+        with opened(None) as log:
+            return of_log(log, name_of_input())
+    return of_run(words) if words.mode == "run" else of_check(words)
 
 
 def of_text(query, text, values=None):
@@ -34,7 +38,7 @@ def of_text(query, text, values=None):
 
 def of_fault(its, text):
     said = f"the program refuses this text, as `{its.why}`"
-    return Finding(text.place(its.at), " ".join(its.why.split(" ")[:2]), said, "write as `tools/explain` says", page_of(TOOLS, "explain"))
+    return Finding(text.place(its.at), kind_of(its.why), said, "write as `tools/explain` says", page_of(TOOLS, "explain"))
 
 
 def looked_at(content, text):
@@ -75,19 +79,19 @@ def of_run(words):
     named = {stream.name: Place(stream.file, 1, 1) for stream in reversed(words.streams)}
     # a file that is named feeds its stream, whatever it holds
     course.live[b"query"].fed.update(named)
-    return findings_of(course, words.mode, named)
+    return in_order(findings_of(course, words.mode, named))
 
 
 # ---- a log
 
 
-def of_log(words):
-    file, course, faults, named = name_of_input(), Course(), [], {}
-    with opened(None) as log:
-        for block in blocks.blocks_of(log, file):
-            if block.event is not None:
-                take(block, course, faults, named)
-    return [*faults, *findings_of(course, words.mode, named)]
+def of_log(log, name):
+    """The findings of a log, an open file, under the name."""
+    course, faults, named = Course(), [], {}
+    for block in blocks.blocks_of(log, name):
+        if block.event is not None:
+            take(block, course, faults, named)
+    return in_order([*faults, *findings_of(course, "events", named)])
 
 
 def take(block, course, faults, named):
@@ -136,7 +140,7 @@ def findings_of(course, mode, named):
     for watched in course.watched:
         found += of_text(watched.query, watched.text, course.values)
         found += [*unfed(watched, course, mode), *unstored(watched, course, mode), *unclosed(watched, mode)]
-    return in_order(found)
+    return found
 
 
 def in_order(found):

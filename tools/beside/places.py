@@ -1,4 +1,4 @@
-"""Where something stands: a file, a line, a column, and that line with a caret. Lines and columns count from 1, columns in bytes."""
+"""Where something stands: a file, a line, a column, and that line with a caret. Both count from 1, columns count bytes."""
 import unicodedata
 from collections import namedtuple
 
@@ -46,7 +46,7 @@ def width(text):
 
 
 def with_caret(line, column):
-    """Two lines: this one, and a caret below the byte at the column. Of a long line the part round it is shown, of an empty one none."""
+    """Two lines: this one, and a caret below the byte at the column. Of a long line a part is shown, of an empty one none."""
     if not line:
         return []
     before, behind = (printable(part.decode("utf-8", "replace")) for part in (line[:column - 1], line[column - 1:]))

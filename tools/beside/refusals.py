@@ -11,6 +11,8 @@ OfBlock = namedtuple("OfBlock", "block text")
 OfQuery = namedtuple("OfQuery", "text")
 OfLine = namedtuple("OfLine", "file line text")
 Overfull = namedtuple("Overfull", "name time")
+# `check` has found no fault
+Good = namedtuple("Good", "")
 
 NAMES = (
     "1 BadStatement|2 RelativeIri|3 BadDirective|4 BadBody|5 BlockTooLarge|6 NoTimeLine|7 BadToken|8 Syntax|9 LeftOut|10 Limit|"
@@ -27,6 +29,8 @@ def written(output):
     """Each refusal and overfull report of an output, in order. A line that only begins so is passed over, and told of."""
     line = output.readline(MOST_LINE)
     while line:
+        if line == b"ok\n":
+            yield Good()
         if line.startswith((b"# refused ", b"# overfull ")):
             found = told(line)
             if found:

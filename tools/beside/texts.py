@@ -46,8 +46,11 @@ def of_bad_token(text, at):
     reading = reading_of(tokens_of(text.encode()[:at].decode()))
     character = text.encode()[at:].decode()[0]
     sign = Sign("7", sort_of_character(character))
-    said_here = f"{quoted(character)} begins no token" if character not in "\"'" else f"{quoted(character)} opens a string that isn't closed"
+    said_here = f"{quoted(character)} {'opens a string that does not end' if character in QUOTES else 'begins no token'}"
     return Looked(f"7 BadToken at={at}", at, said_here, sign, reading and kinds_at(reading))
+
+
+QUOTES = "\"'"
 
 
 def sort_of_character(character):
@@ -64,7 +67,8 @@ def of_syntax(text, at):
     behind = [sort_of(said(token)) for token in tokens if token.start > at]
     could = kinds_at(reading)
     if there is None:
-        return Looked(f"8 Syntax at={at}", at, "the text ends here, and isn't finished", Sign("8", "end", before, (), could), could)
+        sign = Sign("8", "end", before, (), could)
+        return Looked(f"8 Syntax at={at}", at, "the text ends here, and isn't finished", sign, could)
     wrong = query_model.wrong(text, there)
     what = sort_in(reading, said(there))
     if wrong.args[0] == "LeftOut":
@@ -86,7 +90,7 @@ def sort_of(said_here):
 
 
 def sort_in(reading, said_here):
-    """The same of a token that can't stand: a name whose prefix nobody declares, and an IRI that isn't absolute, are known by that."""
+    """The same of a token that can't stand: an undeclared prefix and an IRI that isn't absolute are known by that."""
     if said_here.kind == "Prefixed" and reading.seen(said_here).kind == "Nowhere":
         return "undeclared"
     if said_here.kind == "Nowhere":

@@ -73,6 +73,7 @@ def late(course):
     if course.late:
         most, first = max(by for by, _ in course.late), course.late[0][1]
         count, whole = len(course.late), len(course.items)
-        said = f"{count} of {whole} items {'comes' if count == 1 else 'come'} too late, by {most} ms at most, and {'is' if count == 1 else 'are'} refused"
+        comes, is_refused = ("comes", "is refused") if count == 1 else ("come", "are refused")
+        said = f"{count} of {whole} items {comes} too late, by {most} ms at most, and {is_refused}"
         write = f"write them in the order of their times, or let ticks lag by {most} ms more"
         yield Finding(first.place, "late", said, write, page_of(TOOLS, "late"))

@@ -35,11 +35,10 @@ class Values:
 
     def of(self, spot, predicate, only_doubles):
         """What stands at a place of a query; without a predicate at any, and in `any` in each graph of a name."""
-        wanted = key_of(spot)
+        wanted, wanted_name = key_of(spot), predicate and Iri(predicate.encode())
         found = [
             count for (there, name), count in self.counts.items()
-            if (predicate is None or name == Iri(predicate.encode())) and (there == wanted or wanted == ("any",) and len(there) == 2
-                                                                           and there[0] == "named")
+            if wanted in (there, (there[0].replace("named", "any"),)) and wanted_name in (None, name)
         ]
         sorts = [
             (many, sort, first) for count in found for sort, (many, first) in count.sorts.items()
