@@ -3,7 +3,7 @@ import os
 import sys
 
 from .findings import as_json
-from .inputs import Unreadable, complain
+from .inputs import Unreadable, complain, told
 from .words import WrongWords
 
 NOTHING, FOUND, WRONG_WORDS, UNREADABLE, DIFFERS = range(5)
@@ -26,9 +26,13 @@ def called(tool, usage, work, in_text):
     except (MemoryError, RecursionError, OverflowError):
         complain(tool, "the input is too large to be looked at")
         return UNREADABLE
-    except BrokenPipeError:
+    except OSError as why:
+        # what is left to be written goes nowhere, so that nothing is tried again at the end of the process
         os.dup2(os.open(os.devnull, os.O_WRONLY), 1)
-        return FOUND
+        if isinstance(why, BrokenPipeError):
+            return FOUND
+        complain(tool, told(why))
+        return UNREADABLE
     except KeyboardInterrupt:
         return 130
 

@@ -121,14 +121,20 @@ def is_left_out(piece, sign):
     if sign.number == "9" and sign.what in words:
         return is_before(words[:words.index(sign.what)], sign) and (words[0] != "!" or "^" in sign.could)
     if sign.number == "8" and words[0] == "FROM":
-        return is_before(words, sign)
-    return sign.number == "8" and words[0] in ("GROUP", "HAVING") and is_as_behind(piece, sign)
+        return is_before(words, sign) and sign.what in ("Iri", "undeclared")
+    clause = next((word for word in reversed(sign.before) if word in CLAUSES), None)
+    return sign.number == "8" and words[0] in ("GROUP", "HAVING") and clause == words[0] and is_as_behind(piece, sign)
+
+
+# the words by which the place in a query is known
+CLAUSES = ("SELECT", "FROM", "FILTER", "BIND", "GROUP", "HAVING")
 
 
 def is_before(words, sign):
-    """Whether these words stand before the place; `p` is any name."""
-    names = {"p": "Iri", "COUNT": "an aggregate"}
-    wanted = [names.get(word, word) for word in words]
+    """Whether these words stand before the place; `p` is a part of a path."""
+    if words == ["p"]:
+        return sign.before[-1:] in (["Iri"], [")"], ["a"]) and "|" in sign.could
+    wanted = ["an aggregate" if word == "COUNT" else word for word in words]
     return list(sign.before[len(sign.before) - len(wanted):]) == wanted
 
 

@@ -36,8 +36,9 @@ def unclosed(watched, mode):
         said = f"no instant gets complete while the query is live, as time stays at {told(watched.stop)}"
     else:
         said = f"time ends at {told(watched.stop - 1)}"
-    what = "the first window closes" if "CLOSE" in policy else "the first report is due"
-    yield of_unclosed(place, f"{said}, and {what} at {told(first)}, so no report can come", f"write {end}, at {first} or later")
+    is_closing = "CLOSE" in policy and "EVERY" not in policy
+    said += f", and {'the first window closes at' if is_closing else 'no report is due before'} {told(first)}, so no report can come"
+    yield of_unclosed(place, said, f"write {end}, at {first} or later")
 
 
 def first_asked(watched, policy):
