@@ -44,6 +44,11 @@ def query_text(block):
     return block.event[2]
 
 
+def column_of_last_field(block):
+    line = block.lines[0].text
+    return len(line.rstrip(b" \t")) - len(line.split()[-1]) + 1
+
+
 def column_of_field(block):
     """The column of the first field of the directive."""
     line = block.lines[0].text

@@ -7,7 +7,7 @@ from .values import Values
 
 MOST_QUERIES, MOST_TRIPLES = 256, 100_000
 
-# an item: its place is that of its stream's name, or of its time line; `is_number` says how its time is written
+# an item: its place is that of its time; `is_number` says how this is written
 Seen = namedtuple("Seen", "stream time is_number place")
 
 

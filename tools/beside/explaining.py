@@ -167,10 +167,9 @@ def of_block(block, why, history):
 
 def column_of(block, kind):
     """Where it stands in the directive: the time where that is too late, else the first field, if there is one."""
-    line = block.lines[0].text
     if kind == "15 Late":
-        return len(line.rstrip(b" \t")) - len(line.split()[-1]) + 1
-    return blocks.column_of_field(block) if len(line.split()) > 1 else 1
+        return blocks.column_of_last_field(block)
+    return blocks.column_of_field(block) if len(block.lines[0].text.split()) > 1 else 1
 
 
 def caret_of(block, kind):

@@ -34,10 +34,10 @@ def opened(name):
 
 
 def name_of_input():
-    """The file that standard input is, as it is named from here, or `-` where it is none."""
+    """The file that standard input is, by its shorter name, from here or from the root; `-` where it is none."""
     try:
         path = os.readlink("/proc/self/fd/0")
-        return os.path.relpath(path) if os.path.isfile(path) else "-"
+        return min(os.path.relpath(path), path, key=len) if os.path.isfile(path) else "-"
     except OSError:
         return "-"
 

@@ -106,9 +106,10 @@ def take(block, course, faults, named):
         course.tick(fields[0])
     elif head == b"@item":
         stream, time, graph = fields
-        place = Place(block.file, block.lines[0].number, blocks.column_of_field(block))
-        named.setdefault(stream, place)
-        course.item(stream, time, graph, block.lines[0].text.split()[-1].isdigit(), place, places_of_body(block))
+        line = block.lines[0]
+        named.setdefault(stream, Place(block.file, line.number, blocks.column_of_field(block)))
+        place = Place(block.file, line.number, blocks.column_of_last_field(block))
+        course.item(stream, time, graph, line.text.split()[-1].isdigit(), place, places_of_body(block))
     elif head == b"@insert":
         course.insert(fields[0], places_of_body(block))
 
