@@ -56,6 +56,10 @@ def skipped(recipe):
 
 
 def is_installed(name, version=None):
+    """A tool of the path; or a library of the system's Python, by the name of its package, as python3-rdflib."""
+    if name.startswith("python3-"):
+        ran = subprocess.run(["/usr/bin/python3", "-c", f"import {name[len('python3-'):]}"], capture_output=True)
+        return ran.returncode == 0
     found = shutil.which(name, path=f"{os.environ['PATH']}:/usr/sbin")
     return found and (not version or version in subprocess.run([found, "--version"], capture_output=True, text=True).stdout)
 
