@@ -1,5 +1,5 @@
 -- What the automaton of all kinds accepts, by its next character.
-use Rattle.std.proofs.Common.{◌≡◌, ℕ, Bool, true, false, List, [], ◌∷◌, refl, if◌then◌else◌, Option, Some, None}
+use Rattle.std.proofs.Common.{◌≡◌, ℕ, Bool, true, false, List, refl, if◌then◌else◌, Option, Some, None}
 use Rattle.std.specs.Prelude.{◌&&◌, ◌||◌}
 use Rattle.std.specs.Option.{option_map, option_map_or}
 use Rattle.rsp_scan.specs.Fronts.{accepts}

@@ -1,7 +1,7 @@
 -- Words, variables, labels, prefixed names and tags: their automata accept what is of their form.
-use Rattle.std.proofs.Common.{◌≡◌, ℕ, Bool, true, false, List, [], ◌∷◌, refl, sym, ◌∙◌, ap, if◌then◌else◌, Some, None}
+use Rattle.std.proofs.Common.{◌≡◌, ℕ, Bool, true, false, List, [], ◌∷◌, refl, sym, ◌∙◌, ap}
 use Rattle.std.specs.Prelude.{◌==◌, ◌&&◌, ◌||◌, not}
-use Rattle.std.specs.Char.{is_ascii_alphabetic, is_ascii_alphanumeric, is_ascii_digit, is_ascii_hexdigit}
+use Rattle.std.specs.Char.{is_ascii_alphabetic, is_ascii_digit, is_ascii_hexdigit}
 use Rattle.rsp_spec.proofs.Truths.{equal_from}
 use Rattle.rsp_terms.specs.Characters.{is_base}
 use Rattle.rsp_lex.specs.declared.token.TokenKind.TheVariants as kind
@@ -11,12 +11,11 @@ use Rattle.rsp_lex.specs.declared.names.VariableState.TheVariants as variable
 use Rattle.rsp_lex.specs.declared.names.LabelState.TheVariants as label
 use Rattle.rsp_lex.specs.declared.names.PrefixedState.{PrefixedState}
 use Rattle.rsp_lex.specs.declared.names.PrefixedState.TheVariants as prefixed
-use Rattle.rsp_lex.specs.declared.names.TagState.TheVariants as tag
-use Rattle.rsp_lex.specs.Patterns.{Form, one, ◌before◌, ◌or◌, text, maybe, many, some, ended}
-use Rattle.rsp_lex.specs.TokenForms.{form, starts_name, continues_name, is_word_character, is_escaped, dotted, local_escape, local}
-use Rattle.rsp_lex.specs.Kinds.{is_token}
-use Rattle.rsp_lex.proofs.PatternLaws.{Takes, keeps, takes_one, takes_or, takes_before, takes_behind, takes_text, keeps_text, keeps_many, keeps_maybe, many_is}
-use Rattle.rsp_lex.proofs.Automata.{from, on, chosen, chosen_or, or_none}
+use Rattle.rsp_lex.specs.Patterns.{Form, one, ◌before◌, ◌or◌, text, maybe, many, ended}
+use Rattle.rsp_lex.specs.Forms.{form, starts_name, continues_name, is_word_character, is_escaped, dotted, local_escape, local}
+use Rattle.rsp_lex.specs.Kinds.{accepted}
+use Rattle.rsp_lex.proofs.PatternLaws.{Takes, keeps, takes_one, takes_or, takes_before, takes_behind, takes_text, keeps_text, keeps_many, many_is}
+use Rattle.rsp_lex.proofs.Automata.{from, chosen, chosen_or, or_none}
 
 -- ---- words
 
@@ -27,7 +26,7 @@ in_word = many_is (one is_word_character) (takes_one is_word_character) ended (f
     goes [] = refl
     goes (c ∷ cs) = chosen (λ s. state.Word s) word.Inside cs (is_word_character c)
 
-pub word_form : (cs : List ℕ) → is_token kind.Word cs ≡ form kind.Word ended cs
+pub word_form : (cs : List ℕ) → accepted kind.Word cs ≡ form kind.Word ended cs
 word_form [] = refl
 word_form (c ∷ cs) =
     chosen (λ s. state.Word s) word.Inside cs (is_ascii_alphabetic c) ∙ ap (λ b. is_ascii_alphabetic c && b) (in_word cs)
@@ -52,7 +51,7 @@ behind_sign [] = refl
 behind_sign (c ∷ cs) =
     chosen (λ s. state.Variable s) variable.Inside cs (begins c) ∙ ap (λ b. begins c && b) (in_variable cs)
 
-pub variable_form : (cs : List ℕ) → is_token kind.Variable cs ≡ form kind.Variable ended cs
+pub variable_form : (cs : List ℕ) → accepted kind.Variable cs ≡ form kind.Variable ended cs
 variable_form [] = refl
 variable_form (c ∷ cs) =
     chosen (λ s. state.Variable s) variable.Sign cs (c == 63 || c == 36) ∙ ap (λ b. (c == 63 || c == 36) && b) (behind_sign cs)
@@ -108,7 +107,7 @@ label_colon : (cs : List ℕ) → from (state.Label label.Underscore) cs ≡ tex
 label_colon [] = refl
 label_colon (c ∷ cs) = chosen (λ s. state.Label s) label.Begun cs (c == 58) ∙ ap (λ b. (c == 58) && b) (label_begun cs)
 
-pub label_form : (cs : List ℕ) → is_token kind.Label cs ≡ form kind.Label ended cs
+pub label_form : (cs : List ℕ) → accepted kind.Label cs ≡ form kind.Label ended cs
 label_form [] = refl
 label_form (c ∷ cs) = chosen (λ s. state.Label s) label.Underscore cs (c == 95) ∙ ap (λ b. (c == 95) && b) (label_colon cs)
 
@@ -140,8 +139,8 @@ takes_local_escape : Takes local_escape
 takes_local_escape =
     takes_or (text (37 ∷ []) before (one is_ascii_hexdigit before one is_ascii_hexdigit)) (text (92 ∷ []) before one is_escaped)
     (takes_before (text (37 ∷ [])) (one is_ascii_hexdigit before one is_ascii_hexdigit) (takes_text 37 [])
-      (keeps (one is_ascii_hexdigit before one is_ascii_hexdigit)
-        (takes_before (one is_ascii_hexdigit) (one is_ascii_hexdigit) (takes_one is_ascii_hexdigit) (keeps (one is_ascii_hexdigit) (takes_one is_ascii_hexdigit)))))
+    (keeps (one is_ascii_hexdigit before one is_ascii_hexdigit)
+    (takes_before (one is_ascii_hexdigit) (one is_ascii_hexdigit) (takes_one is_ascii_hexdigit) (keeps (one is_ascii_hexdigit) (takes_one is_ascii_hexdigit)))))
     (takes_before (text (92 ∷ [])) (one is_escaped) (takes_text 92 []) (keeps (one is_escaped) (takes_one is_escaped)))
 
 -- a character of a class, or an escape, and then the local part
@@ -215,7 +214,7 @@ behind_colon [] = refl
 behind_colon (c ∷ cs) =
     local_begun c cs
     ∙ (takes_or (one begins_local) local_escape (takes_one begins_local) takes_local_escape).on
-      (at prefixed.Local) (dotted (one goes_local or local_escape) ended) (c ∷ cs) (λ ds below. in_local ds)
+    (at prefixed.Local) (dotted (one goes_local or local_escape) ended) (c ∷ cs) (λ ds below. in_local ds)
 
 -- ---- prefixed names
 
@@ -250,13 +249,13 @@ in_prefix : (cs : List ℕ) → at prefixed.Prefix cs ≡ dotted (one continues_
 in_prefix =
     dotted_is (one continues_name) (takes_one continues_name) colon (at prefixed.Prefix) (at prefixed.PrefixDot) prefix_inside prefix_dot
 
-pub prefixed_form : (cs : List ℕ) → is_token kind.Prefixed cs ≡ form kind.Prefixed ended cs
+pub prefixed_form : (cs : List ℕ) → accepted kind.Prefixed cs ≡ form kind.Prefixed ended cs
 prefixed_form [] = refl
 prefixed_form (c ∷ cs) = by (c == 58) refl
   where
-    at_colon : (c : ℕ) → c ≡ 58 → is_token kind.Prefixed (c ∷ cs) ≡ form kind.Prefixed ended (c ∷ cs)
+    at_colon : (c : ℕ) → c ≡ 58 → accepted kind.Prefixed (c ∷ cs) ≡ form kind.Prefixed ended (c ∷ cs)
     at_colon c is = rw is (behind_colon cs ∙ or_none (maybe local ended cs))
 
-    by : (b : Bool) → (c == 58) ≡ b → is_token kind.Prefixed (c ∷ cs) ≡ form kind.Prefixed ended (c ∷ cs)
+    by : (b : Bool) → (c == 58) ≡ b → accepted kind.Prefixed (c ∷ cs) ≡ form kind.Prefixed ended (c ∷ cs)
     by true h = at_colon c (equal_from c 58 h)
     by false h = rw h (chosen (λ s. state.Prefixed s) prefixed.Prefix cs (is_base c) ∙ ap (λ b. is_base c && b) (in_prefix cs))

@@ -1,5 +1,5 @@
 -- Integers, decimals, doubles and spans: their automata accept what is of their form.
-use Rattle.std.proofs.Common.{◌≡◌, ℕ, Bool, true, false, List, [], ◌∷◌, refl, sym, ◌∙◌, ap, if◌then◌else◌, Some, None}
+use Rattle.std.proofs.Common.{◌≡◌, ℕ, Bool, true, false, List, [], ◌∷◌, refl, ◌∙◌, ap}
 use Rattle.std.specs.Prelude.{◌==◌, ◌&&◌, ◌||◌}
 use Rattle.std.specs.Char.{is_ascii_digit}
 use Rattle.rsp_spec.proofs.Truths.{equal_from}
@@ -13,8 +13,8 @@ use Rattle.rsp_lex.specs.declared.numbers.SpanState.{SpanState}
 use Rattle.rsp_lex.specs.declared.numbers.SpanState.TheVariants as span
 use Rattle.rsp_lex.specs.declared.numbers.Part.TheVariants as part
 use Rattle.rsp_lex.specs.Patterns.{one, ◌before◌, text, maybe, many, some, ended}
-use Rattle.rsp_lex.specs.TokenForms.{form, digits, exponent, seconds, minutes, hours, time}
-use Rattle.rsp_lex.specs.Kinds.{is_token}
+use Rattle.rsp_lex.specs.Forms.{form, digits, exponent, seconds, minutes, hours, time}
+use Rattle.rsp_lex.specs.Kinds.{accepted}
 use Rattle.rsp_lex.proofs.PatternLaws.{takes_one, many_is}
 use Rattle.rsp_lex.proofs.Automata.{from, chosen, chosen_or, or_none}
 
@@ -35,7 +35,7 @@ integer_inside = in_digits ended (from (state.Integer integer.Inside)) goes
     goes [] = refl
     goes (c ∷ cs) = chosen (λ s. state.Integer s) integer.Inside cs (is_ascii_digit c)
 
-pub integer_form : (cs : List ℕ) → is_token kind.Integer cs ≡ form kind.Integer ended cs
+pub integer_form : (cs : List ℕ) → accepted kind.Integer cs ≡ form kind.Integer ended cs
 integer_form [] = refl
 integer_form (c ∷ cs) =
     chosen (λ s. state.Integer s) integer.Inside cs (is_ascii_digit c) ∙ ap (λ b. is_ascii_digit c && b) (integer_inside cs)
@@ -73,7 +73,7 @@ decimal_whole = in_digits point (from (state.Decimal decimal.Whole)) goes
     goes [] = refl
     goes (c ∷ cs) = by cs c (c == 46) refl
 
-pub decimal_form : (cs : List ℕ) → is_token kind.Decimal cs ≡ form kind.Decimal ended cs
+pub decimal_form : (cs : List ℕ) → accepted kind.Decimal cs ≡ form kind.Decimal ended cs
 decimal_form [] = refl
 decimal_form (c ∷ cs) = decimal_whole (c ∷ cs)
 
@@ -180,14 +180,14 @@ in_whole = in_digits behind_whole (at double.Whole) goes
     goes [] = refl
     goes (c ∷ cs) = by cs c (c == 46) refl (c == 101) refl (c == 69) refl
 
-pub double_form : (cs : List ℕ) → is_token kind.Double cs ≡ form kind.Double ended cs
+pub double_form : (cs : List ℕ) → accepted kind.Double cs ≡ form kind.Double ended cs
 double_form [] = refl
 double_form (c ∷ cs) = by (c == 46) refl
   where
-    at_point : (c : ℕ) → c ≡ 46 → is_token kind.Double (c ∷ cs) ≡ form kind.Double ended (c ∷ cs)
+    at_point : (c : ℕ) → c ≡ 46 → accepted kind.Double (c ∷ cs) ≡ form kind.Double ended (c ∷ cs)
     at_point c is = rw is (double_first cs)
 
-    by : (b : Bool) → (c == 46) ≡ b → is_token kind.Double (c ∷ cs) ≡ form kind.Double ended (c ∷ cs)
+    by : (b : Bool) → (c == 46) ≡ b → accepted kind.Double (c ∷ cs) ≡ form kind.Double ended (c ∷ cs)
     by true h = at_point c (equal_from c 46 h)
     by false h =
         rw h (chosen_or (λ s. state.Double s) double.Whole cs (is_ascii_digit c)
@@ -357,6 +357,6 @@ span_begun (c ∷ cs) = by (c == 84) refl
         rw h (chosen_or (λ s. state.Span s) span.DayDigits cs (is_ascii_digit c)
         ∙ ap (λ b. (is_ascii_digit c && b) || false) (day_digits cs))
 
-pub span_form : (cs : List ℕ) → is_token kind.Span cs ≡ form kind.Span ended cs
+pub span_form : (cs : List ℕ) → accepted kind.Span cs ≡ form kind.Span ended cs
 span_form [] = refl
 span_form (c ∷ cs) = chosen (λ s. state.Span s) span.Begun cs (c == 80) ∙ ap (λ b. (c == 80) && b) (span_begun cs)

@@ -1,11 +1,11 @@
 -- How forms go on: many of a form is what passes at each place where it ends or goes on.
-use Rattle.std.proofs.Common.{◌≡◌, ℕ, zero, suc, ◌≤◌, ◌<◌, Bool, true, false, true≢false, List, [], ◌∷◌, length, refl, sym, ap, ◌∙◌, arith, Option, Some, None}
+use Rattle.std.proofs.Common.{◌≡◌, ℕ, zero, suc, ◌≤◌, ◌<◌, Bool, true, false, List, [], ◌∷◌, length, refl, sym, ap, ◌∙◌, arith, Option, Some, None}
 use Rattle.std.specs.Prelude.{◌==◌, ◌&&◌, ◌||◌}
 use Rattle.rsp_scan.specs.declared.escaping.Escape.{Escape}
 use Rattle.rsp_scan.specs.declared.escaping.Escape.TheVariants.{Begun}
 use Rattle.rsp_scan.specs.declared.escaping.Escaped.{Escaped}
 use Rattle.rsp_scan.specs.declared.escaping.Escaped.TheVariants.{More, Whole}
-use Rattle.rsp_lex.specs.Patterns.{Form, one, ◌before◌, ◌or◌, text, maybe, times, many, some, behind_part, escaped, escape_of}
+use Rattle.rsp_lex.specs.Patterns.{Form, one, ◌before◌, ◌or◌, text, maybe, times, many, behind_part, escaped, escape_of}
 
 abbrev Test : Type 0
 Test = List ℕ → Bool
@@ -45,13 +45,13 @@ pub keeps_text : (cs : List ℕ) → Keeps (text cs)
 keeps_text [] = record { on = λ g h cs same. same cs (omega arith) }
 keeps_text (c ∷ more) = record {
   on = λ g h cs same. one_on (λ d. d == c) (text more g) (text more h) cs
-    (λ ds below. (keeps_text more).on g h ds (λ es no_longer. same es (omega (arith, below, no_longer))));
+      (λ ds below. (keeps_text more).on g h ds (λ es no_longer. same es (omega (arith, below, no_longer))));
 }
 
 pub takes_text : (c : ℕ) (more : List ℕ) → Takes (text (c ∷ more))
 takes_text c more = record {
   on = λ g h cs same. one_on (λ d. d == c) (text more g) (text more h) cs
-    (λ ds below. (keeps_text more).on g h ds (λ es no_longer. same es (omega (arith, below, no_longer))));
+      (λ ds below. (keeps_text more).on g h ds (λ es no_longer. same es (omega (arith, below, no_longer))));
   none = λ g. refl;
 }
 
@@ -61,7 +61,7 @@ times_on p hp zero g h cs same = same cs (omega arith)
 times_on p hp (suc n) g h cs same =
     ap (λ b. b || p (times n p g) cs) (same cs (omega arith))
     ∙ ap (λ b. h cs || b) (hp.on (times n p g) (times n p h) cs
-      (λ ds no_longer. times_on p hp n g h ds (λ es shorter. same es (omega (arith, no_longer, shorter)))))
+    (λ ds no_longer. times_on p hp n g h ds (λ es shorter. same es (omega (arith, no_longer, shorter)))))
 
 pub keeps_many : (p : Form) → Keeps p → Keeps (many p)
 keeps_many p hp = record { on = λ g h cs same. times_on p hp (length cs) g h cs same }

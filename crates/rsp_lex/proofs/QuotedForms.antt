@@ -19,9 +19,9 @@ use Rattle.rsp_lex.specs.declared.quoted.StringState.{StringState}
 use Rattle.rsp_lex.specs.declared.quoted.StringState.TheVariants as string
 use Rattle.rsp_lex.specs.Patterns.{Form, one, ◌before◌, ◌or◌, text, maybe, many, behind_part, escaped, escape_of, ended}
 use Rattle.rsp_lex.specs.Quoted.{iri_behind, short_behind, long_behind}
-use Rattle.rsp_lex.specs.TokenForms.{form, escape, short, in_long, long}
-use Rattle.rsp_lex.specs.Kinds.{is_token}
-use Rattle.rsp_lex.proofs.PatternLaws.{Takes, keeps, takes_one, takes_or, takes_before, takes_behind, takes_text, keeps_text, keeps_maybe, takes_escape, many_is}
+use Rattle.rsp_lex.specs.Forms.{form, escape, in_long}
+use Rattle.rsp_lex.specs.Kinds.{accepted}
+use Rattle.rsp_lex.proofs.PatternLaws.{Takes, keeps, takes_one, takes_or, takes_behind, takes_text, keeps_maybe, takes_escape, many_is}
 use Rattle.rsp_lex.proofs.Automata.{from, on, chosen, chosen_or, or_none}
 
 abbrev Test : Type 0
@@ -77,7 +77,7 @@ in_iri =
     (takes_or (one is_iri_character) (escape_of uchar_step is_iri_character) (takes_one is_iri_character) (takes_escape uchar_step is_iri_character))
     closing iri_inside iri_goes
 
-pub iri_form : (cs : List ℕ) → is_token kind.Iri cs ≡ form kind.Iri ended cs
+pub iri_form : (cs : List ℕ) → accepted kind.Iri cs ≡ form kind.Iri ended cs
 iri_form [] = refl
 iri_form (c ∷ cs) = chosen (λ s. state.Iri s) iri.Inside cs (c == 60) ∙ ap (λ b. (c == 60) && b) (in_iri cs)
 
@@ -312,17 +312,17 @@ opened_is q (c ∷ cs) = by (c == quote_sign q) refl
     by true h = opened_quote q cs c (equal_from c (quote_sign q) h)
     by false h = opened_other q cs c h
 
-pub string_form : (cs : List ℕ) → is_token kind.String cs ≡ form kind.String ended cs
+pub string_form : (cs : List ℕ) → accepted kind.String cs ≡ form kind.String ended cs
 string_form [] = refl
 string_form (c ∷ cs) = by (c == 34) refl (c == 39) refl
   where
-    at_double : (c : ℕ) → c ≡ 34 → is_token kind.String (c ∷ cs) ≡ form kind.String ended (c ∷ cs)
+    at_double : (c : ℕ) → c ≡ 34 → accepted kind.String (c ∷ cs) ≡ form kind.String ended (c ∷ cs)
     at_double c is = rw is (opened_is Double cs ∙ or_none (opened Double cs))
 
-    at_single : (c : ℕ) → c ≡ 39 → is_token kind.String (c ∷ cs) ≡ form kind.String ended (c ∷ cs)
+    at_single : (c : ℕ) → c ≡ 39 → accepted kind.String (c ∷ cs) ≡ form kind.String ended (c ∷ cs)
     at_single c is = rw is (opened_is Single cs)
 
-    by : (a : Bool) → (c == 34) ≡ a → (b : Bool) → (c == 39) ≡ b → is_token kind.String (c ∷ cs) ≡ form kind.String ended (c ∷ cs)
+    by : (a : Bool) → (c == 34) ≡ a → (b : Bool) → (c == 39) ≡ b → accepted kind.String (c ∷ cs) ≡ form kind.String ended (c ∷ cs)
     by true h b g = at_double c (equal_from c 34 h)
     by false h true g = at_single c (equal_from c 39 g)
     by false h false g = rw (h, g) refl

@@ -20,8 +20,9 @@ use Rattle.rsp_lex.specs.declared.machine.State.{State}
 use Rattle.rsp_lex.specs.declared.machine.State.TheVariants as state
 use Rattle.rsp_lex.specs.declared.names.PrefixedState.{PrefixedState}
 use Rattle.rsp_lex.specs.declared.names.PrefixedState.TheVariants as prefixed
-use Rattle.rsp_lex.specs.Names.{continues_name, prefix_inside, prefixed_step}
-use Rattle.rsp_lex.specs.Kinds.{token_machine, front_bytes}
+use Rattle.rsp_lex.specs.Names.{prefix_inside, prefixed_step}
+use Rattle.rsp_lex.specs.Forms.{continues_name, front_bytes}
+use Rattle.rsp_lex.specs.Kinds.{token_machine}
 use Rattle.rsp_lex.proofs.KindLaws.{front_is}
 use Rattle.rsp_lex.specs.Reach.{reach, read_bytes, NoPrefixed}
 

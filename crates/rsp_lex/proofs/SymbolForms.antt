@@ -1,5 +1,5 @@
 -- Tags and symbols: their automata accept what is of their form.
-use Rattle.std.proofs.Common.{◌≡◌, ℕ, Bool, true, false, List, [], ◌∷◌, refl, sym, ◌∙◌, ap, if◌then◌else◌, Some, None}
+use Rattle.std.proofs.Common.{◌≡◌, ℕ, Bool, true, false, List, [], ◌∷◌, refl, ◌∙◌, ap}
 use Rattle.std.specs.Prelude.{◌==◌, ◌&&◌, ◌||◌}
 use Rattle.std.specs.Char.{is_ascii_alphabetic, is_ascii_alphanumeric}
 use Rattle.rsp_spec.proofs.Truths.{equal_from}
@@ -9,9 +9,9 @@ use Rattle.rsp_lex.specs.declared.names.TagState.{TagState}
 use Rattle.rsp_lex.specs.declared.names.TagState.TheVariants as tag
 use Rattle.rsp_lex.specs.declared.symbols.SymbolState.{SymbolState}
 use Rattle.rsp_lex.specs.declared.symbols.SymbolState.TheVariants as symbol
-use Rattle.rsp_lex.specs.Patterns.{Form, one, ◌before◌, ◌or◌, text, maybe, many, some, ended}
-use Rattle.rsp_lex.specs.TokenForms.{form, is_single}
-use Rattle.rsp_lex.specs.Kinds.{is_token}
+use Rattle.rsp_lex.specs.Patterns.{Form, one, ◌before◌, text, maybe, many, some, ended}
+use Rattle.rsp_lex.specs.Forms.{form, is_single}
+use Rattle.rsp_lex.specs.Kinds.{accepted}
 use Rattle.rsp_lex.proofs.PatternLaws.{Takes, keeps, takes_one, takes_before, takes_text, keeps_many, many_is}
 use Rattle.rsp_lex.proofs.Automata.{from, chosen, or_none}
 
@@ -81,14 +81,14 @@ first_is : (cs : List ℕ) → at tag.First cs ≡ many (one is_ascii_alphabetic
 first_is cs =
     in_first cs
     ∙ (keeps_many (one is_ascii_alphabetic) (keeps (one is_ascii_alphabetic) (takes_one is_ascii_alphabetic))).on
-      subtags (many subtag ended) cs (λ ds shorter. subtags_are ds)
+    subtags (many subtag ended) cs (λ ds shorter. subtags_are ds)
 
 at_is : (cs : List ℕ) → at tag.At cs ≡ some (one is_ascii_alphabetic) (many subtag ended) cs
 at_is [] = refl
 at_is (c ∷ cs) =
     chosen (λ s. state.Tag s) tag.First cs (is_ascii_alphabetic c) ∙ ap (λ b. is_ascii_alphabetic c && b) (first_is cs)
 
-pub tag_form : (cs : List ℕ) → is_token kind.Tag cs ≡ form kind.Tag ended cs
+pub tag_form : (cs : List ℕ) → accepted kind.Tag cs ≡ form kind.Tag ended cs
 tag_form [] = refl
 tag_form (c ∷ cs) = chosen (λ s. state.Tag s) tag.At cs (c == 64) ∙ ap (λ b. (c == 64) && b) (at_is cs)
 
@@ -119,7 +119,7 @@ equal_is [] = refl
 equal_is (c ∷ cs) = chosen (λ s. state.Symbol s) symbol.Whole cs (c == 61) ∙ ap (λ b. (c == 61) && b) (whole_is cs)
 
 abbrev Sign : List ℕ → ℕ → Type 0
-Sign cs c = is_token kind.Symbol (c ∷ cs) ≡ form kind.Symbol ended (c ∷ cs)
+Sign cs c = accepted kind.Symbol (c ∷ cs) ≡ form kind.Symbol ended (c ∷ cs)
 
 at_and : (cs : List ℕ) (c : ℕ) → c ≡ 38 → Sign cs c
 at_and cs c is = rw is (needed cs ∙ or_none (text (38 ∷ []) ended cs))
@@ -151,7 +151,7 @@ by_sign cs c false false false false false false ha hb hd he hf hg =
     rw (ha, hb, hd, he, hf, hg)
     (chosen (λ s. state.Symbol s) symbol.Whole cs (is_single c) ∙ (ap (λ b. is_single c && b) (whole_is cs) ∙ or_none (is_single c && ended cs)))
 
-pub symbol_form : (cs : List ℕ) → is_token kind.Symbol cs ≡ form kind.Symbol ended cs
+pub symbol_form : (cs : List ℕ) → accepted kind.Symbol cs ≡ form kind.Symbol ended cs
 symbol_form [] = refl
 symbol_form (c ∷ cs) =
     by_sign cs c (c == 38) (c == 124) (c == 94) (c == 33) (c == 60) (c == 62) refl refl refl refl refl refl

@@ -1,4 +1,4 @@
--- Definitions: IRIs and strings as automata: the state behind each character, and the states in which one may end
+-- Words of the way: IRIs and strings as automata: the state behind each character, and the states in which one may end
 -- (SPARQL 1.1, section 19.8: IRIREF, STRING_LITERAL1, STRING_LITERAL2, STRING_LITERAL_LONG1, STRING_LITERAL_LONG2, ECHAR,
 -- UCHAR).
 use Rattle.std.specs.Prelude.{ℕ, ◌+◌, Bool, true, false, ◌||◌, ◌==◌, nat_lt, if◌then◌else◌, Option, None, Some}
