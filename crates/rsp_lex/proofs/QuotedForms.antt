@@ -4,13 +4,13 @@ use Rattle.std.specs.Prelude.{◌==◌, ◌&&◌, ◌||◌, not}
 use Rattle.std.specs.Option.{option_map, option_and_then}
 use Rattle.rsp_spec.proofs.Truths.{equal_from}
 use Rattle.rsp_terms.specs.Characters.{is_iri_character}
-use Rattle.rsp_scan.specs.declared.enclosed.Quote.{Quote}
-use Rattle.rsp_scan.specs.declared.enclosed.Quote.TheVariants.{Double, Single}
+use Rattle.rsp_lex.specs.declared.quoted.Quote.{Quote}
+use Rattle.rsp_lex.specs.declared.quoted.Quote.TheVariants.{Double, Single}
 use Rattle.rsp_scan.specs.declared.escaping.Escape.{Escape}
 use Rattle.rsp_scan.specs.declared.escaping.Escape.TheVariants.{Begun}
 use Rattle.rsp_scan.specs.declared.escaping.Escaped.{Escaped}
 use Rattle.rsp_scan.specs.declared.escaping.Escaped.TheVariants.{More, Whole}
-use Rattle.rsp_scan.specs.Enclosed.{quote_sign}
+use Rattle.rsp_lex.specs.Quoted.{quote_sign}
 use Rattle.rsp_scan.specs.Escaping.{uchar_step, escape_step}
 use Rattle.rsp_lex.specs.declared.token.TokenKind.TheVariants as kind
 use Rattle.rsp_lex.specs.declared.machine.State.TheVariants as state

@@ -40,9 +40,12 @@ iri_ends _ = false
 
 -- ---- strings
 
+abbrev pub quote_sign : Quote → ℕ
+quote_sign Double = byte "\""
+quote_sign Single = byte "'"
+
 abbrev pub is_quote : Quote → ℕ → Bool
-is_quote Double c = c == byte "\""
-is_quote Single c = c == byte "'"
+is_quote quote c = c == quote_sign quote
 
 abbrev pub string_start : ℕ → Option StringState
 string_start c =
