@@ -2,7 +2,7 @@
 use Rattle.std.proofs.Common.{◌≡◌, ℕ, Bool, true, false, List, refl, if◌then◌else◌, Option, Some, None}
 use Rattle.std.specs.Prelude.{◌&&◌, ◌||◌}
 use Rattle.std.specs.Option.{option_map, option_map_or}
-use Rattle.rsp_scan.specs.Fronts.{accepts}
+use Rattle.rsp_scan.specs.Machines.{accepts}
 use Rattle.rsp_lex.specs.declared.machine.State.{State}
 use Rattle.rsp_lex.specs.Kinds.{token_machine}
 

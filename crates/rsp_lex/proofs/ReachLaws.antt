@@ -8,7 +8,7 @@ use Rattle.std.proofs.lemmas.Bool.Decides.{nat_tests}
 use Rattle.std.proofs.lemmas.List.{nil_from_length, take-append-drop}
 use Rattle.std.proofs.lemmas.Str.{chars-nil, chars_past_char, chars-encodes, IsUtf8-append, length-encode}
 use Rattle.rsp_terms.specs.Characters.{is_base}
-use Rattle.rsp_scan.specs.Fronts.{Machine}
+use Rattle.rsp_scan.specs.Machines.{Machine}
 use Rattle.rsp_scan.specs.Scans.{lengthened, scan, scanned_bytes}
 use Rattle.rsp_scan.proofs.ScannedBytes.{bytes, first_bytes, some_bytes}
 use Rattle.rsp_scan.proofs.Fronts.{drop_front, scalars-drop}

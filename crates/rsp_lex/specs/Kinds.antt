@@ -1,7 +1,7 @@
 -- Words of the way: one automaton that finds the longest token of each kind.
 use Rattle.std.specs.Prelude.{ℕ, Bool, Option, List}
 use Rattle.std.specs.Option.{option_map}
-use Rattle.rsp_scan.specs.Fronts.{Machine, accepts}
+use Rattle.rsp_scan.specs.Machines.{Machine, accepts}
 use Rattle.rsp_lex.specs.declared.token.TokenKind.{TokenKind}
 use Rattle.rsp_lex.specs.declared.token.TokenKind.TheVariants as kind
 use Rattle.rsp_lex.specs.declared.machine.State.{State}
