@@ -1,7 +1,7 @@
 -- The longest token of a kind, as the automaton finds it, and the longest of all.
-use Rattle.std.proofs.Common.{◌≡◌, ℕ, Bool, true, false, List, [], ◌∷◌, length, take, refl, IsUtf8, chars, if◌then◌else◌}
+use Rattle.std.proofs.Common.{◌≡◌, ℕ, Bool, true, false, List, [], ◌∷◌, length, take, refl, sym, ◌∙◌, IsUtf8, chars, if◌then◌else◌}
 use Rattle.std.specs.Prelude.{nat_lt}
-use Rattle.std.specs.Str.{IsCharBoundary}
+use Rattle.std.specs.Str.{IsCharBoundary, encode_utf8_all}
 use Rattle.std.proofs.lemmas.Str.{scalars-chars}
 use Rattle.rsp_scan.specs.Fronts.{longest_front, longest_up_to}
 use Rattle.rsp_scan.specs.Scans.{scanned_bytes}
@@ -10,12 +10,16 @@ use Rattle.rsp_scan.proofs.ScannedBytes.{bytes_of_front}
 use Rattle.rsp_lex.specs.declared.token.TokenKind.{TokenKind}
 use Rattle.rsp_lex.specs.declared.token.TokenKind.TheVariants as kind
 use Rattle.rsp_lex.specs.declared.lexing.Front.{Front}
-use Rattle.rsp_lex.specs.Kinds.{start, token_machine, is_token, front_bytes}
+use Rattle.rsp_lex.specs.Forms.{is_token, front_bytes}
+use Rattle.rsp_lex.specs.Kinds.{start, token_machine}
+use Rattle.rsp_lex.proofs.FormLaws.{form_is}
 use Rattle.rsp_lex.specs.Tokens.{longer, longest_among, further_kinds, token_at}
 
 pub front_is : (kind : TokenKind) (text : List ℕ) → front_bytes kind text ≡ scanned_bytes token_machine (start kind) (chars text)
 unfolding front_bytes
-front_is kind text = bytes_of_front token_machine (start kind) text
+front_is kind text =
+    sym (λ i. length (encode_utf8_all (longest_front (λ cs. form_is kind cs i) (chars text))))
+    ∙ bytes_of_front token_machine (start kind) text
 
 front_boundary : (kind : TokenKind) (text : List ℕ) → IsUtf8 text → IsCharBoundary text (front_bytes kind text)
 unfolding front_bytes

@@ -4,3 +4,9 @@ pub mod TokenLaws
 pub mod ReachLaws
 pub mod EnoughLaws
 pub mod FormLaws
+mod PatternLaws
+mod Automata
+mod NameForms
+mod NumberForms
+mod QuotedForms
+mod SymbolForms

@@ -8,7 +8,7 @@ use Rattle.std.proofs.lemmas.Bool.Decides.{nat_tests}
 use Rattle.std.proofs.lemmas.List.{nil_from_length, take-append-drop}
 use Rattle.std.proofs.lemmas.Str.{chars-nil, chars_past_char, chars-encodes, IsUtf8-append, length-encode}
 use Rattle.rsp_terms.specs.Characters.{is_base}
-use Rattle.rsp_scan.specs.Fronts.{Machine}
+use Rattle.rsp_scan.specs.Machines.{Machine}
 use Rattle.rsp_scan.specs.Scans.{lengthened, scan, scanned_bytes}
 use Rattle.rsp_scan.proofs.ScannedBytes.{bytes, first_bytes, some_bytes}
 use Rattle.rsp_scan.proofs.Fronts.{drop_front, scalars-drop}
@@ -20,8 +20,9 @@ use Rattle.rsp_lex.specs.declared.machine.State.{State}
 use Rattle.rsp_lex.specs.declared.machine.State.TheVariants as state
 use Rattle.rsp_lex.specs.declared.names.PrefixedState.{PrefixedState}
 use Rattle.rsp_lex.specs.declared.names.PrefixedState.TheVariants as prefixed
-use Rattle.rsp_lex.specs.Names.{continues_name, prefix_inside, prefixed_step}
-use Rattle.rsp_lex.specs.Kinds.{token_machine, front_bytes}
+use Rattle.rsp_lex.specs.Names.{prefix_inside, prefixed_step}
+use Rattle.rsp_lex.specs.Forms.{continues_name, front_bytes}
+use Rattle.rsp_lex.specs.Kinds.{token_machine}
 use Rattle.rsp_lex.proofs.KindLaws.{front_is}
 use Rattle.rsp_lex.specs.Reach.{reach, read_bytes, NoPrefixed}
 

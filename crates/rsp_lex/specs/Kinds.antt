@@ -1,8 +1,7 @@
--- Definitions: the kinds of tokens. A kind is a test of a whole text; a token of it is the longest front that passes.
-use Rattle.std.specs.Prelude.{ℕ, Bool, Option, List, length}
+-- Words of the way: one automaton that finds the longest token of each kind.
+use Rattle.std.specs.Prelude.{ℕ, Bool, Option, List}
 use Rattle.std.specs.Option.{option_map}
-use Rattle.std.specs.Str.{chars, encode_utf8_all}
-use Rattle.rsp_scan.specs.Fronts.{Machine, accepts, longest_front}
+use Rattle.rsp_scan.specs.Machines.{Machine, accepts}
 use Rattle.rsp_lex.specs.declared.token.TokenKind.{TokenKind}
 use Rattle.rsp_lex.specs.declared.token.TokenKind.TheVariants as kind
 use Rattle.rsp_lex.specs.declared.machine.State.{State}
@@ -71,11 +70,6 @@ ends (state.Symbol inner) = symbol_ends inner
 abbrev pub token_machine : Machine State
 token_machine = record { step = step; ends = ends }
 
--- ---- the test of a kind, by code points
-
-abbrev pub is_token : TokenKind → List ℕ → Bool
-is_token kind cs = accepts token_machine (start kind) cs
-
--- how many bytes its longest token at the front of a text has
-unfoldable pub front_bytes : TokenKind → List ℕ → ℕ
-front_bytes kind text = length (encode_utf8_all (longest_front (is_token kind) (chars text)))
+-- what it accepts; `tokens` says in its clause `forms` that this is the kind's form
+abbrev pub accepted : TokenKind → List ℕ → Bool
+accepted kind cs = accepts token_machine (start kind) cs

@@ -1,10 +1,9 @@
--- Definitions: words, variables, labels, prefixed names and tags as automata: the state behind each character, and the
+-- Words of the way: words, variables, labels, prefixed names and tags as automata: the state behind each character, and the
 -- states in which one may end (SPARQL 1.1, section 19.8: VAR1, VAR2, BLANK_NODE_LABEL, PNAME_NS, PNAME_LN, LANGTAG).
-use Rattle.std.specs.Prelude.{ℕ, Bool, true, false, not, ◌&&◌, ◌||◌, ◌==◌, if◌then◌else◌, Option, None, Some, codes}
+use Rattle.std.specs.Prelude.{ℕ, Bool, true, false, not, ◌&&◌, ◌||◌, ◌==◌, if◌then◌else◌, Option, None, Some}
 use Rattle.std.specs.Char.{is_ascii_alphabetic, is_ascii_alphanumeric, is_ascii_digit, is_ascii_hexdigit}
-use Rattle.std.specs.List.{list_any}
 use Rattle.std.specs.Str.{byte}
-use Rattle.rsp_terms.specs.Characters.{is_base, is_name_character}
+use Rattle.rsp_terms.specs.Characters.{is_base}
 use Rattle.rsp_lex.specs.declared.names.WordState.{WordState}
 use Rattle.rsp_lex.specs.declared.names.WordState.TheVariants as word
 use Rattle.rsp_lex.specs.declared.names.VariableState.{VariableState}
@@ -15,18 +14,9 @@ use Rattle.rsp_lex.specs.declared.names.PrefixedState.{PrefixedState}
 use Rattle.rsp_lex.specs.declared.names.PrefixedState.TheVariants as prefixed
 use Rattle.rsp_lex.specs.declared.names.TagState.{TagState}
 use Rattle.rsp_lex.specs.declared.names.TagState.TheVariants as tag
-
--- PN_CHARS_U and PN_CHARS, which have no `:` here
-abbrev pub starts_name : ℕ → Bool
-starts_name c = is_base c || c == byte "_"
-
-abbrev pub continues_name : ℕ → Bool
-continues_name c = is_name_character c && not (c == byte ":")
+use Rattle.rsp_lex.specs.Forms.{starts_name, continues_name, is_word_character, is_escaped}
 
 -- ---- words: a letter, then letters, digits and `_`
-
-abbrev pub is_word_character : ℕ → Bool
-is_word_character c = is_ascii_alphanumeric c || c == byte "_"
 
 abbrev pub word_step : WordState → ℕ → Option WordState
 word_step word.Start c = if is_ascii_alphabetic c then Some word.Inside else None
@@ -75,9 +65,6 @@ prefix_inside c = if c == byte "." then Some prefixed.PrefixDot else (if continu
 abbrev pub escape_start : ℕ → Option PrefixedState
 escape_start c =
     if c == byte "%" then Some prefixed.Percent else (if c == byte "\\" then Some prefixed.Backslash else None)
-
-abbrev pub is_escaped : ℕ → Bool
-is_escaped c = list_any (λ d. c == d) (codes "_~.-!$&'()*+,;=/?#@%")
 
 abbrev pub local_start : ℕ → Option PrefixedState
 local_start c =

@@ -1,4 +1,4 @@
--- Definitions: numbers and spans as automata: the state behind each character, and the states in which one may end (SPARQL
+-- Words of the way: numbers and spans as automata: the state behind each character, and the states in which one may end (SPARQL
 -- 1.1, section 19.8: INTEGER, DECIMAL, DOUBLE; XML Schema Part 2, section 3.2.6.1).
 use Rattle.std.specs.Prelude.{ℕ, Bool, true, false, ◌||◌, ◌==◌, if◌then◌else◌, Option, None, Some}
 use Rattle.std.specs.Char.{is_ascii_digit}

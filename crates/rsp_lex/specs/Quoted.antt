@@ -1,4 +1,4 @@
--- Definitions: IRIs and strings as automata: the state behind each character, and the states in which one may end
+-- Words of the way: IRIs and strings as automata: the state behind each character, and the states in which one may end
 -- (SPARQL 1.1, section 19.8: IRIREF, STRING_LITERAL1, STRING_LITERAL2, STRING_LITERAL_LONG1, STRING_LITERAL_LONG2, ECHAR,
 -- UCHAR).
 use Rattle.std.specs.Prelude.{ℕ, ◌+◌, Bool, true, false, ◌||◌, ◌==◌, nat_lt, if◌then◌else◌, Option, None, Some}
@@ -40,9 +40,12 @@ iri_ends _ = false
 
 -- ---- strings
 
+abbrev pub quote_sign : Quote → ℕ
+quote_sign Double = byte "\""
+quote_sign Single = byte "'"
+
 abbrev pub is_quote : Quote → ℕ → Bool
-is_quote Double c = c == byte "\""
-is_quote Single c = c == byte "'"
+is_quote quote c = c == quote_sign quote
 
 abbrev pub string_start : ℕ → Option StringState
 string_start c =

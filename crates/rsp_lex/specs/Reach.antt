@@ -2,9 +2,9 @@
 use Rattle.std.specs.Prelude.{◌≡◌, ℕ, suc, ◌<◌, List, [], ◌∷◌, ◌++◌, length, take}
 use Rattle.std.specs.Option.{option_map_or}
 use Rattle.std.specs.Str.{encode_utf8_all, IsUtf8}
-use Rattle.rsp_scan.specs.Fronts.{Machine}
+use Rattle.rsp_scan.specs.Machines.{Machine}
 use Rattle.rsp_lex.specs.declared.token.TokenKind.TheVariants as kind
-use Rattle.rsp_lex.specs.Kinds.{front_bytes}
+use Rattle.rsp_lex.specs.Forms.{front_bytes}
 
 unfoldable pub reach : {S : Type 0} → Machine S → S → List ℕ → ℕ
 reach m s [] = 0

@@ -1,12 +1,9 @@
--- Definitions: symbols as an automaton: `{ } ( ) [ ] . ; , | || && ! = != < > <= >= + - * / ^ ^^ ?`.
-use Rattle.std.specs.Prelude.{ℕ, Bool, true, false, ◌||◌, ◌==◌, if◌then◌else◌, Option, None, Some, codes}
-use Rattle.std.specs.List.{list_any}
+-- Words of the way: symbols as an automaton: `{ } ( ) [ ] . ; , | || && ! = != < > <= >= + - * / ^ ^^ ?`.
+use Rattle.std.specs.Prelude.{ℕ, Bool, true, false, ◌||◌, ◌==◌, if◌then◌else◌, Option, None, Some}
 use Rattle.std.specs.Str.{byte}
 use Rattle.rsp_lex.specs.declared.symbols.SymbolState.{SymbolState}
 use Rattle.rsp_lex.specs.declared.symbols.SymbolState.TheVariants as symbol
-
-abbrev pub is_single : ℕ → Bool
-is_single c = list_any (λ d. c == d) (codes "{}()[].;,=+-*/?")
+use Rattle.rsp_lex.specs.Forms.{is_single}
 
 abbrev pub symbol_start : ℕ → Option SymbolState
 symbol_start c =

@@ -7,7 +7,7 @@ use Rattle.rsp_lex.specs.declared.token.Token.{Token}
 use Rattle.rsp_lex.specs.declared.token.TokenKind.{TokenKind}
 use Rattle.rsp_lex.specs.declared.token.TokenKind.TheVariants as kind
 use Rattle.rsp_lex.specs.declared.lexing.Front.{Front}
-use Rattle.rsp_lex.specs.Kinds.{front_bytes}
+use Rattle.rsp_lex.specs.Forms.{front_bytes}
 
 -- ---- white space and comments: a comment is `#` to the end of the line
 

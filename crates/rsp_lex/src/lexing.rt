@@ -1,8 +1,8 @@
 // The tokens of a text.
 ghost use Rattle.std.specs.Prelude.{◌≡◌, ℕ, ◌+◌, ◌≤◌, ◌<◌, IfOk, List, length, drop, ◌++◌, ◌∷◌, [], nat_lt, if◌then◌else◌};
 ghost use Rattle.rsp_lex.specs.declared.token.TokenKind.TheVariants.{Prefixed};
-ghost use Rattle.rsp_lex.specs.Forms.{HasForm};
-ghost use Rattle.rsp_lex.specs.Kinds.{front_bytes};
+ghost use Rattle.rsp_lex.specs.Forms.{front_bytes, is_token};
+ghost use Rattle.rsp_lex.specs.Kinds.{accepted};
 ghost use Rattle.rsp_lex.specs.Reach.{NoPrefixed};
 ghost use Rattle.rsp_lex.specs.Tokens as words;
 ghost use Rattle.rsp_lex.specs.Results.{IsLexed};
@@ -28,8 +28,8 @@ pub fn tokens(alloc: Global, text: &str) -> Result<Listed<Token>, LexFault>
     ensures tokens { IsLexed result (words.tokens text.now) }
     // the definition's bound is none: any larger one gives the same
     ensures bound { (most : ℕ) → length text.now < most → words.tokens_from most 0 text.now ≡ words.tokens text.now }
-    // these kinds, in the grammar's words
-    ensures forms { (cs : List ℕ) → HasForm cs }
+    // the automata by which they are found accept what the kinds are
+    ensures forms { (kind : TokenKind) (cs : List ℕ) → accepted kind cs ≡ is_token kind cs }
 {
     all_tokens(alloc, text)
 }

@@ -3,6 +3,7 @@ ghost use Rattle.std.specs.Prelude.{◌≡◌, ◌≤◌, length, if◌then◌el
 ghost use Rattle.std.specs.Str.{chars};
 ghost use Rattle.rsp_scan.specs.Scans.{scanned_bytes};
 ghost use Rattle.rsp_lex.specs.declared.token.TokenKind.TheVariants.{Prefixed};
+ghost use Rattle.rsp_lex.specs.Forms.{front_bytes};
 ghost use Rattle.rsp_lex.specs.Kinds as kinds;
 ghost use Rattle.rsp_lex.specs.Reach.{read_bytes, NoPrefixed};
 
@@ -102,7 +103,7 @@ pub(crate) struct Reached {
 
 /// How many bytes the longest token of this kind has that a text begins with; 0 where it begins with none.
 pub(crate) fn front_len(kind: TokenKind, text: &str) -> usize
-    ensures value { result ≡ kinds.front_bytes kind text.now }
+    ensures value { result ≡ front_bytes kind text.now }
     ensures bound { result ≤ length text.now }
 {
     scanned(start(kind), text).len
@@ -111,7 +112,7 @@ pub(crate) fn front_len(kind: TokenKind, text: &str) -> usize
 /// The longest prefixed name that a text begins with. Where there is none, none begins behind any shorter front than
 /// what was read either.
 pub(crate) fn prefixed_front(text: &str) -> Reached
-    ensures len { result.len ≡ kinds.front_bytes Prefixed text.now }
+    ensures len { result.len ≡ front_bytes Prefixed text.now }
     ensures none { result.len ≡ 0 → NoPrefixed text.now result.read }
 {
     scanned(start(TokenKind::Prefixed), text)

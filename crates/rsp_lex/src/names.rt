@@ -1,6 +1,7 @@
 // Words, names, labels and tags, character by character.
 ghost use Rattle.std.specs.Prelude.{◌≡◌};
 ghost use Rattle.std.specs.Char.{is_ascii_alphabetic, is_ascii_alphanumeric, is_ascii_digit, is_ascii_hexdigit};
+ghost use Rattle.rsp_lex.specs.Forms as forms;
 ghost use Rattle.rsp_lex.specs.Names as words;
 
 use rsp_terms::characters::{is_base, is_name_character};
@@ -89,21 +90,21 @@ fn is_hexadecimal(c: char) -> bool
 }
 
 fn is_word_character(c: char) -> bool
-    ensures { result ≡ words.is_word_character c }
+    ensures { result ≡ forms.is_word_character c }
 {
     is_letter_or_digit(c) || c == '_'
 }
 
 /// PN_CHARS_U, which has no `:` here.
 fn starts_name(c: char) -> bool
-    ensures { result ≡ words.starts_name c }
+    ensures { result ≡ forms.starts_name c }
 {
     is_base(c) || c == '_'
 }
 
 /// PN_CHARS.
 fn continues_name(c: char) -> bool
-    ensures { result ≡ words.continues_name c }
+    ensures { result ≡ forms.continues_name c }
 {
     is_name_character(c) && c != ':'
 }
@@ -316,7 +317,7 @@ fn escape_start(c: char) -> Option<PrefixedState>
 
 // PN_LOCAL_ESC, behind its `\`
 fn is_escaped(c: char) -> bool
-    ensures { result ≡ words.is_escaped c }
+    ensures { result ≡ forms.is_escaped c }
 {
     matches!(
         c,

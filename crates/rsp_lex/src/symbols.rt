@@ -1,5 +1,6 @@
 // Symbols, character by character.
 ghost use Rattle.std.specs.Prelude.{◌≡◌};
+ghost use Rattle.rsp_lex.specs.Forms as forms;
 ghost use Rattle.rsp_lex.specs.Symbols as words;
 
 /// How far a symbol is read.
@@ -65,7 +66,7 @@ fn symbol_start(c: char) -> Option<SymbolState>
 }
 
 fn is_single(c: char) -> bool
-    ensures { result ≡ words.is_single c }
+    ensures { result ≡ forms.is_single c }
 {
     matches!(
         c,

@@ -15,7 +15,7 @@ use Rattle.rsp_terms.specs.declared.term.Term.TheVariants.{Iri, Blank, Literal, 
 use Rattle.rsp_terms.specs.declared.statement.Quad.{Quad}
 use Rattle.rsp_terms.specs.Terms.{xsd_string, escaped_byte, escaped_text, iri_text, string_text, term_text}
 use Rattle.rsp_terms.specs.Characters.{is_iri_character, is_tag_text}
-use Rattle.rsp_scan.specs.Fronts.{accepts}
+use Rattle.rsp_scan.specs.Machines.{accepts}
 use Rattle.rsp_scan.specs.Enclosed.{Piece, plain, short, long, named, piece_text, StandsFor, IsIriPiece, IsStringPiece, IsPieceOf, IsEnclosed, IsIri, Rule, is_scalar}
 use Rattle.rsp_scan.specs.Names.{IsTag}
 use Rattle.rsp_nquads.specs.Grammar.{IsDatatype, IsQualified, IsLiteral, IsIriTerm, IsNode, IsObject, IsGraph, Stands, Says}

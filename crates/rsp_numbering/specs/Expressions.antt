@@ -9,7 +9,6 @@ use Rattle.rsp_functions.specs.declared.function.Function.{Function}
 use Rattle.rsp_functions.specs.declared.function.Function.TheVariants as function
 use Rattle.rsp_functions.specs.declared.aggregate.Kind.{Kind}
 use Rattle.rsp_functions.specs.declared.aggregate.Kind.TheVariants as fold
-use Rattle.rsp_written.specs.declared.said.Keyword.{Keyword}
 use Rattle.rsp_written.specs.declared.said.Keyword.TheVariants as keyword
 use Rattle.rsp_written.specs.declared.said.Symbol.TheVariants as symbol
 use Rattle.rsp_written.specs.declared.said.Kind.TheVariants as kind
@@ -21,56 +20,15 @@ use Rattle.rsp_numbering.specs.Naming as naming
 -- ---- the words and signs of the grammar; of a token that can't stand there, whichever
 
 abbrev pub sign_of : token.Kind → Sign
-sign_of (kind.Symbol symbol.NotEqual) = sign.NotEqual
-sign_of (kind.Symbol symbol.Less) = sign.Less
-sign_of (kind.Symbol symbol.Greater) = sign.Greater
-sign_of (kind.Symbol symbol.LessEqual) = sign.LessEqual
-sign_of (kind.Symbol symbol.GreaterEqual) = sign.GreaterEqual
-sign_of (kind.Symbol symbol.Plus) = sign.Add
-sign_of (kind.Symbol symbol.Minus) = sign.Subtract
-sign_of (kind.Symbol symbol.Star) = sign.Multiply
-sign_of (kind.Symbol symbol.Slash) = sign.Divide
+sign_of (kind.Symbol (symbol.Sign s)) = s
 sign_of _ = sign.Equal
 
-abbrev pub function_of_keyword : Keyword → Function
-function_of_keyword keyword.If = function.If
-function_of_keyword keyword.Coalesce = function.Coalesce
-function_of_keyword keyword.SameTerm = function.SameTerm
-function_of_keyword keyword.IsIri = function.IsIri
-function_of_keyword keyword.IsUri = function.IsUri
-function_of_keyword keyword.IsBlank = function.IsBlank
-function_of_keyword keyword.IsLiteral = function.IsLiteral
-function_of_keyword keyword.IsNumeric = function.IsNumeric
-function_of_keyword keyword.Lang = function.Lang
-function_of_keyword keyword.Datatype = function.Datatype
-function_of_keyword keyword.Iri = function.Iri
-function_of_keyword keyword.Uri = function.Uri
-function_of_keyword keyword.StrDt = function.StrDt
-function_of_keyword keyword.StrLang = function.StrLang
-function_of_keyword keyword.StrLen = function.StrLen
-function_of_keyword keyword.SubStr = function.Substr
-function_of_keyword keyword.Contains = function.Contains
-function_of_keyword keyword.StrStarts = function.StrStarts
-function_of_keyword keyword.StrEnds = function.StrEnds
-function_of_keyword keyword.StrBefore = function.StrBefore
-function_of_keyword keyword.StrAfter = function.StrAfter
-function_of_keyword keyword.Concat = function.Concat
-function_of_keyword keyword.LangMatches = function.LangMatches
-function_of_keyword keyword.Abs = function.Abs
-function_of_keyword keyword.Ceil = function.Ceil
-function_of_keyword keyword.Floor = function.Floor
-function_of_keyword keyword.Round = function.Round
-function_of_keyword _ = function.Str
-
 abbrev pub function_of : token.Kind → Function
-function_of (kind.Word w) = function_of_keyword w
+function_of (kind.Word (keyword.Call f)) = f
 function_of _ = function.Str
 
 abbrev pub fold_of : token.Kind → Kind
-fold_of (kind.Word keyword.Sum) = fold.Sum
-fold_of (kind.Word keyword.Avg) = fold.Avg
-fold_of (kind.Word keyword.Min) = fold.Min
-fold_of (kind.Word keyword.Max) = fold.Max
+fold_of (kind.Word (keyword.Fold k)) = k
 fold_of _ = fold.Count
 
 -- ---- what stands before the place behind an expression. An aggregate comes before its argument.
@@ -103,8 +61,8 @@ abbrev mutual
 -- ---- the formula of an expression; an aggregate is the variable that stands for it
 
 abbrev pub signed_formula : token.Kind → Formula → Formula
-signed_formula (kind.Symbol symbol.Minus) part = formula.opposite part
-signed_formula (kind.Symbol symbol.Plus) part = formula.plus part
+signed_formula (kind.Symbol (symbol.Sign sign.Subtract)) part = formula.opposite part
+signed_formula (kind.Symbol (symbol.Sign sign.Add)) part = formula.plus part
 signed_formula _ part = formula.negation part
 
 -- a row of signs, from the left

@@ -334,8 +334,8 @@ fn signed(sign: Kind, part: Box<Expression>) -> Expression
     ensures { formula_of result ≡ numbered.signed_formula sign (formula_of part.value) }
 {
     match sign {
-        Kind::Symbol(Symbol::Minus) => Expression::Negate(part),
-        Kind::Symbol(Symbol::Plus) => Expression::Plus(part),
+        Kind::Symbol(Symbol::Sign(Sign::Subtract)) => Expression::Negate(part),
+        Kind::Symbol(Symbol::Sign(Sign::Add)) => Expression::Plus(part),
         _ => Expression::Not(part),
     }
 }

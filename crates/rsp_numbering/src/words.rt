@@ -9,15 +9,7 @@ pub(crate) fn sign_of(kind: Kind) -> Sign
     ensures { result ≡ written.sign_of kind }
 {
     match kind {
-        Kind::Symbol(Symbol::NotEqual) => Sign::NotEqual,
-        Kind::Symbol(Symbol::Less) => Sign::Less,
-        Kind::Symbol(Symbol::Greater) => Sign::Greater,
-        Kind::Symbol(Symbol::LessEqual) => Sign::LessEqual,
-        Kind::Symbol(Symbol::GreaterEqual) => Sign::GreaterEqual,
-        Kind::Symbol(Symbol::Plus) => Sign::Add,
-        Kind::Symbol(Symbol::Minus) => Sign::Subtract,
-        Kind::Symbol(Symbol::Star) => Sign::Multiply,
-        Kind::Symbol(Symbol::Slash) => Sign::Divide,
+        Kind::Symbol(Symbol::Sign(sign)) => sign,
         _ => Sign::Equal,
     }
 }
@@ -26,10 +18,7 @@ pub(crate) fn fold_of(kind: Kind) -> Fold
     ensures { result ≡ written.fold_of kind }
 {
     match kind {
-        Kind::Word(Keyword::Sum) => Fold::Sum,
-        Kind::Word(Keyword::Avg) => Fold::Avg,
-        Kind::Word(Keyword::Min) => Fold::Min,
-        Kind::Word(Keyword::Max) => Fold::Max,
+        Kind::Word(Keyword::Fold(kind)) => kind,
         _ => Fold::Count,
     }
 }
@@ -38,42 +27,7 @@ pub(crate) fn function_of(kind: Kind) -> Function
     ensures { result ≡ written.function_of kind }
 {
     match kind {
-        Kind::Word(keyword) => function_of_keyword(keyword),
-        _ => Function::Str,
-    }
-}
-
-fn function_of_keyword(keyword: Keyword) -> Function
-    ensures { result ≡ written.function_of_keyword keyword }
-{
-    match keyword {
-        Keyword::If => Function::If,
-        Keyword::Coalesce => Function::Coalesce,
-        Keyword::SameTerm => Function::SameTerm,
-        Keyword::IsIri => Function::IsIri,
-        Keyword::IsUri => Function::IsUri,
-        Keyword::IsBlank => Function::IsBlank,
-        Keyword::IsLiteral => Function::IsLiteral,
-        Keyword::IsNumeric => Function::IsNumeric,
-        Keyword::Lang => Function::Lang,
-        Keyword::Datatype => Function::Datatype,
-        Keyword::Iri => Function::Iri,
-        Keyword::Uri => Function::Uri,
-        Keyword::StrDt => Function::StrDt,
-        Keyword::StrLang => Function::StrLang,
-        Keyword::StrLen => Function::StrLen,
-        Keyword::SubStr => Function::Substr,
-        Keyword::Contains => Function::Contains,
-        Keyword::StrStarts => Function::StrStarts,
-        Keyword::StrEnds => Function::StrEnds,
-        Keyword::StrBefore => Function::StrBefore,
-        Keyword::StrAfter => Function::StrAfter,
-        Keyword::Concat => Function::Concat,
-        Keyword::LangMatches => Function::LangMatches,
-        Keyword::Abs => Function::Abs,
-        Keyword::Ceil => Function::Ceil,
-        Keyword::Floor => Function::Floor,
-        Keyword::Round => Function::Round,
+        Kind::Word(Keyword::Call(function)) => function,
         _ => Function::Str,
     }
 }

@@ -1,7 +1,7 @@
 -- Exact readers of rules that are the same on short texts read short texts alike.
 use Rattle.std.proofs.Common.{◌≡◌, ℕ, Bool, ◌<◌, List, ◌++◌, length, sym, ap, ◌∙◌, subst, arith, Ok, Err}
-use Rattle.rsp_phrases.specs.Languages.{Language}
-use Rattle.rsp_phrases.specs.Exact.{CannotGoOn, Reads}
+use Rattle.rsp_phrases.specs.Languages.{Language, CannotGoOn}
+use Rattle.rsp_phrases.specs.Exact.{Reads}
 use Rattle.rsp_phrases.specs.Readers.{Reading, Reader}
 use Rattle.rsp_phrases.proofs.Cuts.{Cut, level, longer, shorter, cut, left_le}
 use Rattle.rsp_phrases.proofs.Good.{Good}

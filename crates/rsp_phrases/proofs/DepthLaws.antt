@@ -1,7 +1,7 @@
 -- A rule at any depth is read at the depth of the text's length.
 use Rattle.std.proofs.Common.{◌≡◌, ℕ, zero, suc, ◌+◌, ◌≤◌, ◌<◌, Bool, true, false, List, [], ◌∷◌, ◌++◌, length, refl, sym, ap, ◌∙◌, subst, arith, append_assoc, length-append, inl, inr, None, Ok, Err, ◌&&◌, ◌||◌, not}
-use Rattle.rsp_phrases.specs.Languages.{Language, has, any_depth, nested, within_itself, at_most, many, listed, second_of, follows, follows_at_most, follows_on, dotted}
-use Rattle.rsp_phrases.specs.Exact.{CannotGoOn, Reads}
+use Rattle.rsp_phrases.specs.Languages.{Language, has, any_depth, nested, within_itself, at_most, many, listed, second_of, follows, follows_at_most, follows_on, dotted, CannotGoOn}
+use Rattle.rsp_phrases.specs.Exact.{Reads}
 use Rattle.rsp_phrases.specs.Readers.{Reading, Reader, nested_read, within_itself_read, at_most_read, many_read, second_read, follows_at_most_read, follows_on_read, dotted_read}
 use Rattle.rsp_phrases.proofs.Cuts.{length_cons, left_le}
 use Rattle.rsp_phrases.proofs.Membership.{apart, covered_by, covered_self, covered_nil, has_append, has_left, has_right, apart_none, where_so}

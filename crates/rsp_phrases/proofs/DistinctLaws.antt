@@ -1,8 +1,8 @@
 -- Tokens with values that are each new.
 use Rattle.std.proofs.Common.{◌≡◌, ℕ, Bool, true, false, true≢false, cond, ◌||◌, List, [], ◌∷◌, ◌++◌, refl, sym, ap, ap₂, ◌∙◌, subst, inl, inr, Option, Some, None, Ok, Err, IsSome, is_some}
 use Rattle.std.specs.List.{list_any}
-use Rattle.rsp_phrases.specs.Languages.{has, distinct, IsNew, AreNew, SomeNew}
-use Rattle.rsp_phrases.specs.Exact.{CannotGoOn, Reads}
+use Rattle.rsp_phrases.specs.Languages.{has, distinct, IsNew, AreNew, SomeNew, CannotGoOn}
+use Rattle.rsp_phrases.specs.Exact.{Reads}
 use Rattle.rsp_phrases.specs.Readers.{Reading, before, distinct_at, distinct_read}
 use Rattle.rsp_phrases.proofs.Cuts.{no_cons, same_head}
 use Rattle.rsp_phrases.proofs.Membership.{or_cases, or_left}

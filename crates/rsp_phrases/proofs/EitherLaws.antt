@@ -1,8 +1,8 @@
 -- One token ahead decides between two rules that begin with different kinds.
 use Rattle.std.proofs.Common.{◌≡◌, ℕ, Bool, true, false, true≢false, cond, not, ◌&&◌, ◌||◌, List, [], ◌∷◌, ◌++◌, refl, sym, ap, ◌∙◌, subst, inl, inr, Some, None, Ok, Err}
 use Rattle.std.proofs.lemmas.Bool.{cases_Bool}
-use Rattle.rsp_phrases.specs.Languages.{Language, has, either, optional}
-use Rattle.rsp_phrases.specs.Exact.{CannotGoOn, Reads}
+use Rattle.rsp_phrases.specs.Languages.{Language, has, either, optional, CannotGoOn}
+use Rattle.rsp_phrases.specs.Exact.{Reads}
 use Rattle.rsp_phrases.specs.Readers.{Reading, Reader, either_read, optional_read, starts}
 use Rattle.rsp_phrases.proofs.Cuts.{no_cons, same_head}
 use Rattle.rsp_phrases.proofs.Membership.{apart, not_both, has_append, has_left, has_right, where_so, and_left, and_right, or_cases}

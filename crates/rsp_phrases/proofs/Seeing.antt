@@ -1,8 +1,8 @@
 -- A rule on tokens that are read as others.
 use Rattle.std.proofs.Common.{◌≡◌, ℕ, ◌-◌, Bool, true, false, true≢false, List, [], ◌∷◌, ◌++◌, length, drop, map, refl, sym, ap, ◌∙◌, subst, arith, length-append, Ok, Err}
 use Rattle.std.proofs.lemmas.List.{map-append, length-map, drop_at}
-use Rattle.rsp_phrases.specs.Languages.{Language, has, seen}
-use Rattle.rsp_phrases.specs.Exact.{CannotGoOn, Reads}
+use Rattle.rsp_phrases.specs.Languages.{Language, has, seen, CannotGoOn}
+use Rattle.rsp_phrases.specs.Exact.{Reads}
 use Rattle.rsp_phrases.specs.Readers.{Reading, Reader, rest_of, seen_read}
 use Rattle.rsp_phrases.proofs.Cuts.{no_cons, same_head, same_tail}
 use Rattle.rsp_phrases.proofs.Good.{Good}

@@ -1,8 +1,8 @@
 -- One part behind the other is read part by part, where nothing that begins the second goes on the first.
 use Rattle.std.proofs.Common.{◌≡◌, ℕ, Bool, true, false, true≢false, not, ◌&&◌, ◌||◌, List, [], ◌∷◌, ◌++◌, refl, sym, ap, ap₂, ◌∙◌, subst, append_assoc, append-nil, inl, inr, Ok, Err}
 use Rattle.std.proofs.lemmas.Bool.{cases_Bool}
-use Rattle.rsp_phrases.specs.Languages.{Language, has, tied, Tied}
-use Rattle.rsp_phrases.specs.Exact.{CannotGoOn, IsRead, Reads}
+use Rattle.rsp_phrases.specs.Languages.{Language, has, tied, Tied, CannotGoOn}
+use Rattle.rsp_phrases.specs.Exact.{IsRead, Reads}
 use Rattle.rsp_phrases.specs.Readers.{Reading, Reader, beside, tied_from, tied_read}
 use Rattle.rsp_phrases.proofs.Cuts.{no_cons, same_head, level, longer, shorter, cut}
 use Rattle.rsp_phrases.proofs.Membership.{apart, not_both, has_append, has_left, has_right, where_so, and_left, and_right}

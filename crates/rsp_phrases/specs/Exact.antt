@@ -1,10 +1,7 @@
--- Definitions: what it says of a row of tokens that a reading call gives a value, or stops.
+-- Words of the way: what it says of a row of tokens that a reading call gives a value, or stops. From the laws of the grammar's
+-- rules to what a text is.
 use Rattle.std.specs.Prelude.{◌≡◌, ℕ, List, ◌∷◌, ◌++◌, length, Result, Ok, Err}
-use Rattle.rsp_phrases.specs.Languages.{Language}
-
--- behind these tokens the next one can't stand
-abbrev pub CannotGoOn : {T A : Type 0} → Language T A → List T → List T → Type 0
-CannotGoOn p used rest = (x : _) (after more : List _) → rest ≡ x ∷ after → p.front (used ++ (x ∷ more)) → ⊥
+use Rattle.rsp_phrases.specs.Languages.{Language, CannotGoOn}
 
 -- what is read is an expansion with this value, and no expansion passes the next token too
 pub record IsRead {T A : Type 0} (p : Language T A) (ts : List T) (value : A) (rest : List T) : Type 0 where

@@ -8,6 +8,10 @@ pub record Language (T A : Type 0) : Type 1 where
   pub full : List T → A → Type 0
   pub front : List T → Type 0
 
+-- behind these tokens the next one can't stand
+abbrev pub CannotGoOn : {T A : Type 0} → Language T A → List T → List T → Type 0
+CannotGoOn p used rest = (x : _) (after more : List _) → rest ≡ x ∷ after → p.front (used ++ (x ∷ more)) → ⊥
+
 -- ---- one token
 
 abbrev pub IsOne : {T A : Type 0} → (T → Option A) → List T → A → Type 0

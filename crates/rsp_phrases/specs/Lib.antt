@@ -1,7 +1,7 @@
 -- Definitions
 pub mod Languages
-pub mod Exact
 -- Words of the way
+pub mod Exact
 pub mod Readers
 pub mod Gathering
 pub mod Fronts

@@ -1,27 +1,10 @@
 // Texts of expressions and how far they are read, worked out by hand from the standard's grammar and the profile.
-use rsp_lex::{TokenKind, tokens};
+use rsp_lex::tokens;
 use rsp_read_expressions::aggregate_expression;
-use rsp_said::{Form, said};
+use rsp_said::said;
 use rsp_written::{Halt, Said};
 use std::alloc::Global;
 use std::test::Fail;
-
-fn form_of(kind: TokenKind) -> Form {
-    match kind {
-        TokenKind::Iri => Form::Iri,
-        TokenKind::Prefixed => Form::Prefixed,
-        TokenKind::Label => Form::Label,
-        TokenKind::Variable => Form::Variable,
-        TokenKind::Span => Form::Span,
-        TokenKind::Word => Form::Word,
-        TokenKind::Tag => Form::Tag,
-        TokenKind::Double => Form::Double,
-        TokenKind::Decimal => Form::Decimal,
-        TokenKind::Integer => Form::Integer,
-        TokenKind::String => Form::String,
-        TokenKind::Symbol => Form::Symbol,
-    }
-}
 
 fn all_said(alloc: Global, text: &str) -> Result<Vec<Said>, Fail> {
     let Ok(found) = tokens(alloc, text) else {
@@ -32,7 +15,7 @@ fn all_said(alloc: Global, text: &str) -> Result<Vec<Said>, Fail> {
         let part = text
             .get(token.start..token.end)
             .ok_or("a place within the text")?;
-        all.push(said(alloc, form_of(token.kind), part, token.start)?)?;
+        all.push(said(alloc, token.kind, part, token.start)?)?;
     }
     Ok(all)
 }

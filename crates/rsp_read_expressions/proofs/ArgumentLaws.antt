@@ -7,8 +7,8 @@ use Rattle.rsp_phrases.proofs.Mapping.{at_most_mapped}
 use Rattle.rsp_written.specs.declared.said.Kind.{Kind}
 use Rattle.rsp_written.specs.declared.said.Said.{Said}
 use Rattle.rsp_written.specs.declared.said.Symbol.TheVariants as symbol
-use Rattle.rsp_written.specs.declared.said.Arity.{Arity}
-use Rattle.rsp_written.specs.declared.said.Arity.TheVariants as arity
+use Rattle.rsp_functions.specs.declared.function.Arity.{Arity}
+use Rattle.rsp_functions.specs.declared.function.Arity.TheVariants as arity
 use Rattle.rsp_written.specs.Trees.{Expr}
 use Rattle.rsp_written.specs.Building.{parts_of, signed_part}
 use Rattle.rsp_written.specs.Grammar.{kind_number, numbers, maybe_third}

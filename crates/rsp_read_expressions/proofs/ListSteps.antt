@@ -3,7 +3,7 @@ use Rattle.std.proofs.Common.{◌≡◌, ℕ, List, ◌∷◌, length, sym, ap, 
 use Rattle.rsp_phrases.specs.Readers.{Reader}
 use Rattle.rsp_written.specs.declared.said.Kind.{Kind}
 use Rattle.rsp_written.specs.declared.said.Said.{Said}
-use Rattle.rsp_written.specs.declared.said.Arity.{Arity}
+use Rattle.rsp_functions.specs.declared.function.Arity.{Arity}
 use Rattle.rsp_written.specs.Trees.{Expr}
 use Rattle.rsp_written.specs.Building.{parts_of}
 use Rattle.rsp_read_expressions.specs.Levels.{operands_at_most}

@@ -1,4 +1,6 @@
 -- Words of the way: readings of what has no expression within it.
+use Rattle.rsp_functions.specs.declared.aggregate.Kind.TheVariants as fold
+use Rattle.rsp_functions.specs.declared.function.Sign.TheVariants as operator
 use Rattle.std.specs.Prelude.{[], ◌∷◌, Bool, is_some}
 use Rattle.rsp_phrases.specs.Readers.{Reader, mapped_read}
 use Rattle.rsp_written.specs.declared.said.Keyword.{Keyword}
@@ -23,5 +25,5 @@ maybe_word_read w = mapped_read is_some (maybe_read (word_kinds w) (word_read w)
 -- what stands in the parentheses of COUNT
 abbrev pub counted_read : Reader Said Expr
 counted_read =
-    choice_read (sign_kinds symbol.Star) (mapped_read (λ star. count_rows) (sign_read symbol.Star))
-    (mapped_read (aggregate_of (kind.Word keyword.Count)) maybe_distinct_read)
+    choice_read (sign_kinds (symbol.Sign operator.Multiply)) (mapped_read (λ star. count_rows) (sign_read (symbol.Sign operator.Multiply)))
+    (mapped_read (aggregate_of (kind.Word (keyword.Fold fold.Count))) maybe_distinct_read)

@@ -11,6 +11,7 @@ use crate::leaves::maybe_word;
 use crate::nodes::aggregate_of;
 use crate::primaries::Primaries;
 use crate::rows;
+use rsp_functions::{Kind as Fold, Sign};
 use rsp_written::{
     Expression, Halt, Keyword, Kind, Said, Symbol, first_is, first_is_among, one, sign, word,
 };
@@ -36,14 +37,19 @@ fn argument(alloc: Global, tokens: &[Said]) -> Result<(Aggregated, &[Said]), Hal
 fn counted(alloc: Global, tokens: &[Said]) -> Result<(Expression, &[Said]), Halt>
     ensures { Gives (λ x. (expr_of x.0, x.1.now)) result (counted_read tokens.now) }
 {
-    if first_is(Kind::Symbol(Symbol::Star), tokens) {
-        let (_, rest) = sign(Symbol::Star, tokens)?;
+    if first_is(Kind::Symbol(Symbol::Sign(Sign::Multiply)), tokens) {
+        let (_, rest) = sign(Symbol::Sign(Sign::Multiply), tokens)?;
         Ok((Expression::CountRows, rest))
     } else {
         let (aggregated, rest) = argument(alloc, tokens)?;
         let Aggregated { distinct, argument } = aggregated;
         Ok((
-            aggregate_of(alloc, Kind::Word(Keyword::Count), distinct, argument)?,
+            aggregate_of(
+                alloc,
+                Kind::Word(Keyword::Fold(Fold::Count)),
+                distinct,
+                argument,
+            )?,
             rest,
         ))
     }
@@ -53,7 +59,7 @@ fn counted(alloc: Global, tokens: &[Said]) -> Result<(Expression, &[Said]), Halt
 fn count(alloc: Global, tokens: &[Said]) -> Result<(Expression, &[Said]), Halt>
     ensures { Gives (λ x. (expr_of x.0, x.1.now)) result (readings.count_read tokens.now) }
 {
-    let (_, rest) = word(Keyword::Count, tokens)?;
+    let (_, rest) = word(Keyword::Fold(Fold::Count), tokens)?;
     let (_, rest) = sign(Symbol::OpenParen, rest)?;
     let (count, rest) = counted(alloc, rest)?;
     let (_, rest) = sign(Symbol::CloseParen, rest)?;
@@ -61,17 +67,17 @@ fn count(alloc: Global, tokens: &[Said]) -> Result<(Expression, &[Said]), Halt>
 }
 
 const FOLDS: [Kind; 4] = [
-    Kind::Word(Keyword::Sum),
-    Kind::Word(Keyword::Avg),
-    Kind::Word(Keyword::Min),
-    Kind::Word(Keyword::Max),
+    Kind::Word(Keyword::Fold(Fold::Sum)),
+    Kind::Word(Keyword::Fold(Fold::Avg)),
+    Kind::Word(Keyword::Fold(Fold::Min)),
+    Kind::Word(Keyword::Fold(Fold::Max)),
 ];
 
 #[tactic(auto, unfolding(rsp_written::specs::Readings::aggregate_read))]
 fn aggregate(alloc: Global, tokens: &[Said]) -> Result<(Expression, &[Said]), Halt>
     ensures { Gives (λ x. (expr_of x.0, x.1.now)) result (readings.aggregate_read tokens.now) }
 {
-    if first_is(Kind::Word(Keyword::Count), tokens) {
+    if first_is(Kind::Word(Keyword::Fold(Fold::Count)), tokens) {
         return count(alloc, tokens);
     }
     let (name, rest) = one(&FOLDS, tokens)?;
@@ -93,11 +99,11 @@ impl Primaries for Aggregates {
     fn begins(tokens: &[Said]) -> bool {
         first_is_among(
             &[
-                Kind::Word(Keyword::Count),
-                Kind::Word(Keyword::Sum),
-                Kind::Word(Keyword::Avg),
-                Kind::Word(Keyword::Min),
-                Kind::Word(Keyword::Max),
+                Kind::Word(Keyword::Fold(Fold::Count)),
+                Kind::Word(Keyword::Fold(Fold::Sum)),
+                Kind::Word(Keyword::Fold(Fold::Avg)),
+                Kind::Word(Keyword::Fold(Fold::Min)),
+                Kind::Word(Keyword::Fold(Fold::Max)),
             ],
             tokens,
         )

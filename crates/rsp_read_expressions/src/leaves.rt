@@ -8,6 +8,7 @@ ghost use Rattle.rsp_written.specs.Grammar.{call_names, comparisons, kind_number
 ghost use Rattle.rsp_written.specs.Meanings.{expr_of};
 ghost use Rattle.rsp_written.specs.Readings as readings;
 
+use rsp_functions::{Function, Sign};
 use rsp_written::{
     Arity, Expression, Halt, Keyword, Kind, Said, Symbol, first_is, first_is_among, iri, one, sign,
     unsigned_literal, variable, word,
@@ -20,8 +21,8 @@ pub(crate) fn begins_unary(tokens: &[Said]) -> bool
     first_is_among(
         &[
             Kind::Symbol(Symbol::Not),
-            Kind::Symbol(Symbol::Minus),
-            Kind::Symbol(Symbol::Plus),
+            Kind::Symbol(Symbol::Sign(Sign::Subtract)),
+            Kind::Symbol(Symbol::Sign(Sign::Add)),
         ],
         tokens,
     )
@@ -33,20 +34,20 @@ pub(crate) fn unary_sign(tokens: &[Said]) -> Result<(&Said, &[Said]), Halt>
     one(
         &[
             Kind::Symbol(Symbol::Not),
-            Kind::Symbol(Symbol::Minus),
-            Kind::Symbol(Symbol::Plus),
+            Kind::Symbol(Symbol::Sign(Sign::Subtract)),
+            Kind::Symbol(Symbol::Sign(Sign::Add)),
         ],
         tokens,
     )
 }
 
 const COMPARISONS: [Kind; 6] = [
-    Kind::Symbol(Symbol::Equal),
-    Kind::Symbol(Symbol::NotEqual),
-    Kind::Symbol(Symbol::Less),
-    Kind::Symbol(Symbol::Greater),
-    Kind::Symbol(Symbol::LessEqual),
-    Kind::Symbol(Symbol::GreaterEqual),
+    Kind::Symbol(Symbol::Sign(Sign::Equal)),
+    Kind::Symbol(Symbol::Sign(Sign::NotEqual)),
+    Kind::Symbol(Symbol::Sign(Sign::Less)),
+    Kind::Symbol(Symbol::Sign(Sign::Greater)),
+    Kind::Symbol(Symbol::Sign(Sign::LessEqual)),
+    Kind::Symbol(Symbol::Sign(Sign::GreaterEqual)),
 ];
 
 pub(crate) fn compares(tokens: &[Said]) -> bool
@@ -81,34 +82,34 @@ pub fn maybe_word(keyword: Keyword, tokens: &[Said]) -> Result<(bool, &[Said]), 
 }
 
 const CALL_NAMES: [Kind; 28] = [
-    Kind::Word(Keyword::If),
-    Kind::Word(Keyword::Coalesce),
-    Kind::Word(Keyword::SameTerm),
-    Kind::Word(Keyword::IsIri),
-    Kind::Word(Keyword::IsUri),
-    Kind::Word(Keyword::IsBlank),
-    Kind::Word(Keyword::IsLiteral),
-    Kind::Word(Keyword::IsNumeric),
-    Kind::Word(Keyword::Str),
-    Kind::Word(Keyword::Lang),
-    Kind::Word(Keyword::Datatype),
-    Kind::Word(Keyword::Iri),
-    Kind::Word(Keyword::Uri),
-    Kind::Word(Keyword::StrDt),
-    Kind::Word(Keyword::StrLang),
-    Kind::Word(Keyword::StrLen),
-    Kind::Word(Keyword::SubStr),
-    Kind::Word(Keyword::Contains),
-    Kind::Word(Keyword::StrStarts),
-    Kind::Word(Keyword::StrEnds),
-    Kind::Word(Keyword::StrBefore),
-    Kind::Word(Keyword::StrAfter),
-    Kind::Word(Keyword::Concat),
-    Kind::Word(Keyword::LangMatches),
-    Kind::Word(Keyword::Abs),
-    Kind::Word(Keyword::Ceil),
-    Kind::Word(Keyword::Floor),
-    Kind::Word(Keyword::Round),
+    Kind::Word(Keyword::Call(Function::If)),
+    Kind::Word(Keyword::Call(Function::Coalesce)),
+    Kind::Word(Keyword::Call(Function::SameTerm)),
+    Kind::Word(Keyword::Call(Function::IsIri)),
+    Kind::Word(Keyword::Call(Function::IsUri)),
+    Kind::Word(Keyword::Call(Function::IsBlank)),
+    Kind::Word(Keyword::Call(Function::IsLiteral)),
+    Kind::Word(Keyword::Call(Function::IsNumeric)),
+    Kind::Word(Keyword::Call(Function::Str)),
+    Kind::Word(Keyword::Call(Function::Lang)),
+    Kind::Word(Keyword::Call(Function::Datatype)),
+    Kind::Word(Keyword::Call(Function::Iri)),
+    Kind::Word(Keyword::Call(Function::Uri)),
+    Kind::Word(Keyword::Call(Function::StrDt)),
+    Kind::Word(Keyword::Call(Function::StrLang)),
+    Kind::Word(Keyword::Call(Function::StrLen)),
+    Kind::Word(Keyword::Call(Function::Substr)),
+    Kind::Word(Keyword::Call(Function::Contains)),
+    Kind::Word(Keyword::Call(Function::StrStarts)),
+    Kind::Word(Keyword::Call(Function::StrEnds)),
+    Kind::Word(Keyword::Call(Function::StrBefore)),
+    Kind::Word(Keyword::Call(Function::StrAfter)),
+    Kind::Word(Keyword::Call(Function::Concat)),
+    Kind::Word(Keyword::Call(Function::LangMatches)),
+    Kind::Word(Keyword::Call(Function::Abs)),
+    Kind::Word(Keyword::Call(Function::Ceil)),
+    Kind::Word(Keyword::Call(Function::Floor)),
+    Kind::Word(Keyword::Call(Function::Round)),
 ];
 
 pub fn begins_call(tokens: &[Said]) -> bool

@@ -8,6 +8,7 @@ ghost use Rattle.rsp_written.specs.Grammar.{kind_number, numbers};
 ghost use Rattle.rsp_written.specs.Meanings.{expr_of, operand_of};
 ghost use Rattle.rsp_written.specs.Readings.{one_read};
 
+use rsp_functions::Sign;
 use rsp_written::{Expression, Halt, Kind, Operand, Said, Symbol, first_is_among, one};
 use std::alloc::{AllocError, Global};
 
@@ -41,11 +42,17 @@ impl Parts {
             Parts::Row(Level::Or) => first_is_among(&[Kind::Symbol(Symbol::Or)], tokens),
             Parts::Row(Level::And) => first_is_among(&[Kind::Symbol(Symbol::And)], tokens),
             Parts::Row(Level::Sum) => first_is_among(
-                &[Kind::Symbol(Symbol::Plus), Kind::Symbol(Symbol::Minus)],
+                &[
+                    Kind::Symbol(Symbol::Sign(Sign::Add)),
+                    Kind::Symbol(Symbol::Sign(Sign::Subtract)),
+                ],
                 tokens,
             ),
             Parts::Row(Level::Product) => first_is_among(
-                &[Kind::Symbol(Symbol::Star), Kind::Symbol(Symbol::Slash)],
+                &[
+                    Kind::Symbol(Symbol::Sign(Sign::Multiply)),
+                    Kind::Symbol(Symbol::Sign(Sign::Divide)),
+                ],
                 tokens,
             ),
             Parts::Arguments => first_is_among(&[Kind::Symbol(Symbol::Comma)], tokens),
@@ -60,11 +67,17 @@ impl Parts {
             Parts::Row(Level::Or) => one(&[Kind::Symbol(Symbol::Or)], tokens),
             Parts::Row(Level::And) => one(&[Kind::Symbol(Symbol::And)], tokens),
             Parts::Row(Level::Sum) => one(
-                &[Kind::Symbol(Symbol::Plus), Kind::Symbol(Symbol::Minus)],
+                &[
+                    Kind::Symbol(Symbol::Sign(Sign::Add)),
+                    Kind::Symbol(Symbol::Sign(Sign::Subtract)),
+                ],
                 tokens,
             ),
             Parts::Row(Level::Product) => one(
-                &[Kind::Symbol(Symbol::Star), Kind::Symbol(Symbol::Slash)],
+                &[
+                    Kind::Symbol(Symbol::Sign(Sign::Multiply)),
+                    Kind::Symbol(Symbol::Sign(Sign::Divide)),
+                ],
                 tokens,
             ),
             Parts::Arguments => one(&[Kind::Symbol(Symbol::Comma)], tokens),

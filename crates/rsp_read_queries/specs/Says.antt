@@ -1,4 +1,4 @@
--- Definitions: what a reading call says of a row of tokens, unless memory ran out.
+-- Words of the way: what a reading call says of a row of tokens, unless memory ran out; the function on texts takes it on.
 use Rattle.std.specs.Prelude.{⊤, List, Result, Ok, Err}
 use Rattle.rsp_phrases.specs.Exact.{IsRead, IsFault}
 use Rattle.rsp_phrases.specs.Languages.{Language}

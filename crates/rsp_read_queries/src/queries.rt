@@ -1,7 +1,8 @@
 // Reading whole queries.
-ghost use Rattle.std.specs.Prelude.{◌≡◌};
+ghost use Rattle.std.specs.Prelude.{◌≡◌, ◌++◌, List};
 ghost use Rattle.rsp_read_queries.specs.Says.{Says};
 ghost use Rattle.rsp_written.specs.Gives.{Gives};
+ghost use Rattle.rsp_written.specs.declared.said.Said as said;
 ghost use Rattle.rsp_written.specs.Grammar.{query};
 ghost use Rattle.rsp_written.specs.GroupMeanings.{written_of};
 ghost use Rattle.rsp_written.specs.GroupReadings as readings;
@@ -68,6 +69,8 @@ fn exact_query(alloc: Global, tokens: &[Said]) -> Result<(Registration, &[Said])
 pub fn read_query(alloc: Global, tokens: &[Said]) -> Result<(Registration, &[Said]), Halt>
     ensures grammar { Says (λ x. (written_of x.0, x.1.now)) query tokens.now result }
     ensures value { Gives (λ x. (written_of x.0, x.1.now)) result (readings.query_read tokens.now) }
+    // what some expansion passes, it passes from the first token on
+    ensures fronts { (ts us : List said.Said) → query.front (ts ++ us) → query.front ts }
 {
     exact_query(alloc, tokens)
 }

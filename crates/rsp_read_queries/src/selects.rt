@@ -12,6 +12,7 @@ ghost use Rattle.rsp_written.specs.Meanings.{expr_of};
 ghost use Rattle.rsp_written.specs.Readings.{maybe_read, repeated_read, word_kinds};
 ghost use Rattle.rsp_written.specs.declared.said.Keyword.TheVariants as keyword;
 
+use rsp_functions::Sign;
 use rsp_read_expressions::{aggregate_expression, aggregate_in_parens, expression, maybe_word};
 use rsp_terms::Text;
 use rsp_written::{
@@ -133,8 +134,8 @@ fn all_items(wide: bool, alloc: Global, tokens: &[Said]) -> Result<(Vec<Item>, &
 fn projected(alloc: Global, tokens: &[Said]) -> Result<(Projection, &[Said]), Halt>
     ensures { Gives (λ x. (projection_of x.0, x.1.now)) result (readings.projection_read tokens.now) }
 {
-    if first_is(Kind::Symbol(Symbol::Star), tokens) {
-        let (_, rest) = sign(Symbol::Star, tokens)?;
+    if first_is(Kind::Symbol(Symbol::Sign(Sign::Multiply)), tokens) {
+        let (_, rest) = sign(Symbol::Sign(Sign::Multiply), tokens)?;
         return Ok((Projection::Every, rest));
     }
     let (items, rest) = all_items(true, alloc, tokens)?;

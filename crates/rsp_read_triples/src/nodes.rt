@@ -6,6 +6,7 @@ ghost use Rattle.rsp_written.specs.Grammar.{kind_number, numbers};
 ghost use Rattle.rsp_written.specs.Meanings.{node_of};
 ghost use Rattle.rsp_written.specs.TripleReadings as readings;
 
+use rsp_functions::Sign;
 use rsp_written::{
     Halt, Keyword, Kind, Node, Said, Symbol, first_is, first_is_among, iri, literal, one, sign,
     variable,
@@ -59,7 +60,7 @@ pub(crate) fn begins_node_name(tokens: &[Said]) -> bool
             Kind::Iri,
             Kind::Label,
             Kind::String,
-            Kind::Symbol(Symbol::Minus),
+            Kind::Symbol(Symbol::Sign(Sign::Subtract)),
             Kind::Integer,
             Kind::Decimal,
             Kind::Double,

@@ -1,4 +1,5 @@
 // Reading property paths.
+ghost use Rattle.rsp_functions.specs.declared.function.Sign.TheVariants as operator;
 ghost use Rattle.std.specs.Prelude.{◌≡◌, IfOk, map, ◌∷◌};
 ghost use Rattle.rsp_phrases.specs.Gathering.{as_read, gathered, single};
 ghost use Rattle.rsp_phrases.specs.Readers.{second_read, starts};
@@ -12,6 +13,7 @@ ghost use Rattle.rsp_written.specs.Trees.{inverse, step};
 ghost use Rattle.rsp_written.specs.TripleReadings as readings;
 ghost use Rattle.rsp_written.specs.declared.said.Symbol.TheVariants as symbol;
 
+use rsp_functions::Sign;
 use rsp_terms::Text;
 use rsp_written::{
     Halt, Keyword, Kind, Path, Said, Symbol, Verb, first_is, first_is_among, iri, sign, variable,
@@ -149,13 +151,13 @@ fn sequence(depth: usize, alloc: Global, tokens: &[Said]) -> Result<(Path, &[Sai
 #[cycle(path)]
 fn parts(depth: usize, alloc: Global, tokens: &[Said]) -> Result<(Vec<Path>, &[Said]), Halt>
     ensures { Gives (λ x. (map way_of x.0.items, x.1.now)) result
-        (repeated_read (sign_kinds symbol.Slash)
-        (second_read (sign_read symbol.Slash) (readings.part_read (path_within depth))) tokens.now) }
+        (repeated_read (sign_kinds (symbol.Sign operator.Divide))
+        (second_read (sign_read (symbol.Sign operator.Divide)) (readings.part_read (path_within depth))) tokens.now) }
 {
     let mut paths = Vec::new(alloc);
     let mut rest = tokens;
     for _ in 0..tokens.len() {
-        if !first_is(Kind::Symbol(Symbol::Slash), rest) {
+        if !first_is(Kind::Symbol(Symbol::Sign(Sign::Divide)), rest) {
             return Ok((paths, rest));
         }
         let (more, behind) = another_part(depth, alloc, paths, rest)?;
@@ -174,9 +176,9 @@ fn another_part(
 ) -> Result<(Vec<Path>, &[Said]), Halt>
     ensures { Gives (λ x. (map way_of x.0.items, x.1.now)) result
         (gathered single (map way_of before.items)
-        (second_read (sign_read symbol.Slash) (readings.part_read (path_within depth)) tokens.now)) }
+        (second_read (sign_read (symbol.Sign operator.Divide)) (readings.part_read (path_within depth)) tokens.now)) }
 {
-    let (_, rest) = sign(Symbol::Slash, tokens)?;
+    let (_, rest) = sign(Symbol::Sign(Sign::Divide), tokens)?;
     let (path, rest) = part(depth, alloc, rest)?;
     let mut paths = before;
     paths.push(path)?;

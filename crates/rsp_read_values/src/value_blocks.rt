@@ -13,6 +13,7 @@ ghost use Rattle.rsp_written.specs.declared.said.Kind.TheVariants as kind;
 ghost use Rattle.rsp_written.specs.declared.said.Symbol.TheVariants as symbol;
 
 use indexmap::IndexSet;
+use rsp_functions::Sign;
 use rsp_terms::{Term, Text};
 use rsp_written::{
     Halt, Keyword, Kind, Said, Symbol, Values, first_is, first_is_among, iri, literal, sign,
@@ -26,7 +27,7 @@ fn begins_literal(tokens: &[Said]) -> bool
     first_is_among(
         &[
             Kind::String,
-            Kind::Symbol(Symbol::Minus),
+            Kind::Symbol(Symbol::Sign(Sign::Subtract)),
             Kind::Integer,
             Kind::Decimal,
             Kind::Double,
@@ -44,7 +45,7 @@ fn begins_value(tokens: &[Said]) -> bool
         &[
             Kind::Iri,
             Kind::String,
-            Kind::Symbol(Symbol::Minus),
+            Kind::Symbol(Symbol::Sign(Sign::Subtract)),
             Kind::Integer,
             Kind::Decimal,
             Kind::Double,

@@ -1,11 +1,12 @@
 -- Worked rows: what some texts say.
+use Rattle.rsp_functions.specs.declared.function.Function.TheVariants as function
 use Rattle.std.proofs.Common.{◌≡◌, [], ◌∷◌, refl, codes, Some, None}
 use Rattle.std.specs.Str.{byte}
 use Rattle.rsp_scan.specs.Enclosed.{sign}
 use Rattle.rsp_written.specs.declared.said.Keyword.TheVariants as keyword
 use Rattle.rsp_written.specs.declared.said.Kind.TheVariants as kind
 use Rattle.rsp_written.specs.declared.said.Symbol.TheVariants as symbol
-use Rattle.rsp_said.specs.declared.saying.Form.TheVariants as form
+use Rattle.rsp_lex.specs.declared.token.TokenKind.TheVariants as form
 use Rattle.rsp_said.specs.Tables.{word_kind, symbol_kind}
 use Rattle.rsp_said.specs.Saying.{says, says_iri, said_of, enclosed, inside_quotes, prefix_of, behind_colon}
 use Rattle.rsp_said.specs.Escapes.{unescaped}
@@ -25,7 +26,7 @@ a_in_another_case : word_kind (codes "A") ≡ kind.Nowhere
 unfolding word_kind
 a_in_another_case = refl
 
-is_iri : word_kind (codes "isIRI") ≡ kind.Word keyword.IsIri
+is_iri : word_kind (codes "isIRI") ≡ kind.Word (keyword.Call function.IsIri)
 unfolding word_kind
 is_iri = refl
 

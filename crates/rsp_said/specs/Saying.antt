@@ -9,8 +9,8 @@ use Rattle.rsp_written.specs.declared.said.Kind.{Kind}
 use Rattle.rsp_written.specs.declared.said.Kind.TheVariants as kind
 use Rattle.rsp_written.specs.declared.said.Said.{Said}
 use Rattle.rsp_said.specs.declared.escapes.State.TheVariants.{Plain, Local}
-use Rattle.rsp_said.specs.declared.saying.Form.{Form}
-use Rattle.rsp_said.specs.declared.saying.Form.TheVariants as form
+use Rattle.rsp_lex.specs.declared.token.TokenKind.{TokenKind}
+use Rattle.rsp_lex.specs.declared.token.TokenKind.TheVariants as form
 use Rattle.rsp_said.specs.Escapes.{unescaped_text}
 use Rattle.rsp_said.specs.Tables.{word_kind, symbol_kind}
 
@@ -72,7 +72,7 @@ abbrev pub says_prefixed : List ℕ → ℕ → Said
 says_prefixed text at =
     record { kind = kind.Prefixed; text = prefix_of text; local = unescaped_text Local (behind_colon text); at = at }
 
-unfoldable pub said_of : Form → List ℕ → ℕ → Said
+unfoldable pub said_of : TokenKind → List ℕ → ℕ → Said
 said_of form.Iri text at = says_iri text at (name_of_iri text)
 said_of form.Prefixed text at = says_prefixed text at
 said_of form.Label text at = says_part kind.Label text at (label_of text)

@@ -8,34 +8,11 @@ ghost use Rattle.rsp_said.specs.Saying as saying;
 use crate::escapes::{State, unescaped};
 use crate::parts::{behind, enclosed, prefix_and_local, quoted};
 use crate::tables::{symbol_kind, word_kind};
+use rsp_lex::TokenKind;
 use rsp_terms::Text;
 use rsp_terms::characters::is_absolute;
 use rsp_written::{Kind, Said};
 use std::alloc::{AllocError, Global};
-
-/// What a token is, by its form.
-#[derive(Clone, Copy, Drop)]
-pub enum Form {
-    /// An IRI in brackets.
-    Iri,
-    /// A prefix, `:` and a local part.
-    Prefixed,
-    /// A blank node's label, with its `_:`.
-    Label,
-    /// A variable, with its `?` or `$`.
-    Variable,
-    /// A span of time.
-    Span,
-    Word,
-    /// A language tag, with its `@`.
-    Tag,
-    Double,
-    Decimal,
-    Integer,
-    /// A string between quotes, short or long.
-    String,
-    Symbol,
-}
 
 fn says(alloc: Global, kind: Kind, text: &str, at: usize) -> Result<Said, AllocError>
     ensures { IfOk result (λ said. said ≡ saying.says kind text.now at) }
@@ -134,21 +111,21 @@ fn part(
 
 /// What a token of this form with this text says; `at` is the place of its first byte. Fails only where memory is refused.
 #[tactic(auto, unfolding(crate::specs::Saying::said_of))]
-pub fn said(alloc: Global, form: Form, text: &str, at: usize) -> Result<Said, AllocError>
+pub fn said(alloc: Global, form: TokenKind, text: &str, at: usize) -> Result<Said, AllocError>
     ensures { IfOk result (λ said. said ≡ saying.said_of form text.now at) }
 {
     match form {
-        Form::Iri => iri(alloc, text, at),
-        Form::Prefixed => prefixed(alloc, text, at),
-        Form::Label => part(alloc, Kind::Label, text, label(text), at),
-        Form::Variable => part(alloc, Kind::Variable, text, variable(text), at),
-        Form::Span => says(alloc, Kind::Span, text, at),
-        Form::Word => says(alloc, word_kind(text), text, at),
-        Form::Tag => part(alloc, Kind::Tag, text, behind('@', text), at),
-        Form::Double => says(alloc, Kind::Double, text, at),
-        Form::Decimal => says(alloc, Kind::Decimal, text, at),
-        Form::Integer => says(alloc, Kind::Integer, text, at),
-        Form::String => string(alloc, text, at),
-        Form::Symbol => says(alloc, symbol_kind(text), text, at),
+        TokenKind::Iri => iri(alloc, text, at),
+        TokenKind::Prefixed => prefixed(alloc, text, at),
+        TokenKind::Label => part(alloc, Kind::Label, text, label(text), at),
+        TokenKind::Variable => part(alloc, Kind::Variable, text, variable(text), at),
+        TokenKind::Span => says(alloc, Kind::Span, text, at),
+        TokenKind::Word => says(alloc, word_kind(text), text, at),
+        TokenKind::Tag => part(alloc, Kind::Tag, text, behind('@', text), at),
+        TokenKind::Double => says(alloc, Kind::Double, text, at),
+        TokenKind::Decimal => says(alloc, Kind::Decimal, text, at),
+        TokenKind::Integer => says(alloc, Kind::Integer, text, at),
+        TokenKind::String => string(alloc, text, at),
+        TokenKind::Symbol => says(alloc, symbol_kind(text), text, at),
     }
 }

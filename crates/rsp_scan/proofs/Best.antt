@@ -2,7 +2,7 @@
 use Rattle.std.proofs.Common.{◌≡◌, ℕ, zero, suc, ◌+◌, ◌<◌, ◌≤◌, Bool, true, false, List, ◌∷◌, length, drop, get_or, refl, arith, if◌then◌else◌, Some, None, add-one, drop-cons, drop_of_length-le}
 use Rattle.std.specs.Prelude.{◌==◌}
 use Rattle.std.proofs.lemmas.Bool.Decides.{nat_tests}
-use Rattle.rsp_scan.specs.Fronts.{Machine}
+use Rattle.rsp_scan.specs.Machines.{Machine}
 use Rattle.rsp_scan.specs.Scans.{lengthened, scan}
 
 -- where it ends, with n items that are still to be read

@@ -9,7 +9,8 @@ use Rattle.std.proofs.lemmas.Grind.{common_steps}
 use Rattle.std.proofs.lemmas.Str.{chars-encodes, encodes-append, IsCharBoundary-at_seam, IsUtf8-from_ascii, IsUtf8-nil}
 use Rattle.std.proofs.Math.Nat.{pow-le-pow_right}
 use Rattle.rsp_spec.proofs.Truths.{and_left, and_right}
-use Rattle.rsp_scan.specs.Fronts.{accepts, longest_front, longest_up_to}
+use Rattle.rsp_scan.specs.Fronts.{longest_front, longest_up_to}
+use Rattle.rsp_scan.specs.Machines.{accepts}
 use Rattle.rsp_scan.specs.Scans.{scan, next_of_tag, tag_machine}
 use Rattle.rsp_scan.proofs.Longest.{scan_is}
 

@@ -3,7 +3,8 @@ use Rattle.std.proofs.Common.{◌≡◌, ℕ, zero, suc, ◌<◌, ◌≤◌, Boo
 use Rattle.std.specs.Prelude.{◌&&◌, ◌==◌, not}
 use Rattle.std.specs.Option.{option_map_or}
 use Rattle.std.proofs.lemmas.Bool.Decides.{nat_tests}
-use Rattle.rsp_scan.specs.Fronts.{Machine, accepts, longest_front, longest_up_to}
+use Rattle.rsp_scan.specs.Fronts.{longest_front, longest_up_to}
+use Rattle.rsp_scan.specs.Machines.{Machine, accepts}
 use Rattle.rsp_scan.specs.Scans.{lengthened, scan}
 
 pub record IsLongest (test : List ℕ → Bool) (xs : List ℕ) (k m : ℕ) : Type 0 where

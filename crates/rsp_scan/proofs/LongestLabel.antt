@@ -8,7 +8,8 @@ use Rattle.std.proofs.lemmas.List.{nil_from_length}
 use Rattle.std.proofs.lemmas.Str.{chars-nil, chars_past_char}
 use Rattle.rsp_spec.proofs.Truths.{differs}
 use Rattle.rsp_terms.specs.Characters.{last_of, is_label_start, is_label_character, is_label_text}
-use Rattle.rsp_scan.specs.Fronts.{accepts, longest_front}
+use Rattle.rsp_scan.specs.Fronts.{longest_front}
+use Rattle.rsp_scan.specs.Machines.{accepts}
 use Rattle.rsp_scan.specs.Scans.{lengthened, scan, further_bytes, label_machine}
 use Rattle.rsp_scan.proofs.Longest.{longest_scanned, scan_is}
 use Rattle.rsp_scan.proofs.Best.{best}

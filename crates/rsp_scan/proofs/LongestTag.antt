@@ -5,7 +5,8 @@ use Rattle.std.specs.Char.{is_ascii_alphabetic, is_ascii_alphanumeric, is_ascii_
 use Rattle.std.specs.List.{list_all, slice_split, onto_first}
 use Rattle.std.proofs.lemmas.Bool.Decides.{nat_tests}
 use Rattle.rsp_terms.specs.Characters.{is_run_of, are_subtags, is_tag_text}
-use Rattle.rsp_scan.specs.Fronts.{accepts, longest_front}
+use Rattle.rsp_scan.specs.Fronts.{longest_front}
+use Rattle.rsp_scan.specs.Machines.{accepts}
 use Rattle.rsp_scan.specs.Scans.{scan, tag_machine}
 use Rattle.rsp_scan.proofs.Longest.{longest_scanned}
 

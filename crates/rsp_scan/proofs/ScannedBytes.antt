@@ -6,7 +6,8 @@ use Rattle.std.specs.Str.{encode_utf8_all}
 use Rattle.std.proofs.lemmas.Bool.Decides.{nat_tests}
 use Rattle.std.proofs.lemmas.List.{nil_from_length}
 use Rattle.std.proofs.lemmas.Str.{chars-nil, chars_past_char, length-encode, len_utf8_bounds}
-use Rattle.rsp_scan.specs.Fronts.{Machine, accepts, longest_front}
+use Rattle.rsp_scan.specs.Fronts.{longest_front}
+use Rattle.rsp_scan.specs.Machines.{Machine, accepts}
 use Rattle.rsp_scan.specs.Scans.{lengthened, scan, scanned_bytes}
 use Rattle.rsp_scan.proofs.Longest.{longest_scanned, scan_is}
 use Rattle.rsp_scan.proofs.Best.{best}

@@ -5,7 +5,7 @@ use Rattle.std.specs.Char.{is_ascii_alphabetic, is_ascii_digit}
 use Rattle.std.specs.Option.{option_map_or}
 use Rattle.std.specs.Str.{byte, encode_utf8_all}
 use Rattle.rsp_terms.specs.Characters.{is_label_start, is_label_character}
-use Rattle.rsp_scan.specs.Fronts.{Machine}
+use Rattle.rsp_scan.specs.Machines.{Machine}
 
 -- of one item and so many behind it, where it alone may end or not
 abbrev pub lengthened : Bool → ℕ → ℕ

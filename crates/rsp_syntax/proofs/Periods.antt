@@ -16,7 +16,7 @@ use Rattle.rsp_report.proofs.PolicyLaws.{choice_is}
 use Rattle.rsp_written.specs.declared.said.Keyword.TheVariants as keyword
 use Rattle.rsp_written.specs.declared.said.Kind.{Kind}
 use Rattle.rsp_written.specs.declared.said.Kind.TheVariants as kind
-use Rattle.rsp_written.specs.Kinds.{number_of}
+use Rattle.rsp_written.specs.Numbers.{number_of}
 use Rattle.rsp_written.specs.Trees as written
 use Rattle.rsp_written.specs.Trees.{Written}
 use Rattle.rsp_written.specs.Building.{policy_or_none}

@@ -1,4 +1,5 @@
 -- A numbered expression names variables that stand before its end alone, and so do its aggregates.
+use Rattle.rsp_functions.specs.declared.function.Sign.TheVariants as operator
 use Rattle.std.proofs.Common.{ℕ, ◌≤◌, ◌<◌, List, [], ◌∷◌, refl, arith}
 use Rattle.std.specs.List.{AllByRecursion}
 use Rattle.std.proofs.Math.Nat.{le_trans}
@@ -53,8 +54,8 @@ mutual
 
 signed_below : (n : ℕ) (s : token.Kind) (part : Formula) → AreBelow n (formula_variables part)
     → AreBelow n (formula_variables (signed_formula s part))
-signed_below n (kind.Symbol symbol.Minus) part below = below
-signed_below n (kind.Symbol symbol.Plus) part below = below
+signed_below n (kind.Symbol (symbol.Sign operator.Subtract)) part below = below
+signed_below n (kind.Symbol (symbol.Sign operator.Add)) part below = below
 signed_below n _ part below = below
 
 from_left_below : (n : ℕ) (left : Formula) (others : List (Sign × Formula)) → AreBelow n (formula_variables left)

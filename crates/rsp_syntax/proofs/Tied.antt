@@ -3,7 +3,8 @@ use Rattle.std.proofs.Common.{◌≡◌, ◌↔◌, ℕ, ◌-◌, ◌≤◌, inl
 use Rattle.std.proofs.lemmas.Bool.Decides.{nat_tests}
 use Rattle.rsp_lex.specs.declared.token.Token.{Token}
 use Rattle.rsp_lex.specs.Tokens.{tokens}
-use Rattle.rsp_phrases.specs.Exact.{CannotGoOn, Reads}
+use Rattle.rsp_phrases.specs.Languages.{CannotGoOn}
+use Rattle.rsp_phrases.specs.Exact.{Reads}
 use Rattle.rsp_phrases.proofs.Cuts.{Cut, level, longer, shorter, cut, no_nil}
 use Rattle.rsp_written.specs.declared.said.Said.{Said}
 use Rattle.rsp_written.specs.Grammar as grammar

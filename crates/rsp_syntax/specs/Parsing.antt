@@ -1,11 +1,7 @@
 -- Definitions: the query that a text is, or why it is none, as a function of the text.
 use Rattle.std.specs.Prelude.{ℕ, suc, ◌-◌, Bool, false, ◌||◌, nat_lt, cond, List, [], ◌∷◌, Option, None, Some, Result, Ok, Err, map, length, take, drop}
 use Rattle.rsp_lex.specs.declared.token.Token.{Token}
-use Rattle.rsp_lex.specs.declared.token.TokenKind.{TokenKind}
-use Rattle.rsp_lex.specs.declared.token.TokenKind.TheVariants as kind
 use Rattle.rsp_lex.specs.Tokens.{tokens}
-use Rattle.rsp_said.specs.declared.saying.Form.{Form}
-use Rattle.rsp_said.specs.declared.saying.Form.TheVariants as form
 use Rattle.rsp_said.specs.Saying.{said_of}
 use Rattle.rsp_written.specs.declared.said.Said.{Said}
 use Rattle.rsp_written.specs.declared.said.Kind as written
@@ -24,25 +20,11 @@ use Rattle.rsp_syntax.specs.declared.fault.SyntaxFault.TheVariants.{BadToken, Sy
 
 -- ---- what the tokens of a text say
 
-abbrev pub form_of : TokenKind → Form
-form_of kind.Iri = form.Iri
-form_of kind.Prefixed = form.Prefixed
-form_of kind.Label = form.Label
-form_of kind.Variable = form.Variable
-form_of kind.Span = form.Span
-form_of kind.Word = form.Word
-form_of kind.Tag = form.Tag
-form_of kind.Double = form.Double
-form_of kind.Decimal = form.Decimal
-form_of kind.Integer = form.Integer
-form_of kind.String = form.String
-form_of kind.Symbol = form.Symbol
-
 abbrev pub text_of : List ℕ → Token → List ℕ
 text_of text token = take (token.end - token.start) (drop token.start text)
 
 abbrev pub said_token : List ℕ → Token → Said
-said_token text token = said_of (form_of token.kind) (text_of text token) token.start
+said_token text token = said_of token.kind (text_of text token) token.start
 
 -- ---- nesting: each closing sign closes the last opening one, of whatever kind; where none is open it closes nothing
 

@@ -3,7 +3,7 @@
 use Rattle.std.specs.Prelude.{◌≡◌, ◌⊎◌, ℕ, ◌≤◌, ◌<◌, true, false, List, [], ◌++◌, length, map, None, Some, Result, Ok, Err}
 use Rattle.rsp_lex.specs.declared.token.Token.{Token}
 use Rattle.rsp_lex.specs.Tokens.{tokens}
-use Rattle.rsp_phrases.specs.Exact.{CannotGoOn}
+use Rattle.rsp_phrases.specs.Languages.{CannotGoOn}
 use Rattle.rsp_written.specs.declared.said.Said.{Said}
 use Rattle.rsp_written.specs.Grammar as grammar
 use Rattle.rsp_written.specs.Trees.{Written}

@@ -2,33 +2,14 @@
 ghost use Rattle.std.specs.Prelude.{◌≡◌, ◌≤◌, IfOk, map};
 ghost use Rattle.rsp_syntax.specs.Parsing as parsing;
 
-use rsp_lex::{Token, TokenKind};
-use rsp_said::{Form, said};
+use rsp_lex::Token;
+use rsp_said::said;
 use rsp_written::{Kind, Said, Symbol};
 use std::alloc::{AllocError, Global};
 use std::str;
 
 // The most opening signs that aren't closed.
 const MOST_OPEN: usize = 32;
-
-fn form_of(kind: TokenKind) -> Form
-    ensures { result ≡ parsing.form_of kind }
-{
-    match kind {
-        TokenKind::Iri => Form::Iri,
-        TokenKind::Prefixed => Form::Prefixed,
-        TokenKind::Label => Form::Label,
-        TokenKind::Variable => Form::Variable,
-        TokenKind::Span => Form::Span,
-        TokenKind::Word => Form::Word,
-        TokenKind::Tag => Form::Tag,
-        TokenKind::Double => Form::Double,
-        TokenKind::Decimal => Form::Decimal,
-        TokenKind::Integer => Form::Integer,
-        TokenKind::String => Form::String,
-        TokenKind::Symbol => Form::Symbol,
-    }
-}
 
 /// The text of a token. A token that lies outside the text or within a character, which no text has, is answered as want
 /// of memory.
@@ -48,7 +29,7 @@ fn said_of(alloc: Global, text: &str, token: Token) -> Result<Said, AllocError>
     ensures { IfOk result (λ said. said ≡ parsing.said_token text.now token) }
 {
     let found = text_of(text, token)?;
-    said(alloc, form_of(token.kind), found, token.start)
+    said(alloc, token.kind, found, token.start)
 }
 
 /// What each token says. Fails only where memory is refused.

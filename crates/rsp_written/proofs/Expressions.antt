@@ -1,4 +1,6 @@
 -- Laws of rules: expressions.
+use Rattle.rsp_functions.specs.declared.aggregate.Kind.TheVariants as fold
+use Rattle.rsp_functions.specs.declared.function.Sign.TheVariants as operator
 use Rattle.std.proofs.Common.{Bool, ◌≡◌, ℕ, ◌+◌, ◌<◌, arith, length, true, false, List, [], ◌∷◌, ◌++◌, refl, Option, Some, None, is_some}
 use Rattle.rsp_phrases.specs.Languages.{both, optional, many, listed, never, nested}
 use Rattle.rsp_phrases.specs.Readers.{Reader, never_read, nested_read}
@@ -14,9 +16,9 @@ use Rattle.rsp_written.specs.declared.said.Symbol.TheVariants as symbol
 use Rattle.rsp_written.specs.declared.said.Kind.{Kind}
 use Rattle.rsp_written.specs.declared.said.Kind.TheVariants as kind
 use Rattle.rsp_written.specs.declared.said.Said.{Said}
-use Rattle.rsp_written.specs.declared.said.Arity.{Arity}
-use Rattle.rsp_written.specs.declared.said.Arity.TheVariants as arity
-use Rattle.rsp_written.specs.Kinds.{arity_of}
+use Rattle.rsp_functions.specs.declared.function.Arity.{Arity}
+use Rattle.rsp_functions.specs.declared.function.Arity.TheVariants as arity
+use Rattle.rsp_written.specs.Arities.{arity_of}
 use Rattle.rsp_phrases.proofs.TiedLaws.{good_tied}
 use Rattle.rsp_written.specs.Trees.{Expr, variable, iri, constant, bound, count_rows}
 use Rattle.rsp_written.specs.Building.{any_row, all_row, sum_row, product_row, compared_to, one_of, related, with_sign, call_of, aggregate_of, flagged, signed_part}
@@ -289,13 +291,13 @@ good_maybe_distinct : G maybe_distinct maybe_distinct_read (kind.Word keyword.Di
 unfolding maybe_distinct_read
 good_maybe_distinct = good_mapped flagged (good_both (good_optional (good_one (word_kinds keyword.Distinct))) good_expression refl)
 
-good_count : G count_rule count_read (word_kinds keyword.Count) [] false true
+good_count : G count_rule count_read (word_kinds (keyword.Fold fold.Count)) [] false true
 unfolding count_read
 good_count =
-    good_second_of (good_one (word_kinds keyword.Count))
+    good_second_of (good_one (word_kinds (keyword.Fold fold.Count)))
     (good_in_parens
-    (good_either (good_mapped (λ star. count_rows) (good_one (sign_kinds symbol.Star)))
-    (good_mapped (aggregate_of (kind.Word keyword.Count)) good_maybe_distinct) refl refl) refl) refl
+    (good_either (good_mapped (λ star. count_rows) (good_one (sign_kinds (symbol.Sign operator.Multiply))))
+    (good_mapped (aggregate_of (kind.Word (keyword.Fold fold.Count))) good_maybe_distinct) refl refl) refl) refl
 
 pub good_aggregate : G aggregate_rule aggregate_read aggregate_first [] false true
 unfolding aggregate_read

@@ -1,4 +1,5 @@
 -- Laws of rules: groups, selects, and the query.
+use Rattle.rsp_functions.specs.declared.function.Sign.TheVariants as operator
 use Rattle.std.proofs.Common.{◌≡◌, ℕ, ◌+◌, true, false, true≢false, List, [], ◌∷◌, ◌++◌, refl, sym, ◌∙◌, Option, Some, None, IsSome, is_some}
 use Rattle.std.specs.List.{flat_map}
 use Rattle.rsp_phrases.specs.Languages.{has, both, second_of, either, optional}
@@ -14,7 +15,7 @@ use Rattle.rsp_written.specs.declared.said.Symbol.TheVariants as symbol
 use Rattle.rsp_written.specs.declared.said.Kind.{Kind}
 use Rattle.rsp_written.specs.declared.said.Kind.TheVariants as kind
 use Rattle.rsp_written.specs.declared.said.Said.{Said}
-use Rattle.rsp_written.specs.Kinds.{number_of}
+use Rattle.rsp_written.specs.Numbers.{number_of}
 use Rattle.rsp_written.specs.Trees.{Expr, Node, Properties, Item, shown, computed, every_name, these, Graph, graph_variable, graph_iri, Element, optional_group, minus_group, union_of, graph_group, window_group, filter, exists, bind, Strategy, profile, reporting, Window, Written}
 use Rattle.rsp_written.specs.Building.{elements_in, groups_in, run, sub_select_of, written_of}
 use Rattle.rsp_written.specs.Grammar.{Rule, kind_number, numbers, one, word, sign, text_of, iri_name, call_rule, expression, aggregate_expression, triples_rule, group_of, optional_rule, minus_rule, union_rule, graph_name, graph_rule, window_rule, exists_rule, filter_rule, bind_rule, values_rule, other, item_of, items_of, projection, select_clause, keys, having, tail, sub_select_rule, piece, body, group_rule, group, span_text, origin_of_kind, origin, window_size, window_of, window, plain_strategies, strategy, profiles, ticks, reported, policy, operators, registered, windows, query_body, prefix_of_kind, prefix, declared_iri, resolved_as, resolved_by, resolved, query}
@@ -125,9 +126,9 @@ good_items_plain : G (items_of expression) (items_of_read expression_read) item_
 unfolding items_of_read
 good_items_plain = good_mapped (λ (v : Item × List Item). v.0 ∷ v.1) (good_both good_item_plain (good_many good_item_plain refl) refl)
 
-good_projection : G projection projection_read (kind.Symbol symbol.Star ∷ item_first) item_first false true
+good_projection : G projection projection_read (kind.Symbol (symbol.Sign operator.Multiply) ∷ item_first) item_first false true
 unfolding projection_read
-good_projection = good_either (good_mapped (λ star. every_name) (good_one (sign_kinds symbol.Star))) (good_mapped these good_items_wide) refl refl
+good_projection = good_either (good_mapped (λ star. every_name) (good_one (sign_kinds (symbol.Sign operator.Multiply)))) (good_mapped these good_items_wide) refl refl
 
 good_select_clause : G select_clause select_clause_read (word_kinds keyword.Select) item_first false true
 unfolding select_clause_read

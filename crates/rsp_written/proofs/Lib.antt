@@ -4,3 +4,4 @@ pub mod Expressions
 pub mod Triples
 pub mod Groups
 mod ReadingRows
+pub mod Own

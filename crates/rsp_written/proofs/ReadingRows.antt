@@ -1,4 +1,6 @@
 -- Worked rows: what some rows of tokens are read as.
+use Rattle.rsp_functions.specs.declared.function.Function.TheVariants as function
+use Rattle.rsp_functions.specs.declared.function.Sign.TheVariants as operator
 use Rattle.std.proofs.Common.{◌≡◌, ℕ, false, List, [], ◌∷◌, ◌++◌, refl, Some, None, Ok, Err, codes}
 use Rattle.rsp_text.specs.Instants.{instant}
 use Rattle.rsp_phrases.specs.Readers.{nested_read, at_most_read, follows_at_most_read, distinct_read}
@@ -31,10 +33,10 @@ one : Said
 one = said kind.Integer (codes "1")
 
 -- 1 + 1 * ?x
-precedence : expression_read (one ∷ s symbol.Plus ∷ one ∷ s symbol.Star ∷ x ∷ [])
+precedence : expression_read (one ∷ s (symbol.Sign operator.Add) ∷ one ∷ s (symbol.Sign operator.Multiply) ∷ x ∷ [])
     ≡ Ok (
-      sum (constant (number_term one)) (operand_then (kind.Symbol symbol.Plus)
-          (product (constant (number_term one)) (operand_then (kind.Symbol symbol.Star) (variable (codes "x")) no_operand)) no_operand),
+      sum (constant (number_term one)) (operand_then (kind.Symbol (symbol.Sign operator.Add))
+          (product (constant (number_term one)) (operand_then (kind.Symbol (symbol.Sign operator.Multiply)) (variable (codes "x")) no_operand)) no_operand),
       [],
     )
 unfolding said w s x one iri_read variable_read suffix_read string_literal_read boolean_read signed_number_read unsigned_literal_read items_read expressions_read bound_read arguments_read function_read call_read simple_read primary_read unary_read product_read sum_read comparison_read membership_read relation_read and_read or_read expression_read nested_read at_most_read
@@ -47,18 +49,18 @@ unfolding said w s x one iri_read variable_read suffix_read string_literal_read 
 bound_or = refl
 
 -- IF(?x, 1) is wrong at its `)`
-if_with_two : expression_read (w keyword.If ∷ s symbol.OpenParen ∷ x ∷ s symbol.Comma ∷ one ∷ s symbol.CloseParen ∷ [])
+if_with_two : expression_read (w (keyword.Call function.If) ∷ s symbol.OpenParen ∷ x ∷ s symbol.Comma ∷ one ∷ s symbol.CloseParen ∷ [])
     ≡ Err 1
 unfolding said w s x one iri_read variable_read suffix_read string_literal_read boolean_read signed_number_read unsigned_literal_read items_read expressions_read bound_read arguments_read function_read call_read simple_read primary_read unary_read product_read sum_read comparison_read membership_read relation_read and_read or_read expression_read nested_read at_most_read
 if_with_two = refl
 
 -- COALESCE() has no argument, and `1 +` is unfinished
-coalesce_of_none : expression_read (w keyword.Coalesce ∷ s symbol.OpenParen ∷ s symbol.CloseParen ∷ [])
-    ≡ Ok (call (kind.Word keyword.Coalesce) no_expr, [])
+coalesce_of_none : expression_read (w (keyword.Call function.Coalesce) ∷ s symbol.OpenParen ∷ s symbol.CloseParen ∷ [])
+    ≡ Ok (call (kind.Word (keyword.Call function.Coalesce)) no_expr, [])
 unfolding said w s x one iri_read variable_read suffix_read string_literal_read boolean_read signed_number_read unsigned_literal_read items_read expressions_read bound_read arguments_read function_read call_read simple_read primary_read unary_read product_read sum_read comparison_read membership_read relation_read and_read or_read expression_read nested_read at_most_read
 coalesce_of_none = refl
 
-unfinished_sum : expression_read (one ∷ s symbol.Plus ∷ []) ≡ Err 0
+unfinished_sum : expression_read (one ∷ s (symbol.Sign operator.Add) ∷ []) ≡ Err 0
 unfolding said w s x one iri_read variable_read suffix_read string_literal_read boolean_read signed_number_read unsigned_literal_read items_read expressions_read bound_read arguments_read function_read call_read simple_read primary_read unary_read product_read sum_read comparison_read membership_read relation_read and_read or_read expression_read nested_read at_most_read
 unfinished_sum = refl
 
@@ -80,7 +82,7 @@ y_node : Node
 y_node = variable_node (codes "y")
 
 -- ?x a:p/a:p ?x , ?y . and a `.` at the end
-path_and_objects : triples_read (x ∷ p ∷ s symbol.Slash ∷ p ∷ x ∷ s symbol.Comma ∷ y ∷ s symbol.Dot ∷ [])
+path_and_objects : triples_read (x ∷ p ∷ s (symbol.Sign operator.Divide) ∷ p ∷ x ∷ s symbol.Comma ∷ y ∷ s symbol.Dot ∷ [])
     ≡ Ok ((x_node, property_then (along (sequence (way_then (step (codes "a:p")) (way_then (step (codes "a:p")) no_way)))) (node_then x_node (node_then y_node no_node)) no_property) ∷ [], [])
 unfolding said w s x one i p y iri_read variable_read suffix_read string_literal_read boolean_read signed_number_read literal_read unsigned_literal_read items_read expressions_read bound_read arguments_read function_read call_read simple_read primary_read unary_read product_read sum_read comparison_read membership_read relation_read and_read or_read expression_read nested_read at_most_read follows_at_most_read distinct_read value_row_read way_name_read part_read sequence_read path_rule_read path_read verb_read subject_name_read node_name_read no_properties_read properties_end_read bracket_read object_read objects_read property_read properties_rule_read properties_read named_same_read blank_same_read described_same_read same_read triples_read value_read one_column_read columns_read value_rows_read many_columns_read block_read x_node y_node
 path_and_objects = refl
@@ -136,7 +138,7 @@ declaration = w keyword.Prefix ∷ record { kind = kind.Prefixed; text = codes "
 
 head : List Said
 head =
-    w keyword.Register ∷ w keyword.Rstream ∷ q ∷ w keyword.As ∷ w keyword.Select ∷ s symbol.Star ∷ w keyword.From ∷ w keyword.Named ∷ w keyword.Window
+    w keyword.Register ∷ w keyword.Rstream ∷ q ∷ w keyword.As ∷ w keyword.Select ∷ s (symbol.Sign operator.Multiply) ∷ w keyword.From ∷ w keyword.Named ∷ w keyword.Window
     ∷ q ∷ w keyword.On ∷ q ∷ s symbol.OpenBracket ∷ w keyword.Range ∷ said kind.Span (codes "PT1S") ∷ s symbol.CloseBracket ∷ []
 
 a_query : query_read (declaration ++ (head ++ (s symbol.OpenBrace ∷ s symbol.CloseBrace ∷ [])))

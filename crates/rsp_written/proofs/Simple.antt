@@ -1,4 +1,5 @@
 -- Laws of rules: one token, brackets, literals.
+use Rattle.rsp_functions.specs.declared.function.Sign.TheVariants as operator
 use Rattle.std.proofs.Common.{◌≡◌, ℕ, ◌+◌, Bool, true, false, List, [], ◌∷◌, ◌++◌, ◌&&◌, ◌||◌, not, refl}
 use Rattle.rsp_phrases.specs.Languages.{Language, both, second_of, first_of_both}
 use Rattle.rsp_phrases.specs.Readers.{Reader, both_read, second_read, first_read}
@@ -99,10 +100,10 @@ good_boolean =
 good_signed_number : G signed_number signed_number_read signed_first [] false true
 unfolding signed_number_read
 good_signed_number =
-    good_mapped signed_term (good_both (good_optional (good_one (sign_kinds symbol.Minus))) (good_one number_kinds) refl)
+    good_mapped signed_term (good_both (good_optional (good_one (sign_kinds (symbol.Sign operator.Subtract)))) (good_one number_kinds) refl)
 
 abbrev pub literal_first : List Kind
-literal_first = kind.String ∷ kind.Symbol symbol.Minus ∷ kind.Integer ∷ kind.Decimal ∷ kind.Double ∷ kind.Word keyword.True ∷ kind.Word keyword.False ∷ []
+literal_first = kind.String ∷ kind.Symbol (symbol.Sign operator.Subtract) ∷ kind.Integer ∷ kind.Decimal ∷ kind.Double ∷ kind.Word keyword.True ∷ kind.Word keyword.False ∷ []
 
 pub good_literal : G literal literal_read literal_first suffix_first false true
 unfolding literal_read

@@ -1,4 +1,5 @@
 -- Laws of rules: paths, triples, VALUES.
+use Rattle.rsp_functions.specs.declared.function.Sign.TheVariants as operator
 use Rattle.std.proofs.Common.{◌≡◌, ℕ, zero, suc, ◌+◌, Bool, true, false, true≢false, List, [], ◌∷◌, ◌++◌, ◌&&◌, cond, map, length, refl, sym, Option, Some, None, IsSome}
 use Rattle.std.specs.Str.{bytes_eq}
 use Rattle.std.proofs.lemmas.Slice.Eq.{bytes_eq-Decides}
@@ -31,7 +32,7 @@ abbrev pub part_first : List Kind
 part_first = kind.Symbol symbol.Caret ∷ (name_first ++ sign_kinds symbol.OpenParen)
 
 abbrev pub path_go : List Kind
-path_go = kind.Symbol symbol.Slash ∷ kind.Symbol symbol.Bar ∷ []
+path_go = kind.Symbol (symbol.Sign operator.Divide) ∷ kind.Symbol symbol.Bar ∷ []
 
 good_way_name : G way_name way_name_read name_first [] false true
 unfolding way_name_read
@@ -44,12 +45,12 @@ good_part q s h =
     (good_either good_way_name (good_in_parens h refl) refl refl) refl)
 
 good_sequence : (q : Rule Way) (s : Reader Said Way) → G q s part_first path_go false false
-    → G (path_sequence q) (sequence_read s) part_first (sign_kinds symbol.Slash) false true
+    → G (path_sequence q) (sequence_read s) part_first (sign_kinds (symbol.Sign operator.Divide)) false true
 unfolding sequence_read
 good_sequence q s h =
     let part = good_part q s h in
-    let more = good_many (good_behind (sign_kinds symbol.Slash) part) refl in
-    listed_as (numbers part_first) (numbers (sign_kinds symbol.Slash)) (good_mapped sequence_row (good_both part more refl)) refl refl refl
+    let more = good_many (good_behind (sign_kinds (symbol.Sign operator.Divide)) part) refl in
+    listed_as (numbers part_first) (numbers (sign_kinds (symbol.Sign operator.Divide))) (good_mapped sequence_row (good_both part more refl)) refl refl refl
 
 good_path_rule : (q : Rule Way) (s : Reader Said Way) → G q s part_first path_go false false
     → G (path_rule q) (path_rule_read s) part_first path_go false true
@@ -67,7 +68,7 @@ under_part {n = n} h =
 under_sequence : {n : ℕ} {q q' : Rule Way} → Under n q q' → Under (n + 1) (path_sequence q) (path_sequence q')
 under_sequence {n = n} h =
     under_mapped sequence_row (under_tied (under_part h) (λ v. under_many (under_mapped (λ (w : _ × _). w.1)
-    (under_tied (under_same (n + 1) (sign symbol.Slash)) (λ w. under_part h)))))
+    (under_tied (under_same (n + 1) (sign (symbol.Sign operator.Divide))) (λ w. under_part h)))))
 
 under_path_rule : (n : ℕ) (q q' : Rule Way) → Under n q q' → Under (n + 1) (path_rule q) (path_rule q')
 under_path_rule n q q' h =

@@ -3,6 +3,9 @@
 -- the end the order is that of the grammar. Tokens are what they say: words in any case, IRIs absolute with prefixes
 -- replaced, strings without escapes. What is left out of SPARQL: paths `*` `+` `?` `!`, collections, SERVICE, queries of
 -- other forms, solution modifiers but grouping, and functions named by IRIs.
+use Rattle.rsp_functions.specs.declared.function.Sign.TheVariants as operator
+use Rattle.rsp_functions.specs.Functions.{functions}
+use Rattle.rsp_functions.specs.declared.aggregate.Kind.TheVariants as fold
 use Rattle.std.specs.Prelude.{Bool, ℕ, zero, suc, List, [], ◌∷◌, ◌++◌, cond, map, length, Option, None, Some, is_some, codes, nat_le}
 use Rattle.std.specs.List.{flat_map}
 use Rattle.std.specs.Str.{bytes_eq}
@@ -19,9 +22,10 @@ use Rattle.rsp_written.specs.declared.said.Symbol.TheVariants as symbol
 use Rattle.rsp_written.specs.declared.said.Kind.{Kind}
 use Rattle.rsp_written.specs.declared.said.Kind.TheVariants as kind
 use Rattle.rsp_written.specs.declared.said.Said.{Said}
-use Rattle.rsp_written.specs.declared.said.Arity.{Arity}
-use Rattle.rsp_written.specs.declared.said.Arity.TheVariants as arity
-use Rattle.rsp_written.specs.Kinds.{number_of, arity_of}
+use Rattle.rsp_functions.specs.declared.function.Arity.{Arity}
+use Rattle.rsp_functions.specs.declared.function.Arity.TheVariants as arity
+use Rattle.rsp_written.specs.Numbers.{number_of}
+use Rattle.rsp_written.specs.Arities.{arity_of}
 use Rattle.rsp_written.specs.Trees.{Expr, variable, iri, constant, bound, count_rows, Way, step, Verb, named, along, Node, variable_node, iri_node, constant_node, label_node, blank_node, described, Properties, Item, shown, computed, Projection, every_name, these, Graph, graph_variable, graph_iri, Element, optional_group, minus_group, union_of, graph_group, window_group, filter, exists, bind, values, Strategy, Policy, profile, reporting, Window, Written}
 use Rattle.rsp_written.specs.Building.{string_term, number_term, signed_term, boolean_term, signed_part, any_row, all_row, sum_row, product_row, Relation, compared_to, one_of, related, with_sign, call_of, aggregate_of, flagged, sequence_row, choice_row, turned, rdf_type, property_list, some_properties, elements_in, groups_in, run, sub_select_of, written_of, later, is_nil}
 use Rattle.rsp_written.specs.declared.literals.Suffix.{Suffix}
@@ -79,7 +83,7 @@ abbrev pub unsigned_number : Rule Term
 unsigned_number = mapped number_term (one number_kinds)
 
 abbrev pub signed_number : Rule Term
-signed_number = mapped signed_term (both (optional (sign symbol.Minus)) (one number_kinds))
+signed_number = mapped signed_term (both (optional (sign (symbol.Sign operator.Subtract))) (one number_kinds))
 
 abbrev pub boolean : Rule Term
 boolean =
@@ -120,12 +124,7 @@ arguments arity.TwoOrThree inner = mapped maybe_third (in_parens (both inner (bo
 arguments arity.Any inner = expressions inner
 
 abbrev pub call_names : List Kind
-call_names = map kind.Word
-    (keyword.If ∷ keyword.Coalesce ∷ keyword.SameTerm ∷ keyword.IsIri ∷ keyword.IsUri ∷ keyword.IsBlank
-    ∷ keyword.IsLiteral ∷ keyword.IsNumeric ∷ keyword.Str ∷ keyword.Lang ∷ keyword.Datatype ∷ keyword.Iri ∷ keyword.Uri
-    ∷ keyword.StrDt ∷ keyword.StrLang ∷ keyword.StrLen ∷ keyword.SubStr ∷ keyword.Contains ∷ keyword.StrStarts
-    ∷ keyword.StrEnds ∷ keyword.StrBefore ∷ keyword.StrAfter ∷ keyword.Concat ∷ keyword.LangMatches ∷ keyword.Abs
-    ∷ keyword.Ceil ∷ keyword.Floor ∷ keyword.Round ∷ [])
+call_names = map (λ f. kind.Word (keyword.Call f)) functions
 
 abbrev pub bound_call : Rule Expr
 bound_call = mapped bound (second_of (word keyword.Bound) (in_parens variable_name))
@@ -144,7 +143,7 @@ primary extra inner =
 
 -- Unary ::= ('!' | '-' | '+')? Primary                                                           [118] UnaryExpression
 abbrev pub unary_signs : List Kind
-unary_signs = map kind.Symbol (symbol.Not ∷ symbol.Minus ∷ symbol.Plus ∷ [])
+unary_signs = map kind.Symbol (symbol.Not ∷ map symbol.Sign (operator.Subtract ∷ operator.Add ∷ []))
 
 abbrev pub unary : Rule Expr → Rule Expr → Rule Expr
 unary extra inner = mapped with_sign (both (optional (one unary_signs)) (primary extra inner))
@@ -155,14 +154,14 @@ row signs make part = mapped make (both part (many (mapped signed_part (both (on
 
 -- Product ::= Unary (('*' | '/') Unary)*                                                [117] MultiplicativeExpression
 abbrev pub product_signs : List Kind
-product_signs = map kind.Symbol (symbol.Star ∷ symbol.Slash ∷ [])
+product_signs = map kind.Symbol (map symbol.Sign (operator.Multiply ∷ operator.Divide ∷ []))
 
 abbrev pub product_rule : Rule Expr → Rule Expr → Rule Expr
 product_rule extra inner = row product_signs product_row (unary extra inner)
 
 -- Sum ::= Product (('+' | '-') Product)*                                                      [116] AdditiveExpression
 abbrev pub sum_signs : List Kind
-sum_signs = map kind.Symbol (symbol.Plus ∷ symbol.Minus ∷ [])
+sum_signs = map kind.Symbol (map symbol.Sign (operator.Add ∷ operator.Subtract ∷ []))
 
 abbrev pub sum_rule : Rule Expr → Rule Expr → Rule Expr
 sum_rule extra inner = row sum_signs sum_row (product_rule extra inner)
@@ -170,8 +169,8 @@ sum_rule extra inner = row sum_signs sum_row (product_rule extra inner)
 -- Rel ::= Sum (('=' | '!=' | '<' | '>' | '<=' | '>=') Sum | 'NOT'? 'IN' '(' (Expr (',' Expr)*)? ')')?
 --                                                                                           [114] RelationalExpression
 abbrev pub comparisons : List Kind
-comparisons =
-    map kind.Symbol (symbol.Equal ∷ symbol.NotEqual ∷ symbol.Less ∷ symbol.Greater ∷ symbol.LessEqual ∷ symbol.GreaterEqual ∷ [])
+comparisons = map kind.Symbol (map symbol.Sign
+    (operator.Equal ∷ operator.NotEqual ∷ operator.Less ∷ operator.Greater ∷ operator.LessEqual ∷ operator.GreaterEqual ∷ []))
 
 abbrev pub comparison : Rule Expr → Rule Expr → Rule Relation
 comparison extra inner = mapped (λ (v : Said × Expr). compared_to v.0.kind v.1) (both (one comparisons) (sum_rule extra inner))
@@ -209,11 +208,11 @@ maybe_distinct = mapped flagged (both (optional (word keyword.Distinct)) express
 
 abbrev pub count_rule : Rule Expr
 count_rule =
-    second_of (word keyword.Count) (in_parens
-    (either (mapped (λ star. count_rows) (sign symbol.Star)) (mapped (aggregate_of (kind.Word keyword.Count)) maybe_distinct)))
+    second_of (word (keyword.Fold fold.Count)) (in_parens
+    (either (mapped (λ star. count_rows) (sign (symbol.Sign operator.Multiply))) (mapped (aggregate_of (kind.Word (keyword.Fold fold.Count))) maybe_distinct)))
 
 abbrev pub folds : List Kind
-folds = map kind.Word (keyword.Sum ∷ keyword.Avg ∷ keyword.Min ∷ keyword.Max ∷ [])
+folds = map kind.Word (map keyword.Fold (fold.Sum ∷ fold.Avg ∷ fold.Min ∷ fold.Max ∷ []))
 
 abbrev pub aggregate_rule : Rule Expr
 aggregate_rule =
@@ -235,7 +234,7 @@ path_part inner = mapped turned (both (optional (sign symbol.Caret)) (either way
 
 -- Sequence ::= Part ('/' Part)*                                                                    [90] PathSequence
 abbrev pub path_sequence : Rule Way → Rule Way
-path_sequence inner = mapped sequence_row (both (path_part inner) (many (second_of (sign symbol.Slash) (path_part inner))))
+path_sequence inner = mapped sequence_row (both (path_part inner) (many (second_of (sign (symbol.Sign operator.Divide)) (path_part inner))))
 
 -- Path ::= Sequence ('|' Sequence)*                                                             [89] PathAlternative
 abbrev pub path_rule : Rule Way → Rule Way
@@ -413,7 +412,7 @@ abbrev pub items_of : Rule Expr → Rule (List Item)
 items_of e = mapped (λ (v : Item × List Item). v.0 ∷ v.1) (both (item_of e) (many (item_of e)))
 
 abbrev pub projection : Rule Projection
-projection = either (mapped (λ star. every_name) (sign symbol.Star)) (mapped these (items_of aggregate_expression))
+projection = either (mapped (λ star. every_name) (sign (symbol.Sign operator.Multiply))) (mapped these (items_of aggregate_expression))
 
 abbrev pub select_clause : Rule (Option Said × Projection)
 select_clause = second_of (word keyword.Select) (both (optional (word keyword.Distinct)) projection)

@@ -1,4 +1,5 @@
--- Definitions: what the code's trees of groups, selects and registrations say.
+-- Words of the way: what the code's trees of groups, selects and registrations say, between the calls that read them and those
+-- that number them.
 use Rattle.std.specs.Prelude.{map, Option, None, Some}
 use Rattle.rsp_written.specs.declared.expression.Expression.{Expression}
 use Rattle.rsp_written.specs.declared.group.Item.{Item}

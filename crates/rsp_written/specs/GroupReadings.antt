@@ -1,4 +1,5 @@
 -- Words of the way: readings of groups, selects and the query.
+use Rattle.rsp_functions.specs.declared.function.Sign.TheVariants as operator
 use Rattle.std.specs.Prelude.{ℕ, List, [], ◌∷◌, ◌++◌, Option, None, Some, is_some}
 use Rattle.std.specs.List.{flat_map}
 use Rattle.rsp_phrases.specs.Readers.{Reader, token_read, mapped_read, tied_read, both_read, second_read, first_read, within_itself_read, seen_read}
@@ -91,7 +92,7 @@ items_of_read r =
 
 unfoldable pub projection_read : Reader Said Projection
 projection_read =
-    choice_read (sign_kinds symbol.Star) (mapped_read (λ star. every_name) (sign_read symbol.Star))
+    choice_read (sign_kinds (symbol.Sign operator.Multiply)) (mapped_read (λ star. every_name) (sign_read (symbol.Sign operator.Multiply)))
     (mapped_read these (items_of_read aggregate_expression_read))
 
 unfoldable pub select_clause_read : Reader Said (Option Said × Projection)

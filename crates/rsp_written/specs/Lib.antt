@@ -1,11 +1,12 @@
 -- Definitions
-pub mod Kinds
+pub mod Arities
 pub mod Trees
 pub mod Building
 pub mod Grammar
+-- Words of the way
+pub mod Numbers
 pub mod Meanings
 pub mod GroupMeanings
--- Words of the way
 pub mod Gives
 pub mod Readings
 pub mod TripleReadings

@@ -1,4 +1,4 @@
--- Definitions: what the code's trees say.
+-- Words of the way: what the code's trees say, between the calls that read them and those that number them.
 use Rattle.std.specs.Prelude.{List, map}
 use Rattle.rsp_written.specs.declared.said.Kind.{Kind}
 use Rattle.rsp_written.specs.declared.expression.Expression.{Expression}

@@ -1,4 +1,6 @@
 -- Words of the way: for each rule the function on rows of tokens that reads it. The readers' code is proved against these.
+use Rattle.rsp_functions.specs.declared.aggregate.Kind.TheVariants as fold
+use Rattle.rsp_functions.specs.declared.function.Sign.TheVariants as operator
 use Rattle.std.specs.Prelude.{ℕ, List, [], ◌∷◌, ◌++◌, Option, is_some, codes, true, false, Bool}
 use Rattle.rsp_terms.specs.declared.term.Term.{Term}
 use Rattle.rsp_phrases.specs.Languages.{listed}
@@ -10,9 +12,9 @@ use Rattle.rsp_written.specs.declared.said.Symbol.TheVariants as symbol
 use Rattle.rsp_written.specs.declared.said.Kind.{Kind}
 use Rattle.rsp_written.specs.declared.said.Kind.TheVariants as kind
 use Rattle.rsp_written.specs.declared.said.Said.{Said}
-use Rattle.rsp_written.specs.declared.said.Arity.{Arity}
-use Rattle.rsp_written.specs.declared.said.Arity.TheVariants as arity
-use Rattle.rsp_written.specs.Kinds.{arity_of}
+use Rattle.rsp_functions.specs.declared.function.Arity.{Arity}
+use Rattle.rsp_functions.specs.declared.function.Arity.TheVariants as arity
+use Rattle.rsp_written.specs.Arities.{arity_of}
 use Rattle.rsp_written.specs.Trees.{Expr, variable, iri, constant, bound, count_rows}
 use Rattle.rsp_written.specs.Building.{string_term, number_term, signed_term, boolean_term, signed_part, any_row, all_row, sum_row, product_row, Relation, compared_to, one_of, related, with_sign, call_of, aggregate_of, flagged}
 use Rattle.rsp_written.specs.declared.literals.Suffix.{Suffix}
@@ -70,14 +72,14 @@ boolean_read =
     (mapped_read (λ w. boolean_term (codes "false")) (word_read keyword.False))
 
 abbrev pub signed_first : List Kind
-signed_first = kind.Symbol symbol.Minus ∷ number_kinds
+signed_first = kind.Symbol (symbol.Sign operator.Subtract) ∷ number_kinds
 
 abbrev pub unsigned_number_read : Reader Said Term
 unsigned_number_read = mapped_read number_term (one_read number_kinds)
 
 unfoldable pub signed_number_read : Reader Said Term
 signed_number_read =
-    mapped_read signed_term (both_read (maybe_read (sign_kinds symbol.Minus) (sign_read symbol.Minus)) (one_read number_kinds))
+    mapped_read signed_term (both_read (maybe_read (sign_kinds (symbol.Sign operator.Subtract)) (sign_read (symbol.Sign operator.Subtract))) (one_read number_kinds))
 
 unfoldable pub literal_read : Reader Said Term
 literal_read = choice_read (kind.String ∷ []) string_literal_read (choice_read signed_first signed_number_read boolean_read)
@@ -182,16 +184,16 @@ maybe_distinct_read =
 
 unfoldable pub count_read : Reader Said Expr
 count_read =
-    second_read (word_read keyword.Count) (in_parens_read
-    (choice_read (sign_kinds symbol.Star) (mapped_read (λ star. count_rows) (sign_read symbol.Star))
-    (mapped_read (aggregate_of (kind.Word keyword.Count)) maybe_distinct_read)))
+    second_read (word_read (keyword.Fold fold.Count)) (in_parens_read
+    (choice_read (sign_kinds (symbol.Sign operator.Multiply)) (mapped_read (λ star. count_rows) (sign_read (symbol.Sign operator.Multiply)))
+    (mapped_read (aggregate_of (kind.Word (keyword.Fold fold.Count))) maybe_distinct_read)))
 
 abbrev pub aggregate_first : List Kind
-aggregate_first = word_kinds keyword.Count ++ folds
+aggregate_first = word_kinds (keyword.Fold fold.Count) ++ folds
 
 unfoldable pub aggregate_read : Reader Said Expr
 aggregate_read =
-    choice_read (word_kinds keyword.Count) count_read
+    choice_read (word_kinds (keyword.Fold fold.Count)) count_read
     (mapped_read (λ (v : Said × (Bool × Expr)). aggregate_of v.0.kind v.1)
     (both_read (one_read folds) (in_parens_read maybe_distinct_read)))
 

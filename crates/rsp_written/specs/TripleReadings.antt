@@ -1,4 +1,5 @@
 -- Words of the way: readings of paths, triples and VALUES.
+use Rattle.rsp_functions.specs.declared.function.Sign.TheVariants as operator
 use Rattle.std.specs.Prelude.{ℕ, zero, suc, List, [], ◌∷◌, ◌++◌, map, length, Option, None, Some}
 use Rattle.std.specs.Str.{bytes_eq}
 use Rattle.rsp_terms.specs.declared.term.Term.{Term}
@@ -31,7 +32,7 @@ part_read s =
 unfoldable pub sequence_read : Reader Said Way → Reader Said Way
 sequence_read s =
     mapped_read sequence_row (both_read (part_read s)
-    (repeated_read (sign_kinds symbol.Slash) (second_read (sign_read symbol.Slash) (part_read s))))
+    (repeated_read (sign_kinds (symbol.Sign operator.Divide)) (second_read (sign_read (symbol.Sign operator.Divide)) (part_read s))))
 
 unfoldable pub path_rule_read : Reader Said Way → Reader Said Way
 path_rule_read s =

@@ -23,4 +23,5 @@ pub use node::{Node, Property, Subject, Verb};
 pub use path::Path;
 pub use reading::{Halt, first_is, first_is_among, iri, one, sign, variable, word};
 pub use registration::{Policy, Registration, Strategy, Window};
-pub use said::{Arity, Keyword, Kind, Said, Symbol};
+pub use rsp_functions::Arity;
+pub use said::{Keyword, Kind, Said, Symbol};

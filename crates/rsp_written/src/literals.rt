@@ -8,6 +8,7 @@ ghost use Rattle.rsp_written.specs.Readings as readings;
 
 use crate::reading::{Halt, first_is, first_is_among, iri, one, sign, word};
 use crate::{Keyword, Kind, Said, Symbol};
+use rsp_functions::Sign;
 use rsp_terms::{Term, Text, XSD_STRING};
 use std::alloc::{AllocError, Global};
 
@@ -98,8 +99,8 @@ fn negative(alloc: Global, said: &Said) -> Result<Term, AllocError>
 fn signed_number(alloc: Global, tokens: &[Said]) -> Result<(Term, &[Said]), Halt>
     ensures { Gives (λ x. (x.0, x.1.now)) result (readings.signed_number_read tokens.now) }
 {
-    if first_is(Kind::Symbol(Symbol::Minus), tokens) {
-        let (_, rest) = sign(Symbol::Minus, tokens)?;
+    if first_is(Kind::Symbol(Symbol::Sign(Sign::Subtract)), tokens) {
+        let (_, rest) = sign(Symbol::Sign(Sign::Subtract), tokens)?;
         let (said, rest) = number(rest)?;
         Ok((negative(alloc, said)?, rest))
     } else {
@@ -145,7 +146,7 @@ pub fn literal(alloc: Global, tokens: &[Said]) -> Result<(Term, &[Said]), Halt>
 fn begins_signed(tokens: &[Said]) -> bool
     ensures { result ≡ starts kind_number (numbers readings.signed_first) tokens.now }
 {
-    let minus = Kind::Symbol(Symbol::Minus);
+    let minus = Kind::Symbol(Symbol::Sign(Sign::Subtract));
     first_is_among(&[minus, Kind::Integer, Kind::Decimal, Kind::Double], tokens)
 }
 

@@ -1,7 +1,7 @@
 // Reading tokens: one of some kinds, names, literals.
 ghost use Rattle.std.specs.Prelude.{◌≡◌, ◌∷◌, []};
 ghost use Rattle.rsp_phrases.specs.Languages.{has};
-ghost use Rattle.rsp_written.specs.Kinds.{number_of};
+ghost use Rattle.rsp_written.specs.Numbers.{number_of};
 ghost use Rattle.rsp_phrases.specs.Readers.{starts};
 ghost use Rattle.rsp_written.specs.Gives.{Gives};
 ghost use Rattle.rsp_written.specs.Grammar.{kind_number, numbers};

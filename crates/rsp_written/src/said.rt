@@ -1,7 +1,9 @@
 // What a token says.
 ghost use Rattle.std.specs.Prelude.{◌≡◌, ◌<◌};
-ghost use Rattle.rsp_written.specs.Kinds as kinds;
+ghost use Rattle.rsp_written.specs.Arities as kinds;
+ghost use Rattle.rsp_written.specs.Numbers as numbers;
 
+use rsp_functions::{Arity, Function, Kind as Fold, Sign};
 use rsp_terms::Text;
 
 /// A word of the grammar. A token says it in any case, but `a` only as written.
@@ -52,40 +54,11 @@ pub enum Keyword {
     False,
     In,
     A,
-    Count,
-    Sum,
-    Avg,
-    Min,
-    Max,
     Bound,
-    If,
-    Coalesce,
-    SameTerm,
-    IsIri,
-    IsUri,
-    IsBlank,
-    IsLiteral,
-    IsNumeric,
-    Str,
-    Lang,
-    Datatype,
-    Iri,
-    Uri,
-    StrDt,
-    StrLang,
-    StrLen,
-    SubStr,
-    Contains,
-    StrStarts,
-    StrEnds,
-    StrBefore,
-    StrAfter,
-    Concat,
-    LangMatches,
-    Abs,
-    Ceil,
-    Floor,
-    Round,
+    /// The name of a function.
+    Call(Function),
+    /// The name of an aggregate.
+    Fold(Fold),
 }
 
 /// A symbol of the grammar.
@@ -117,32 +90,14 @@ pub enum Symbol {
     And,
     /// `!`
     Not,
-    /// `=`
-    Equal,
-    /// `!=`
-    NotEqual,
-    /// `<`
-    Less,
-    /// `>`
-    Greater,
-    /// `<=`
-    LessEqual,
-    /// `>=`
-    GreaterEqual,
-    /// `+`
-    Plus,
-    /// `-`
-    Minus,
-    /// `*`
-    Star,
-    /// `/`
-    Slash,
     /// `^`
     Caret,
     /// `^^`
     Carets,
     /// `?`
     Question,
+    /// `=`, `!=`, `<`, `>`, `<=`, `>=`, `+`, `-`, `*`, `/`
+    Sign(Sign),
 }
 
 /// What a token is to the grammar.
@@ -188,42 +143,58 @@ pub struct Said {
 impl Keyword {
     /// The keyword's place among them, from 0.
     pub fn place(self) -> u8
-        ensures value { result ≡ kinds.place_of_keyword self }
+        ensures value { result ≡ numbers.place_of_keyword self }
         ensures bound { result < 100 }
     {
-        self as u8
-    }
-}
-
-/// How many arguments a call has.
-#[derive(Clone, Copy, PartialEq, Eq, Drop)]
-pub enum Arity {
-    One,
-    Two,
-    Three,
-    TwoOrThree,
-    Any,
-}
-
-impl Keyword {
-    /// How many arguments a call by this name has; of a word that names no function it says nothing.
-    pub fn arity(self) -> Arity
-        ensures { result ≡ kinds.arity_of_keyword self }
-    {
         match self {
-            Keyword::SameTerm
-            | Keyword::StrDt
-            | Keyword::StrLang
-            | Keyword::Contains
-            | Keyword::StrStarts
-            | Keyword::StrEnds
-            | Keyword::StrBefore
-            | Keyword::StrAfter
-            | Keyword::LangMatches => Arity::Two,
-            Keyword::If => Arity::Three,
-            Keyword::SubStr => Arity::TwoOrThree,
-            Keyword::Coalesce | Keyword::Concat => Arity::Any,
-            _ => Arity::One,
+            Keyword::Prefix => 0,
+            Keyword::Register => 1,
+            Keyword::Rstream => 2,
+            Keyword::Istream => 3,
+            Keyword::Dstream => 4,
+            Keyword::Under => 5,
+            Keyword::Csparql => 6,
+            Keyword::Cqels => 7,
+            Keyword::Report => 8,
+            Keyword::And => 9,
+            Keyword::Tick => 10,
+            Keyword::Time => 11,
+            Keyword::Tuple => 12,
+            Keyword::Close => 13,
+            Keyword::Change => 14,
+            Keyword::NonEmpty => 15,
+            Keyword::Every => 16,
+            Keyword::From => 17,
+            Keyword::Named => 18,
+            Keyword::Window => 19,
+            Keyword::On => 20,
+            Keyword::Range => 21,
+            Keyword::Step => 22,
+            Keyword::Start => 23,
+            Keyword::As => 24,
+            Keyword::Select => 25,
+            Keyword::Distinct => 26,
+            Keyword::Where => 27,
+            Keyword::Group => 28,
+            Keyword::By => 29,
+            Keyword::Having => 30,
+            Keyword::Optional => 31,
+            Keyword::Minus => 32,
+            Keyword::Union => 33,
+            Keyword::Graph => 34,
+            Keyword::Filter => 35,
+            Keyword::Not => 36,
+            Keyword::Exists => 37,
+            Keyword::Bind => 38,
+            Keyword::Values => 39,
+            Keyword::Undef => 40,
+            Keyword::True => 41,
+            Keyword::False => 42,
+            Keyword::In => 43,
+            Keyword::A => 44,
+            Keyword::Bound => 45,
+            Keyword::Call(function) => 46 + function as u8,
+            Keyword::Fold(kind) => 74 + kind as u8,
         }
     }
 }
@@ -231,27 +202,47 @@ impl Keyword {
 impl Symbol {
     /// The symbol's place among them, from 0.
     pub fn place(self) -> u8
-        ensures value { result ≡ kinds.place_of_symbol self }
+        ensures value { result ≡ numbers.place_of_symbol self }
         ensures bound { result < 30 }
     {
-        self as u8
+        match self {
+            Symbol::OpenBrace => 0,
+            Symbol::CloseBrace => 1,
+            Symbol::OpenParen => 2,
+            Symbol::CloseParen => 3,
+            Symbol::OpenBracket => 4,
+            Symbol::CloseBracket => 5,
+            Symbol::Dot => 6,
+            Symbol::Semicolon => 7,
+            Symbol::Comma => 8,
+            Symbol::Bar => 9,
+            Symbol::Or => 10,
+            Symbol::And => 11,
+            Symbol::Not => 12,
+            Symbol::Caret => 13,
+            Symbol::Carets => 14,
+            Symbol::Question => 15,
+            Symbol::Sign(sign) => 16 + sign as u8,
+        }
     }
 }
 
 impl Kind {
-    /// How many arguments a call by this name has.
+    /// How many arguments a call by this name has; of a kind that names no function it says nothing.
     pub fn arity(self) -> Arity
         ensures { result ≡ kinds.arity_of self }
     {
         match self {
-            Kind::Word(keyword) => keyword.arity(),
+            Kind::Word(Keyword::Call(function)) => function.arity(),
             _ => Arity::One,
         }
     }
 
     /// A number of its own for each kind.
+    #[tactic(auto, using(crate::proofs::Own::own))]
     pub fn number(self) -> u8
-        ensures { result ≡ kinds.number_of self }
+        ensures value { result ≡ numbers.number_of self }
+        ensures own { (j k : Kind) → numbers.number_of j ≡ numbers.number_of k → j ≡ k }
     {
         match self {
             Kind::Iri => 0,

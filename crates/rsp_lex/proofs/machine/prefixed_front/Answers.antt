@@ -1,7 +1,8 @@
 use Rattle.std.proofs.Common.{◌∙◌, ◌≡◌, sym, ap, chars}
 use Rattle.rsp_scan.specs.Scans.{scanned_bytes}
 use Rattle.rsp_lex.specs.declared.token.TokenKind.TheVariants.{Prefixed}
-use Rattle.rsp_lex.specs.Kinds.{token_machine, front_bytes}
+use Rattle.rsp_lex.specs.Forms.{front_bytes}
+use Rattle.rsp_lex.specs.Kinds.{token_machine}
 use Rattle.rsp_lex.proofs.KindLaws.{front_is}
 use Rattle.rsp_lex.proofs.ReachLaws.{no_prefixed}
 use Rattle.rsp_lex.proofs.machine.prefixed_front.Goals as goal

@@ -1,4 +1,5 @@
 use Rattle.std.proofs.Common.{◌≡◌, ◌+◌, ◌-◌, ◌*◌, map}
+use Rattle.rsp_functions.specs.declared.function.Sign.TheVariants as operator
 use Rattle.rsp_phrases.specs.Gathering.{gathered, as_read}
 use Rattle.rsp_phrases.specs.Readers.{second_read, at_most_read}
 use Rattle.rsp_written.specs.declared.said.Symbol.TheVariants as symbol
@@ -18,8 +19,8 @@ invariant-sequences-loop l =
 abbrev pub invariant-parts-loop : goal.invariant-parts-loop
 invariant-parts-loop l =
     gathered as_read (map way_of l.paths.items)
-    (at_most_read kind_number (numbers (sign_kinds symbol.Slash)) (second_read (sign_read symbol.Slash) (part_read (path_within l.depth))) (l.end - l.counter) l.rest)
-    ≡ repeated_read (sign_kinds symbol.Slash) (second_read (sign_read symbol.Slash) (part_read (path_within l.depth))) l.tokens
+    (at_most_read kind_number (numbers (sign_kinds (symbol.Sign operator.Divide))) (second_read (sign_read (symbol.Sign operator.Divide)) (part_read (path_within l.depth))) (l.end - l.counter) l.rest)
+    ≡ repeated_read (sign_kinds (symbol.Sign operator.Divide)) (second_read (sign_read (symbol.Sign operator.Divide)) (part_read (path_within l.depth))) l.tokens
 
 abbrev pub decreases-path_at : goal.decreases-path_at
 decreases-path_at l = 32 * l.depth

@@ -1,13 +1,67 @@
--- Definitions: a number of its own for each kind of what a token says.
+-- Words of the way: a number for each kind of what a token says. The clause `own` of `Kind::number` says that no two have the
+-- same, so the grammar means the same whichever they are.
 use Rattle.std.specs.Prelude.{ℕ, ◌+◌}
+use Rattle.rsp_functions.specs.declared.function.Function.{Function}
+use Rattle.rsp_functions.specs.declared.function.Function.TheVariants as function
+use Rattle.rsp_functions.specs.declared.function.Sign.{Sign}
+use Rattle.rsp_functions.specs.declared.function.Sign.TheVariants as operator
+use Rattle.rsp_functions.specs.declared.aggregate.Kind as aggregate
+use Rattle.rsp_functions.specs.declared.aggregate.Kind.TheVariants as fold
 use Rattle.rsp_written.specs.declared.said.Keyword.{Keyword}
 use Rattle.rsp_written.specs.declared.said.Keyword.TheVariants as keyword
 use Rattle.rsp_written.specs.declared.said.Symbol.{Symbol}
 use Rattle.rsp_written.specs.declared.said.Symbol.TheVariants as symbol
 use Rattle.rsp_written.specs.declared.said.Kind.{Kind}
 use Rattle.rsp_written.specs.declared.said.Kind.TheVariants as kind
-use Rattle.rsp_written.specs.declared.said.Arity.{Arity}
-use Rattle.rsp_written.specs.declared.said.Arity.TheVariants as arity
+
+abbrev pub place_of_function : Function → ℕ
+place_of_function function.If = 0
+place_of_function function.Coalesce = 1
+place_of_function function.SameTerm = 2
+place_of_function function.IsIri = 3
+place_of_function function.IsUri = 4
+place_of_function function.IsBlank = 5
+place_of_function function.IsLiteral = 6
+place_of_function function.IsNumeric = 7
+place_of_function function.Str = 8
+place_of_function function.Lang = 9
+place_of_function function.Datatype = 10
+place_of_function function.Iri = 11
+place_of_function function.Uri = 12
+place_of_function function.StrDt = 13
+place_of_function function.StrLang = 14
+place_of_function function.StrLen = 15
+place_of_function function.Substr = 16
+place_of_function function.Contains = 17
+place_of_function function.StrStarts = 18
+place_of_function function.StrEnds = 19
+place_of_function function.StrBefore = 20
+place_of_function function.StrAfter = 21
+place_of_function function.Concat = 22
+place_of_function function.LangMatches = 23
+place_of_function function.Abs = 24
+place_of_function function.Ceil = 25
+place_of_function function.Floor = 26
+place_of_function function.Round = 27
+
+abbrev pub place_of_fold : aggregate.Kind → ℕ
+place_of_fold fold.Count = 0
+place_of_fold fold.Sum = 1
+place_of_fold fold.Avg = 2
+place_of_fold fold.Min = 3
+place_of_fold fold.Max = 4
+
+abbrev pub place_of_sign : Sign → ℕ
+place_of_sign operator.Equal = 0
+place_of_sign operator.NotEqual = 1
+place_of_sign operator.Less = 2
+place_of_sign operator.Greater = 3
+place_of_sign operator.LessEqual = 4
+place_of_sign operator.GreaterEqual = 5
+place_of_sign operator.Add = 6
+place_of_sign operator.Subtract = 7
+place_of_sign operator.Multiply = 8
+place_of_sign operator.Divide = 9
 
 abbrev pub place_of_keyword : Keyword → ℕ
 place_of_keyword keyword.Prefix = 0
@@ -55,40 +109,9 @@ place_of_keyword keyword.True = 41
 place_of_keyword keyword.False = 42
 place_of_keyword keyword.In = 43
 place_of_keyword keyword.A = 44
-place_of_keyword keyword.Count = 45
-place_of_keyword keyword.Sum = 46
-place_of_keyword keyword.Avg = 47
-place_of_keyword keyword.Min = 48
-place_of_keyword keyword.Max = 49
-place_of_keyword keyword.Bound = 50
-place_of_keyword keyword.If = 51
-place_of_keyword keyword.Coalesce = 52
-place_of_keyword keyword.SameTerm = 53
-place_of_keyword keyword.IsIri = 54
-place_of_keyword keyword.IsUri = 55
-place_of_keyword keyword.IsBlank = 56
-place_of_keyword keyword.IsLiteral = 57
-place_of_keyword keyword.IsNumeric = 58
-place_of_keyword keyword.Str = 59
-place_of_keyword keyword.Lang = 60
-place_of_keyword keyword.Datatype = 61
-place_of_keyword keyword.Iri = 62
-place_of_keyword keyword.Uri = 63
-place_of_keyword keyword.StrDt = 64
-place_of_keyword keyword.StrLang = 65
-place_of_keyword keyword.StrLen = 66
-place_of_keyword keyword.SubStr = 67
-place_of_keyword keyword.Contains = 68
-place_of_keyword keyword.StrStarts = 69
-place_of_keyword keyword.StrEnds = 70
-place_of_keyword keyword.StrBefore = 71
-place_of_keyword keyword.StrAfter = 72
-place_of_keyword keyword.Concat = 73
-place_of_keyword keyword.LangMatches = 74
-place_of_keyword keyword.Abs = 75
-place_of_keyword keyword.Ceil = 76
-place_of_keyword keyword.Floor = 77
-place_of_keyword keyword.Round = 78
+place_of_keyword keyword.Bound = 45
+place_of_keyword (keyword.Call f) = 46 + place_of_function f
+place_of_keyword (keyword.Fold k) = 74 + place_of_fold k
 
 abbrev pub place_of_symbol : Symbol → ℕ
 place_of_symbol symbol.OpenBrace = 0
@@ -104,19 +127,10 @@ place_of_symbol symbol.Bar = 9
 place_of_symbol symbol.Or = 10
 place_of_symbol symbol.And = 11
 place_of_symbol symbol.Not = 12
-place_of_symbol symbol.Equal = 13
-place_of_symbol symbol.NotEqual = 14
-place_of_symbol symbol.Less = 15
-place_of_symbol symbol.Greater = 16
-place_of_symbol symbol.LessEqual = 17
-place_of_symbol symbol.GreaterEqual = 18
-place_of_symbol symbol.Plus = 19
-place_of_symbol symbol.Minus = 20
-place_of_symbol symbol.Star = 21
-place_of_symbol symbol.Slash = 22
-place_of_symbol symbol.Caret = 23
-place_of_symbol symbol.Carets = 24
-place_of_symbol symbol.Question = 25
+place_of_symbol symbol.Caret = 13
+place_of_symbol symbol.Carets = 14
+place_of_symbol symbol.Question = 15
+place_of_symbol (symbol.Sign s) = 16 + place_of_sign s
 
 abbrev pub number_of : Kind → ℕ
 number_of kind.Iri = 0
@@ -132,24 +146,3 @@ number_of kind.String = 9
 number_of kind.Nowhere = 10
 number_of (kind.Word w) = 20 + place_of_keyword w
 number_of (kind.Symbol s) = 120 + place_of_symbol s
-
--- how many arguments a call by this name has
-abbrev pub arity_of_keyword : Keyword → Arity
-arity_of_keyword keyword.SameTerm = arity.Two
-arity_of_keyword keyword.StrDt = arity.Two
-arity_of_keyword keyword.StrLang = arity.Two
-arity_of_keyword keyword.Contains = arity.Two
-arity_of_keyword keyword.StrStarts = arity.Two
-arity_of_keyword keyword.StrEnds = arity.Two
-arity_of_keyword keyword.StrBefore = arity.Two
-arity_of_keyword keyword.StrAfter = arity.Two
-arity_of_keyword keyword.LangMatches = arity.Two
-arity_of_keyword keyword.If = arity.Three
-arity_of_keyword keyword.SubStr = arity.TwoOrThree
-arity_of_keyword keyword.Coalesce = arity.Any
-arity_of_keyword keyword.Concat = arity.Any
-arity_of_keyword _ = arity.One
-
-abbrev pub arity_of : Kind → Arity
-arity_of (kind.Word w) = arity_of_keyword w
-arity_of _ = arity.One
