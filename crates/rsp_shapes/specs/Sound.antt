@@ -1,4 +1,4 @@
--- Definitions: what a query's variables and aggregates owe: each variable is below the number of variables, and an aggregate
+-- Words of the way: what a query's variables and aggregates owe: each variable is below the number of variables, and an aggregate
 -- without argument counts rows.
 use Rattle.std.specs.Prelude.{ℕ, ◌<◌, ⊤, List, length}
 use Rattle.std.specs.List.{AllByRecursion}

@@ -6,3 +6,4 @@ mod SoundGroups
 mod Soundness
 mod Values
 mod Periods
+pub mod Causes

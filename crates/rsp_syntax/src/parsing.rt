@@ -1,5 +1,5 @@
 // The query that a text is.
-ghost use Rattle.std.specs.Prelude.{◌≡◌, ◌↔◌, ℕ, List, Result, Ok, IfOk, map};
+ghost use Rattle.std.specs.Prelude.{◌≡◌, ◌↔◌, ℕ, List, Result, Ok, Err, IfOk, map};
 ghost use Rattle.rsp_written.specs.GroupMeanings.{written_of};
 ghost use Rattle.rsp_syntax.specs.Parsing as parsing;
 ghost use Rattle.rsp_query.specs.Queries.{Registered, registered};
@@ -8,6 +8,7 @@ ghost use Rattle.rsp_syntax.specs.Answers.{IsParsed, IsFault, IsRegistered};
 ghost use Rattle.rsp_syntax.specs.Texts.{IsText};
 ghost use Rattle.rsp_syntax.specs.Periods.{HasPeriods};
 ghost use Rattle.rsp_syntax.specs.declared.fault.SyntaxFault as fault;
+ghost use Rattle.rsp_syntax.specs.declared.fault.SyntaxFault.TheVariants.{OutOfMemory};
 
 use crate::SyntaxFault;
 use crate::left_out::is_left_out;
@@ -32,6 +33,7 @@ pub fn parse(alloc: Global, text: &str) -> Result<Query, SyntaxFault>
     ensures value { IsParsed result (parsing.parse text.now) }
     ensures grammar { (text : List ℕ) (answer : Result Registered fault.SyntaxFault)
         → (parsing.parse text ≡ answer) ↔ IsText text answer }
+    ensures causes { (text : List ℕ) → parsing.parse text ≡ Err OutOfMemory → ⊥ }
     ensures sound { IfOk result (λ query. IsSound (registered query)) }
     ensures periods { IfOk result (λ query. HasPeriods (registered query).policy) }
 {
