@@ -7,12 +7,13 @@ use Rattle.rsp_numbering.specs.declared.counts.Count.{Count}
 use Rattle.rsp_numbering.specs.declared.counts.Count.TheVariants as count
 use Rattle.rsp_numbering.specs.declared.limit.LimitName.{LimitName}
 use Rattle.rsp_numbering.specs.declared.limit.LimitName.TheVariants as limit
-use Rattle.rsp_numbering.specs.Limits.{triple_steps, triple_slashes, one_unless_triple, rows_of_values, steps, slashes, over}
+use Rattle.rsp_numbering.specs.Limits.{triple_steps, triple_slashes, one_unless_triple, rows_of_values, steps, over}
 use Rattle.rsp_numbering.specs.Limits as limits
 use Rattle.rsp_numbering.specs.Naming.{nothing}
 use Rattle.rsp_numbering.specs.Selections.{behind_selected}
 use Rattle.rsp_numbering.specs.Triples.{path_of, paths_of}
-use Rattle.rsp_query.specs.Paths.{ways_in}
+use Rattle.rsp_query.specs.Paths as paths
+use Rattle.rsp_query.specs.Paths.{slashes, ways_in}
 
 -- of a part of the query with numbers
 abbrev pub measure : Count → Part → ℕ
@@ -26,10 +27,10 @@ abbrev pub steps_among : written.Ways → ℕ
 steps_among ways = limits.steps_among (ways_in (paths_of ways))
 
 abbrev pub slashes_among : written.Ways → ℕ
-slashes_among ways = limits.slashes_among (ways_in (paths_of ways))
+slashes_among ways = paths.slashes_among (ways_in (paths_of ways))
 
 abbrev pub slashes_following : written.Ways → ℕ
-slashes_following ways = limits.slashes_following (ways_in (paths_of ways))
+slashes_following ways = paths.slashes_following (ways_in (paths_of ways))
 
 -- of a verb, for each of its objects
 abbrev pub verb_count : Count → Verb → ℕ

@@ -1,6 +1,7 @@
 // Triple patterns, `/`, elements and rows of VALUES, counted on the tree as it is written, so that nothing is built of a
 // text that has too many. A path counts for each of its objects. A count that 64 bits don't hold is answered as want of memory.
 ghost use Rattle.std.specs.Prelude.{◌≡◌, IfOk, map};
+ghost use Rattle.rsp_query.specs.Paths as paths;
 ghost use Rattle.rsp_written.specs.Building.{elements_in, groups_in, nodes_in, ways_in};
 ghost use Rattle.rsp_written.specs.GroupMeanings as written;
 ghost use Rattle.rsp_written.specs.Meanings as meanings;
@@ -53,7 +54,7 @@ fn steps_among(paths: &[Path]) -> Result<usize, AllocError>
 
 #[cycle(slashes)]
 fn slashes(path: &Path) -> Result<usize, AllocError>
-    ensures { IfOk result (λ n. n ≡ limits.slashes (path_of (meanings.way_of path.now))) }
+    ensures { IfOk result (λ n. n ≡ paths.slashes (path_of (meanings.way_of path.now))) }
 {
     match path {
         Path::Step(_) => Ok(0),
