@@ -1,6 +1,6 @@
 -- What a text is is never want of memory.
 use Rattle.std.proofs.Common.{◌≡◌, ℕ, List, Err}
-use Rattle.rsp_syntax.specs.Parsing.{parse}
+use Rattle.rsp_syntax.specs.Deciding.{parse}
 use Rattle.rsp_syntax.specs.declared.fault.SyntaxFault.TheVariants.{OutOfMemory}
 use Rattle.rsp_syntax.proofs.Tied.{tied}
 

@@ -7,3 +7,4 @@ mod Soundness
 mod Values
 mod Periods
 pub mod Causes
+mod LeftWords
