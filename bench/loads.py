@@ -378,20 +378,44 @@ HOSTILE = {
 }
 HEAD = "REGISTER RSTREAM <q:o> REPORT CLOSE TICK TIME AS SELECT ?s FROM NAMED WINDOW <w:1> ON <s:a> [RANGE PT1S] WHERE "
 MOST_TEXT = 65_536
+# texts of two parts, each half of the text, that multiply where each of the one goes through all of the other: the front, what
+# is repeated, what is between, what is repeated then, the end
+SQUARES = {
+    "path by objects": ("%s{ ?s a", "/a", " 1", ",1", " }"),
+    "items by names": ("%s{ { SELECT", " ?v%d", " { ", "?x a ?y.", " } } }"),
+    "prefixes by names": ("", "PREFIX p%d:<a:> ", "%s{ ?s a ?o", ",p0:x", " }"),
+}
+
+
+def repeated(piece, room):
+    """As many of these as the room holds, one behind the other, each with its number."""
+    pieces, number = [], 0
+    while room >= len(text := piece.replace("%d", str(number))):
+        pieces.append(text)
+        room -= len(text)
+        number += 1
+    return "".join(pieces)
+
+
+def square(name):
+    """A load of one registration of at most so many bytes, whose text is one of the texts of two parts."""
+    front, first, between, second, end = (part.replace("%s", HEAD) for part in SQUARES[name])
+
+    def load(size):
+        left = min(size, MOST_TEXT) - len(front) - len(between) - len(end) - 1
+        text = f"{front}{repeated(first, left // 2)}{between}{repeated(second, left // 2)}{end}\n"
+        return block("@register q", [text])
+
+    return load
 
 
 def hostile(name):
     """A load of one registration of at most so many bytes, whose text is one of the hostile ones."""
-    front, repeated, end = HOSTILE[name]
+    front, piece, end = HOSTILE[name]
     front = front.replace("%s", HEAD)
 
     def load(size):
         left = min(size, MOST_TEXT) - len(front) - len(end) - 1
-        pieces, number = [], 0
-        while left >= len(piece := repeated.replace("%d", str(number))):
-            pieces.append(piece)
-            left -= len(piece)
-            number += 1
-        return block("@register q", [f"{front}{''.join(pieces)}{end}\n"])
+        return block("@register q", [f"{front}{repeated(piece, left)}{end}\n"])
 
     return load

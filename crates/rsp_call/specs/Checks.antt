@@ -4,7 +4,7 @@ use Rattle.std.specs.Option.{option_or}
 use Rattle.std.specs.Str.{is_utf8}
 use Rattle.std.specs.Str.Lossy.{utf8_valid_len}
 use Rattle.rsp_numbering.specs.declared.limit.LimitName.TheVariants as name
-use Rattle.rsp_syntax.specs.Parsing.{parse}
+use Rattle.rsp_syntax.specs.Deciding.{parse}
 use Rattle.rsp_engine.specs.Refusals.{Refusal, bad_token, limit, text_fault}
 use Rattle.rsp_call.specs.declared.refusing.Place.TheVariants.{Query}
 use Rattle.rsp_call.specs.Refusals.{of_event}

@@ -2,7 +2,7 @@
 ghost use Rattle.std.specs.Prelude.{◌≡◌, IfOk, MatchResult, None, Result};
 ghost use Rattle.rsp_query.specs.Queries.{Registered, registered};
 ghost use Rattle.rsp_syntax.specs.Answers.{IsParsed};
-ghost use Rattle.rsp_syntax.specs.Parsing.{parse};
+ghost use Rattle.rsp_syntax.specs.Deciding.{parse};
 ghost use Rattle.rsp_syntax.specs.declared.fault.SyntaxFault as fault;
 ghost use Rattle.rsp_engine.specs.Refusals as refusals;
 ghost use Rattle.rsp_engine.specs.Passing.{IsFaultOf};

@@ -33,7 +33,7 @@ use Rattle.rsp_events.specs.declared.event.Event.TheVariants.{Cancel, Delete, In
 use Rattle.rsp_terms.specs.declared.statement.Triple.{Triple}
 use Rattle.rsp_query.specs.Queries.{Registered}
 use Rattle.rsp_report.specs.Policies.{is_mixed}
-use Rattle.rsp_syntax.specs.Parsing.{parse}
+use Rattle.rsp_syntax.specs.Deciding.{parse}
 use Rattle.rsp_translation.specs.Translation.{first_fault}
 use Rattle.rsp_engine.specs.declared.live_query.StreamWindow.{StreamWindow}
 use Rattle.rsp_engine.specs.declared.refused.Refused.TheVariants as answer

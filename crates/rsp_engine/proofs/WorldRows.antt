@@ -27,7 +27,7 @@ use Rattle.rsp_algebra.specs.declared.tree.Place.TheVariants.{Default, Window}
 use Rattle.rsp_algebra.specs.Nodes.{Node, join, pattern, project, unit}
 use Rattle.rsp_translation.specs.declared.shape.Shape.TheVariants as shape
 use Rattle.rsp_translation.specs.Translation.{first_fault}
-use Rattle.rsp_syntax.specs.Parsing.{parse}
+use Rattle.rsp_syntax.specs.Deciding.{parse}
 use Rattle.rsp_syntax.specs.declared.fault.SyntaxFault.TheVariants as fault
 use Rattle.rsp_scope.specs.Contents.{Accepted, Numbered, content, numbered}
 use Rattle.rsp_engine.specs.declared.live_query.StreamWindow.{StreamWindow}

@@ -10,7 +10,7 @@ use Rattle.rsp_events.specs.declared.event.Event.TheVariants.{Register, Cancel, 
 use Rattle.rsp_scope.specs.Contents.{Accepted}
 use Rattle.rsp_query.specs.Queries.{Registered}
 use Rattle.rsp_algebra.specs.Overfull.{overfull}
-use Rattle.rsp_syntax.specs.Parsing.{parse}
+use Rattle.rsp_syntax.specs.Deciding.{parse}
 use Rattle.rsp_syntax.specs.declared.fault.SyntaxFault.{SyntaxFault}
 use Rattle.rsp_engine.specs.Refusals.{Refusal, held_full, item_too_large, late, name_taken, no_query, queries_full, start_overfull, store_full, text_fault}
 use Rattle.rsp_engine.specs.Readings.{reading_of}

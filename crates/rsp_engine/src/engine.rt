@@ -79,7 +79,7 @@ impl<A: Answer> Engine<A> {
     ghost use Rattle.std.specs.Option.{is_some, option_map_or};
     ghost use Rattle.rsp_spec.specs.Windows.{last_instant};
     ghost use Rattle.rsp_terms.specs.declared.statement.Triple.{Triple};
-    ghost use Rattle.rsp_syntax.specs.Parsing.{parse};
+    ghost use Rattle.rsp_syntax.specs.Deciding.{parse};
     ghost use Rattle.rsp_syntax.specs.Periods.{HasPeriods};
     ghost use Rattle.rsp_query.specs.Queries.{registered};
     ghost use Rattle.rsp_report.specs.Policies.{choice_of, is_mixed};

@@ -9,7 +9,7 @@ ghost use Rattle.rsp_algebra.specs.Fitting.{IsPlaced};
 ghost use Rattle.rsp_shapes.specs.Sound.{IsSound};
 ghost use Rattle.rsp_shapes.specs.Visible.{name_of};
 ghost use Rattle.rsp_syntax.specs.Answers.{IsParsed};
-ghost use Rattle.rsp_syntax.specs.Parsing.{parse};
+ghost use Rattle.rsp_syntax.specs.Deciding.{parse};
 ghost use Rattle.rsp_syntax.specs.Periods.{HasPeriods};
 ghost use Rattle.rsp_syntax.specs.declared.fault.SyntaxFault as fault;
 ghost use Rattle.rsp_translation.specs.Translation.{IsTranslated, first_fault};

@@ -11,7 +11,8 @@ use Rattle.rsp_written.specs.Trees.{Node, Verb, Properties, Elements, Selected, 
 use Rattle.rsp_numbering.specs.Naming.{variable_text}
 use Rattle.rsp_numbering.specs.Selections.{behind_selected, selected_of}
 use Rattle.rsp_numbering.specs.Naming.{nothing}
-use Rattle.rsp_numbering.specs.Limits.{operators, steps, slashes}
+use Rattle.rsp_query.specs.Paths.{slashes}
+use Rattle.rsp_numbering.specs.Limits.{operators, steps}
 
 to : List ℕ → Node → Properties
 to x object = property_then (along (step x)) (node_then object no_node) no_property

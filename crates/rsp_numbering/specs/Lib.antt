@@ -5,7 +5,8 @@ pub mod Triples
 pub mod Selections
 pub mod Clauses
 pub mod Limits
-pub mod Results
 -- Words of the way
+pub mod Same
+pub mod Results
 pub mod Seeing
 pub mod Counting

@@ -2,7 +2,7 @@
 use Rattle.std.specs.Prelude.{ℕ, suc, ◌+◌, ◌-◌, Bool, true, ◌&&◌, cond, nat_lt, nat_le, List, [], ◌∷◌, Option, None, Some, map, unwrap_or, length}
 use Rattle.std.specs.List.{list_all}
 use Rattle.rsp_spec.specs.Windows.{last_instant}
-use Rattle.rsp_query.specs.Paths.{Way, Ways}
+use Rattle.rsp_query.specs.Paths.{Way, Ways, slashes}
 use Rattle.rsp_query.specs.Paths as path
 use Rattle.rsp_query.specs.Groups as query
 use Rattle.rsp_query.specs.Groups.{Part, Parts, Groups, Selection}
@@ -85,7 +85,7 @@ abbrev mutual
       (items_operators (items_in projection) + group_operators body)
       + (items_operators keys + having_operators having)
 
--- ---- triple patterns, one for each step of a path, and the `/` of paths
+-- ---- triple patterns, one for each step of a path
 
 abbrev mutual
   pub steps : Way → ℕ
@@ -97,22 +97,6 @@ abbrev mutual
   pub steps_among : Ways → ℕ
   steps_among path.no_way = 0
   steps_among (path.way_then way more) = steps way + steps_among more
-
-abbrev mutual
-  pub slashes : Way → ℕ
-  slashes (path.step s) = 0
-  slashes (path.inverse way) = slashes way
-  slashes (path.sequence ways) = slashes_following ways - 1
-  slashes (path.choice ways) = slashes_among ways
-
-  pub slashes_among : Ways → ℕ
-  slashes_among path.no_way = 0
-  slashes_among (path.way_then way more) = slashes way + slashes_among more
-
-  -- each with a `/` before it
-  pub slashes_following : Ways → ℕ
-  slashes_following path.no_way = 0
-  slashes_following (path.way_then way more) = suc (slashes way + slashes_following more)
 
 -- ---- over all parts of a query, at every depth
 

@@ -1,15 +1,19 @@
 -- Definitions: the variables of a query and their numbers, by the first place in the text.
-use Rattle.std.specs.Prelude.{ℕ, suc, Bool, true, cond, List, [], ◌∷◌, ◌++◌, codes, length, map}
+use Rattle.std.specs.Prelude.{ℕ, suc, Bool, true, false, ◌&&◌, nat_eq, cond, List, [], ◌∷◌, ◌++◌, codes, length, map}
 use Rattle.std.specs.List.{list_any, position_or_len}
 use Rattle.std.specs.Str.{bytes_eq}
 use Rattle.rsp_numbering.specs.declared.variable.Variable.{Variable}
 use Rattle.rsp_numbering.specs.declared.variable.Variable.TheVariants as variable
-use Rattle.rsp_numbering.specs.contracts.variable.VariablePartialEq.TheImpl.{ghosts as derived}
 use Rattle.rsp_written.specs.Trees.{Item, shown, computed, Projection, every_name, these}
 
--- the same case with the same parts
+-- What is one variable: a name within one SELECT, a label in the whole text, a blank node in brackets or an aggregate by its
+-- own number.
 abbrev pub is_same : Variable → Variable → Bool
-is_same = derived.eq
+is_same (variable.Name m x) (variable.Name n y) = nat_eq m n && bytes_eq x y
+is_same (variable.Label x) (variable.Label y) = bytes_eq x y
+is_same (variable.Bracket m) (variable.Bracket n) = nat_eq m n
+is_same (variable.Aggregate m) (variable.Aggregate n) = nat_eq m n
+is_same _ _ = false
 
 abbrev pub name : ℕ → List ℕ → Variable
 name select x = variable.Name select x
@@ -17,10 +21,10 @@ name select x = variable.Name select x
 abbrev pub label : List ℕ → Variable
 label x = variable.Label x
 
--- a SELECT, and what it projects
+-- a SELECT, and the names that it shares with the SELECT round it
 pub record Scope : Type 0 where
   pub number : ℕ
-  pub projection : Projection
+  pub shares : List ℕ → Bool
 
 abbrev pub shown_name : Item → List ℕ
 shown_name (shown x) = x
@@ -38,7 +42,7 @@ projects (these items) x = is_shown items x
 abbrev pub owner : List Scope → List ℕ → ℕ
 owner [] x = 0
 owner (here ∷ []) x = here.number
-owner (here ∷ (outer ∷ more)) x = cond (projects here.projection x) (owner (outer ∷ more) x) here.number
+owner (here ∷ (outer ∷ more)) x = cond (here.shares x) (owner (outer ∷ more) x) here.number
 
 abbrev pub named : List Scope → List ℕ → Variable
 named at x = name (owner at x) x
@@ -78,7 +82,7 @@ abbrev pub behind_select : Before → Before
 behind_select before = record { selects = suc before.selects; variables = before.variables }
 
 abbrev pub scope : ℕ → Projection → List Scope → List Scope
-scope number projection at = record { number = number; projection = projection } ∷ at
+scope number projection at = record { number = number; shares = projects projection } ∷ at
 
 -- within a SELECT that begins here
 abbrev pub within : Before → Projection → List Scope → List Scope

@@ -1,4 +1,4 @@
--- Definitions: what the answer to a text is that the grammar has read.
+-- Words of the way: what the answer to a text is that the grammar has read: `limit_of` and `query_of` as one answer.
 use Rattle.std.specs.Prelude.{◌≡◌, List, [], Option, None, Some, Result, Ok, Err, length, map}
 use Rattle.rsp_report.specs.declared.words.PolicyWords.{PolicyWords}
 use Rattle.rsp_query.specs.declared.query.Query.{Query}

@@ -1,5 +1,7 @@
 -- Words of the way: the code's scopes, aggregates and branches as the definitions have them.
-use Rattle.std.specs.Prelude.{ℕ, List, map}
+use Rattle.std.specs.Prelude.{ℕ, Bool, ◌||◌, List, map}
+use Rattle.std.specs.List.{list_any}
+use Rattle.std.specs.Str.{bytes_eq}
 use Rattle.rsp_expr.specs.declared.aggregate.Aggregate.{Aggregate}
 use Rattle.rsp_expr.specs.declared.expression.Expression.{Expression}
 use Rattle.rsp_functions.specs.declared.function.Sign.{Sign}
@@ -12,12 +14,15 @@ use Rattle.rsp_query.specs.declared.select.Element.{Element}
 use Rattle.rsp_query.specs.Groups.{Part, part_of}
 use Rattle.rsp_written.specs.declared.group.Element as written
 use Rattle.rsp_written.specs.Trees as trees
-use Rattle.rsp_written.specs.GroupMeanings.{element_of, projection_of}
+use Rattle.rsp_written.specs.GroupMeanings.{element_of}
 use Rattle.rsp_numbering.specs.declared.scopes.Scope as code
 use Rattle.rsp_numbering.specs.Naming.{Scope}
 
+abbrev pub scope_by : ℕ → (List ℕ → Bool) → Scope
+scope_by number shares = record { number = number; shares = shares }
+
 abbrev pub scope_of : code.Scope → Scope
-scope_of scope = record { number = scope.number; projection = projection_of scope.projection.now }
+scope_of scope = scope_by scope.number (λ x. scope.every || list_any (bytes_eq x) scope.shown.value.keys)
 
 abbrev pub scopes_of : List code.Scope → List Scope
 scopes_of scopes = map scope_of scopes

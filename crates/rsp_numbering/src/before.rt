@@ -1,6 +1,9 @@
 // What stands before a place of a query's text.
-ghost use Rattle.std.specs.Prelude.{◌≡◌, IfOk, OnOk, length, map};
+ghost use Rattle.std.specs.Prelude.{◌≡◌, IfOk, OnErr, OnOk, length, map, suc, true};
+ghost use Rattle.std.specs.List.{position_or_len};
+ghost use Rattle.indexmap.specs.IndexSet.{insert_key};
 ghost use Rattle.rsp_numbering.specs.Naming as naming;
+ghost use Rattle.rsp_numbering.specs.Same.{are_older, derived_same, is_older};
 
 use crate::Variable;
 use indexmap::IndexSet;
@@ -17,11 +20,15 @@ pub struct Before {
 }
 
 impl Model for Before {
+    ghost use Rattle.std.specs.Prelude.{IsTrue};
     ghost use Rattle.rsp_numbering.specs.Naming.{Before as Seen};
+    ghost use Rattle.rsp_numbering.specs.Same.{are_older};
 
     ghost Value = { Seen };
 
     ghost view = { λ b. record { selects = b.selects; variables = b.variables.keys } };
+
+    ghost invariant = { λ b. IsTrue (are_older b.variables.keys) };
 }
 
 impl Before {
@@ -57,6 +64,7 @@ impl Before {
     pub fn bracket(&mut self) -> Result<usize, AllocError>
         ensures number { IfOk result (λ n. n ≡ naming.number self.old (naming.bracket self.old)) }
         ensures behind { OnOk result (self.new ≡ naming.behind self.old (naming.bracket self.old)) }
+        ensures is_new { IfOk result (λ n. n ≡ length self.old.variables) }
     {
         let number = self.variables.len();
         number_of(&mut self.variables, Variable::Bracket(number))
@@ -66,6 +74,7 @@ impl Before {
     pub fn aggregate(&mut self) -> Result<usize, AllocError>
         ensures number { IfOk result (λ n. n ≡ naming.number self.old (naming.aggregate self.old)) }
         ensures behind { OnOk result (self.new ≡ naming.behind self.old (naming.aggregate self.old)) }
+        ensures is_new { IfOk result (λ n. n ≡ length self.old.variables) }
     {
         let number = self.variables.len();
         number_of(&mut self.variables, Variable::Aggregate(number))
@@ -124,6 +133,17 @@ fn text_of(alloc: Global, variable: &Variable) -> Result<Text, AllocError>
 fn number_of(variables: &mut IndexSet<Variable>, variable: Variable) -> Result<usize, AllocError>
     ensures number { IfOk result (λ n. n ≡ naming.place_of variables.old.keys variable) }
     ensures behind { OnOk result (variables.new.keys ≡ naming.with_variable variables.old.keys variable) }
+    ensures older { are_older variables.old.keys ≡ true → is_older (suc (length variables.old.keys)) variable ≡ true
+        → are_older variables.new.keys ≡ true }
+{
+    inserted(variables, variable)
+}
+
+// the same, by the derived test
+fn inserted(variables: &mut IndexSet<Variable>, variable: Variable) -> Result<usize, AllocError>
+    ensures number { IfOk result (λ n. n ≡ position_or_len (derived_same variable) variables.old.keys) }
+    ensures behind { OnOk result (variables.new.keys ≡ insert_key derived_same variables.old.keys variable) }
+    ensures kept { OnErr result (variables.new.keys ≡ variables.old.keys) }
 {
     match variables.insert_full(variable) {
         Ok((number, _)) => Ok(number),

@@ -21,7 +21,7 @@ use std::alloc::{AllocError, Global};
 #[cycle(numbering)]
 pub(crate) fn numbered(
     alloc: Global,
-    at: &[Scope<'_>],
+    at: &[Scope],
     before: &mut Before,
     aggregates: &mut Vec<(usize, Aggregate)>,
     expression: &Written,
@@ -78,7 +78,7 @@ pub(crate) fn numbered(
 #[cycle(numbering)]
 fn compared(
     alloc: Global,
-    at: &[Scope<'_>],
+    at: &[Scope],
     before: &mut Before,
     aggregates: &mut Vec<(usize, Aggregate)>,
     right: &Written,
@@ -101,7 +101,7 @@ fn compared(
 #[cycle(numbering)]
 fn member(
     alloc: Global,
-    at: &[Scope<'_>],
+    at: &[Scope],
     before: &mut Before,
     aggregates: &mut Vec<(usize, Aggregate)>,
     list: &[Written],
@@ -129,7 +129,7 @@ fn member(
 #[cycle(numbering)]
 fn row(
     alloc: Global,
-    at: &[Scope<'_>],
+    at: &[Scope],
     before: &mut Before,
     aggregates: &mut Vec<(usize, Aggregate)>,
     rest: &[Operand],
@@ -152,7 +152,7 @@ fn row(
 #[cycle(numbering)]
 fn prefixed(
     alloc: Global,
-    at: &[Scope<'_>],
+    at: &[Scope],
     before: &mut Before,
     aggregates: &mut Vec<(usize, Aggregate)>,
     sign: Kind,
@@ -171,7 +171,7 @@ fn prefixed(
 #[cycle(numbering)]
 fn called(
     alloc: Global,
-    at: &[Scope<'_>],
+    at: &[Scope],
     before: &mut Before,
     aggregates: &mut Vec<(usize, Aggregate)>,
     function: Kind,
@@ -198,7 +198,7 @@ fn called(
 #[cycle(numbering)]
 fn aggregated(
     alloc: Global,
-    at: &[Scope<'_>],
+    at: &[Scope],
     before: &mut Before,
     aggregates: &mut Vec<(usize, Aggregate)>,
     kind: Kind,
@@ -238,7 +238,7 @@ fn counted_rows(
 #[cycle(numbering)]
 fn boxed(
     alloc: Global,
-    at: &[Scope<'_>],
+    at: &[Scope],
     before: &mut Before,
     aggregates: &mut Vec<(usize, Aggregate)>,
     expression: &Written,
@@ -257,7 +257,7 @@ fn boxed(
 #[cycle(numbering)]
 fn all(
     alloc: Global,
-    at: &[Scope<'_>],
+    at: &[Scope],
     before: &mut Before,
     aggregates: &mut Vec<(usize, Aggregate)>,
     expressions: &[Written],
@@ -281,7 +281,7 @@ fn all(
 #[cycle(numbering)]
 fn operands(
     alloc: Global,
-    at: &[Scope<'_>],
+    at: &[Scope],
     before: &mut Before,
     aggregates: &mut Vec<(usize, Aggregate)>,
     written: &[Operand],

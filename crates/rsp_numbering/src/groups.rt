@@ -13,20 +13,20 @@ use crate::Before;
 use crate::items::{
     graph_of, having_of, is_grouped, keys_of, numbers_of, plain, projected, rows_of,
 };
-use crate::scopes::{Scope, number_of, within};
+use crate::scopes::{Scope, is_every, number_of, within};
 use crate::triples::put_triples;
 use rsp_query::{Element, Select};
 use rsp_terms::Text;
-use rsp_written::{Element as Written, Expression, GraphName, Projection, Values};
+use rsp_written::{Element as Written, Expression, GraphName, Values};
 use std::alloc::{AllocError, Global};
 
 // puts an element's parts behind those that are there
 #[cycle(groups)]
-fn put_element<'s>(
+fn put_element(
     alloc: Global,
-    at: &[Scope<'s>],
+    at: &[Scope],
     before: &mut Before,
-    element: &'s Written,
+    element: &Written,
     parts: &mut Vec<Element>,
 ) -> Result<(), AllocError>
     ensures parts { OnOk result (map query.part_of parts.new.items
@@ -77,13 +77,13 @@ fn put_element<'s>(
 }
 
 #[cycle(groups)]
-fn put_graph<'s>(
+fn put_graph(
     alloc: Global,
-    at: &[Scope<'s>],
+    at: &[Scope],
     before: &mut Before,
     name: &GraphName,
     place: usize,
-    body: &'s [Written],
+    body: &[Written],
     parts: &mut Vec<Element>,
 ) -> Result<(), AllocError>
     ensures parts { OnOk result (map query.part_of parts.new.items
@@ -100,13 +100,13 @@ fn put_graph<'s>(
 }
 
 #[cycle(groups)]
-fn put_window<'s>(
+fn put_window(
     alloc: Global,
-    at: &[Scope<'s>],
+    at: &[Scope],
     before: &mut Before,
     name: &Text,
     place: usize,
-    body: &'s [Written],
+    body: &[Written],
     parts: &mut Vec<Element>,
 ) -> Result<(), AllocError>
     ensures parts { OnOk result (map query.part_of parts.new.items
@@ -123,13 +123,13 @@ fn put_window<'s>(
 }
 
 #[cycle(groups)]
-fn put_exists<'s>(
+fn put_exists(
     alloc: Global,
-    at: &[Scope<'s>],
+    at: &[Scope],
     before: &mut Before,
     negated: bool,
     place: usize,
-    body: &'s [Written],
+    body: &[Written],
     parts: &mut Vec<Element>,
 ) -> Result<(), AllocError>
     ensures parts { OnOk result (map query.part_of parts.new.items
@@ -146,7 +146,7 @@ fn put_exists<'s>(
 
 fn put_filter(
     alloc: Global,
-    at: &[Scope<'_>],
+    at: &[Scope],
     before: &mut Before,
     expression: &Expression,
     parts: &mut Vec<Element>,
@@ -163,7 +163,7 @@ fn put_filter(
 
 fn put_bind(
     alloc: Global,
-    at: &[Scope<'_>],
+    at: &[Scope],
     before: &mut Before,
     expression: &Expression,
     name: &Text,
@@ -193,7 +193,7 @@ fn put(parts: &mut Vec<Element>, part: Element) -> Result<(), AllocError>
 
 fn put_values(
     alloc: Global,
-    at: &[Scope<'_>],
+    at: &[Scope],
     before: &mut Before,
     block: &Values,
     parts: &mut Vec<Element>,
@@ -209,11 +209,11 @@ fn put_values(
 }
 
 #[cycle(groups)]
-fn put_elements<'s>(
+fn put_elements(
     alloc: Global,
-    at: &[Scope<'s>],
+    at: &[Scope],
     before: &mut Before,
-    elements: &'s [Written],
+    elements: &[Written],
     parts: &mut Vec<Element>,
 ) -> Result<(), AllocError>
     ensures parts { OnOk result (map query.part_of parts.new.items
@@ -229,11 +229,11 @@ fn put_elements<'s>(
 }
 
 #[cycle(groups)]
-fn group<'s>(
+fn group(
     alloc: Global,
-    at: &[Scope<'s>],
+    at: &[Scope],
     before: &mut Before,
-    elements: &'s [Written],
+    elements: &[Written],
 ) -> Result<Vec<Element>, AllocError>
     ensures parts { IfOk result (λ parts. map query.part_of parts.items
         ≡ numbered.with_elements (scopes_of at.now) before.old [] (elements_in (map written.element_of elements.now))) }
@@ -246,11 +246,11 @@ fn group<'s>(
 }
 
 #[cycle(groups)]
-fn groups<'s>(
+fn groups(
     alloc: Global,
-    at: &[Scope<'s>],
+    at: &[Scope],
     before: &mut Before,
-    branches: &'s [Vec<Written>],
+    branches: &[Vec<Written>],
 ) -> Result<Vec<Vec<Element>>, AllocError>
     ensures groups { IfOk result (λ made. branches_of made.items
         ≡ numbered.groups_of (scopes_of at.now) before.old (groups_in (written_branches_of branches.now))) }
@@ -266,11 +266,11 @@ fn groups<'s>(
 
 /// A SELECT with numbers in place of names. Fails only where memory is refused.
 #[cycle(groups)]
-pub(crate) fn select<'s>(
+pub(crate) fn select(
     alloc: Global,
-    at: &[Scope<'s>],
+    at: &[Scope],
     before: &mut Before,
-    select: &'s rsp_written::Select,
+    select: &rsp_written::Select,
 ) -> Result<Select, AllocError>
     ensures selection { IfOk result (λ made. query.selection_of made
         ≡ numbered.selected_of (scopes_of at.now) before.old (written.select_of select.now)) }
@@ -284,11 +284,11 @@ pub(crate) fn select<'s>(
 
 // behind the word SELECT, with its scope among the others
 #[cycle(groups)]
-fn select_within<'s>(
+fn select_within(
     alloc: Global,
-    at: &[Scope<'s>],
+    at: &[Scope],
     before: &mut Before,
-    select: &'s rsp_written::Select,
+    select: &rsp_written::Select,
 ) -> Result<Select, AllocError>
     ensures selection { IfOk result (λ made. query.selection_of made
         ≡ numbered.selected_within (scopes_of at.now) before.old (written.select_of select.now)) }
@@ -303,7 +303,7 @@ fn select_within<'s>(
     let grouped = is_grouped(&keys, &having, &aggregates);
     Ok(Select {
         distinct: select.distinct,
-        star: is_star(&select.projection),
+        star: is_every(&select.projection),
         items,
         body,
         grouped,
@@ -311,13 +311,4 @@ fn select_within<'s>(
         having,
         aggregates,
     })
-}
-
-fn is_star(projection: &Projection) -> bool
-    ensures { result ≡ numbered.is_star (written.projection_of projection.now) }
-{
-    match projection {
-        Projection::Every => true,
-        Projection::These(_) => false,
-    }
 }

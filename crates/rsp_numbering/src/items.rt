@@ -21,7 +21,7 @@ use std::alloc::{AllocError, Global};
 /// An expression in which no aggregate may stand.
 pub(crate) fn plain(
     alloc: Global,
-    at: &[Scope<'_>],
+    at: &[Scope],
     before: &mut Before,
     expression: &rsp_written::Expression,
 ) -> Result<Expression, AllocError>
@@ -35,7 +35,7 @@ pub(crate) fn plain(
 
 fn item_of(
     alloc: Global,
-    at: &[Scope<'_>],
+    at: &[Scope],
     before: &mut Before,
     aggregates: &mut Vec<(usize, Aggregate)>,
     item: &Item,
@@ -65,7 +65,7 @@ fn item_of(
 
 fn items_of(
     alloc: Global,
-    at: &[Scope<'_>],
+    at: &[Scope],
     before: &mut Before,
     aggregates: &mut Vec<(usize, Aggregate)>,
     items: &[Item],
@@ -88,7 +88,7 @@ fn items_of(
 /// The items of a SELECT, none under `*`; their aggregates are put behind those that are there.
 pub(crate) fn projected(
     alloc: Global,
-    at: &[Scope<'_>],
+    at: &[Scope],
     before: &mut Before,
     aggregates: &mut Vec<(usize, Aggregate)>,
     projection: &Projection,
@@ -110,7 +110,7 @@ pub(crate) fn projected(
 /// The keys of GROUP BY, in which no aggregate may stand.
 pub(crate) fn keys_of(
     alloc: Global,
-    at: &[Scope<'_>],
+    at: &[Scope],
     before: &mut Before,
     keys: &[Item],
 ) -> Result<Vec<SelectItem>, AllocError>
@@ -126,7 +126,7 @@ pub(crate) fn keys_of(
 /// The condition of HAVING.
 pub(crate) fn having_of(
     alloc: Global,
-    at: &[Scope<'_>],
+    at: &[Scope],
     before: &mut Before,
     aggregates: &mut Vec<(usize, Aggregate)>,
     having: &Option<rsp_written::Expression>,
@@ -161,7 +161,7 @@ pub(crate) fn is_grouped(
 }
 
 pub(crate) fn graph_of(
-    at: &[Scope<'_>],
+    at: &[Scope],
     before: &mut Before,
     name: &GraphName,
 ) -> Result<Slot, AllocError>
@@ -177,7 +177,7 @@ pub(crate) fn graph_of(
 /// The numbers of names.
 pub(crate) fn numbers_of(
     alloc: Global,
-    at: &[Scope<'_>],
+    at: &[Scope],
     before: &mut Before,
     names: &[Text],
 ) -> Result<Listed<usize>, AllocError>

@@ -1,9 +1,10 @@
 //! From the query as it is written to the query as the algebra takes it: names become numbers, rows of signs become nodes,
 //! and limits are counted.
 //!
-//! [`query_of`] gives the query that a tree as written is, or the first limit that it passes. On the way [`Before`] keeps the
-//! variables by their numbers, and a [`Scope`] says which SELECT a name belongs to. Each definition in the specs has one
-//! function of its shape. Above: the reader of query texts. Below: both trees.
+//! [`query_of`] gives the query that a tree as written is, or the first limit that it passes. What is limited is counted on the
+//! tree as it is written, so nothing is built of a text that is past a limit; a law says that these counts are those of the
+//! query. On the way [`Before`] keeps the variables by their numbers, and a [`Scope`] says which SELECT a name belongs to.
+//! Above: the reader of query texts. Below: both trees.
 #![tactic(auto)]
 
 mod before;
@@ -13,6 +14,7 @@ mod expressions;
 mod groups;
 mod items;
 mod limit;
+mod names;
 mod operators;
 mod paths;
 mod query;

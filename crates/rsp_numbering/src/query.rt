@@ -1,17 +1,18 @@
 // The query that a text is, within the limits.
 ghost use Rattle.std.specs.Prelude.{◌≡◌, IfOk};
-ghost use Rattle.rsp_query.specs.Groups.{selection_of};
+ghost use Rattle.rsp_query.specs.Queries.{registered};
 ghost use Rattle.rsp_written.specs.GroupMeanings as written;
-ghost use Rattle.rsp_numbering.specs.Limits as limits;
-ghost use Rattle.rsp_numbering.specs.Results.{IsNumbered, IsNumberedBehind};
+ghost use Rattle.rsp_numbering.specs.Counting as counting;
+ghost use Rattle.rsp_numbering.specs.Results.{IsNumbered, IsNumberedBehind, query_behind};
 
 use crate::clauses::{has_periods, operator_of, policy_of, windows_of};
 use crate::counts::{Count, in_select};
 use crate::groups::select;
+use crate::names::variables_of;
 use crate::operators::{of_select, plus};
 use crate::{Before, LimitName};
-use rsp_query::{PolicyWords, Query, Select, WindowClause};
-use rsp_written::Registration;
+use rsp_query::{PolicyWords, Query, WindowClause};
+use rsp_written::{Registration, Select};
 use std::alloc::{AllocError, Global};
 
 /// The query that a text is as the algebra takes it, or the first limit that it passes. Fails only where memory is refused.
@@ -39,32 +40,44 @@ fn query_behind_windows(
 ) -> Result<Result<Query, LimitName>, AllocError>
     ensures { IfOk result (IsNumberedBehind (written.written_of text.now) policy windows.items) }
 {
+    let variables = variables_of(alloc, &text.select)?;
     let signs = of_select(&text.select)?;
-    let mut before = Before::new(alloc);
-    let select = select(alloc, &[], &mut before, &text.select)?;
-    match passed_by_counts(before.len(), &select, signs)? {
+    match passed_by_counts(variables, &text.select, signs)? {
         Some(name) => Ok(Err(name)),
-        None => {
-            let output = text.output.share()?;
-            let variables = before.texts(alloc)?;
-            Ok(Ok(Query {
-                operator: operator_of(text.operator),
-                output,
-                policy,
-                windows,
-                select,
-                variables,
-            }))
-        }
+        None => Ok(Ok(numbered(alloc, text, policy, windows)?)),
     }
 }
 
+// the query, whatever it has too much of
+fn numbered(
+    alloc: Global,
+    text: &Registration,
+    policy: PolicyWords,
+    windows: Vec<WindowClause>,
+) -> Result<Query, AllocError>
+    ensures { IfOk result (λ query. registered query ≡ query_behind (written.written_of text.now) policy windows.items) }
+{
+    let mut before = Before::new(alloc);
+    let select = select(alloc, &[], &mut before, &text.select)?;
+    let output = text.output.share()?;
+    let variables = before.texts(alloc)?;
+    Ok(Query {
+        operator: operator_of(text.operator),
+        output,
+        policy,
+        windows,
+        select,
+        variables,
+    })
+}
+
+// counted on the tree as it is written, before anything is built
 fn passed_by_counts(
     variables: usize,
     select: &Select,
     signs: usize,
 ) -> Result<Option<LimitName>, AllocError>
-    ensures { IfOk result (λ name. name ≡ limits.passed_by_counts variables (selection_of select.now) signs) }
+    ensures { IfOk result (λ name. name ≡ counting.passed_as_written variables (written.select_of select.now) signs) }
 {
     let slashes = in_select(Count::Slashes, select)?;
     if 64 < plus(variables, slashes)? {

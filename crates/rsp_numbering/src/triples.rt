@@ -19,7 +19,7 @@ use std::alloc::{AllocError, Global};
 
 fn verb_of(
     alloc: Global,
-    at: &[Scope<'_>],
+    at: &[Scope],
     before: &mut Before,
     verb: &Verb,
 ) -> Result<Path, AllocError>
@@ -32,7 +32,7 @@ fn verb_of(
     }
 }
 
-fn slot_of(at: &[Scope<'_>], before: &mut Before, node: &Node) -> Result<Slot, AllocError>
+fn slot_of(at: &[Scope], before: &mut Before, node: &Node) -> Result<Slot, AllocError>
     ensures slot { IfOk result (λ slot. slot ≡ numbered.slot_of (scopes_of at.now) before.old (written.node_of node.now)) }
     ensures behind { OnOk result (before.new ≡ numbered.behind_slot (scopes_of at.now) before.old (written.node_of node.now)) }
 {
@@ -71,7 +71,7 @@ fn put_triple(
 #[cycle(triples)]
 fn put_inner(
     alloc: Global,
-    at: &[Scope<'_>],
+    at: &[Scope],
     before: &mut Before,
     node: &Node,
     slot: &Slot,
@@ -92,7 +92,7 @@ fn put_inner(
 #[cycle(triples)]
 fn put_objects(
     alloc: Global,
-    at: &[Scope<'_>],
+    at: &[Scope],
     before: &mut Before,
     nodes: &[Node],
     subject: &Slot,
@@ -116,7 +116,7 @@ fn put_objects(
 #[cycle(triples)]
 fn put_properties(
     alloc: Global,
-    at: &[Scope<'_>],
+    at: &[Scope],
     before: &mut Before,
     properties: &[Property],
     subject: &Slot,
@@ -139,7 +139,7 @@ fn put_properties(
 /// is refused.
 pub(crate) fn put_triples(
     alloc: Global,
-    at: &[Scope<'_>],
+    at: &[Scope],
     before: &mut Before,
     subject: &Subject,
     parts: &mut Vec<Element>,

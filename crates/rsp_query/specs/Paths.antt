@@ -1,5 +1,5 @@
 -- Definitions: property paths as plain trees (SPARQL 1.1 Query, section 18.2.2.3).
-use Rattle.std.specs.Prelude.{List, [], ◌∷◌}
+use Rattle.std.specs.Prelude.{ℕ, suc, ◌+◌, ◌-◌, List, [], ◌∷◌}
 use Rattle.rsp_expr.specs.declared.slot.Slot.{Slot}
 use Rattle.rsp_query.specs.declared.path.Path.{Path}
 use Rattle.rsp_query.specs.declared.path.Path.TheOpen.{Path-F}
@@ -16,6 +16,26 @@ mutual
   pub data Ways : Type 0 where
     no_way : Ways
     way_then : Way → Ways → Ways
+
+-- ---- the `/` of a path
+
+abbrev mutual
+  pub slashes : Way → ℕ
+  slashes (step s) = 0
+  slashes (inverse way) = slashes way
+  slashes (sequence ways) = slashes_following ways - 1
+  slashes (choice ways) = slashes_among ways
+
+  pub slashes_among : Ways → ℕ
+  slashes_among no_way = 0
+  slashes_among (way_then way more) = slashes way + slashes_among more
+
+  -- each with a `/` before it
+  pub slashes_following : Ways → ℕ
+  slashes_following no_way = 0
+  slashes_following (way_then way more) = suc (slashes way + slashes_following more)
+
+-- ---- the ways of the code's paths
 
 abbrev pub ways_in : List Way → Ways
 ways_in [] = no_way

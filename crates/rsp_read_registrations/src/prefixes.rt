@@ -1,15 +1,17 @@
 // Reading prefixes, and what tokens say under them.
-ghost use Rattle.std.specs.Prelude.{◌≡◌, ◌++◌, IfOk, None, Some, cond, map};
-ghost use Rattle.std.specs.Option.{option_map};
+ghost use Rattle.std.specs.Prelude.{◌≡◌, ℕ, List, ◌++◌, IfOk, None, Some, cond, map};
+ghost use Rattle.std.specs.Str.{bytes_eq};
+ghost use Rattle.indexmap.specs.IndexMap.{get};
 ghost use Rattle.rsp_phrases.specs.Gathering.{gathered, single};
 ghost use Rattle.rsp_phrases.specs.Readers.{token_read};
-ghost use Rattle.rsp_read_registrations.specs.Heads.{declared_as};
+ghost use Rattle.rsp_read_registrations.specs.Heads.{declared_as, resolved_with};
 ghost use Rattle.rsp_written.specs.Gives.{Gives};
 ghost use Rattle.rsp_written.specs.Grammar.{declared_iri, prefix_of_kind, resolved, resolved_as};
 ghost use Rattle.rsp_written.specs.Readings.{repeated_read, word_kinds};
 ghost use Rattle.rsp_written.specs.GroupReadings as readings;
 ghost use Rattle.rsp_written.specs.declared.said.Keyword.TheVariants as keyword;
 
+use indexmap::IndexMap;
 use rsp_terms::Text;
 use rsp_written::{Halt, Keyword, Kind, Said, first_is, iri, word};
 use std::alloc::{AllocError, Global};
@@ -81,17 +83,17 @@ pub fn prefixes_of(alloc: Global, tokens: &[Said]) -> Result<(Vec<Prefix>, &[Sai
     Ok((prefixes, rest))
 }
 
-// the IRI that stands for a prefix, of which the last one counts
-fn declared<'a>(prefixes: &'a [Prefix], name: &Text) -> Option<&'a Text>
-    ensures { option_map (λ iri. iri.now) result ≡ declared_iri (map declared_as prefixes.now) name.now }
+// the IRIs that stand for prefixes by their names, of which the last one counts
+fn by_name(alloc: Global, prefixes: &[Prefix]) -> Result<IndexMap<Text, Text>, AllocError>
+    ensures { IfOk result (λ iris. (x : List ℕ) → get bytes_eq iris x ≡ declared_iri (map declared_as prefixes.now) x) }
 {
-    let mut found = None;
+    let mut iris = IndexMap::new(alloc);
     for prefix in prefixes {
-        if prefix.name == *name {
-            found = Some(&prefix.iri);
-        }
+        let name = prefix.name.share()?;
+        let iri = prefix.iri.share()?;
+        iris.insert(name, iri)?;
     }
-    found
+    Ok(iris)
 }
 
 // the whole IRI of a prefixed name
@@ -116,10 +118,14 @@ fn said_again(said: &Said, kind: Kind) -> Result<Said, AllocError>
     })
 }
 
-fn resolved_name(alloc: Global, prefixes: &[Prefix], said: &Said) -> Result<Said, AllocError>
-    ensures { IfOk result (λ other. other ≡ resolved_as said.now (declared_iri (map declared_as prefixes.now) said.now.text)) }
+fn resolved_name(
+    alloc: Global,
+    iris: &IndexMap<Text, Text>,
+    said: &Said,
+) -> Result<Said, AllocError>
+    ensures { IfOk result (λ other. other ≡ resolved_as said.now (get bytes_eq iris.now said.now.text)) }
 {
-    match declared(prefixes, &said.text) {
+    match iris.get(&said.text) {
         None => said_again(said, Kind::Nowhere),
         Some(iri) => {
             let text = joined(alloc, iri, &said.local)?;
@@ -134,22 +140,38 @@ fn resolved_name(alloc: Global, prefixes: &[Prefix], said: &Said) -> Result<Said
     }
 }
 
-fn resolved_token(alloc: Global, prefixes: &[Prefix], said: &Said) -> Result<Said, AllocError>
-    ensures { IfOk result (λ other. other ≡ resolved (map declared_as prefixes.now) said.now) }
+fn resolved_token(
+    alloc: Global,
+    iris: &IndexMap<Text, Text>,
+    said: &Said,
+) -> Result<Said, AllocError>
+    ensures { IfOk result (λ other. other ≡ resolved_with (get bytes_eq iris.now) said.now.kind said.now) }
 {
     match said.kind {
-        Kind::Prefixed => resolved_name(alloc, prefixes, said),
+        Kind::Prefixed => resolved_name(alloc, iris, said),
         _ => said_again(said, said.kind),
     }
+}
+
+fn resolved_tokens(
+    alloc: Global,
+    iris: &IndexMap<Text, Text>,
+    tokens: &[Said],
+) -> Result<Vec<Said>, AllocError>
+    ensures { IfOk result (λ others. others.items
+        ≡ map (λ said. resolved_with (get bytes_eq iris.now) said.kind said) tokens.now) }
+{
+    let mut others = Vec::new(alloc);
+    for said in tokens {
+        others.push(resolved_token(alloc, iris, said)?)?;
+    }
+    Ok(others)
 }
 
 /// The tokens with what they say under these prefixes.
 pub fn resolve(alloc: Global, prefixes: &[Prefix], tokens: &[Said]) -> Result<Vec<Said>, AllocError>
     ensures { IfOk result (λ others. others.items ≡ map (resolved (map declared_as prefixes.now)) tokens.now) }
 {
-    let mut others = Vec::new(alloc);
-    for said in tokens {
-        others.push(resolved_token(alloc, prefixes, said)?)?;
-    }
-    Ok(others)
+    let iris = by_name(alloc, prefixes)?;
+    resolved_tokens(alloc, &iris, tokens)
 }

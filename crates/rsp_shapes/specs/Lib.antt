@@ -2,7 +2,7 @@
 pub mod Visible
 pub mod Shapes
 pub mod Scopes
-pub mod Sound
 -- Words of the way
+pub mod Sound
 pub mod Seeing
 pub mod Groups

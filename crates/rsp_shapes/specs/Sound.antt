@@ -1,5 +1,5 @@
--- Definitions: what a query's variables and aggregates owe: each variable is below the number of variables, and an aggregate
--- without argument counts rows.
+-- Words of the way: what a query's variables and aggregates owe: each variable is below the number of variables, and an
+-- aggregate without argument counts rows.
 use Rattle.std.specs.Prelude.{ℕ, ◌<◌, ⊤, List, length}
 use Rattle.std.specs.List.{AllByRecursion}
 use Rattle.rsp_query.specs.Paths.{Way, Ways, step, inverse, sequence, choice, no_way, way_then}

@@ -6,3 +6,5 @@ mod SoundGroups
 mod Soundness
 mod Values
 mod Periods
+pub mod Causes
+mod LeftWords

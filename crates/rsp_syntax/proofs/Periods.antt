@@ -27,7 +27,7 @@ use Rattle.rsp_numbering.specs.Clauses.{milliseconds, policy_of, strategy_by, st
 use Rattle.rsp_numbering.specs.Limits.{has_periods, has_spans, is_periodic, is_span, is_within, limit_of}
 use Rattle.rsp_numbering.specs.declared.limit.LimitName.TheVariants as limit
 use Rattle.rsp_syntax.specs.Answers.{IsParsed}
-use Rattle.rsp_syntax.specs.Parsing.{parse}
+use Rattle.rsp_syntax.specs.Deciding.{parse}
 use Rattle.rsp_syntax.specs.Periods.{HasPeriods}
 use Rattle.rsp_syntax.specs.Texts.{all_said}
 use Rattle.rsp_syntax.specs.declared.fault.SyntaxFault.{SyntaxFault}

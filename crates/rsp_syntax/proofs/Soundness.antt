@@ -10,7 +10,7 @@ use Rattle.rsp_numbering.specs.Selections.{behind_selected, projection_of}
 use Rattle.rsp_numbering.specs.Clauses.{query_of}
 use Rattle.rsp_shapes.specs.Sound.{IsSound}
 use Rattle.rsp_syntax.specs.Answers.{IsParsed}
-use Rattle.rsp_syntax.specs.Parsing.{parse}
+use Rattle.rsp_syntax.specs.Deciding.{parse}
 use Rattle.rsp_syntax.specs.declared.fault.SyntaxFault.{SyntaxFault}
 use Rattle.rsp_syntax.proofs.SoundGroups.{within_sound}
 use Rattle.rsp_syntax.proofs.Tied.{tied}

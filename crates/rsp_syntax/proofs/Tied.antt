@@ -16,7 +16,8 @@ use Rattle.rsp_numbering.specs.Limits.{limit_of}
 use Rattle.rsp_numbering.specs.declared.limit.LimitName.{LimitName}
 use Rattle.rsp_numbering.specs.declared.limit.LimitName.TheVariants as limit
 use Rattle.rsp_syntax.specs.LeftOut.{is_left_out}
-use Rattle.rsp_syntax.specs.Parsing.{first_wrong, is_too_deep, numbered, parse, parse_tokens, parse_written, registration_of, text_of, whole, within, wrong, wrong_token}
+use Rattle.rsp_syntax.specs.Deciding.{numbered, parse, parse_tokens, parse_written, registration_of, whole, within}
+use Rattle.rsp_syntax.specs.Parsing.{first_wrong, is_too_deep, text_of, wrong, wrong_token}
 use Rattle.rsp_syntax.specs.Texts.{HasTokens, IsFirstWrong, IsNoQuery, IsPast, IsText, all_said}
 use Rattle.rsp_syntax.specs.declared.fault.SyntaxFault.{SyntaxFault}
 use Rattle.rsp_syntax.specs.declared.fault.SyntaxFault.TheVariants.{BadToken, Syntax, LeftOut, Limit, OutOfMemory}

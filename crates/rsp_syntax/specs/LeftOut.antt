@@ -1,53 +1,23 @@
 -- Definitions: words and signs of SPARQL 1.1 that are left out here: where one is the first token that can't stand, it is named.
-use Rattle.std.specs.Prelude.{ℕ, Bool, false, List, [], ◌∷◌, codes}
+use Rattle.std.specs.Prelude.{ℕ, nat_eq, Bool, false, cond, List, [], ◌∷◌, ◌++◌, codes}
 use Rattle.std.specs.List.{list_any}
 use Rattle.std.specs.Str.{str_eq_ignore_ascii_case}
 use Rattle.rsp_lex.specs.declared.token.TokenKind.{TokenKind}
 use Rattle.rsp_lex.specs.declared.token.TokenKind.TheVariants as kind
 
+-- a text cut at its blanks, behind what stands before
+abbrev pub cut : List ℕ → List ℕ → List (List ℕ)
+cut begun [] = begun ∷ []
+cut begun (c ∷ more) = cond (nat_eq c 32) (begun ∷ cut [] more) (cut (begun ++ (c ∷ [])) more)
+
 abbrev pub words : List (List ℕ)
 words =
-    codes "ASK"
-    ∷ codes "DESCRIBE"
-    ∷ codes "CONSTRUCT"
-    ∷ codes "BASE"
-    ∷ codes "REDUCED"
-    ∷ codes "ORDER"
-    ∷ codes "LIMIT"
-    ∷ codes "OFFSET"
-    ∷ codes "SERVICE"
-    ∷ codes "VALUES"
-    ∷ codes "NOT"
-    ∷ codes "EXISTS"
-    ∷ codes "REGEX"
-    ∷ codes "REPLACE"
-    ∷ codes "UCASE"
-    ∷ codes "LCASE"
-    ∷ codes "ENCODE_FOR_URI"
-    ∷ codes "MD5"
-    ∷ codes "SHA1"
-    ∷ codes "SHA256"
-    ∷ codes "SHA384"
-    ∷ codes "SHA512"
-    ∷ codes "RAND"
-    ∷ codes "NOW"
-    ∷ codes "UUID"
-    ∷ codes "STRUUID"
-    ∷ codes "BNODE"
-    ∷ codes "GROUP_CONCAT"
-    ∷ codes "SAMPLE"
-    ∷ codes "YEAR"
-    ∷ codes "MONTH"
-    ∷ codes "DAY"
-    ∷ codes "HOURS"
-    ∷ codes "MINUTES"
-    ∷ codes "SECONDS"
-    ∷ codes "TIMEZONE"
-    ∷ codes "TZ"
-    ∷ []
+    cut [] (codes "ASK DESCRIBE CONSTRUCT BASE REDUCED ORDER LIMIT OFFSET SERVICE VALUES NOT EXISTS REGEX REPLACE UCASE LCASE")
+    ++ (cut [] (codes "ENCODE_FOR_URI MD5 SHA1 SHA256 SHA384 SHA512 RAND NOW UUID STRUUID BNODE GROUP_CONCAT SAMPLE")
+    ++ cut [] (codes "YEAR MONTH DAY HOURS MINUTES SECONDS TIMEZONE TZ"))
 
 abbrev pub signs : List (List ℕ)
-signs = codes "*" ∷ codes "+" ∷ codes "?" ∷ codes "!" ∷ []
+signs = cut [] (codes "* + ? !")
 
 -- in any case of ASCII letters
 abbrev pub is_among : List (List ℕ) → List ℕ → Bool

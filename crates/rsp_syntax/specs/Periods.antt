@@ -1,4 +1,4 @@
--- Definitions: the periods that a policy's words ask.
+-- Words of the way: the periods that a policy's words ask, which `parse` promises and the engine's calls of rsp_report ask.
 use Rattle.std.specs.Prelude.{◌<◌}
 use Rattle.std.specs.Option.{ForSome}
 use Rattle.rsp_report.specs.declared.words.PolicyWords.{PolicyWords}

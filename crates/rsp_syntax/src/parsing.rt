@@ -1,13 +1,16 @@
 // The query that a text is.
-ghost use Rattle.std.specs.Prelude.{◌≡◌, ◌↔◌, ℕ, List, Result, Ok, IfOk, map};
+ghost use Rattle.std.specs.Prelude.{◌≡◌, ◌↔◌, ℕ, List, Result, Ok, Err, IfOk, map};
 ghost use Rattle.rsp_written.specs.GroupMeanings.{written_of};
+ghost use Rattle.rsp_syntax.specs.Deciding as deciding;
+ghost use Rattle.rsp_syntax.specs.Deciding.{IsFault, IsRegistered};
 ghost use Rattle.rsp_syntax.specs.Parsing as parsing;
 ghost use Rattle.rsp_query.specs.Queries.{Registered, registered};
 ghost use Rattle.rsp_shapes.specs.Sound.{IsSound};
-ghost use Rattle.rsp_syntax.specs.Answers.{IsParsed, IsFault, IsRegistered};
+ghost use Rattle.rsp_syntax.specs.Answers.{IsParsed};
 ghost use Rattle.rsp_syntax.specs.Texts.{IsText};
 ghost use Rattle.rsp_syntax.specs.Periods.{HasPeriods};
 ghost use Rattle.rsp_syntax.specs.declared.fault.SyntaxFault as fault;
+ghost use Rattle.rsp_syntax.specs.declared.fault.SyntaxFault.TheVariants.{OutOfMemory};
 
 use crate::SyntaxFault;
 use crate::left_out::is_left_out;
@@ -29,9 +32,10 @@ const MOST_BYTES: usize = 65_536;
 ///
 /// `parse(alloc, "ASK")` is LeftOut at 0; `parse(alloc, "REGISTER RSTREAM <q:o> AS")` is Syntax at 25.
 pub fn parse(alloc: Global, text: &str) -> Result<Query, SyntaxFault>
-    ensures value { IsParsed result (parsing.parse text.now) }
+    ensures value { IsParsed result (deciding.parse text.now) }
     ensures grammar { (text : List ℕ) (answer : Result Registered fault.SyntaxFault)
-        → (parsing.parse text ≡ answer) ↔ IsText text answer }
+        → (deciding.parse text ≡ answer) ↔ IsText text answer }
+    ensures causes { (text : List ℕ) → deciding.parse text ≡ Err OutOfMemory → ⊥ }
     ensures sound { IfOk result (λ query. IsSound (registered query)) }
     ensures periods { IfOk result (λ query. HasPeriods (registered query).policy) }
 {
@@ -39,9 +43,9 @@ pub fn parse(alloc: Global, text: &str) -> Result<Query, SyntaxFault>
 }
 
 // the same, apart from the clause in the grammar's words
-#[tactic(auto, unfolding(crate::specs::Parsing::parse))]
+#[tactic(auto, unfolding(crate::specs::Deciding::parse))]
 fn parsed(alloc: Global, text: &str) -> Result<Query, SyntaxFault>
-    ensures { IsParsed result (parsing.parse text.now) }
+    ensures { IsParsed result (deciding.parse text.now) }
 {
     if MOST_BYTES < text.len() {
         let what = LimitName::Text;
@@ -55,7 +59,7 @@ fn parsed(alloc: Global, text: &str) -> Result<Query, SyntaxFault>
 }
 
 fn parse_tokens(alloc: Global, text: &str, tokens: &[Token]) -> Result<Query, SyntaxFault>
-    ensures { IsParsed result (parsing.parse_said text.now tokens.now (map (parsing.said_token text.now) tokens.now)) }
+    ensures { IsParsed result (deciding.parse_said text.now tokens.now (map (parsing.said_token text.now) tokens.now)) }
 {
     let said = all_said(alloc, text, tokens)?;
     if is_too_deep(&said) {
@@ -67,7 +71,7 @@ fn parse_tokens(alloc: Global, text: &str, tokens: &[Token]) -> Result<Query, Sy
 }
 
 fn numbered(alloc: Global, registration: &Registration) -> Result<Query, SyntaxFault>
-    ensures { IsParsed result (parsing.parse_written (written_of registration.now)) }
+    ensures { IsParsed result (deciding.parse_written (written_of registration.now)) }
 {
     match query_of(alloc, registration)? {
         Ok(query) => Ok(query),
@@ -82,7 +86,7 @@ fn registration_of(
     tokens: &[Token],
     said: &[Said],
 ) -> Result<Registration, SyntaxFault>
-    ensures { IsRegistered result (parsing.registration_of text.now tokens.now said.now) }
+    ensures { IsRegistered result (deciding.registration_of text.now tokens.now said.now) }
 {
     match read_query(alloc, said) {
         Ok((registration, rest)) => whole(alloc, text, tokens, registration, rest),
@@ -98,7 +102,7 @@ fn whole(
     registration: Registration,
     rest: &[Said],
 ) -> Result<Registration, SyntaxFault>
-    ensures { IsRegistered result (parsing.whole text.now tokens.now (Ok (written_of registration, rest.now))) }
+    ensures { IsRegistered result (deciding.whole text.now tokens.now (Ok (written_of registration, rest.now))) }
 {
     match rest {
         [] => Ok(registration),

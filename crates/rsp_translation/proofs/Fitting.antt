@@ -16,7 +16,8 @@ use Rattle.rsp_algebra.specs.declared.tree.Place.TheVariants as place
 use Rattle.rsp_algebra.specs.Nodes as node
 use Rattle.rsp_algebra.specs.Nodes.{Node, formula_variables, place_variables, slot_variables, variables_of_all}
 use Rattle.rsp_algebra.specs.Fitting.{AreBelow, AggregateFits, Fits, argument_variables, IsPlaced}
-use Rattle.rsp_translation.specs.Paths.{choices, end_of, from_left, path_node, slashes, slashes_among as way_slashes_among, slashes_following, steps}
+use Rattle.rsp_query.specs.Paths.{slashes, slashes_among as way_slashes_among, slashes_following}
+use Rattle.rsp_translation.specs.Paths.{choices, end_of, from_left, path_node, steps}
 use Rattle.rsp_translation.specs.Selects.{every_variable, projected, selected, with_distinct, with_groups, with_having, with_item, with_items}
 use Rattle.rsp_shapes.specs.Sound.{GroupsAreSound, ItemIsBelow, PartIsSound, PartsAreSound, SelectionIsSound, WayIsBelow, WaysAreBelow}
 use Rattle.rsp_query.specs.Queries.{Registered}

@@ -1,30 +1,12 @@
 -- Definitions: the trees of property paths (SPARQL 1.1 Query, sections 18.2.2.3 and 18.2.2.4).
-use Rattle.std.specs.Prelude.{ℕ, suc, ◌+◌, ◌-◌, List, [], ◌∷◌}
+use Rattle.std.specs.Prelude.{ℕ, suc, ◌+◌, List, [], ◌∷◌}
 use Rattle.std.specs.List.{fold}
 use Rattle.rsp_expr.specs.declared.slot.Slot.{Slot}
 use Rattle.rsp_expr.specs.declared.slot.Slot.TheVariants.{Variable}
-use Rattle.rsp_query.specs.Paths.{Way, Ways, step, inverse, sequence, choice, no_way, way_then}
+use Rattle.rsp_query.specs.Paths.{Way, Ways, step, inverse, sequence, choice, no_way, way_then, slashes}
 use Rattle.rsp_algebra.specs.declared.tree.Place.{Place}
 use Rattle.rsp_algebra.specs.Nodes as node
 use Rattle.rsp_algebra.specs.Nodes.{Node}
-
--- ---- the `/` of a path
-
-abbrev mutual
-  pub slashes : Way → ℕ
-  slashes (step s) = 0
-  slashes (inverse way) = slashes way
-  slashes (sequence ways) = slashes_following ways - 1
-  slashes (choice ways) = slashes_among ways
-
-  pub slashes_among : Ways → ℕ
-  slashes_among no_way = 0
-  slashes_among (way_then way more) = slashes way + slashes_among more
-
-  -- each with a `/` before it
-  pub slashes_following : Ways → ℕ
-  slashes_following no_way = 0
-  slashes_following (way_then way more) = suc (slashes way + slashes_following more)
 
 -- ---- trees
 

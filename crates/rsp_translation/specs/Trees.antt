@@ -13,7 +13,8 @@ use Rattle.rsp_algebra.specs.declared.tree.Place.TheVariants as place
 use Rattle.rsp_algebra.specs.Nodes as node
 use Rattle.rsp_algebra.specs.Nodes.{Node}
 use Rattle.rsp_algebra.specs.Patterns.{row_by}
-use Rattle.rsp_translation.specs.Paths.{from_left, path_node, slashes}
+use Rattle.rsp_query.specs.Paths.{slashes}
+use Rattle.rsp_translation.specs.Paths.{from_left, path_node}
 use Rattle.rsp_translation.specs.Selects.{selected}
 
 -- what a query fixes for all its groups: the names of its variables, its windows, and the width of rows

@@ -1,11 +1,13 @@
 // The translation of a query.
-ghost use Rattle.std.specs.Prelude.{◌≡◌, IfOk, length};
-ghost use Rattle.rsp_query.specs.Queries.{registered};
+ghost use Rattle.std.specs.Prelude.{◌≡◌, IfOk, Some, length};
+ghost use Rattle.rsp_query.specs.Queries.{Registered, registered};
 ghost use Rattle.rsp_algebra.specs.Nodes.{node_of};
 ghost use Rattle.rsp_algebra.specs.Fitting.{IsPlaced};
 ghost use Rattle.rsp_shapes.specs.Sound.{IsSound};
 ghost use Rattle.rsp_translation.specs.Selects as selects;
+ghost use Rattle.rsp_translation.specs.Translation as translation;
 ghost use Rattle.rsp_translation.specs.Translation.{IsAnswer, tree_of, width_of};
+ghost use Rattle.rsp_translation.specs.declared.shape.Shape.TheVariants.{OutOfMemory};
 
 use crate::Shape;
 use crate::faults::first_fault;
@@ -23,6 +25,7 @@ use std::alloc::{AllocError, Global};
 /// the first reason why it has none: any GraphShape before any ExistsShape before any Scope, wherever they stand.
 pub fn translate(alloc: Global, query: &Query) -> Result<Translated, Shape>
     ensures answer { IsAnswer (registered query.now) result }
+    ensures causes { (q : Registered) → translation.first_fault q ≡ Some OutOfMemory → ⊥ }
     ensures placed { IsSound (registered query.now) → IfOk result IsPlaced }
 {
     if let Some(fault) = first_fault(alloc, query)? {

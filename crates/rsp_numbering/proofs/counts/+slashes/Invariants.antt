@@ -1,6 +1,7 @@
 use Rattle.std.proofs.Common.{◌≡◌, ◌+◌, map, drop}
-use Rattle.rsp_query.specs.Paths.{way_of, ways_in}
-use Rattle.rsp_numbering.specs.Limits.{slashes_among, slashes_following}
+use Rattle.rsp_written.specs.Building.{ways_in}
+use Rattle.rsp_written.specs.Meanings.{way_of}
+use Rattle.rsp_numbering.specs.Counting.{slashes_among, slashes_following}
 use Rattle.rsp_numbering.proofs.counts.+slashes.Given as goal
 
 abbrev pub invariant-slashes_among-loop-path : goal.invariant-slashes_among-loop-path

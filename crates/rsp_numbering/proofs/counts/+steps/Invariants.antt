@@ -1,6 +1,7 @@
 use Rattle.std.proofs.Common.{◌≡◌, ◌+◌, map, drop}
-use Rattle.rsp_query.specs.Paths.{way_of, ways_in}
-use Rattle.rsp_numbering.specs.Limits.{steps_among}
+use Rattle.rsp_written.specs.Building.{ways_in}
+use Rattle.rsp_written.specs.Meanings.{way_of}
+use Rattle.rsp_numbering.specs.Counting.{steps_among}
 use Rattle.rsp_numbering.proofs.counts.+steps.Given as goal
 
 abbrev pub invariant-steps_among-loop-path : goal.invariant-steps_among-loop-path

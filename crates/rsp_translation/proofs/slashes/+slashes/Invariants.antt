@@ -1,6 +1,6 @@
 use Rattle.std.proofs.Common.{◌≡◌, ◌+◌, map, drop}
 use Rattle.rsp_query.specs.Paths.{way_of, ways_in}
-use Rattle.rsp_translation.specs.Paths as paths
+use Rattle.rsp_query.specs.Paths as paths
 use Rattle.rsp_translation.proofs.slashes.+slashes.Given as goal
 
 abbrev pub invariant-slashes_among-loop-part : goal.invariant-slashes_among-loop-part

@@ -1,6 +1,7 @@
 use Rattle.std.proofs.Common.{◌∙◌, sym}
 use Rattle.rsp_query.specs.Queries.{registered}
 use Rattle.rsp_translation.proofs.Fitting.{placed}
+use Rattle.rsp_translation.proofs.Causes.{never_memory}
 use Rattle.rsp_translation.proofs.translation.translate.Goals as goal
 
 pub returns-clause-placed : goal.returns-clause-placed
@@ -13,3 +14,6 @@ returns-clause-placed c =
       width = c.in_ok-translated.ensures.width;
       shown = c.in_ok-translated.ensures.shown;
     })
+
+pub returns-clause-causes : goal.returns-clause-causes
+returns-clause-causes c = λ q h. never_memory q h
