@@ -3,7 +3,8 @@ use Rattle.std.proofs.Common.{◌≡◌, ℕ, zero, suc, ◌+◌, ◌-◌, ◌<�
 use Rattle.std.proofs.lemmas.Bool.{le-ltb, lt-leb, ltb-false}
 use Rattle.std.proofs.lemmas.Bool.Decides.{nat_tests}
 use Rattle.std.proofs.lemmas.Grind.{flat_map-append}
-use Rattle.std.proofs.lemmas.List.{append-nil, length_push, map_push}
+use Rattle.std.proofs.lemmas.List.{append-nil, length_push, length-map, map_push}
+use Rattle.std.proofs.lemmas.Simd.{map-map}
 use Rattle.std.proofs.lemmas.List.Elements.{All-append, All-cons, All-weaker}
 use Rattle.std.proofs.lemmas.List.Folds.{list_any-append}
 use Rattle.std.proofs.lemmas.List.Sorted.{IsNonDecreasingBy-push}
@@ -31,7 +32,7 @@ use Rattle.rsp_engine.specs.Accept.{accept, accept_held, accept_item, accept_par
 use Rattle.rsp_engine.specs.Bounds.{IsWorld}
 use Rattle.rsp_engine.specs.Contents.{watches, watches_from}
 use Rattle.rsp_engine.specs.Kept.{held, watches_of}
-use Rattle.rsp_engine.specs.Reports.{after_report, is_overfull, query_after_report}
+use Rattle.rsp_engine.specs.Reports.{after_report, is_overfull, query_after_report, solutions}
 use Rattle.rsp_engine.proofs.Named.{distinct_more, turned}
 
 -- ---- what is kept
@@ -127,19 +128,21 @@ less_without : (name : List ℕ) (queries : List Query) (n : ℕ) (entry : Numbe
 less_without name [] n entry needed = needed
 less_without name (query ∷ queries) n entry needed =
     list_any-append (is_needed_by n entry) mine (watches_of (map (λ (q : Query). q.registration) queries))
-    ∙ by (not (has_name name query.registration)) needed
+    ∙ by (not (has_name name query.registration)) (less_without name queries n entry) needed
   where
     mine : List Watch
     mine = watches query.registration.first query.registration.reading.windows
 
     by : (b : Bool)
+        → (is_needed n (watches_of (map (λ (q : Query). q.registration) (without name queries))) entry ≡ true
+        → is_needed n (watches_of (map (λ (q : Query). q.registration) queries)) entry ≡ true)
         → is_needed n (watches_of (map (λ (q : Query). q.registration) (cond b (query ∷ without name queries) (without name queries)))) entry ≡ true
         → (is_needed n mine entry || is_needed n (watches_of (map (λ (q : Query). q.registration) queries)) entry) ≡ true
-    by true needed =
+    by true less needed =
         either_less (is_needed n mine entry) (is_needed n (watches_of (map (λ (q : Query). q.registration) (without name queries))) entry) _
-        (less_without name queries n entry)
+        less
         (sym (list_any-append (is_needed_by n entry) mine (watches_of (map (λ (q : Query). q.registration) (without name queries)))) ∙ needed)
-    by false needed = or_second (is_needed n mine entry) _ (less_without name queries n entry needed)
+    by false less needed = or_second (is_needed n mine entry) _ (less needed)
 
 -- ---- names
 
@@ -264,29 +267,24 @@ module _ (world : World) (within : IsWorld world) where
   pub alike_keeps : (queries : List Query) → map (λ (q : Query). q.registration) queries ≡ registrations world
       → IsWorld (record world { queries = queries })
   alike_keeps queries same = record {
-    names = subst (IsDistinct bytes_eq) (sym (names_by queries world.queries same)) within.names;
-    live = let count = as_many queries world.queries same in let before = within.live in omega (arith, count, before);
+    names = subst (IsDistinct bytes_eq) (sym called) within.names;
+    live = let before = within.live in omega (arith, count, before);
     quads = within.quads;
     few = subst (λ rs. listed_triples (needed_items (next_of world) (watches_of rs) world.items) ≤ most_held) (sym same) within.few;
     order = within.order;
     timed = within.timed;
   }
     where
-      names_by : (xs ys : List Query) → map (λ (q : Query). q.registration) xs ≡ map (λ (q : Query). q.registration) ys
-          → map name_of_query xs ≡ map name_of_query ys
-      names_by xs ys is = sym (by xs) ∙ (ap (map (λ (r : Registration). r.name)) is ∙ by ys)
-        where
-          by : (zs : List Query) → map (λ (r : Registration). r.name) (map (λ (q : Query). q.registration) zs) ≡ map name_of_query zs
-          by [] = refl
-          by (z ∷ zs) = ap (λ ns. name_of_query z ∷ ns) (by zs)
+      called : map name_of_query queries ≡ map name_of_query world.queries
+      called =
+          sym (map-map (λ (r : Registration). r.name) (λ (q : Query). q.registration) queries)
+          ∙ (ap (map (λ (r : Registration). r.name)) same
+          ∙ map-map (λ (r : Registration). r.name) (λ (q : Query). q.registration) world.queries)
 
-      as_many : (xs ys : List Query) → map (λ (q : Query). q.registration) xs ≡ map (λ (q : Query). q.registration) ys
-          → length xs ≡ length ys
-      as_many xs ys is = sym (by xs) ∙ (ap length is ∙ by ys)
-        where
-          by : (zs : List Query) → length (map (λ (q : Query). q.registration) zs) ≡ length zs
-          by [] = refl
-          by (z ∷ zs) = ap suc (by zs)
+      count : length queries ≡ length world.queries
+      count =
+          sym (length-map queries (λ (q : Query). q.registration))
+          ∙ (ap length same ∙ length-map world.queries (λ (q : Query). q.registration))
 
 pub empty_keeps : IsWorld empty_world
 unfolding IsDistinct
@@ -388,7 +386,7 @@ pub told_alike : (world : World) (t : ℕ) (name : List ℕ) (queries : List Que
 told_alike world t name [] = refl
 told_alike world t name (query ∷ queries) = λ i. by (has_name name query.registration) i ∷ told_alike world t name queries i
   where
-    by : (b : Bool) → (if b then record query { preceding = _ } else query).registration ≡ query.registration
+    by : (b : Bool) → (if b then record query { preceding = solutions world query.registration t } else query).registration ≡ query.registration
     by true = refl
     by false = refl
 

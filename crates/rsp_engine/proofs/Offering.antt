@@ -257,7 +257,8 @@ item_leads old new stream time graph end world idle small late ends none passes 
     let in_bounds : nat_lt most_held (held (with_item world item)) ≡ false = le-ltb _ _ few in
     let few_triples : nat_lt most_triples (length graph) ≡ false = le-ltb _ _ small in
     let in_time : nat_lt time (next_of world) ≡ false = le-ltb _ _ (rw stands.next at late) in
-    let bounds = item_keeps world stands.bounds item (rw stands.next at late) few in
+    let late_world : next_of world ≤ time = rw stands.next at late in
+    let bounds = item_keeps world stands.bounds item late_world few in
     let there = passed old new (item ∷ []) (Some stream) time world passes stands (low_of old.next time late) (high_of old.next time) bounds in (
       with_item world item,
       rw (in_time, few_triples, in_bounds) refl,
@@ -412,7 +413,7 @@ register_leads old name text q live world made begins idle free is good unmixed 
     ∙ (ap (λ r. registrations world ++ r ∷ []) made_is ∙ sym (map_push (λ (query : Query). query.registration) world.queries new))) in
     let seen = seen_more old.queries world.queries live new stands.seen (precede_new live begins.unreported) in
     let fits = fits_begun old live world.items begins stands.fits in
-    let bounds : IsWorld after = register_keeps world stands.bounds name (reading_of q) none_live (rw (← count) at few) in
+    let bounds : IsWorld after = register_keeps world stands.bounds name (reading_of q) none_live (subst (λ n. n < most_queries) (sym count) few) in (
       after,
       rw (none_live, is, good, unmixed, room, starts) refl,
       other_queries old engine world after (world.queries ++ new ∷ []) idle stands refl refl refl refl refl regs seen fits bounds,
@@ -501,7 +502,7 @@ insert_leads old quads log world idle few logged stands =
       after,
       rw within refl,
       other_quads old (stored_with old.stored quads) (stored_with world.stored quads) log world idle (same-stored_with old.stored world.stored quads stands.stored) logged stands
-      (stored_keeps world stands.bounds (stored_with world.stored quads) (rw many at few)),
+      (stored_keeps world stands.bounds (stored_with world.stored quads) (subst (λ n. n ≤ most_quads) many few)),
     )
 
 -- the named quads are no longer stored

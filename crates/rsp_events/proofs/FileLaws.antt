@@ -97,7 +97,7 @@ graph_is : (document : ℕ) (name : Term) (lines : List Line)
     → graph document name (map file_line lines) ≡ recorded.graph name (map (answered document) lines)
 graph_is document name [] = refl
 graph_is document name (line ∷ lines) =
-    by (is_some (recorded.opening (answered document line).1)) refl
+    by (is_some (recorded.opening (answered document line).1)) refl (graph_is document name lines)
   where
     opens : ℕ × Answer → Bool
     opens x = is_some (recorded.opening x.1)
@@ -106,13 +106,14 @@ graph_is document name (line ∷ lines) =
     triples xs = map (λ (quad : Quad). quad.triple) (filter (is_of (Some name)) (filter_map (λ (x : ℕ × Answer). quad_in x.1) xs))
 
     by : (b : Bool) → is_some (recorded.opening (answered document line).1) ≡ b
+        → graph document name (map file_line lines) ≡ recorded.graph name (map (answered document) lines)
         → graph document name (file_line line ∷ map file_line lines) ≡ recorded.graph name (answered document line ∷ map (answered document) lines)
-    by true met =
+    by true met rest =
         graph_ends document name (file_line line) (map file_line lines) (opens_alike document line ∙ met)
         ∙ sym (ap triples (first_passes opens (answered document line) (map (answered document) lines) met))
-    by false shut =
+    by false shut rest =
         graph_on document name (file_line line) (map file_line lines) (opens_alike document line ∙ shut)
-        ∙ (triples_first name (statement_of document (text_of line)) _ _ (graph_is document name lines)
+        ∙ (triples_first name (statement_of document (text_of line)) _ _ rest
         ∙ sym (ap triples (first_fails opens (answered document line) (map (answered document) lines) shut)))
 
 item_first : (stream : List ℕ) (document : ℕ) (o : Option (Term × ℕ)) (lines : List FileLine) (behind : List (ℕ × Answer))
