@@ -11,17 +11,17 @@ use Rattle.rsp_nquads.specs.Statements.{statement_of}
 use Rattle.rsp_events.specs.declared.event.Event.{Event}
 use Rattle.rsp_events.specs.declared.event.Event.TheVariants.{Item}
 use Rattle.rsp_events.specs.declared.refused.LineRefused.{LineRefused}
-use Rattle.rsp_events.specs.declared.refused.RefusedAs.TheVariants.{NoTimeLine}
-use Rattle.rsp_events.specs.Contents.{fault_in, quad_in, quads_in}
+use Rattle.rsp_events.specs.declared.refused.RefusedAs.TheVariants.{BadStatement, NoTimeLine, RelativeIri}
+use Rattle.rsp_events.specs.Contents.{fault_in, quad_in}
 use Rattle.rsp_events.specs.Lines.{Line, log_lines, text_of}
 use Rattle.rsp_events.specs.Files.{loaded, refused_at}
-use Rattle.rsp_events.specs.FileLines.{FileLine, file_line, loaded_by, no_statement, quads, refused_line, refused_quads, said}
+use Rattle.rsp_events.specs.FileLines.{FileLine, file_line, loaded_by, no_statement, quads, quads_in, refused_line, refused_quads, said}
 use Rattle.rsp_events.specs.Recorded as recorded
 use Rattle.rsp_events.specs.Recorded.{is_of, time_stated}
 use Rattle.rsp_events.specs.Openings.{Opening, graph, is_time_line, item_opened, items, name_behind, opening_in, recorded_by, refusal, refused, triples_of}
 use Rattle.rsp_events.proofs.Recordings.{first_fails, first_passes, graph_ends, graph_on}
 
-abbrev answered : ℕ → Line → ℕ × Answer
+abbrev pub answered : ℕ → Line → ℕ × Answer
 answered document line = (line.number, statement_of document (text_of line))
 
 -- ---- stored quads
@@ -41,8 +41,10 @@ refused_first : (line : FileLine) (answer : Answer) (one two : List LineRefused)
     → refused_line line (no_statement answer) ++ one ≡ cons_option (refused_at line.number (fault_in answer)) two
 refused_first line nothing one two same = same
 refused_first line (statement quad) one two same = same
-refused_first line (bad_statement column) one two same = ap (λ ls. _ ∷ ls) same
-refused_first line (relative_iri column) one two same = ap (λ ls. _ ∷ ls) same
+refused_first line (bad_statement column) one two same =
+    ap (λ ls. record { line = line.number; fault = BadStatement column } ∷ ls) same
+refused_first line (relative_iri column) one two same =
+    ap (λ ls. record { line = line.number; fault = RelativeIri column } ∷ ls) same
 
 refused_are : (document : ℕ) (lines : List Line) → refused_quads document (map file_line lines)
     ≡ filter_map (λ (x : ℕ × Answer). refused_at x.0 (fault_in x.1)) (map (answered document) lines)
@@ -141,7 +143,8 @@ statement_first : (line : FileLine) (name : Option Term) (quad : Quad) (time : O
     (two (option_or (option_map (λ (o : Term × ℕ). o.0) (option_map (λ at. (quad.triple.subject, at)) time)) name))
 statement_first line name quad (Some at) its one two same = same (Some quad.triple.subject)
 statement_first line name quad None true one two same = same name
-statement_first line name quad None false one two same = ap (λ ls. _ ∷ ls) (same name)
+statement_first line name quad None false one two same =
+    ap (λ ls. record { line = line.number; fault = NoTimeLine } ∷ ls) (same name)
 
 refusal_first : (line : FileLine) (name : Option Term) (answer : Answer) (one two : Option Term → List LineRefused)
     → ((n : Option Term) → one n ≡ two n)
@@ -151,8 +154,10 @@ refusal_first : (line : FileLine) (name : Option Term) (answer : Answer) (one tw
 refusal_first line name nothing one two same = same name
 refusal_first line name (statement quad) one two same =
     statement_first line name quad (time_stated quad) (is_of name quad) one two same
-refusal_first line name (bad_statement column) one two same = ap (λ ls. _ ∷ ls) (same name)
-refusal_first line name (relative_iri column) one two same = ap (λ ls. _ ∷ ls) (same name)
+refusal_first line name (bad_statement column) one two same =
+    ap (λ ls. record { line = line.number; fault = BadStatement column } ∷ ls) (same name)
+refusal_first line name (relative_iri column) one two same =
+    ap (λ ls. record { line = line.number; fault = RelativeIri column } ∷ ls) (same name)
 
 refusals_are : (document : ℕ) (lines : List Line) (name : Option Term)
     → refused document name (map file_line lines) ≡ recorded.refused name (map (answered document) lines)

@@ -32,27 +32,20 @@ fault_in (bad_statement column) = Some (BadStatement column)
 fault_in (relative_iri column) = Some (RelativeIri column)
 fault_in _ = None
 
-abbrev pub quads_in : Answer → List Quad
-quads_in answer = cons_option (quad_in answer) []
-
 abbrev pub quad_on : ℕ → List ℕ → List Quad
-quad_on document line = quads_in (statement_of document line)
-
-abbrev pub is_bad : Answer → Bool
-is_bad answer = is_some (fault_in answer)
+quad_on document line = cons_option (quad_in (statement_of document line)) []
 
 abbrev pub is_bad_quad : ℕ → List ℕ → Bool
-is_bad_quad document line = is_bad (statement_of document line)
+is_bad_quad document line = is_some (fault_in (statement_of document line))
 
 -- the same of the statements of an item, which have no graph
 abbrev pub triple_on : ℕ → List ℕ → List Triple
 triple_on document line = map (λ (quad : Quad). quad.triple) (quad_on document line)
 
-abbrev pub is_bad_in_item : Answer → Bool
-is_bad_in_item answer = is_bad answer || option_map_or (λ (quad : Quad). is_some quad.graph) (quad_in answer) false
-
 abbrev pub is_bad_triple : ℕ → List ℕ → Bool
-is_bad_triple document line = is_bad_in_item (statement_of document line)
+is_bad_triple document line =
+    is_bad_quad document line
+    || option_map_or (λ (quad : Quad). is_some quad.graph) (quad_in (statement_of document line)) false
 
 -- ---- a line of query text
 
@@ -88,11 +81,11 @@ content_of_directive document first directive.Insert body =
 content_of_directive document first directive.Delete body =
     content_of_body first body (is_bad_quad document) (λ lines. event.Delete (flat_map (quad_on document) lines))
 
-abbrev pub content_by : ℕ → ℕ → Option Directive → List (List ℕ) → Content
-content_by document first None body = content.Fault BadDirective
-content_by document first (Some directive) body = content_of_directive document first directive body
-
 -- the content of a block's lines, of which the first has this number
 unfoldable pub content_of_texts : ℕ → ℕ → List (List ℕ) → Content
 content_of_texts document first [] = content.Fault BadDirective
-content_of_texts document first (head ∷ body) = content_by document first (directive_of head) body
+content_of_texts document first (head ∷ body) =
+    option_map_or
+    (λ directive. content_of_directive document first directive body)
+    (directive_of head)
+    (content.Fault BadDirective)

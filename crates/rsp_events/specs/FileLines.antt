@@ -1,6 +1,6 @@
 -- Words of the way: files of statements line by line.
 use Rattle.std.specs.Prelude.{ℕ, Option, None, Some, List, [], ◌∷◌, map}
-use Rattle.std.specs.List.{flat_map}
+use Rattle.std.specs.List.{cons_option, flat_map}
 use Rattle.rsp_terms.specs.declared.statement.Quad.{Quad}
 use Rattle.rsp_nquads.specs.Answers.{Answer, nothing, statement, bad_statement, relative_iri}
 use Rattle.rsp_nquads.specs.Statements.{statement_of}
@@ -8,7 +8,7 @@ use Rattle.rsp_events.specs.declared.refused.LineRefused.{LineRefused}
 use Rattle.rsp_events.specs.declared.refused.RefusedAs.{RefusedAs}
 use Rattle.rsp_events.specs.declared.refused.RefusedAs.TheVariants.{BadStatement, RelativeIri}
 use Rattle.rsp_events.specs.declared.loading.LoadedQuads.{LoadedQuads}
-use Rattle.rsp_events.specs.Contents.{quads_in}
+use Rattle.rsp_events.specs.Contents.{quad_in}
 use Rattle.rsp_events.specs.Lines.{Line, parts, lines_of_parts, text_of}
 
 -- ---- lines
@@ -46,6 +46,9 @@ refused_line line None = []
 refused_line line (Some fault) = record { line = line.number; fault = fault } ∷ []
 
 -- ---- stored quads
+
+abbrev pub quads_in : Answer → List Quad
+quads_in answer = cons_option (quad_in answer) []
 
 -- each statement is a quad, with or without a graph
 abbrev pub quads : ℕ → List FileLine → List Quad

@@ -1,9 +1,8 @@
 // Files of stored quads.
 ghost use Rattle.std.specs.Prelude.{◌≡◌, ◌++◌, IfOk, OnOk};
 ghost use Rattle.rsp_nquads.specs.Statements.{statement_of};
-ghost use Rattle.rsp_events.specs.Contents.{quads_in};
 ghost use Rattle.rsp_events.specs.Files.{loaded};
-ghost use Rattle.rsp_events.specs.FileLines.{loaded_by, no_statement, refused_line};
+ghost use Rattle.rsp_events.specs.FileLines.{loaded_by, quads_in, no_statement, refused_line};
 
 use crate::files::{next_line, next_number, refuse};
 use crate::{LineRefused, RefusedAs};
