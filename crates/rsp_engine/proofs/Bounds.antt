@@ -165,12 +165,11 @@ pub distinct_pass : (p : Query → Bool) (queries : List Query) → IsDistinct b
     → IsDistinct bytes_eq (map name_of_query (filter p queries))
 unfolding IsDistinct
 distinct_pass p [] distinct = tt
-distinct_pass p (query ∷ queries) distinct = by (p query) (distinct_pass p queries distinct.1)
-  where
-    by : (b : Bool) → IsDistinct bytes_eq (map name_of_query (filter p queries))
-        → IsDistinct bytes_eq (map name_of_query (cond b (query ∷ filter p queries) (filter p queries)))
-    by true rest = (others_pass (bytes_eq (name_of_query query)) p queries distinct.0, rest)
-    by false rest = rest
+distinct_pass p (query ∷ queries) distinct =
+    elim (p query) as (λ b. IsDistinct bytes_eq (map name_of_query (cond b (query ∷ filter p queries) (filter p queries)))) [
+      | true ↦ (others_pass (bytes_eq (name_of_query query)) p queries distinct.0, distinct_pass p queries distinct.1)
+      | false ↦ distinct_pass p queries distinct.1
+    ]
 
 fewer_pass : {X : Type 0} (p : X → Bool) (xs : List X) → length (filter p xs) ≤ length xs
 fewer_pass p [] = omega arith
