@@ -34,7 +34,7 @@ whole_file (Some files) (Some left) (Some rest) name bytes named taken at_end =
 longer : (all bytes rest : List ℕ) → all ≡ bytes ++ rest → most_file_bytes < length bytes → most_file_bytes < length all
 longer all bytes rest is long = rw (is, length-append bytes rest) (omega (arith, long))
 
-long_file : (files : Option (List (List ℕ × List ℕ))) (left rest : Option (List ℕ)) (name bytes : List ℕ) → NamedFile files name left → Consumes left rest bytes → most_file_bytes < length bytes → IfSome files (λ files. IfSome (file_named name files) (λ file. most_file_bytes < length file))
+long_file : (files : Option (List (List ℕ × List ℕ))) (left rest : Option (List ℕ)) (name bytes : List ℕ) → NamedFile files name left → Consumes left rest bytes → most_file_bytes < length bytes → IfSome files (λ files. IsSomeAnd (file_named name files) (λ file. most_file_bytes < length file))
 long_file None left rest name bytes named taken long = tt
 long_file (Some files) None rest name bytes named taken long = absurd (true≢false (sym (rw (← named.1) at named.0)))
 long_file (Some files) (Some left) None name bytes named taken long = absurd taken

@@ -44,10 +44,10 @@ pub record CantRead (before now : ShelfSeen) (name : List ℕ) : Type 0 where
   pub missing : IsTrue before.sure → Lacks before.files name
   pub short : now.given ≤ most_file_bytes
 
--- more bytes were given than a file may have
+-- more bytes were given than a file may have; where files are told, one has the name and is so long
 pub record IsTooLong (before now : ShelfSeen) (name : List ℕ) : Type 0 where
   pub long : most_file_bytes < now.given
-  pub file : IfSome before.files (λ files. IfSome (file_named name files) (λ bytes. most_file_bytes < length bytes))
+  pub file : IfSome before.files (λ files. IsSomeAnd (file_named name files) (λ bytes. most_file_bytes < length bytes))
   pub faultless : now.faults ≡ before.faults
 
 -- memory was refused

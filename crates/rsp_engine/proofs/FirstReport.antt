@@ -34,8 +34,8 @@ use Rattle.rsp_engine.proofs.Left.{gone, waiting_head}
 use Rattle.rsp_engine.proofs.Places.{nearer, nearer_gone}
 use Rattle.rsp_engine.proofs.Named.{drop_named, find_named, get_map, remove_map, remove_named, set_map, set_named, set_same}
 use Rattle.rsp_engine.proofs.Fitting.{contents_here}
-use Rattle.rsp_engine.proofs.Needing.{less_needed}
-use Rattle.rsp_engine.proofs.Offering.{held_fewer}
+use Rattle.rsp_engine.specs.Bounds.{IsWorld}
+use Rattle.rsp_engine.proofs.Bounds.{alike_keeps, without_keeps}
 use Rattle.rsp_engine.proofs.Reporting.{All-get}
 use Rattle.rsp_engine.proofs.Seen.{name_of_query, seen_at, seen_removed, seen_set, world_at, world_names}
 use Rattle.rsp_engine.proofs.Standing.{head_is, left_here, left_renamed, none_is, waits_renamed}
@@ -124,7 +124,7 @@ module _ (old new : State) (report : Report) (world : World) (left : List Moment
   -- the engine behind it stands for a world with these queries
   module _ (ends : Bool) (queries : List Query) (behind_is : new.queries ≡ queries_behind old place given.now ends)
       (regs : registrations_in new ≡ map (λ (q : Query). q.registration) queries) (have : HaveSeen new.queries queries)
-      (few : held (record world { queries = queries }) ≤ most_held)
+      (bounds : IsWorld (record world { queries = queries }))
       (first : IsFirstLeft name_of (test_in old) (asked_in new) (next_in old) place.at (place_behind place ends) new.first) where
     abbrev after : World
     after = record world { queries = queries }
@@ -140,7 +140,7 @@ module _ (old new : State) (report : Report) (world : World) (left : List Moment
           ready = given.broken ∙ stands.ready;
           next = given.next ∙ stands.next;
           fits = given.fits world.items stands.fits;
-          few = few;
+          bounds = bounds;
           stored = subst (λ fs. IsSameMultiset fact_eq fs world.stored) (sym given.stored) stands.stored;
           queries = regs;
           seen = have;
@@ -158,9 +158,7 @@ module _ (old new : State) (report : Report) (world : World) (left : List Moment
       let regs : registrations_in new ≡ map (λ (q : Query). q.registration) (without live.name world.queries) = regs_old ∙ (ap (λ qs. remove qs place.query) stands.queries ∙ (sym (remove_map (λ (q : Query). q.registration) world.queries place.query) ∙ ap (map (λ (q : Query). q.registration)) (sym gone_is))) in
       let have : HaveSeen new.queries (without live.name world.queries) = subst (λ ls. HaveSeen ls (without live.name world.queries)) (sym queries)
       (subst (λ qs. HaveSeen (remove old.queries place.query) qs) (sym gone_is) (seen_removed old.queries world.queries place.query stands.seen)) in
-      let fewer : held (record world { queries = without live.name world.queries }) ≤ held world = rw gone_is (held_fewer (next_of world) (next_of world) (watches_of (map (λ (q : Query). q.registration) (remove world.queries place.query))) (watches_of (registrations world)) world.items
-      (λ entry. rw (remove_map (λ (q : Query). q.registration) world.queries place.query) (less_needed (registrations world) place.query (next_of world) entry))) in
-      let few : held (record world { queries = without live.name world.queries }) ≤ most_held = let low = stands.few in omega (arith, fewer, low) in
+      let bounds = without_keeps world stands.bounds live.name in
       let asked_old : asked_in new ≡ remove (asked_in old) place.query = ap (map asked_of) queries ∙ remove_map asked_of old.queries place.query in
       let names_old : IsDistinct bytes_eq (map name_of (asked_in old)) = rw (map-map name_of asked_of old.queries) state.names in
       let listed_old = get_map asked_of old.queries place.query live given.listed in
@@ -168,7 +166,7 @@ module _ (old new : State) (report : Report) (world : World) (left : List Moment
       let dropped = drop_named (asked_in old) name_of place.query (asked_of live) names_old listed_old in
       let struck = gone name_of (test_in old) live.name (asked_in old) (asked_in new) (next_in old) place.at place.query (place.query + 1)
       (asked_old ∙ sym cut) (ap (drop place.query) asked_old ∙ dropped) in
-      behind true (without live.name world.queries) queries regs have few first _ struck
+      behind true (without live.name world.queries) queries regs have bounds first _ struck
 
   -- any other report has shown the query the facts of its instant
   went_on : new.queries ≡ queries_behind old place given.now false → given.now.reported ≡ true → IsSameMultiset fact_eq given.now.seen seen_now → IsFirstLeft name_of (test_in old) (asked_in new) (next_in old) place.at (place.query + 1) new.first
@@ -183,7 +181,7 @@ module _ (old new : State) (report : Report) (world : World) (left : List Moment
       let regs_world : map (λ (q : Query). q.registration) (slice_set world.queries place.query told) ≡ registrations world = set_map (λ (q : Query). q.registration) world.queries place.query told ∙ set_same (registrations world) place.query found.0.registration (get_map (λ (q : Query). q.registration) world.queries place.query found.0 found.1) in
       let regs_all : map (λ (q : Query). q.registration) (map (query_after_report world place.at live.name) world.queries) ≡ registrations world = ap (map (λ (q : Query). q.registration)) set_is ∙ regs_world in
       let regs : registrations_in new ≡ map (λ (q : Query). q.registration) (map (query_after_report world place.at live.name) world.queries) = regs_old ∙ (stands.queries ∙ sym regs_all) in
-      let few : held (record world { queries = map (query_after_report world place.at live.name) world.queries }) ≤ most_held = subst (λ rs. listed_triples (needed_items (next_of world) (watches_of rs) world.items) ≤ most_held) (sym regs_all) stands.few in
+      let bounds = alike_keeps world stands.bounds (map (query_after_report world place.at live.name) world.queries) regs_all in
       let rows : IsSameMultiset (row_eq term_eq) (rows_over (registration_of given.now).reading given.now.seen) (solutions world query place.at) =
       subst (λ (r : Registration). IsSameMultiset (row_eq term_eq) (rows_over r.reading given.now.seen) (solutions world query place.at)) (sym given.same)
       (rows_alike query.reading given.now.seen (facts world query place.at) (λ f. stood f ∙ seen f)) in
@@ -191,7 +189,7 @@ module _ (old new : State) (report : Report) (world : World) (left : List Moment
       let behind_told : Precede given.now told.preceding = subst (λ b. Behind b (rows_over (registration_of given.now).reading given.now.seen) told.preceding) (sym has_told) told_rows in
       let have : HaveSeen new.queries (map (query_after_report world place.at live.name) world.queries) = subst (λ ls. HaveSeen ls (map (query_after_report world place.at live.name) world.queries)) (sym queries)
       (subst (λ qs. HaveSeen (slice_set old.queries place.query given.now) qs) (sym set_is) (seen_set old.queries world.queries place.query given.now told stands.seen behind_told)) in
-      behind false (map (query_after_report world place.at live.name) world.queries) queries regs have few first rest (ap (λ qs. left_from name_of (test_in old) qs (next_in old) place.at (place.query + 1)) asked_old)
+      behind false (map (query_after_report world place.at live.name) world.queries) queries regs have bounds first rest (ap (λ qs. left_from name_of (test_in old) qs (next_in old) place.at (place.query + 1)) asked_old)
 
   stands_behind : (ends : Bool) → is_overfull world query place.at ≡ ends → (ends ≡ false → given.now.reported ≡ true) → (ends ≡ false → IsSameMultiset fact_eq given.now.seen seen_now) → new.queries ≡ queries_behind old place given.now ends
       → IsFirstLeft name_of (test_in old) (asked_in new) (next_in old) place.at (place_behind place ends) new.first

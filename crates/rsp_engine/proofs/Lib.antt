@@ -8,6 +8,7 @@ pub mod Readiness
 pub mod Fitting
 pub mod Cancelling
 pub mod Needing
+pub mod Bounds
 pub mod Offering
 pub mod FactSets
 pub mod Following

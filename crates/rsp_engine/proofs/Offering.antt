@@ -52,10 +52,11 @@ use Rattle.rsp_engine.specs.Moments.{Moment, due_moments, moments, moments_at, m
 use Rattle.rsp_engine.specs.Passing.{Begins, Passes, unwatched}
 use Rattle.rsp_engine.specs.Stands.{Fits, Follows, HaveSeen, Live, Precede, Stands, State, asked_in, asked_of, cut_of, facts_followed, left_in, next_in, registration_of, registrations_in, test_in, watches_in}
 use Rattle.rsp_engine.specs.Watching.{Tells, name_of}
+use Rattle.rsp_engine.specs.Bounds.{IsWorld}
+use Rattle.rsp_engine.proofs.Bounds.{delete_keeps, empty_keeps, item_keeps, register_keeps, stored_keeps, tick_keeps, watches_push, without_keeps}
 use Rattle.rsp_engine.proofs.Fitting.{same_regs}
 use Rattle.rsp_engine.proofs.Left.{first_left_is, instants, read_left, same_left, waits_at}
 use Rattle.rsp_engine.proofs.Named.{remove_map, remove_named}
-use Rattle.rsp_engine.proofs.Needing.{less_needed}
 use Rattle.rsp_engine.proofs.Seen.{name_of_query, precede_new, seen_more, seen_removed, world_at, world_names}
 use Rattle.rsp_engine.proofs.Standing.{any_named, head_is, none_is, same_count, same_live}
 use Rattle.rsp_engine.proofs.Watches.{reports_same}
@@ -138,14 +139,14 @@ module _ (old new : State) (more : List Accepted) (came : Option (List ℕ)) (to
       whole ∙ (sym of_lives ∙ (by_world ∙ (of_world ∙ (named ∙ (ap (λ from. left_from name_in (reports_at after.items to came) (registrations after) to from 0) before
       ∙ (split ∙ ap (λ ms. ms ++ arrivals after came to) done))))))
 
-  pub passed : held after ≤ most_held → Stands new after (option_map_or (λ from. moments_from after from) world.next [] ++ arrivals after came to)
-  passed few =
+  pub passed : IsWorld after → Stands new after (option_map_or (λ from. moments_from after from) world.next [] ++ arrivals after came to)
+  passed bounds =
       let waits = waits_at name_of (test_in new) (asked_in new) (next_in new) (unwrap_or old.next to) 0 new.first first_here in
       record {
         ready = passes.broken;
         next = passes.next;
         fits = passes.fits world.items stands.fits;
-        few = few;
+        bounds = bounds;
         stored = subst (λ fs. IsSameMultiset fact_eq fs world.stored) (sym passes.stored) stands.stored;
         queries = regs;
         seen = seen_alike old.queries new.queries world.queries passes.queries stands.seen;
@@ -165,24 +166,6 @@ high_of (Some n) to = omega arith
 
 -- ---- what is kept
 
--- no more passes the one test than the other
-sum_fewer : {X : Type 0} (f : X → ℕ) (p q : X → Bool) → ((x : X) → p x ≡ true → q x ≡ true) → (xs : List X) → sum_by f (filter p xs) ≤ sum_by f (filter q xs)
-sum_fewer f p q implies [] = omega arith
-sum_fewer f p q implies (x ∷ xs) = by (p x) (q x) (implies x) (sum_fewer f p q implies xs)
-  where
-    by : (a b : Bool) → (a ≡ true → b ≡ true) → sum_by f (filter p xs) ≤ sum_by f (filter q xs)
-        → sum_by f (cond a (x ∷ filter p xs) (filter p xs)) ≤ sum_by f (cond b (x ∷ filter q xs) (filter q xs))
-    by true true h rest = let one = sum_by-cons f x (filter p xs) in let two = sum_by-cons f x (filter q xs) in omega (arith, one, two, rest)
-    by true false h rest = absurd (true≢false (sym (h refl)))
-    by false true h rest = let two = sum_by-cons f x (filter q xs) in omega (arith, two, rest)
-    by false false h rest = rest
-
--- windows that need fewer items hold no more
-pub held_fewer : (one other : ℕ) (fewer ws : List Watch) (items : List Accepted)
-    → ((entry : Numbered) → is_needed one fewer entry ≡ true → is_needed other ws entry ≡ true)
-    → listed_triples (needed_items one fewer items) ≤ listed_triples (needed_items other ws items)
-held_fewer one other fewer ws items implies = sum_fewer (λ (entry : Numbered). length entry.item.graph) (is_needed one fewer) (is_needed other ws) implies (numbered 0 items)
-
 pub idle_cut : (e : State) → e.first ≡ None → cut_of e ≡ next_in e
 idle_cut e idle = rw idle refl
 
@@ -193,26 +176,13 @@ held_here e world idle stands =
     ∙ ((λ k. listed_triples (needed_items (idle_cut e idle k) (watches_of (stands.queries k)) world.items))
     ∙ ap (λ n. listed_triples (needed_items (unwrap_or n 0) (watches_of (registrations world)) world.items)) stands.next)
 
--- the same of any items that fit
-held_stands : (e : State) (world after : World) → e.first ≡ None → Fits e world.items → registrations_in e ≡ registrations after → e.next ≡ world.next → after ≡ record world { queries = after.queries }
-    → held after ≡ triples_of e.kept.items
-held_stands e world after idle fits regs next is =
-    let times : next_of after ≡ next_in e = ap next_of is ∙ ap (λ n. unwrap_or n 0) (sym next) in
-    let items : after.items ≡ world.items = ap (λ (w : World). w.items) is in
-    let mine = held_is (cut_of e) (watches_in e) world.items e.kept fits.kept in
-    ap (λ n. listed_triples (needed_items n (watches_of (registrations after)) after.items)) times
-    ∙ (ap (λ rs. listed_triples (needed_items (next_in e) (watches_of rs) after.items)) (sym regs)
-    ∙ (ap (λ xs. listed_triples (needed_items (next_in e) (watches_in e) xs)) items
-    ∙ (ap (λ n. listed_triples (needed_items n (watches_in e) world.items)) (sym (idle_cut e idle)) ∙ sym mine)))
-
 pub tick_leads : (old new : State) (time : ℕ) (world : World) → next_in old ≤ time + 1 → Passes old [] None (time + 1) new → Stands old world [] → Leads world (Tick time) new
 tick_leads old new time world late passes stands =
     let after : World = record world { next = Some (time + 1) } in
     let late_world : next_of world ≤ time + 1 = rw stands.next at late in
     let in_time : nat_lt (time + 1) (next_of world) ≡ false = le-ltb _ _ late_world in
-    let fewer = held_fewer (time + 1) (next_of world) (watches_of (registrations world)) (watches_of (registrations world)) world.items (λ entry. needed-earlier (next_of world) (time + 1) (watches_of (registrations world)) entry late_world) in
-    let few : held after ≤ most_held = let before = stands.few in omega (arith, fewer, before) in
-    let there = passed old new [] None (time + 1) world passes stands (low_of old.next (time + 1) late) (high_of old.next (time + 1)) (rw (append-nil world.items) few) in
+    let bounds : IsWorld after = tick_keeps world stands.bounds time late_world in
+    let there = passed old new [] None (time + 1) world passes stands (low_of old.next (time + 1) late) (high_of old.next (time + 1)) (rw (append-nil world.items) bounds) in
     let nothing : arrivals after None (time + 1) ≡ [] = ap (map _) (none_pass (registrations after)) in (
       after,
       rw in_time refl,
@@ -242,7 +212,7 @@ module _ (old : State) (world : World) (item : Accepted) (idle : old.first ≡ N
       (subst (λ n. EndsAt (watches_in old) (record { number = n; item = item }) None) stands.fits.kept.accepted ends) in
       let less = held_falls item.time old.kept.items in
       let here = held_here old world idle stands in
-      let before = stands.few in
+      let before = stands.bounds.few in
       let there = held_in_world in
       omega (arith, is, less, here, before, there)
 
@@ -272,7 +242,7 @@ module _ (old : State) (world : World) (item : Accepted) (idle : old.first ≡ N
           let over : nat_lt most_held (held (with_item world item)) ≡ true = subst (λ n. nat_lt most_held n ≡ true) whole test in
           let less = held_falls item.time old.kept.items in
           let here = held_here old world idle stands in
-          let before = stands.few in
+          let before = stands.bounds.few in
           let low : min (triples_of (needed item.time old.kept.items) + length item.graph) (2 ^ 64 - 1) ≡ triples_of (needed item.time old.kept.items) + length item.graph = grind (arith, less, here, before, small) in
           (over, sym whole ∙ (sym low ∙ same_Some _ _ is))
 
@@ -287,7 +257,9 @@ item_leads old new stream time graph end world idle small late ends none passes 
     let in_bounds : nat_lt most_held (held (with_item world item)) ≡ false = le-ltb _ _ few in
     let few_triples : nat_lt most_triples (length graph) ≡ false = le-ltb _ _ small in
     let in_time : nat_lt time (next_of world) ≡ false = le-ltb _ _ (rw stands.next at late) in
-    let there = passed old new (item ∷ []) (Some stream) time world passes stands (low_of old.next time late) (high_of old.next time) few in (
+    let late_world : next_of world ≤ time = rw stands.next at late in
+    let bounds = item_keeps world stands.bounds item late_world few in
+    let there = passed old new (item ∷ []) (Some stream) time world passes stands (low_of old.next time late) (high_of old.next time) bounds in (
       with_item world item,
       rw (in_time, few_triples, in_bounds) refl,
       there,
@@ -309,7 +281,6 @@ item_offers old new stream time graph end (Err why) ready idle small late ends n
     (record {
       was_ready = ready;
       broken = failed.1;
-      memory = tt;
       may_take = λ world stands.
           let item : Accepted = record { stream = stream; time = time; graph = graph } in
           let few = in_bounds old world item idle stands late end ends none in
@@ -357,19 +328,19 @@ none_behind world (Some next) = let none : next - next ≡ 0 = omega arith in rw
 -- an engine that is idle, with other queries, stands for the world with these
 other_queries : (old new : State) (world after : World) (queries : List Query) → old.first ≡ None → Stands old world [] → after ≡ record world { queries = queries }
     → new.next ≡ old.next → new.stored ≡ old.stored → new.first ≡ old.first → new.broken ≡ old.broken
-    → registrations_in new ≡ map (λ (query : Query). query.registration) queries → HaveSeen new.queries queries → Fits new world.items → held after ≤ most_held
+    → registrations_in new ≡ map (λ (query : Query). query.registration) queries → HaveSeen new.queries queries → Fits new world.items → IsWorld after
     → Stands new after (option_map_or (λ from. moments_from after from) world.next [] ++ [])
-other_queries old new world after queries idle stands is next stored first broken regs seen fits few =
+other_queries old new world after queries idle stands is next stored first broken regs seen fits bounds =
     let none : option_map_or (λ from. moments_from (record world { queries = queries }) from) world.next [] ++ [] ≡ [] =
     append-nil _ ∙ none_behind (record world { queries = queries }) world.next in
     let idle_new : new.first ≡ None = first ∙ idle in
-    let few_here : held (record world { queries = queries }) ≤ most_held = subst (λ w. held w ≤ most_held) is few in
+    let bounds_here : IsWorld (record world { queries = queries }) = subst IsWorld is bounds in
     rw (is, none)
     (record {
       ready = broken ∙ stands.ready;
       next = next ∙ stands.next;
       fits = fits;
-      few = few_here;
+      bounds = bounds_here;
       stored = subst (λ fs. IsSameMultiset fact_eq fs world.stored) (sym stored) stands.stored;
       queries = regs;
       seen = seen;
@@ -385,11 +356,6 @@ all_later : (first k : ℕ) (windows : List StreamWindow) (n : ℕ) → n ≤ fi
 all_later first k [] n low = λ i d below. absurd (omega (arith, below))
 all_later first k (w ∷ ws) n low =
     All-cons (λ (watch : Watch). n ≤ watch.first) (record { shape = w.shape; spot = k; stream = w.stream; first = first }) (watches_from first (k + 1) ws) low (all_later first (k + 1) ws n low)
-
-watches_push : (queries : List Registration) (query : Registration) → watches_of (queries ++ query ∷ []) ≡ watches_of queries ++ watches query.first query.reading.windows
-watches_push queries query =
-    flat_map-append (λ (q : Registration). watches q.first q.reading.windows) queries (query ∷ [])
-    ∙ ap (λ ws. watches_of queries ++ ws) (append-nil (watches query.first query.reading.windows))
 
 -- windows that haven't moved saw nothing
 none_followed : (items : List Accepted) (contents : List Followed) → All IsUnmoved contents → facts_followed items contents ≡ []
@@ -447,10 +413,10 @@ register_leads old name text q live world made begins idle free is good unmixed 
     ∙ (ap (λ r. registrations world ++ r ∷ []) made_is ∙ sym (map_push (λ (query : Query). query.registration) world.queries new))) in
     let seen = seen_more old.queries world.queries live new stands.seen (precede_new live begins.unreported) in
     let fits = fits_begun old live world.items begins stands.fits in
-    let held_is : held after ≤ most_held = let one = held_stands engine world after idle fits (regs) stands.next refl in let two = held_here old world idle stands in let low = stands.few in omega (arith, one, two, low) in (
+    let bounds : IsWorld after = register_keeps world stands.bounds name (reading_of q) none_live (subst (λ n. n < most_queries) (sym count) few) in (
       after,
       rw (none_live, is, good, unmixed, room, starts) refl,
-      other_queries old engine world after (world.queries ++ new ∷ []) idle stands refl refl refl refl refl regs seen fits held_is,
+      other_queries old engine world after (world.queries ++ new ∷ []) idle stands refl refl refl refl refl regs seen fits bounds,
     )
 
 -- the named query goes, and what it alone needed
@@ -469,12 +435,10 @@ cancel_leads old new name place live world idle names listed is stands next stor
     ap (map registration_of) queries ∙ (remove_map registration_of old.queries place ∙ (ap (λ qs. remove qs place) stands.queries ∙ (sym (remove_map (λ (query : Query). query.registration) world.queries place) ∙ ap (map (λ (query : Query). query.registration)) (sym gone)))) in
     let seen : HaveSeen new.queries (without name world.queries) = subst (λ ls. HaveSeen ls (without name world.queries)) (sym queries)
     (subst (λ qs. HaveSeen (remove old.queries place) qs) (sym gone) (seen_removed old.queries world.queries place stands.seen)) in
-    let fewer : held after ≤ held world = rw gone (held_fewer (next_of world) (next_of world) (watches_of (map (λ (query : Query). query.registration) (remove world.queries place))) (watches_of (registrations world)) world.items
-    (λ entry. rw (remove_map (λ (query : Query). query.registration) world.queries place) (less_needed (registrations world) place (next_of world) entry))) in
-    let few : held after ≤ most_held = let low = stands.few in omega (arith, fewer, low) in (
+    let bounds : IsWorld after = without_keeps world stands.bounds name in (
       after,
       rw is_named refl,
-      other_queries old new world after (without name world.queries) idle stands refl next stored first broken regs seen fits few,
+      other_queries old new world after (without name world.queries) idle stands refl next stored first broken regs seen fits bounds,
     )
 
 -- ---- stored quads: no moment
@@ -508,9 +472,9 @@ fits_logged old stored log items logged fits = record {
 
 -- an engine that is idle, with other quads, stands for the world with these
 other_quads : (old : State) (stored wanted : List Fact) (log : Log) (world : World) → old.first ≡ None → IsSameMultiset fact_eq stored wanted
-    → All (IsLoggedFor old.stored old.log stored log) old.queries → Stands old world []
+    → All (IsLoggedFor old.stored old.log stored log) old.queries → Stands old world [] → IsWorld (record world { stored = wanted })
     → Stands (record old { stored = stored; log = log }) (record world { stored = wanted }) (option_map_or (λ from. moments_from (record world { stored = wanted }) from) world.next [] ++ [])
-other_quads old stored wanted log world idle same logged stands =
+other_quads old stored wanted log world idle same logged stands bounds =
     let none : option_map_or (λ from. moments_from (record world { stored = wanted }) from) world.next [] ++ [] ≡ [] =
     append-nil _ ∙ none_behind (record world { stored = wanted }) world.next in
     rw none
@@ -518,7 +482,7 @@ other_quads old stored wanted log world idle same logged stands =
       ready = stands.ready;
       next = stands.next;
       fits = fits_logged old stored log world.items logged stands.fits;
-      few = stands.few;
+      bounds = bounds;
       stored = same;
       queries = stands.queries;
       seen = stands.seen;
@@ -537,7 +501,8 @@ insert_leads old quads log world idle few logged stands =
     let within : nat_lt most_quads (length (stored_with world.stored quads)) ≡ false = le-ltb _ _ (rw many at few) in (
       after,
       rw within refl,
-      other_quads old (stored_with old.stored quads) (stored_with world.stored quads) log world idle (same-stored_with old.stored world.stored quads stands.stored) logged stands,
+      other_quads old (stored_with old.stored quads) (stored_with world.stored quads) log world idle (same-stored_with old.stored world.stored quads stands.stored) logged stands
+      (stored_keeps world stands.bounds (stored_with world.stored quads) (subst (λ n. n ≤ most_quads) many few)),
     )
 
 -- the named quads are no longer stored
@@ -547,7 +512,8 @@ pub delete_leads : (old : State) (quads : List Quad) (stored : List Fact) (log :
 delete_leads old quads stored log world idle same logged stands = (
   record world { stored = stored_without world.stored quads },
   refl,
-  other_quads old stored (stored_without world.stored quads) log world idle (λ q. same q ∙ same-stored_without old.stored world.stored quads stands.stored q) logged stands,
+  other_quads old stored (stored_without world.stored quads) log world idle (λ q. same q ∙ same-stored_without old.stored world.stored quads stands.stored q) logged stands
+  (delete_keeps world stands.bounds quads),
 )
 
 -- more would be stored than can be
@@ -575,7 +541,7 @@ no_query_refuses old name ready none =
 -- want of memory
 pub breaks : (old : State) (name text : List ℕ) (why : Refused) (new : State) → old.broken ≡ false → list_any (has_name name) (registrations_in old) ≡ false → why ≡ answer.OutOfMemory → new.broken ≡ true → Refuses old (Register name text) why new
 breaks old name text why new ready free is broken =
-    rw is (record { was_ready = ready; broken = broken; memory = tt; may_take = λ world stands. same_live old world name stands.queries ∙ free })
+    rw is (record { was_ready = ready; broken = broken; may_take = λ world stands. same_live old world name stands.queries ∙ free })
 
 -- a text with a fault is refused for it
 pub faulty_refuses : (old : State) (name text : List ℕ) (why : Refused) → old.broken ≡ false → list_any (has_name name) (registrations_in old) ≡ false → text_fault (parse text) ≡ refusal_of why → is_some (refusal_of why) ≡ true → Refuses old (Register name text) why old
@@ -649,7 +615,7 @@ new_stands e next queries kept stored first sound = record {
   ready = sound;
   next = next;
   fits = fits_nothing e next queries kept;
-  few = omega arith;
+  bounds = empty_keeps;
   stored = rw stored (λ q. refl);
   queries = rw queries refl;
   seen = rw queries tt;

@@ -8,6 +8,7 @@ pub mod Readings
 pub mod Accept
 pub mod Reports
 pub mod Kept
+pub mod Bounds
 pub mod Offers
 -- Words of the way
 pub mod Left

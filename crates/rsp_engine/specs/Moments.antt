@@ -3,7 +3,7 @@ use Rattle.std.specs.Prelude.{ℕ, ◌-◌, Bool, List, [], ◌++◌, filter, ma
 use Rattle.std.specs.List.{flat_map, range_with_len}
 use Rattle.std.specs.Option.{option_map_or}
 use Rattle.rsp_events.specs.declared.event.Event.{Event}
-use Rattle.rsp_events.specs.declared.event.Event.TheVariants.{Register, Cancel, Item, Tick, Insert, Delete}
+use Rattle.rsp_events.specs.declared.event.Event.TheVariants.{Item}
 use Rattle.rsp_engine.specs.World.{World, Registration, registrations}
 use Rattle.rsp_engine.specs.Due.{is_due, is_due_on}
 
@@ -33,11 +33,7 @@ moments_on world (Item stream time graph) =
     (λ query. is_due_on world.items query (record { stream = stream; time = time; graph = graph }))
     (registrations world)
     time
-moments_on world (Register name text) = []
-moments_on world (Cancel name) = []
-moments_on world (Tick time) = []
-moments_on world (Insert quads) = []
-moments_on world (Delete quads) = []
+moments_on world _ = []
 
 -- the moments of an event that led from the old world to the new one: first every instant that it made complete, then
 -- its item; all is read in the new world

@@ -1,7 +1,7 @@
 -- Definitions: what the engine's calls do, for every world and moments that the engine stands for.
 use Rattle.std.specs.Prelude.{◌≡◌, ◌<◌, true, false, Option, None, Some, Result, Ok, Err, IsOk, MatchResult, List, [], ⊤}
 use Rattle.rsp_events.specs.declared.event.Event.{Event}
-use Rattle.rsp_events.specs.declared.event.Event.TheVariants.{Register, Cancel, Item, Tick, Insert, Delete}
+use Rattle.rsp_events.specs.declared.event.Event.TheVariants.{Register, Cancel, Item, Tick}
 use Rattle.rsp_engine.specs.declared.refused.Refused.{Refused}
 use Rattle.rsp_engine.specs.declared.refused.Refused.TheVariants.{Broken, OutOfMemory}
 use Rattle.rsp_engine.specs.declared.refused.EngineFault.{EngineFault}
@@ -13,15 +13,6 @@ use Rattle.rsp_engine.specs.Accept.{accept, is_live}
 use Rattle.rsp_engine.specs.Moments.{Moment, moments}
 use Rattle.rsp_engine.specs.Reports.{IsReport, ReportStep, next_step}
 use Rattle.rsp_engine.specs.Stands.{State, Stands, is_idle, places_left}
-
--- which events take memory at all: no tick does, and no cancellation
-abbrev pub TakesMemory : Event → Type 0
-TakesMemory (Register name text) = ⊤
-TakesMemory (Cancel name) = ⊥
-TakesMemory (Item stream time graph) = ⊤
-TakesMemory (Tick time) = ⊥
-TakesMemory (Insert quads) = ⊤
-TakesMemory (Delete quads) = ⊤
 
 -- the event was accepted: the engine stands for the world that the event makes, and for the event's moments
 pub record Accepts (old : State) (event : Event) (new : State) : Type 0 where
@@ -41,20 +32,19 @@ pub record WasBroken (old new : State) : Type 0 where
   pub was_broken : old.broken ≡ true
   pub unchanged : new ≡ old
 
--- want of memory comes for no item that is refused, and for no registration under the name of a live query
+-- want of memory comes for no tick and no cancellation, for no item that is refused, and for no registration under the name of
+-- a live query
 abbrev pub MayTakeMemory : World → Event → Type 0
 MayTakeMemory world (Register name text) = is_live world name ≡ false
-MayTakeMemory world (Cancel name) = ⊥
 MayTakeMemory world (Item stream time graph) = IsOk (accept world (Item stream time graph))
+MayTakeMemory world (Cancel name) = ⊥
 MayTakeMemory world (Tick time) = ⊥
-MayTakeMemory world (Insert quads) = ⊤
-MayTakeMemory world (Delete quads) = ⊤
+MayTakeMemory world _ = ⊤
 
 -- memory was refused; the engine is broken
 pub record Breaks (old : State) (event : Event) (new : State) : Type 0 where
   pub was_ready : old.broken ≡ false
   pub broken : new.broken ≡ true
-  pub memory : TakesMemory event
   pub may_take : (world : World) → Stands old world [] → MayTakeMemory world event
 
 -- an answer that names no refusal of the definition

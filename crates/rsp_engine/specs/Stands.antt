@@ -26,8 +26,8 @@ use Rattle.rsp_engine.specs.declared.live_query.StreamWindow.{StreamWindow}
 use Rattle.rsp_engine.specs.World.{World, Query, Reading, Registration, registrations}
 use Rattle.rsp_engine.specs.Contents.{watches}
 use Rattle.rsp_scope.specs.declared.item.Item.{Item}
-use Rattle.rsp_engine.specs.Accept.{most_held}
-use Rattle.rsp_engine.specs.Kept.{held, watches_of}
+use Rattle.rsp_engine.specs.Bounds.{IsWorld}
+use Rattle.rsp_engine.specs.Kept.{watches_of}
 use Rattle.rsp_engine.specs.Left.{IsWaiting, left_from}
 use Rattle.rsp_engine.specs.Moments.{Moment}
 use Rattle.rsp_engine.specs.Reports.{rows_over}
@@ -165,7 +165,7 @@ pub record Stands (engine : State) (world : World) (left : List Moment) : Type 0
   pub ready : engine.broken ≡ false
   pub next : engine.next ≡ world.next
   pub fits : Fits engine world.items
-  pub few : held world ≤ most_held
+  pub bounds : IsWorld world
   pub stored : IsSameMultiset fact_eq engine.stored world.stored
   pub queries : registrations_in engine ≡ registrations world
   pub seen : HaveSeen engine.queries world.queries

@@ -5,7 +5,8 @@ use Rattle.std.specs.Prelude.{◌==◌, if◌then◌else◌, filter}
 use Rattle.std.specs.List.{onto_first}
 use Rattle.std.proofs.lemmas.List.Elements.{filter-append}
 use Rattle.rsp_events.specs.Lines.{Line, parts, lines_of_parts, log_lines}
-use Rattle.rsp_events.specs.Blocks.{ended_lines, last_part, begun_line}
+use Rattle.rsp_events.specs.Blocks.{ended_lines}
+use Rattle.rsp_events.specs.Begun.{last_part, begun_line}
 
 abbrev pub ended_from : ℕ → List ℕ → List ℕ → List Line
 ended_from n line [] = []

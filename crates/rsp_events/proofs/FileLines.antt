@@ -5,8 +5,9 @@ use Rattle.std.specs.List.{position_or_len}
 use Rattle.std.specs.Str.Lines.{strip_carriage_return}
 use Rattle.std.proofs.lemmas.List.{take-append-drop}
 use Rattle.std.proofs.lemmas.Bool.Decides.{nat_tests}
-use Rattle.rsp_events.specs.Lines.{IsInLine, parts}
-use Rattle.rsp_events.specs.Files.{FileLine, lines_from}
+use Rattle.rsp_events.specs.Lines.{parts}
+use Rattle.rsp_events.specs.Begun.{IsInLine}
+use Rattle.rsp_events.specs.FileLines.{FileLine, lines_from}
 use Rattle.rsp_events.proofs.Cutting.{cut}
 use Rattle.rsp_events.proofs.Reading.{all_in_front, feed_behind, in_front}
 

@@ -6,7 +6,8 @@ use Rattle.std.specs.List.{list_any, flat_map}
 use Rattle.std.proofs.lemmas.List.Elements.{filter-append}
 use Rattle.rsp_events.specs.declared.blocks.Place.TheVariants.{Passed, Inside, Last}
 use Rattle.rsp_events.specs.Lines.{Line, passes, begins_body, ends_body}
-use Rattle.rsp_events.specs.Blocks.{body_of, behind_body, groups_within, groups, is_whole, whole_groups, begun_group}
+use Rattle.rsp_events.specs.Blocks.{body_of, behind_body, groups_within, groups, is_whole, whole_groups}
+use Rattle.rsp_events.specs.Begun.{begun_group}
 use Rattle.rsp_events.specs.Steps.{place_of, begun_at, closed_at, begun_groups}
 
 abbrev pub closed_from : List Line → List Line → List (List Line)

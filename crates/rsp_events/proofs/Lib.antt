@@ -8,6 +8,7 @@ pub mod Parted
 pub mod Going
 pub mod FileLines
 pub mod Recordings
+pub mod FileLaws
 pub mod RecordedTimes
 pub mod ByTime
 mod BlockRows

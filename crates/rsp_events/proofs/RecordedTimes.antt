@@ -12,8 +12,9 @@ use Rattle.rsp_nquads.specs.Answers.{Answer, nothing, statement, bad_statement, 
 use Rattle.rsp_events.specs.declared.event.Event.{Event}
 use Rattle.rsp_events.specs.Directives.{number_of}
 use Rattle.rsp_events.specs.Instants.{IsInstant}
-use Rattle.rsp_events.specs.Files.{FileLine, said}
-use Rattle.rsp_events.specs.Recorded.{generated_at_time, item_opened, items, opening_in, time_in, time_stated}
+use Rattle.rsp_events.specs.FileLines.{FileLine, said}
+use Rattle.rsp_events.specs.Recorded.{generated_at_time, time_in, time_stated}
+use Rattle.rsp_events.specs.Openings.{item_opened, items, opening_in}
 use Rattle.rsp_events.proofs.Times.{AtMost, chosen, instant_within, number_within}
 
 abbrev pub AreInstants : List Event → Type 0

@@ -16,26 +16,27 @@ use Rattle.rsp_events.specs.declared.refused.RefusedAs.TheVariants.{BadStatement
 use Rattle.rsp_events.specs.declared.recording.RecordedItems.{RecordedItems}
 use Rattle.rsp_events.specs.declared.recording.Recording.{Recording}
 use Rattle.rsp_events.specs.declared.recording.OpenItem.{OpenItem}
-use Rattle.rsp_events.specs.Files.{FileLine, refused_line, said}
-use Rattle.rsp_events.specs.Recorded.{graph, is_of, is_time_line, items, opening, opening_in, refusal, refused, time_stated, triples_of}
+use Rattle.rsp_events.specs.FileLines.{FileLine, refused_line, said}
+use Rattle.rsp_events.specs.Recorded.{is_of, time_stated}
+use Rattle.rsp_events.specs.Openings.{graph, is_time_line, items, opening, opening_in, refusal, refused, triples_of}
 use Rattle.rsp_events.specs.Recording.{behind_line, behind_quad, behind_statement, behind_time_line, closed, items_ahead, open_name, outcome, with_refusal, with_triple}
 
 -- ---- the lines before the first time line
 
-first_fails : {X : Type 0} (p : X → Bool) (x : X) (xs : List X) → p x ≡ false → before_first p (x ∷ xs) ≡ x ∷ before_first p xs
+pub first_fails : {X : Type 0} (p : X → Bool) (x : X) (xs : List X) → p x ≡ false → before_first p (x ∷ xs) ≡ x ∷ before_first p xs
 first_fails p x xs shut =
     let next : 1 + position_or_len p xs ≡ suc (position_or_len p xs) = omega arith in
     rw (shut, next) refl
 
-first_passes : {X : Type 0} (p : X → Bool) (x : X) (xs : List X) → p x ≡ true → before_first p (x ∷ xs) ≡ []
+pub first_passes : {X : Type 0} (p : X → Bool) (x : X) (xs : List X) → p x ≡ true → before_first p (x ∷ xs) ≡ []
 first_passes p x xs met = rw met refl
 
-graph_on : (document : ℕ) (name : Term) (line : FileLine) (lines : List FileLine) → is_time_line document line ≡ false
+pub graph_on : (document : ℕ) (name : Term) (line : FileLine) (lines : List FileLine) → is_time_line document line ≡ false
     → graph document name (line ∷ lines) ≡ triples_of name (said document line) ++ graph document name lines
 graph_on document name line lines shut =
     ap (λ ls. flat_map (λ (l : FileLine). triples_of name (said document l)) ls) (first_fails (is_time_line document) line lines shut)
 
-graph_ends : (document : ℕ) (name : Term) (line : FileLine) (lines : List FileLine) → is_time_line document line ≡ true
+pub graph_ends : (document : ℕ) (name : Term) (line : FileLine) (lines : List FileLine) → is_time_line document line ≡ true
     → graph document name (line ∷ lines) ≡ []
 graph_ends document name line lines met =
     ap (λ ls. flat_map (λ (l : FileLine). triples_of name (said document l)) ls) (first_passes (is_time_line document) line lines met)

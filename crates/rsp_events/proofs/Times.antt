@@ -2,7 +2,7 @@
 use Rattle.std.proofs.Common.{◌≡◌, ℕ, ◌+◌, ◌*◌, ◌≤◌, Bool, true, false, List, [], ◌∷◌, ◌++◌, length, take, drop, refl, arith}
 use Rattle.std.specs.Prelude.{⊤, nat_le, if◌then◌else◌, Option, None, Some, ℤ, pos, negsuc, ◌&&◌, ◌||◌, ◌==◌, bytes_eq, codes, ◌+ℤ◌, ◌-ℤ◌, ◌*ℤ◌}
 use Rattle.std.specs.List.{before_first, flat_map, list_any, position_or_len}
-use Rattle.std.specs.Option.{option_and_then, option_map, option_or}
+use Rattle.std.specs.Option.{option_and_then, option_map, option_map_or, option_or}
 use Rattle.std.proofs.lemmas.Bool.Decides.{nat_tests}
 use Rattle.rsp_spec.specs.Windows.{last_instant}
 use Rattle.rsp_text.specs.Digits.{fraction, read_u64, thousandths}
@@ -16,7 +16,7 @@ use Rattle.rsp_events.specs.declared.event.Content.{Content}
 use Rattle.rsp_events.specs.declared.event.Content.TheVariants as content
 use Rattle.rsp_events.specs.declared.event.Event.{Event}
 use Rattle.rsp_events.specs.declared.event.Event.TheVariants as event
-use Rattle.rsp_events.specs.Contents.{content_by, content_of_directive, is_bad_quad, is_bad_text, is_bad_triple, content_of_body, quad_on, triple_on, with_line_feed}
+use Rattle.rsp_events.specs.Contents.{content_of_directive, is_bad_quad, is_bad_text, is_bad_triple, content_of_body, quad_on, triple_on, with_line_feed}
 use Rattle.rsp_events.specs.Directives.{directive_alone, directive_by, directive_of, directive_with_name, directive_with_time, fields, item_directive, item_of_fields, name_of, number_of, only_field, time_of, two_fields}
 use Rattle.rsp_events.specs.Instants.{AllTimed, IsInstant, IsTimed}
 use Rattle.rsp_events.specs.Lines.{first_field, is_end}
@@ -30,6 +30,11 @@ AllTimed-append (x ∷ xs) ys hx hy = (hx.0, AllTimed-append xs ys hx.1 hy)
 abbrev pub AtMost : Option ℕ → Type 0
 AtMost None = ⊤
 AtMost (Some time) = time ≤ last_instant
+
+-- by the directive, where there is one
+abbrev content_by : ℕ → ℕ → Option Directive → List (List ℕ) → Content
+content_by document first o body =
+    option_map_or (λ d. content_of_directive document first d body) o (content.Fault BadDirective)
 
 abbrev IsTimedDirective : Option Directive → Type 0
 IsTimedDirective None = ⊤

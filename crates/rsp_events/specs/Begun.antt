@@ -1,7 +1,8 @@
 -- Words of the way: what a reader keeps of a line and of a block that have begun.
 --
 -- It keeps their bytes, as long as they are no more than a block may have.
-use Rattle.std.specs.Prelude.{ℕ, nat_lt, if◌then◌else◌, List, [], ◌∷◌, map, length}
+use Rattle.std.specs.Prelude.{ℕ, ◌≢◌, not, nat_lt, if◌then◌else◌, List, [], ◌∷◌, filter, map, length}
+use Rattle.std.specs.List.{AllByRecursion, flat_map}
 use Rattle.std.specs.Str.Lines.{strip_carriage_return}
 use Rattle.rsp_events.specs.declared.begun.Ending.{Ending}
 use Rattle.rsp_events.specs.declared.begun.BegunLine.{BegunLine}
@@ -10,7 +11,25 @@ use Rattle.rsp_events.specs.declared.begun.BegunBlock.{BegunBlock}
 use Rattle.rsp_events.specs.declared.begun.BegunBlock.TheVariants as block
 use Rattle.rsp_events.specs.declared.begun.HeldLine.{HeldLine}
 use Rattle.rsp_events.specs.declared.begun.HeldLine.TheVariants as held
-use Rattle.rsp_events.specs.Lines.{Line, is_end, is_long, most_bytes, size_of, sizes_of, text_of}
+use Rattle.rsp_events.specs.Blocks.{groups, is_whole}
+use Rattle.rsp_events.specs.Lines.{Line, is_end, is_long, most_bytes, parts, size_of, sizes_of, text_of}
+
+-- no line feed among the bytes
+abbrev pub IsInLine : List ℕ → Type 0
+IsInLine bytes = AllByRecursion (λ b. b ≢ 10) bytes
+
+-- the lines of the group that lacks its `@end`; it is the last
+abbrev pub begun_group : List Line → List Line
+begun_group lines = flat_map (λ group. group) (filter (λ group. not (is_whole group)) (groups lines))
+
+abbrev pub last_part : List (List ℕ) → List ℕ
+last_part [] = []
+last_part (x ∷ []) = x
+last_part (x ∷ y ∷ more) = last_part (y ∷ more)
+
+-- the bytes behind the last line feed
+abbrev pub begun_line : List ℕ → List ℕ
+begun_line bytes = last_part (parts bytes)
 
 -- whether bytes are an `@end`, as the last line of a text and as a line that a line feed ends
 abbrev pub ending_of : List ℕ → Ending

@@ -1,11 +1,11 @@
 -- Definitions: the blocks of a whole text.
 use Rattle.std.specs.Prelude.{ℕ, zero, suc, ◌+◌, Bool, true, ◌||◌, not, nat_lt, if◌then◌else◌, List, [], ◌∷◌, length, filter, map}
-use Rattle.std.specs.List.{list_any, flat_map}
+use Rattle.std.specs.List.{list_any}
 use Rattle.rsp_events.specs.declared.event.Content.{Content}
 use Rattle.rsp_events.specs.declared.event.Content.TheVariants.{Fault}
 use Rattle.rsp_events.specs.declared.event.BlockFault.TheVariants.{BlockTooLarge}
 use Rattle.rsp_events.specs.declared.event.Block.{Block}
-use Rattle.rsp_events.specs.Lines.{Line, parts, log_lines, text_of, sizes_of, most_bytes, passes, begins_body, ends_body}
+use Rattle.rsp_events.specs.Lines.{Line, log_lines, text_of, sizes_of, most_bytes, passes, begins_body, ends_body}
 use Rattle.rsp_events.specs.Contents.{content_of_texts}
 
 -- ---- groups of lines, one for each block
@@ -40,27 +40,15 @@ abbrev pub is_whole : List Line → Bool
 is_whole [] = true
 is_whole (head ∷ body) = not (begins_body head) || list_any ends_body body
 
--- the groups that lack nothing, and the lines of the one that lacks its `@end`; that is always the last
+-- the groups that lack nothing: all, or all but the last
 abbrev pub whole_groups : List Line → List (List Line)
 whole_groups lines = filter is_whole (groups lines)
-
-abbrev pub begun_group : List Line → List Line
-begun_group lines = flat_map (λ group. group) (filter (λ group. not (is_whole group)) (groups lines))
 
 -- ---- lines that have ended
 
 -- the lines that end with a line feed within the bytes
 abbrev pub ended_lines : List ℕ → List Line
 ended_lines bytes = filter (λ (line : Line). line.ended) (log_lines bytes)
-
-abbrev pub last_part : List (List ℕ) → List ℕ
-last_part [] = []
-last_part (x ∷ []) = x
-last_part (x ∷ y ∷ more) = last_part (y ∷ more)
-
--- the bytes behind the last line feed
-abbrev pub begun_line : List ℕ → List ℕ
-begun_line bytes = last_part (parts bytes)
 
 -- ---- blocks
 

@@ -1,11 +1,11 @@
 -- Definitions: what the lines of a block hold: the event, or the block's first fault.
-use Rattle.std.specs.Prelude.{ℕ, ◌+◌, Bool, true, false, not, if◌then◌else◌, Option, None, Some, List, [], ◌∷◌, ◌++◌, length}
-use Rattle.std.specs.List.{before_first, flat_map, list_any, position_or_len}
-use Rattle.std.specs.Option.{is_some}
+use Rattle.std.specs.Prelude.{ℕ, ◌+◌, Bool, false, ◌||◌, not, if◌then◌else◌, Option, None, Some, List, [], ◌∷◌, ◌++◌, length, map}
+use Rattle.std.specs.List.{before_first, cons_option, flat_map, list_any, position_or_len}
+use Rattle.std.specs.Option.{is_some, option_map_or}
 use Rattle.std.specs.Str.{is_utf8}
 use Rattle.rsp_terms.specs.declared.statement.Quad.{Quad}
 use Rattle.rsp_terms.specs.declared.statement.Triple.{Triple}
-use Rattle.rsp_nquads.specs.Answers.{Answer, nothing, statement, bad_statement, relative_iri}
+use Rattle.rsp_nquads.specs.Answers.{Answer, statement, bad_statement, relative_iri}
 use Rattle.rsp_nquads.specs.Statements.{statement_of}
 use Rattle.rsp_events.specs.declared.directives.Directive.{Directive}
 use Rattle.rsp_events.specs.declared.directives.Directive.TheVariants as directive
@@ -14,48 +14,38 @@ use Rattle.rsp_events.specs.declared.event.Event.TheVariants as event
 use Rattle.rsp_events.specs.declared.event.Content.{Content}
 use Rattle.rsp_events.specs.declared.event.Content.TheVariants as content
 use Rattle.rsp_events.specs.declared.event.BlockFault.TheVariants.{BadDirective, BadBody}
+use Rattle.rsp_events.specs.declared.refused.RefusedAs.{RefusedAs}
+use Rattle.rsp_events.specs.declared.refused.RefusedAs.TheVariants.{BadStatement, RelativeIri}
 use Rattle.rsp_events.specs.Directives.{directive_of}
 use Rattle.rsp_events.specs.Lines.{is_end}
 
 -- ---- a line of statements (RDF 1.1 N-Quads, section 2)
 
 -- the quad that a line says; a blank line and a comment say none
-abbrev pub quads_in : Answer → List Quad
-quads_in nothing = []
-quads_in (statement quad) = quad ∷ []
-quads_in (bad_statement column) = []
-quads_in (relative_iri column) = []
+abbrev pub quad_in : Answer → Option Quad
+quad_in (statement quad) = Some quad
+quad_in _ = None
+
+-- why a line that says something is no statement
+abbrev pub fault_in : Answer → Option RefusedAs
+fault_in (bad_statement column) = Some (BadStatement column)
+fault_in (relative_iri column) = Some (RelativeIri column)
+fault_in _ = None
 
 abbrev pub quad_on : ℕ → List ℕ → List Quad
-quad_on document line = quads_in (statement_of document line)
-
-abbrev pub is_bad : Answer → Bool
-is_bad nothing = false
-is_bad (statement quad) = false
-is_bad (bad_statement column) = true
-is_bad (relative_iri column) = true
+quad_on document line = cons_option (quad_in (statement_of document line)) []
 
 abbrev pub is_bad_quad : ℕ → List ℕ → Bool
-is_bad_quad document line = is_bad (statement_of document line)
+is_bad_quad document line = is_some (fault_in (statement_of document line))
 
 -- the same of the statements of an item, which have no graph
-abbrev pub triples_in : Answer → List Triple
-triples_in nothing = []
-triples_in (statement quad) = quad.triple ∷ []
-triples_in (bad_statement column) = []
-triples_in (relative_iri column) = []
-
 abbrev pub triple_on : ℕ → List ℕ → List Triple
-triple_on document line = triples_in (statement_of document line)
-
-abbrev pub is_bad_in_item : Answer → Bool
-is_bad_in_item nothing = false
-is_bad_in_item (statement quad) = is_some quad.graph
-is_bad_in_item (bad_statement column) = true
-is_bad_in_item (relative_iri column) = true
+triple_on document line = map (λ (quad : Quad). quad.triple) (quad_on document line)
 
 abbrev pub is_bad_triple : ℕ → List ℕ → Bool
-is_bad_triple document line = is_bad_in_item (statement_of document line)
+is_bad_triple document line =
+    is_bad_quad document line
+    || option_map_or (λ (quad : Quad). is_some quad.graph) (quad_in (statement_of document line)) false
 
 -- ---- a line of query text
 
@@ -91,11 +81,11 @@ content_of_directive document first directive.Insert body =
 content_of_directive document first directive.Delete body =
     content_of_body first body (is_bad_quad document) (λ lines. event.Delete (flat_map (quad_on document) lines))
 
-abbrev pub content_by : ℕ → ℕ → Option Directive → List (List ℕ) → Content
-content_by document first None body = content.Fault BadDirective
-content_by document first (Some directive) body = content_of_directive document first directive body
-
 -- the content of a block's lines, of which the first has this number
 unfoldable pub content_of_texts : ℕ → ℕ → List (List ℕ) → Content
 content_of_texts document first [] = content.Fault BadDirective
-content_of_texts document first (head ∷ body) = content_by document first (directive_of head) body
+content_of_texts document first (head ∷ body) =
+    option_map_or
+    (λ directive. content_of_directive document first directive body)
+    (directive_of head)
+    (content.Fault BadDirective)

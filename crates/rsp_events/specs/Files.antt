@@ -1,60 +1,26 @@
--- Definitions: files of statements (RDF 1.1 N-Quads): their lines, which lines are refused, and what a file of stored quads
--- holds.
-use Rattle.std.specs.Prelude.{ℕ, Option, None, Some, List, [], ◌∷◌, map}
-use Rattle.std.specs.List.{flat_map}
-use Rattle.rsp_terms.specs.declared.statement.Quad.{Quad}
-use Rattle.rsp_nquads.specs.Answers.{Answer, nothing, statement, bad_statement, relative_iri}
+-- Definitions: files of statements (RDF 1.1 N-Quads): what each line says, and what a file of stored quads holds.
+use Rattle.std.specs.Prelude.{ℕ, Option, List, map}
+use Rattle.std.specs.List.{filter_map}
+use Rattle.std.specs.Option.{option_map}
+use Rattle.rsp_nquads.specs.Answers.{Answer}
 use Rattle.rsp_nquads.specs.Statements.{statement_of}
 use Rattle.rsp_events.specs.declared.refused.LineRefused.{LineRefused}
 use Rattle.rsp_events.specs.declared.refused.RefusedAs.{RefusedAs}
-use Rattle.rsp_events.specs.declared.refused.RefusedAs.TheVariants.{BadStatement, RelativeIri}
 use Rattle.rsp_events.specs.declared.loading.LoadedQuads.{LoadedQuads}
-use Rattle.rsp_events.specs.Contents.{quads_in}
-use Rattle.rsp_events.specs.Lines.{Line, parts, lines_of_parts, text_of}
+use Rattle.rsp_events.specs.Contents.{fault_in, quad_in}
+use Rattle.rsp_events.specs.Lines.{Line, log_lines, text_of}
 
--- ---- lines
+-- what each line says, beside its number; lines are cut as those of the log
+abbrev pub answers : ℕ → List ℕ → List (ℕ × Answer)
+answers document bytes = map (λ (line : Line). (line.number, statement_of document (text_of line))) (log_lines bytes)
 
--- a line of a file: its number, from 1, and what it says without its line feed
-pub record FileLine : Type 0 where
-  pub number : ℕ
-  pub text : List ℕ
-
-abbrev pub file_line : Line → FileLine
-file_line line = record { number = line.number; text = text_of line }
-
--- the lines of some bytes, cut as those of the log, of which the first has this number
-abbrev pub lines_from : ℕ → List ℕ → List FileLine
-lines_from number bytes = map file_line (lines_of_parts number (parts bytes))
-
-abbrev pub file_lines : List ℕ → List FileLine
-file_lines bytes = lines_from 1 bytes
-
--- a statement, nothing, or a fault with its column
-abbrev pub said : ℕ → FileLine → Answer
-said document line = statement_of document line.text
-
--- ---- refused lines
-
--- a line that says something and is no statement
-abbrev pub no_statement : Answer → Option RefusedAs
-no_statement nothing = None
-no_statement (statement quad) = None
-no_statement (bad_statement column) = Some (BadStatement column)
-no_statement (relative_iri column) = Some (RelativeIri column)
-
-abbrev pub refused_line : FileLine → Option RefusedAs → List LineRefused
-refused_line line None = []
-refused_line line (Some fault) = record { line = line.number; fault = fault } ∷ []
-
--- ---- stored quads
+abbrev pub refused_at : ℕ → Option RefusedAs → Option LineRefused
+refused_at number fault = option_map (λ why. record { line = number; fault = why }) fault
 
 -- each statement is a quad, with or without a graph
-abbrev pub quads : ℕ → List FileLine → List Quad
-quads document lines = flat_map (λ line. quads_in (said document line)) lines
-
-abbrev pub refused_quads : ℕ → List FileLine → List LineRefused
-refused_quads document lines = flat_map (λ line. refused_line line (no_statement (said document line))) lines
-
 abbrev pub loaded : ℕ → List ℕ → LoadedQuads
 loaded document bytes =
-    record { quads = quads document (file_lines bytes); refused = refused_quads document (file_lines bytes) }
+    record {
+      quads = filter_map (λ (x : ℕ × Answer). quad_in x.1) (answers document bytes);
+      refused = filter_map (λ (x : ℕ × Answer). refused_at x.0 (fault_in x.1)) (answers document bytes);
+    }

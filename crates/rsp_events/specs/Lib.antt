@@ -8,6 +8,8 @@ pub mod Files
 pub mod Recorded
 pub mod Merged
 -- Words of the way
+pub mod FileLines
+pub mod Openings
 pub mod Begun
 pub mod Reader
 pub mod Steps

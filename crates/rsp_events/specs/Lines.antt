@@ -1,6 +1,6 @@
 -- Definitions: the lines of the event log, and which of them begin and end a block.
-use Rattle.std.specs.Prelude.{ℕ, ◌≢◌, ◌+◌, Bool, true, false, ◌&&◌, ◌||◌, not, ◌==◌, nat_lt, if◌then◌else◌, List, [], ◌∷◌, drop, length, codes, nat_eq, bytes_eq, sum_by}
-use Rattle.std.specs.List.{AllByRecursion, list_any, list_all, slice_split, starts_with, before_first}
+use Rattle.std.specs.Prelude.{ℕ, ◌+◌, Bool, true, false, ◌&&◌, ◌||◌, not, ◌==◌, nat_lt, if◌then◌else◌, List, [], ◌∷◌, drop, length, codes, nat_eq, bytes_eq, sum_by}
+use Rattle.std.specs.List.{list_any, list_all, slice_split, starts_with, before_first}
 use Rattle.std.specs.Str.{byte}
 use Rattle.std.specs.Str.Lines.{strip_carriage_return}
 use Rattle.rsp_text.specs.Fronts.{is_blank}
@@ -15,10 +15,6 @@ pub record Line : Type 0 where
 -- what stands between line feeds; the last part stands behind the last line feed
 abbrev pub parts : List ℕ → List (List ℕ)
 parts bytes = slice_split (λ b. b == 10) bytes
-
--- no line feed among the bytes
-abbrev pub IsInLine : List ℕ → Type 0
-IsInLine bytes = AllByRecursion (λ b. b ≢ 10) bytes
 
 -- the parts as lines, numbered in order; the last part is a line where it isn't empty
 abbrev pub lines_of_parts : ℕ → List (List ℕ) → List Line

@@ -2,24 +2,16 @@
 use Rattle.std.specs.Prelude.{ℕ, Bool, true, false, nat_lt, if◌then◌else◌, List, [], ◌∷◌, filter}
 use Rattle.std.specs.List.{flat_map}
 use Rattle.rsp_events.specs.declared.event.Event.{Event}
-use Rattle.rsp_events.specs.declared.event.Event.TheVariants.{Register, Cancel, Item, Tick, Insert, Delete}
+use Rattle.rsp_events.specs.declared.event.Event.TheVariants.{Item}
 
 abbrev pub is_item : Event → Bool
-is_item (Register name text) = false
-is_item (Cancel name) = false
 is_item (Item stream time graph) = true
-is_item (Tick time) = false
-is_item (Insert quads) = false
-is_item (Delete quads) = false
+is_item _ = false
 
 -- the time of an item; of other events none is asked
 abbrev pub item_time : Event → ℕ
-item_time (Register name text) = 0
-item_time (Cancel name) = 0
 item_time (Item stream time graph) = time
-item_time (Tick time) = 0
-item_time (Insert quads) = 0
-item_time (Delete quads) = 0
+item_time _ = 0
 
 abbrev pub is_earlier : Event → Event → Bool
 is_earlier item other = nat_lt (item_time item) (item_time other)

@@ -11,8 +11,9 @@ use Rattle.rsp_events.specs.declared.refused.RefusedAs.TheVariants.{BadStatement
 use Rattle.rsp_events.specs.declared.recording.RecordedItems.{RecordedItems}
 use Rattle.rsp_events.specs.declared.recording.Recording.{Recording}
 use Rattle.rsp_events.specs.declared.recording.OpenItem.{OpenItem}
-use Rattle.rsp_events.specs.Files.{FileLine}
-use Rattle.rsp_events.specs.Recorded.{graph, is_of, items, refused, time_stated}
+use Rattle.rsp_events.specs.FileLines.{FileLine}
+use Rattle.rsp_events.specs.Recorded.{is_of, time_stated}
+use Rattle.rsp_events.specs.Openings.{graph, items, refused}
 
 abbrev pub open_name : Option OpenItem → Option Term
 open_name None = None

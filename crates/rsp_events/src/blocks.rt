@@ -4,10 +4,10 @@ ghost use Rattle.rsp_events.specs.declared.event.Block.{Block};
 ghost use Rattle.rsp_events.specs.declared.begun.BegunLine.TheVariants as line;
 ghost use Rattle.rsp_events.specs.declared.begun.BegunBlock.TheVariants as begun;
 ghost use Rattle.rsp_events.specs.declared.blocks.Place.TheVariants as place;
-ghost use Rattle.rsp_events.specs.Lines.{IsInLine, Line, ends_body, has_body, is_passed};
-ghost use Rattle.rsp_events.specs.Begun.{begun_block_of, held_line_of};
+ghost use Rattle.rsp_events.specs.Lines.{Line, ends_body, has_body, is_passed};
+ghost use Rattle.rsp_events.specs.Begun.{IsInLine, begun_block_of, held_line_of, begun_group, begun_line};
 ghost use Rattle.rsp_events.specs.Reader.{HasRead};
-ghost use Rattle.rsp_events.specs.Blocks.{begun_group, begun_line, blocks, ended_lines, content_of, numbered_from, whole_blocks};
+ghost use Rattle.rsp_events.specs.Blocks.{blocks, ended_lines, content_of, numbered_from, whole_blocks};
 ghost use Rattle.rsp_events.specs.Instants.{AllTimed, IsTimed};
 ghost use Rattle.rsp_events.specs.Steps.{Reads, TakesLine, begun_groups, place_of};
 

@@ -1,6 +1,6 @@
 // The lines of a file of statements.
 ghost use Rattle.std.specs.Prelude.{◌≡◌, ◌+◌, ◌++◌, ◌∷◌, ◌<◌, [], ℕ, IfOk, IfSome, OnOk, MatchOption, length};
-ghost use Rattle.rsp_events.specs.Files.{lines_from};
+ghost use Rattle.rsp_events.specs.FileLines.{lines_from};
 
 use crate::lines::{line_end, without_return};
 use crate::{LineRefused, RefusedAs};

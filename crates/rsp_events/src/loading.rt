@@ -1,9 +1,8 @@
 // Files of stored quads.
 ghost use Rattle.std.specs.Prelude.{◌≡◌, ◌++◌, IfOk, OnOk};
 ghost use Rattle.rsp_nquads.specs.Statements.{statement_of};
-ghost use Rattle.rsp_events.specs.Contents.{quads_in};
-ghost use Rattle.rsp_events.specs.Files as file;
-ghost use Rattle.rsp_events.specs.Files.{no_statement, refused_line};
+ghost use Rattle.rsp_events.specs.Files.{loaded};
+ghost use Rattle.rsp_events.specs.FileLines.{loaded_by, quads_in, no_statement, refused_line};
 
 use crate::files::{next_line, next_number, refuse};
 use crate::{LineRefused, RefusedAs};
@@ -22,7 +21,13 @@ pub struct LoadedQuads {
 /// line that is refused changes nothing else. Fails only where memory is refused, or the 64-bit number of a line would pass
 /// its last value.
 pub fn loaded(alloc: Global, document: u32, bytes: &[u8]) -> Result<LoadedQuads, AllocError>
-    ensures value { IfOk result (λ read. read ≡ file.loaded document bytes.now) }
+    ensures value { IfOk result (λ read. read ≡ loaded document bytes.now) }
+{
+    lines_loaded(alloc, document, bytes)
+}
+
+fn lines_loaded(alloc: Global, document: u32, bytes: &[u8]) -> Result<LoadedQuads, AllocError>
+    ensures { IfOk result (λ read. read ≡ loaded_by document bytes.now) }
 {
     let mut read = LoadedQuads {
         quads: Listed::new(alloc),

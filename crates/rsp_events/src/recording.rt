@@ -5,6 +5,7 @@ ghost use Rattle.rsp_terms.specs.Same.{term_eq};
 ghost use Rattle.rsp_nquads.specs.Statements.{statement_of};
 ghost use Rattle.rsp_events.specs.Instants.{IsInstant};
 ghost use Rattle.rsp_events.specs.Recorded as stream_file;
+ghost use Rattle.rsp_events.specs.Openings.{recorded_by};
 ghost use Rattle.rsp_events.specs.Recording as way;
 
 use crate::fields::number_of;
@@ -59,6 +60,17 @@ pub fn recorded(
 ) -> Result<RecordedItems, AllocError>
     ensures value { IfOk result (λ read. read ≡ stream_file.recorded stream.now document bytes.now) }
     ensures timed { IfOk result (λ read. AllByRecursion IsInstant read.items) }
+{
+    lines_recorded(alloc, stream, document, bytes)
+}
+
+fn lines_recorded(
+    alloc: Global,
+    stream: &Text,
+    document: u32,
+    bytes: &[u8],
+) -> Result<RecordedItems, AllocError>
+    ensures { IfOk result (λ read. read ≡ recorded_by stream.now document bytes.now) }
 {
     let mut reading = Recording {
         items: Listed::new(alloc),

@@ -92,7 +92,7 @@ returns g c =
           set = c.in_ok-change.ensures.set;
         };
         follows = λ rows items follows has. (
-          still items follows has _ back refl c.mark-live.ensures c.in_ok-change.ensures.facts,
+          still items follows has _ back refl c.mark-live.ensures.none c.in_ok-change.ensures.facts,
           stands items follows has held c.in_ok-change.ensures.facts,
         );
       };
