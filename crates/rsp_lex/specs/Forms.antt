@@ -89,6 +89,9 @@ long quote =
 abbrev pub is_single : ℕ → Bool
 is_single c = list_any (λ d. c == d) (codes "{}()[].;,=+-*/?")
 
+abbrev pub begins_comparison : ℕ → Bool
+begins_comparison c = c == byte "!" || (c == byte "<" || c == byte ">")
+
 abbrev pub form : TokenKind → Form
 form kind.Iri =
     text (codes "<") before (many (one is_iri_character or escape_of uchar_step is_iri_character) before text (codes ">"))
@@ -113,8 +116,8 @@ form kind.Integer = digits
 form kind.String = (short (byte "\"") or long (byte "\"")) or (short (byte "'") or long (byte "'"))
 form kind.Symbol =
     one is_single
-    or (text (codes "&&") or ((text (codes "|") before maybe (text (codes "|"))) or ((text (codes "^") before maybe (text (codes "^")))
-    or (one (λ c. c == byte "!" || (c == byte "<" || c == byte ">")) before maybe (text (codes "="))))))
+    or (text (codes "&&") or ((text (codes "|") before maybe (text (codes "|")))
+    or ((text (codes "^") before maybe (text (codes "^"))) or (one begins_comparison before maybe (text (codes "="))))))
 
 -- by code points
 abbrev pub is_token : TokenKind → List ℕ → Bool

@@ -209,7 +209,8 @@ maybe_distinct = mapped flagged (both (optional (word keyword.Distinct)) express
 abbrev pub count_rule : Rule Expr
 count_rule =
     second_of (word (keyword.Fold fold.Count)) (in_parens
-    (either (mapped (λ star. count_rows) (sign (symbol.Sign operator.Multiply))) (mapped (aggregate_of (kind.Word (keyword.Fold fold.Count))) maybe_distinct)))
+    (either (mapped (λ star. count_rows) (sign (symbol.Sign operator.Multiply)))
+    (mapped (aggregate_of (kind.Word (keyword.Fold fold.Count))) maybe_distinct)))
 
 abbrev pub folds : List Kind
 folds = map kind.Word (map keyword.Fold (fold.Sum ∷ fold.Avg ∷ fold.Min ∷ fold.Max ∷ []))
@@ -234,7 +235,8 @@ path_part inner = mapped turned (both (optional (sign symbol.Caret)) (either way
 
 -- Sequence ::= Part ('/' Part)*                                                                    [90] PathSequence
 abbrev pub path_sequence : Rule Way → Rule Way
-path_sequence inner = mapped sequence_row (both (path_part inner) (many (second_of (sign (symbol.Sign operator.Divide)) (path_part inner))))
+path_sequence inner =
+    mapped sequence_row (both (path_part inner) (many (second_of (sign (symbol.Sign operator.Divide)) (path_part inner))))
 
 -- Path ::= Sequence ('|' Sequence)*                                                             [89] PathAlternative
 abbrev pub path_rule : Rule Way → Rule Way
@@ -412,7 +414,8 @@ abbrev pub items_of : Rule Expr → Rule (List Item)
 items_of e = mapped (λ (v : Item × List Item). v.0 ∷ v.1) (both (item_of e) (many (item_of e)))
 
 abbrev pub projection : Rule Projection
-projection = either (mapped (λ star. every_name) (sign (symbol.Sign operator.Multiply))) (mapped these (items_of aggregate_expression))
+projection =
+    either (mapped (λ star. every_name) (sign (symbol.Sign operator.Multiply))) (mapped these (items_of aggregate_expression))
 
 abbrev pub select_clause : Rule (Option Said × Projection)
 select_clause = second_of (word keyword.Select) (both (optional (word keyword.Distinct)) projection)
