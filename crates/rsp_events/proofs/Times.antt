@@ -11,7 +11,7 @@ use Rattle.rsp_nquads.specs.Fields.{absolute_iri}
 use Rattle.rsp_events.specs.declared.directives.Directive.{Directive}
 use Rattle.rsp_events.specs.declared.directives.Directive.TheVariants as directive
 use Rattle.rsp_events.specs.declared.event.Block.{Block}
-use Rattle.rsp_events.specs.declared.event.BlockFault.TheVariants.{BadBody}
+use Rattle.rsp_events.specs.declared.event.BlockFault.TheVariants.{BadBody, BadDirective}
 use Rattle.rsp_events.specs.declared.event.Content.{Content}
 use Rattle.rsp_events.specs.declared.event.Content.TheVariants as content
 use Rattle.rsp_events.specs.declared.event.Event.{Event}
