@@ -7,7 +7,8 @@ use Rattle.rsp_terms.specs.declared.term.Term.{Term}
 use Rattle.rsp_nquads.specs.declared.statements.Part.{Part}
 use Rattle.rsp_text.specs.Fronts.{is_blank, behind_blanks}
 use Rattle.rsp_scan.specs.Enclosed.{Rule, sign}
-use Rattle.rsp_nquads.specs.Grammar.{Stands, IsIriTerm, IsNode, IsObject, IsDot, StandsNowhere, IsLongestPart, Fault, FaultHere, FaultIn, FaultAtEnd, FaultFromDot, FaultFromGraph, FaultFromObject, FaultFromPredicate, FaultFromSubject, IsAtColumn}
+use Rattle.rsp_nquads.specs.Grammar.{Stands, IsIriTerm, IsNode, IsObject, IsDot, StandsNowhere, IsLongestPart, Fault, FaultHere, FaultIn, FaultAtEnd, FaultFromDot, FaultFromSubject, IsAtColumn}
+use Rattle.rsp_nquads.specs.Faults.{FaultFromGraph, FaultFromObject, FaultFromPredicate}
 use Rattle.rsp_scan.specs.Readers.{PartReader}
 use Rattle.rsp_nquads.specs.Parts.{iri_term, node, object}
 use Rattle.rsp_nquads.specs.Statements.{part_of, optional_part, is_end, ends, closes, onward, parts_of, column}

@@ -102,9 +102,8 @@ pub record IsStatement (document : ℕ) (line : List ℕ) (quad : Quad) : Type 0
 -- the term holds an IRI that isn't absolute (RFC 3986, section 4.3): a scheme is ASCII, so bytes tell it
 abbrev pub is_relative : Term → Bool
 is_relative (Iri name) = not (is_absolute name)
-is_relative (Blank document name) = false
 is_relative (Literal lexical name) = not (is_absolute name)
-is_relative (Tagged lexical language) = false
+is_relative _ = false
 
 abbrev pub terms_of : Quad → List Term
 terms_of quad = quad.triple.subject ∷ quad.triple.predicate ∷ quad.triple.object ∷ cons_option quad.graph []
@@ -150,17 +149,11 @@ FaultAtEnd text left = ¬ (IsEnd text) × FaultHere text left
 abbrev pub FaultFromDot : Fault
 FaultFromDot = FaultIn IsDot FaultHere FaultAtEnd
 
-abbrev pub FaultFromGraph : ℕ → Fault
-FaultFromGraph document = FaultIn (IsNode document) FaultFromDot FaultFromDot
-
-abbrev pub FaultFromObject : ℕ → Fault
-FaultFromObject document = FaultIn (IsObject document) FaultHere (FaultFromGraph document)
-
-abbrev pub FaultFromPredicate : ℕ → Fault
-FaultFromPredicate document = FaultIn IsIriTerm FaultHere (FaultFromObject document)
-
+-- subject, predicate, object, and a graph where one stands
 abbrev pub FaultFromSubject : ℕ → Fault
-FaultFromSubject document = FaultIn (IsNode document) FaultHere (FaultFromPredicate document)
+FaultFromSubject document =
+    FaultIn (IsNode document) FaultHere (FaultIn IsIriTerm FaultHere (FaultIn (IsObject document) FaultHere
+    (FaultIn (IsNode document) FaultFromDot FaultFromDot)))
 
 -- a line that isn't a statement: parts stand in it, in order, up to this column, and there no wanted part stands
 pub record IsFirstFault (document : ℕ) (line : List ℕ) (column : ℕ) : Type 0 where

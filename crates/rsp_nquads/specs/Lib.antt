@@ -7,3 +7,4 @@ pub mod Parts
 pub mod Statements
 pub mod Results
 pub mod Fields
+pub mod Faults
