@@ -23,7 +23,7 @@ with_elements-loop-element-preserved t c =
     c.element-item.is
     c.in_ok-group.ensures
     c.in_ok-slashes_of.ensures
-    c.in_ok-next.ensures
+    c.in_ok-next.ensures.total
     ∙ c.loop-element.invariant
 
 pub group_tree-returns : goal.group_tree-returns
