@@ -22,7 +22,7 @@ use Rattle.rsp_scope.proofs.Needs.{needed-earlier}
 use Rattle.rsp_events.specs.declared.event.Event.{Event}
 use Rattle.rsp_events.specs.declared.event.Event.TheVariants.{Cancel, Delete, Insert, Item, Register, Tick}
 use Rattle.rsp_query.specs.Queries.{Registered}
-use Rattle.rsp_syntax.specs.Parsing.{parse}
+use Rattle.rsp_syntax.specs.Deciding.{parse}
 use Rattle.rsp_syntax.specs.declared.fault.SyntaxFault.{SyntaxFault}
 use Rattle.rsp_engine.specs.declared.live_query.StreamWindow.{StreamWindow}
 use Rattle.rsp_engine.specs.Refusals.{Refusal, held_full, item_too_large, late, name_taken, no_query, queries_full, start_overfull, store_full, text_fault}
