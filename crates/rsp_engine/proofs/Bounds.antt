@@ -97,10 +97,10 @@ held_begun world name reading =
     let regs : map (λ (q : Query). q.registration) (world.queries ++ new ∷ []) ≡ registrations world ++ new.registration ∷ []
     = map_push (λ (q : Query). q.registration) world.queries new in
     let ws : watches_of (map (λ (q : Query). q.registration) (world.queries ++ new ∷ []))
-        ≡ watches_of (registrations world) ++ watches (length world.items) reading.windows
+    ≡ watches_of (registrations world) ++ watches (length world.items) reading.windows
     = ap watches_of regs ∙ watches_push (registrations world) new.registration in
     let same : needed_items (next_of world) (watches_of (registrations world) ++ watches (length world.items) reading.windows) world.items
-        ≡ needed_items (next_of world) (watches_of (registrations world)) world.items
+    ≡ needed_items (next_of world) (watches_of (registrations world)) world.items
     = same_below _ _ (length world.items) alike 0 world.items (omega arith) in
     ap (λ vs. listed_triples (needed_items (next_of world) vs world.items)) ws ∙ ap listed_triples same
   where

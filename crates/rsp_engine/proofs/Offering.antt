@@ -502,7 +502,7 @@ insert_leads old quads log world idle few logged stands =
       after,
       rw within refl,
       other_quads old (stored_with old.stored quads) (stored_with world.stored quads) log world idle (same-stored_with old.stored world.stored quads stands.stored) logged stands
-      (stored_keeps world stands.bounds (stored_with world.stored quads) (subst (λ n. n ≤ most_quads) many few)),
+          (stored_keeps world stands.bounds (stored_with world.stored quads) (subst (λ n. n ≤ most_quads) many few)),
     )
 
 -- the named quads are no longer stored
@@ -513,7 +513,7 @@ delete_leads old quads stored log world idle same logged stands = (
   record world { stored = stored_without world.stored quads },
   refl,
   other_quads old stored (stored_without world.stored quads) log world idle (λ q. same q ∙ same-stored_without old.stored world.stored quads stands.stored q) logged stands
-  (delete_keeps world stands.bounds quads),
+      (delete_keeps world stands.bounds quads),
 )
 
 -- more would be stored than can be

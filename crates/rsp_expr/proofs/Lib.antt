@@ -9,4 +9,3 @@ pub mod Extremes
 pub mod Reordered
 pub mod SameAggregates
 pub mod TermOrder
-mod Replaced
