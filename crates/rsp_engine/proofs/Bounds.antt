@@ -188,7 +188,7 @@ any_named name (query ∷ queries) = ap (λ b. bytes_eq (name_of_query query) na
 
 module _ (world : World) (within : IsWorld world) where
   pub item_keeps : (item : Accepted) → next_of world ≤ item.time → held (with_item world item) ≤ most_held → IsWorld (with_item world item)
-  item_keeps item late few = record {
+  item_keeps item behind few = record {
     names = within.names;
     live = within.live;
     quads = within.quads;
@@ -201,12 +201,12 @@ module _ (world : World) (within : IsWorld world) where
     where
       earlier : All (λ (i : Accepted). i.time ≤ item.time) world.items
       earlier = All-weaker (λ (i : Accepted). i.time ≤ next_of world) (λ (i : Accepted). i.time ≤ item.time)
-          (λ i h. omega (arith, h, late)) world.items within.timed
+          (λ i h. omega (arith, h, behind)) world.items within.timed
 
   pub tick_keeps : (time : ℕ) → next_of world ≤ time + 1 → IsWorld (record world { next = Some (time + 1) })
-  tick_keeps time late =
+  tick_keeps time behind =
       let fewer = held_fewer (time + 1) (next_of world) (watches_of (registrations world)) (watches_of (registrations world)) world.items
-      (λ entry. needed-earlier (next_of world) (time + 1) (watches_of (registrations world)) entry late) in
+      (λ entry. needed-earlier (next_of world) (time + 1) (watches_of (registrations world)) entry behind) in
       let before = within.few in
       record {
         names = within.names;
@@ -215,7 +215,7 @@ module _ (world : World) (within : IsWorld world) where
         few = omega (arith, fewer, before);
         order = within.order;
         timed = All-weaker (λ (i : Accepted). i.time ≤ next_of world) (λ (i : Accepted). i.time ≤ time + 1)
-            (λ i h. omega (arith, h, late)) world.items within.timed;
+            (λ i h. omega (arith, h, behind)) world.items within.timed;
       }
 
   pub register_keeps : (name : List ℕ) (reading : Reading) → is_live world name ≡ false → length world.queries < most_queries

@@ -1,17 +1,20 @@
 -- The ends of the kept items by the windows of the live queries, and what is let go.
-use Rattle.std.proofs.Common.{◌≡◌, ℕ, zero, suc, ◌+◌, ◌≤◌, Bool, true, false, true≢false, cond, ◌||◌, min, nat_eq, nat_le, nat_lt, Option, None, Some, List, [], ◌∷◌, All, length, slice_get, refl, sym, ap, ◌∙◌, subst, eqb-true, le-leb, leb-true, arith}
+use Rattle.std.proofs.Common.{◌≡◌, ℕ, zero, suc, ◌+◌, ◌≤◌, Bool, true, false, true≢false, cond, ◌||◌, min, nat_eq, nat_le, nat_lt, Option, None, Some, List, [], ◌∷◌, ◌++◌, ◌<◌, All, length, take, slice_get, slice_index_or, refl, sym, ap, ◌∙◌, subst, eqb-true, le-leb, leb-true, arith}
 use Rattle.std.proofs.lemmas.Bool.Decides.{nat_tests}
 use Rattle.std.proofs.lemmas.List.Elements.{All-cons, All-filter, All-head, All-nil, All-tail, All-weaker}
+use Rattle.std.proofs.lemmas.List.{map_push, take_more}
 use Rattle.std.proofs.lemmas.List.Folds.{list_any-append}
 use Rattle.std.proofs.lemmas.Option.{same_Some}
 use Rattle.std.specs.Option.{option_eq}
 use Rattle.rsp_scope.specs.Contents.{Accepted, Numbered, Watch}
-use Rattle.rsp_scope.specs.Ends.{as_accepted, AreEnds, EndsAt, IsKept}
+use Rattle.rsp_scope.specs.Ends.{as_accepted, AreEnds, EndsAt, IsKept, later}
+use Rattle.rsp_scope.specs.Moves.{Followed}
 use Rattle.rsp_scope.specs.Kept.{Kept, needed, shortened, triples_of}
 use Rattle.rsp_scope.specs.Needed.{is_needed, is_needed_by}
 use Rattle.rsp_scope.specs.declared.item.Item.{Item}
 use Rattle.rsp_scope.proofs.Endings.{filter-most, needed-later}
 use Rattle.rsp_scope.proofs.Needed.{held_falls, lowered, passed}
+use Rattle.rsp_scope.proofs.Needs.{ends_joined}
 use Rattle.rsp_engine.specs.Keeping.{EndsBy, IsLess, excess, watches_by, watches_followed}
 use Rattle.rsp_engine.specs.declared.live_query.LiveQuery.{LiveQuery}
 
@@ -25,6 +28,18 @@ both : (a b : Bool) → (b ≡ true → a ≡ true) → (a ≡ true → b ≡ tr
 both true b back on = sym (on refl)
 both false true back on = back refl
 both false false back on = refl
+
+-- the windows of one more of a query's contents
+pub end_more : (contents : List Followed) (i : ℕ) (content : Followed) (entry : Numbered) (end until : Option ℕ) → i < length contents
+    → content ≡ slice_index_or contents i content → EndsAt (watches_followed (take i contents)) entry end
+    → EndsAt (content.watch ∷ []) entry until → EndsAt (watches_followed (take (i + 1) contents)) entry (later end until)
+end_more contents i content entry end until below is before here =
+    let more : take (i + 1) contents ≡ take i contents ++ content ∷ [] =
+    take_more contents i content below ∙ ap (λ x. take i contents ++ x ∷ []) (sym is) in
+    let watches : watches_followed (take (i + 1) contents) ≡ watches_followed (take i contents) ++ content.watch ∷ [] =
+    ap watches_followed more ∙ map_push (λ (seen : Followed). seen.watch) (take i contents) content in
+    subst (λ ws. EndsAt ws entry (later end until)) (sym watches)
+    (ends_joined (watches_followed (take i contents)) (content.watch ∷ []) entry end until before here)
 
 -- what some of the windows need up to `most`, and none of them beyond it, ends there by all of them
 capped : (some all : List Watch) (entry : Numbered) (most : ℕ)
