@@ -107,8 +107,8 @@ def faults_of_words():
 
 def fault_of_slow_text():
     """A text that the model hasn't read in time gets its place alone."""
-    text, seconds = b"REGISTER RSTREAM <q:o> AS SELECT ?x " + b"SELECT " * 1000, limits.SECONDS
-    limits.SECONDS = 0
+    text, wait = b"REGISTER RSTREAM <q:o> AS SELECT ?x " + b"SELECT " * 1000, limits.MOST_WAIT
+    limits.MOST_WAIT = 0
     try:
         with tempfile.NamedTemporaryFile(prefix="rsp-tool-") as file:
             file.write(text)
@@ -116,7 +116,7 @@ def fault_of_slow_text():
             output = io.BytesIO(b"# refused query 8 Syntax at=36\n")
             (found,) = explaining.explained(words.parsed(["check", file.name]), output)
     finally:
-        limits.SECONDS = seconds
+        limits.MOST_WAIT = wait
     return None if (found.place.column, found.said) == (37, of_texts.UNREAD) else f"it says {found}"
 
 

@@ -16,7 +16,7 @@ def of_text(text, content, why):
     """A refusal of a text, whose bytes are a front of those that stand there: behind them may stand the `@end` of a block."""
     details, its = details_of(why), within_limits(looked, content)
     if its is None:
-        at, (page, sentence) = details.get("at", 0), paragraph(kind_of(why))
+        at, (page, sentence) = details.get("at", 0), of_reports(why)
         return Finding(text.place(at), kind_of(why), UNREAD, sentence, page, text.shown(at))
     if its.why != why:
         raise differing.from_model(text.place(min(details.get("at", 0), len(content))), why, its.why)
@@ -26,14 +26,17 @@ def of_text(text, content, why):
 
 def what_to_write(its, why):
     """What could stand there and what the tables say; where neither is known, what REPORTS says; and the page for it."""
-    lines, found = [] if its.could is None else [in_words(its.could)], its.sign and advice(its.sign)
-    page, sentence = paragraph(kind_of(why))
+    could = None if its.could is None else in_words(its.could)
+    found = its.sign and advice(its.sign)
     if found:
-        lines.append(f"write instead: {found[0]}")
-        page = found[1]
-    elif its.could is not None:
-        page = page_of(QUERIES, TEXTS)
-    else:
-        what = details_of(why).get("what") if kind_of(why) == "10 Limit" else None
-        lines.append(f"at most {limit_of(what)}" if what else sentence)
-    return "\n".join(lines), page
+        return "\n".join(filter(None, [could, f"write instead: {found[0]}"])), found[1]
+    if could:
+        return could, page_of(QUERIES, TEXTS)
+    page, sentence = of_reports(why)
+    return sentence, page
+
+
+def of_reports(why):
+    """The page and the sentence of REPORTS; of a limit its row."""
+    page, sentence = paragraph(kind_of(why))
+    return page, f"at most {limit_of(details_of(why)['what'])}" if kind_of(why) == "10 Limit" else sentence
