@@ -1,4 +1,4 @@
-"""How both tools are called: their words, `--lines` first of all, and their statuses. What goes wrong is said, without a trace."""
+"""How both tools are called: their words, `--lines` first of all, and their statuses. What goes wrong is said, not traced."""
 import os
 import sys
 

@@ -37,8 +37,8 @@ def unclosed(watched, mode):
     else:
         said = f"time ends at {told(watched.stop - 1)}"
     is_closing = "CLOSE" in policy and "EVERY" not in policy
-    said += f", and {'the first window closes at' if is_closing else 'no report is due before'} {told(first)}, so no report can come"
-    yield of_unclosed(place, said, f"write {end}, at {first} or later")
+    said += f", and {'the first window closes at' if is_closing else 'no report is due before'} {told(first)}"
+    yield of_unclosed(place, f"{said}, so no report can come", f"write {end}, at {first} or later")
 
 
 def first_asked(watched, policy):
