@@ -4,7 +4,7 @@ A query has a policy, windows, and the number of the first item that it sees. An
 number is its place in the list of all accepted ones. A content is a list of such numbers.
 """
 from collections import namedtuple
-from math import lcm
+from math import gcd
 
 from query_model import milliseconds
 
@@ -133,7 +133,7 @@ def meetings(window, period, start, to):
     come again behind the least common multiple. So what isn't met within one such round is never met, and what is met is
     met once in each round from there on.
     """
-    first, both = first_closing(window, start), lcm(window.slide, period)
+    first, both = first_closing(window, start), window.slide * period // gcd(window.slide, period)
     round_end = min(to, first + both)
     if window.slide < period:
         met = (at for at in multiples(period, first, round_end) if (at - first) % window.slide == 0)

@@ -21,7 +21,7 @@ import tempfile
 
 TOP = os.path.dirname(os.path.dirname(os.path.realpath(__file__)))
 FOLDER = f"{TOP}/tests/tools"
-SECONDS = 60
+SECONDS = 120
 MARK = re.compile(r"(==|\$|>|<|=|!)(?: (.*))?")
 
 

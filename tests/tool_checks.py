@@ -17,7 +17,7 @@ sys.path.insert(0, f"{TOP}/tools")
 import documents  # noqa: E402
 import model  # noqa: E402
 import tool_cases  # noqa: E402
-from beside import explaining, limits, mistakes, pages, refusals, words  # noqa: E402
+from beside import explaining, limits, mistakes, of_texts, pages, refusals, words  # noqa: E402
 from documents import read  # noqa: E402
 
 EXPECTED = f"{TOP}/tests/tools.expected"
@@ -56,7 +56,7 @@ def fault_of_row(said, folder, output):
             return f"{len(entries)} refusals have {len(found)} findings"
         differing = [one for one in found if isinstance(one, Exception)]
         if differing:
-            return differing[0].args[0].said
+            return differing[0].finding.said
         groups = list(model.groups(model.lines_of(io.BytesIO(read(asked.log))))) if asked.log else None
         pairs = zip(entries, found)
         return next(filter(None, (fault_of_place(entry, finding, asked, groups) for entry, finding in pairs)), None)
@@ -107,8 +107,8 @@ def faults_of_words():
 
 def fault_of_slow_text():
     """A text that the model hasn't read in time gets its place alone."""
-    text, seconds = b"REGISTER RSTREAM <q:o> AS SELECT ?x " + b"SELECT " * 1000, limits.SECONDS
-    limits.SECONDS = 0
+    text, wait = b"REGISTER RSTREAM <q:o> AS SELECT ?x " + b"SELECT " * 1000, limits.MOST_WAIT
+    limits.MOST_WAIT = 0
     try:
         with tempfile.NamedTemporaryFile(prefix="rsp-tool-") as file:
             file.write(text)
@@ -116,8 +116,8 @@ def fault_of_slow_text():
             output = io.BytesIO(b"# refused query 8 Syntax at=36\n")
             (found,) = explaining.explained(words.parsed(["check", file.name]), output)
     finally:
-        limits.SECONDS = seconds
-    return None if (found.place.column, found.said) == (37, explaining.UNREAD) else f"it says {found}"
+        limits.MOST_WAIT = wait
+    return None if (found.place.column, found.said) == (37, of_texts.UNREAD) else f"it says {found}"
 
 
 # ---- the mistakes of QUERIES
@@ -132,7 +132,7 @@ def fault_of_mistake(mistake):
         output = f"# refused query {pages.spans(mistake.line)[0]}\n".encode()
         (found,) = explaining.explained(words.parsed(["check", name]), io.BytesIO(output))
     if isinstance(found, Exception):
-        return found.args[0].said
+        return found.finding.said
     return None if found.write.endswith(f"write instead: {mistake.write}") else f"it says {found.write}"
 
 
@@ -189,7 +189,7 @@ def checks_of_pages():
     names = "unbound having inexact unfed unread unlooked unstored unclosed seconds late explain where-model-and-program-differ"
     for name in names.split():
         yield f"docs/TOOLS.md has a section {name}", None if name in headings else "there is none"
-    for kind in refusals.NAMES.split("|"):
+    for kind in refusals.DETAILS:
         yield f"REPORTS has a sentence of {kind}", None if pages.paragraph(kind)[1] != pages.UNKNOWN else "there is none"
 
 

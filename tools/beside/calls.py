@@ -1,7 +1,8 @@
-"""How both tools are called: their words, `--lines` first of all, and their statuses. What goes wrong is said, without a trace."""
+"""How both tools are called: their words, `--lines` first of all, and their statuses. What goes wrong is said, not traced."""
 import os
 import sys
 
+from .differing import Differs
 from .findings import as_json
 from .inputs import Unreadable, complain, told
 from .words import WrongWords
@@ -40,8 +41,8 @@ def called(tool, usage, work, in_text):
 def written_out(findings, write):
     status = NOTHING
     for found in findings:
-        if isinstance(found, Exception):
-            status, found = DIFFERS, found.args[0]
+        if isinstance(found, Differs):
+            status, found = DIFFERS, found.finding
         sys.stdout.buffer.write(write(found).encode("utf-8", "surrogateescape"))
         sys.stdout.buffer.flush()
         status = max(status, FOUND)

@@ -11,7 +11,7 @@ from .limits import within_limits
 from .places import quoted
 from .texts import looked
 
-MOST_HELD, MOST_QUERIES, MOST_QUADS, MOST_TRIPLES = 1_000_000, 256, 1_000_000, 100_000
+MOST_HELD, MOST_QUERIES, MOST_QUADS = 1_000_000, 256, 1_000_000
 
 # the lines of a directive's block, in words
 Ended = namedtuple("Ended", "how line")

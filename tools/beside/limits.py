@@ -11,7 +11,8 @@ import signal
 import threading
 import time
 
-SECONDS = 10
+# seconds of a processor, and of the clock where that has much else to do
+SECONDS, MOST_WAIT = 10, 60
 STACK, MEMORY = 512 << 20, 4 << 30
 
 
@@ -25,7 +26,7 @@ def within_limits(work, *values):
         work_alone(work, values, writing)
     os.close(writing)
     try:
-        answer = bytes_until(reading, time.monotonic() + SECONDS)
+        answer = bytes_until(reading, time.monotonic() + MOST_WAIT)
     finally:
         os.close(reading)
         os.kill(child, signal.SIGKILL)
@@ -52,6 +53,7 @@ def work_alone(work, values, writing):
     try:
         os.dup2(os.open(os.devnull, os.O_WRONLY), 2)
         resource.setrlimit(resource.RLIMIT_AS, (MEMORY, MEMORY))
+        resource.setrlimit(resource.RLIMIT_CPU, (SECONDS, SECONDS))
         resource.setrlimit(resource.RLIMIT_CORE, (0, 0))
         threading.stack_size(STACK)
         worker = threading.Thread(target=lambda: hand_on(work(*values), writing))

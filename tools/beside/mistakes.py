@@ -9,8 +9,7 @@ from collections import namedtuple
 
 from .limits import within_limits
 from .pages import QUERIES, first_block, page_of, spans, table_rows
-from .stands import in_words
-from .texts import Sign, looked
+from .texts import looked
 
 TEXTS, SHAPES, LEFT_OUT = "When a text is refused", "When a query's shape is refused", "Not in the grammar"
 Mistake = namedtuple("Mistake", "heading mistake line write text")

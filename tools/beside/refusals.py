@@ -14,13 +14,17 @@ Overfull = namedtuple("Overfull", "name time")
 # `check` has found no fault
 Good = namedtuple("Good", "")
 
-NAMES = (
-    "1 BadStatement|2 RelativeIri|3 BadDirective|4 BadBody|5 BlockTooLarge|6 NoTimeLine|7 BadToken|8 Syntax|9 LeftOut|10 Limit|"
-    "11 GraphShape|12 ExistsShape|13 Scope|14 PolicyMix|15 Late|16 NameTaken|17 NoQuery|18 QueriesFull|19 HeldFull|20 StoreFull|"
-    "21 ItemTooLarge|25 StartOverfull"
-)
-KIND = f"(?:{NAMES})"
-DETAILS = r"(?: [a-z]+=[^ ]*)*"
+# each refusal with its details, where `#` is a number
+DETAILS = {
+    "1 BadStatement": "column=#", "2 RelativeIri": "column=#", "3 BadDirective": "", "4 BadBody": "line=#", "5 BlockTooLarge": "",
+    "6 NoTimeLine": "", "7 BadToken": "at=#", "8 Syntax": "at=#", "9 LeftOut": "at=# what=[^ ]+",
+    "10 Limit": "what=(?:text|nesting|windows|span|variables|patterns|operators|elements|rows)", "11 GraphShape": "at=#",
+    "12 ExistsShape": "at=#", "13 Scope": "variable=[^ ]+", "14 PolicyMix": "", "15 Late": "time=# next=#", "16 NameTaken": "",
+    "17 NoQuery": "", "18 QueriesFull": "", "19 HeldFull": "held=#", "20 StoreFull": "quads=#", "21 ItemTooLarge": "triples=#",
+    "25 StartOverfull": "",
+}
+NUMBER = "[0-9]{1,18}"
+FORMS = "|".join(f"{kind} {details}".rstrip() for kind, details in DETAILS.items()).replace("#", NUMBER)
 # no line that matters is longer; a name of a file may have some thousand bytes
 MOST_LINE = 1 << 16
 
@@ -45,16 +49,16 @@ def written(output):
 def told(line):
     """What the line says, or None."""
     text = os.fsdecode(line)
-    found = re.fullmatch(rf"# refused block ([0-9]{{1,18}}) ({KIND}{DETAILS})\n", text)
+    found = re.fullmatch(rf"# refused block ({NUMBER}) ({FORMS})\n", text)
     if found:
         return OfBlock(int(found[1]), found[2])
-    found = re.fullmatch(rf"# refused query ({KIND}{DETAILS})\n", text)
+    found = re.fullmatch(rf"# refused query ({FORMS})\n", text)
     if found:
         return OfQuery(found[1])
-    found = re.fullmatch(rf"# refused file (.*) line ([0-9]{{1,18}}) ({KIND}{DETAILS})\n", text, re.S)
+    found = re.fullmatch(rf"# refused file (.*) line ({NUMBER}) ({FORMS})\n", text, re.S)
     if found:
         return OfLine(found[1], int(found[2]), found[3])
-    found = re.fullmatch(r"# overfull ([A-Za-z0-9_-]{1,64}) ([0-9]{1,18})\n", text)
+    found = re.fullmatch(rf"# overfull ([A-Za-z0-9_-]{{1,64}}) ({NUMBER})\n", text)
     return Overfull(found[1], int(found[2])) if found else None
 
 
@@ -63,7 +67,11 @@ def kind_of(text):
     return " ".join(text.split(" ")[:2])
 
 
+def number_of(text):
+    return int(text.split(" ")[0])
+
+
 def details_of(text):
     """The details of a refusal, by their names; numbers as numbers."""
     pairs = (piece.partition("=") for piece in text.split(" ")[2:])
-    return {name: int(value) if re.fullmatch("[0-9]{1,18}", value) else value for name, _, value in pairs}
+    return {name: int(value) if re.fullmatch(NUMBER, value) else value for name, _, value in pairs}

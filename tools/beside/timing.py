@@ -2,6 +2,7 @@
 import datetime
 
 from policy_model import first_closing
+from query_model import LAST_INSTANT
 
 from .findings import Finding
 from .pages import TOOLS, page_of
@@ -14,7 +15,7 @@ MODERN = 100_000_000_000
 
 def told(time):
     """The instant as a number; one that can be the time of a clock also as a date."""
-    if time < MODERN:
+    if not MODERN <= time <= LAST_INSTANT:
         return str(time)
     date = datetime.datetime(1970, 1, 1) + datetime.timedelta(milliseconds=time)
     return f"{time} ({date.isoformat(timespec='milliseconds')}Z)"
@@ -37,8 +38,9 @@ def unclosed(watched, mode):
     else:
         said = f"time ends at {told(watched.stop - 1)}"
     is_closing = "CLOSE" in policy and "EVERY" not in policy
-    said += f", and {'the first window closes at' if is_closing else 'no report is due before'} {told(first)}, so no report can come"
-    yield of_unclosed(place, said, f"write {end}, at {first} or later")
+    said += f", and {'the first window closes at' if is_closing else 'no report is due before'} {told(first)}"
+    write = f"write {end}, at {first} or later" if first <= LAST_INSTANT else "write shorter windows, or an earlier START"
+    yield of_unclosed(place, f"{said}, so no report can come", write)
 
 
 def first_asked(watched, policy):
