@@ -140,6 +140,8 @@ def builds(room):
     os.remove(room.program)
     yield "a crate that can't be proved", fault(room.run("rsp", ["events"], log, FAILS="all"), b"", 125, told)
     yield "a program that can't be linked", fault(room.run("rsp", ["events"], log, FAILS="run"), b"", 125, told)
+    lacks = room.run("rsp", ["events"], log, PATH="/usr/bin:/bin")
+    yield "a build without a toolchain", fault(lacks, b"", 125, ["rsp: there is no rt on the path"])
     yield "help builds nothing", fault(room.run("rsp", ["--help"]), USAGE, 2, [EVENTS, RUN, CHECK, GEN])
     yield "stale where nothing was built", fault(room.run("rsp", ["events"], log, RSP_STALE="1"), wanted, 0, told)
     yield "a program that is newer than its sources", fault(room.run("rsp", ["events"], log), wanted, 0, [])
