@@ -55,7 +55,8 @@ class Room:
                 file.write(text)
         os.chmod(f"{self.top}/tools/rt", 0o755)
         shutil.copy(program, self.program)
-        self.env = {"PATH": f"{self.top}/tools:{os.environ['PATH']}", "PROGRAM": program}
+        path = f"{self.top}/tools:{os.environ['PATH']}"
+        self.env = {"PATH": path, "PROGRAM": program, "GIT_CEILING_DIRECTORIES": folder}
 
     def without_rt(self):
         """A path with all that the scripts call but `rt`."""
