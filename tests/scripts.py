@@ -55,7 +55,16 @@ class Room:
                 file.write(text)
         os.chmod(f"{self.top}/tools/rt", 0o755)
         shutil.copy(program, self.program)
-        self.env = {"PATH": f"{self.top}/tools:{os.environ['PATH']}", "PROGRAM": program}
+        path = f"{self.top}/tools:{os.environ['PATH']}"
+        self.env = {"PATH": path, "PROGRAM": program, "GIT_CEILING_DIRECTORIES": folder}
+
+    def without_rt(self):
+        """A path with all that the scripts call but `rt`."""
+        os.makedirs(f"{self.top}/bare", exist_ok=True)
+        for name in ("bash", "sh", "dirname", "readlink", "find"):
+            with contextlib.suppress(FileExistsError):
+                os.symlink(shutil.which(name), f"{self.top}/bare/{name}")
+        return f"{self.top}/bare"
 
     def make_stale(self):
         """Makes a source that is newer than the program."""
@@ -140,6 +149,8 @@ def builds(room):
     os.remove(room.program)
     yield "a crate that can't be proved", fault(room.run("rsp", ["events"], log, FAILS="all"), b"", 125, told)
     yield "a program that can't be linked", fault(room.run("rsp", ["events"], log, FAILS="run"), b"", 125, told)
+    lacks = room.run("rsp", ["events"], log, PATH=room.without_rt())
+    yield "a build without a toolchain", fault(lacks, b"", 125, ["rsp: there is no rt on the path"])
     yield "help builds nothing", fault(room.run("rsp", ["--help"]), USAGE, 2, [EVENTS, RUN, CHECK, GEN])
     yield "stale where nothing was built", fault(room.run("rsp", ["events"], log, RSP_STALE="1"), wanted, 0, told)
     yield "a program that is newer than its sources", fault(room.run("rsp", ["events"], log), wanted, 0, [])
@@ -163,8 +174,7 @@ def tries(room):
     yield "an unproved run on files elsewhere", fault(
         room.run("try", beside, folder=example), read(f"{example}/stdout"), 0, says)
     yield "an unproved run on a file that isn't there", fault(room.run("try", ["check", "p.rq"]), b"", 3, says)
-    os.remove(f"{room.top}/tools/rt")
-    lacks = room.run("try", ["events"], log, PATH="/usr/bin:/bin")
+    lacks = room.run("try", ["events"], log, PATH=room.without_rt())
     yield "a try without a toolchain", fault(lacks, b"", 125, ["try: there is no rt on the path"])
 
 
