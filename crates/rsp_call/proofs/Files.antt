@@ -1,5 +1,6 @@
 -- A file that is read behind its pick.
 use Rattle.std.proofs.Common.{◌≡◌, ℕ, ◌+◌, ◌^◌, ◌<◌, ◌≤◌, List, ◌++◌, length, length-append, Result, Ok, Err, Option, Some, None, IfSome, Vec, sym, ◌∙◌, ap, append-nil, true≢false, arith}
+use Rattle.std.specs.Prelude.{IsSomeAnd}
 use Rattle.std.specs.Io.KnownBytes.{Consumes, IsAtEnd}
 use Rattle.rsp_io.specs.Files.{NamedFile, file_named}
 use Rattle.rsp_io.specs.Reading.{given_after}

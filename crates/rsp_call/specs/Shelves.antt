@@ -1,5 +1,5 @@
 -- Definitions: how files are read whole from a shelf, by what contracts see of the shelf before and now.
-use Rattle.std.specs.Prelude.{◌≡◌, ◌⊎◌, ℕ, ◌<◌, ◌≤◌, Bool, IsTrue, Option, Some, None, List, [], ◌∷◌, length}
+use Rattle.std.specs.Prelude.{◌≡◌, ◌⊎◌, ℕ, ◌<◌, ◌≤◌, Bool, IsSomeAnd, IsTrue, Option, Some, None, List, [], ◌∷◌, length}
 use Rattle.std.specs.Option.{IfSome}
 use Rattle.std.specs.Io.KnownBytes.{IsAtEnd}
 use Rattle.rsp_spec.specs.Faults.{Rose}
