@@ -63,14 +63,13 @@ def of_check(words):
 
 def of_run(words):
     text, course = Text(words.query, file_of(words.query)), Course()
+    # as the program, it reads all files before it looks at the text
+    quads, items = recordings.quads_of(words.store) if words.store else [], recordings.merged(words.streams)
     its = looked_at(text.content, text)
     if its is None or its.why:
         return [of_fault(its, text)] if its else []
-    if words.store:
-        quads = recordings.quads_of(words.store)
-        course.insert([quad.fact for quad in quads], [Place(words.store, quad.line, 1) for quad in quads])
+    course.insert([quad.fact for quad in quads], [Place(words.store, quad.line, 1) for quad in quads])
     course.register(b"query", its.query, text)
-    items = recordings.merged(words.streams)
     for item in items:
         places = [Place(item.file, line, 1) for line in item.lines]
         course.item(item.stream, item.time, item.graph, item.is_number, Place(item.file, item.line, 1), places)
