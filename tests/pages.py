@@ -6,7 +6,7 @@ import re
 from documents import TOP, blocks, examples, read
 
 ARCHITECTURE, CHANGING, COMING_FROM = "docs/ARCHITECTURE.md", "docs/CHANGING.md", "docs/COMING-FROM.md"
-DEFINITIONS = "docs/DEFINITIONS.md"
+DEFINITIONS, PROOFS = "docs/DEFINITIONS.md", "docs/PROOFS.md"
 
 
 def text(path):
@@ -70,6 +70,16 @@ def fault_of_crates():
     return wrong and f"{wrong[0]} differs in {sorted(wrong[1] ^ there[wrong[0]])}"
 
 
+def fault_of_proofs():
+    """The crates beside those of tests that a table of what is proved doesn't name, or None."""
+    for column in ("What is proved", "By which call and clause"):
+        named = {name for first, _ in rows(PROOFS, column) for name in quoted(first)}
+        missing = {name for name in below() if not name.endswith("_tests")} - named
+        if missing:
+            return f"no row has {sorted(missing)} under {column}"
+    return None
+
+
 def fault_of_definitions():
     """The files of definitions that DEFINITIONS doesn't name, or None."""
     parts = re.split(r"^(?=#+ )", text(DEFINITIONS), flags=re.M)
@@ -117,5 +127,6 @@ def checks():
         yield f"{page}: links", fault_of_links(page)
     yield f"{ARCHITECTURE}: what crates stand on", fault_of_crates()
     yield f"{DEFINITIONS}: files of definitions", fault_of_definitions()
+    yield f"{PROOFS}: crates", fault_of_proofs()
     yield f"{CHANGING}: files and words", fault_of_places(CHANGING)
     yield f"{COMING_FROM}: what is here", fault_of_fragments()
