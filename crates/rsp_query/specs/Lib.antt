@@ -2,3 +2,4 @@
 pub mod Paths
 pub mod Groups
 pub mod Queries
+pub mod Walks
