@@ -3,10 +3,11 @@ use Rattle.std.specs.Prelude.{Bool, true, false, List, [], ◌∷◌, ◌++◌}
 use Rattle.rsp_query.specs.Groups.{Part, Parts, Groups, triple, optional, minus, union, graph, window, filter, exists, bind, values, sub, no_part, part_then, no_group, group_then, selection}
 
 abbrev mutual
-  -- in the order of the text, a part before those in it, each beside whether it stands at the top of an OPTIONAL's group
+  -- in the order of the text, a part before those in it, each beside whether it stands at the top: of a
+  -- group where its user says so, and of an OPTIONAL's group
   pub parts_within : Bool → Parts → List (Bool × Part)
-  parts_within optionally no_part = []
-  parts_within optionally (part_then part more) = (optionally, part) ∷ (below part ++ parts_within optionally more)
+  parts_within top no_part = []
+  parts_within top (part_then part more) = (top, part) ∷ (below part ++ parts_within top more)
 
   -- those in a part
   pub below : Part → List (Bool × Part)
