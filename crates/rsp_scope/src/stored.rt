@@ -59,7 +59,7 @@ impl Stored {
     ghost use Rattle.std.specs.Prelude.{◌≡◌, ◌<◌, ◌≤◌, ◌+ℤ◌, ℕ, [], take, drop, length, map, IfOk, OnOk, OnErr, IfErr};
     ghost use Rattle.std.specs.List.{IsDistinct};
     ghost use Rattle.rsp_spec.specs.Limits.{most_quads};
-ghost use Rattle.rsp_multiset.specs.Weights.{times, weight, IsChanged, IsSameMultiset};
+    ghost use Rattle.rsp_multiset.specs.Weights.{times, weight, IsChanged, IsSameMultiset};
     ghost use Rattle.rsp_terms.specs.declared.statement.Fact.{Fact};
     ghost use Rattle.rsp_terms.specs.Same.{fact_eq};
     ghost use Rattle.rsp_scope.specs.Quads.{fact_of, stored_with, stored_without};
