@@ -2,6 +2,7 @@
 use Rattle.std.specs.Prelude.{ℕ, ◌+◌, Bool, not, nat_lt, nat_le, if◌then◌else◌, Some, Result, Ok, Err, List, [], ◌∷◌, ◌++◌, length, filter, bytes_eq}
 use Rattle.std.specs.List.{list_any}
 use Rattle.std.specs.Option.{option_map_or}
+use Rattle.rsp_spec.specs.Limits.{most_held, most_quads, most_queries, most_triples}
 use Rattle.rsp_terms.specs.declared.statement.Fact.{Fact}
 use Rattle.rsp_terms.specs.declared.statement.Quad.{Quad}
 use Rattle.rsp_scope.specs.Quads.{stored_with, stored_without}
@@ -16,22 +17,6 @@ use Rattle.rsp_engine.specs.Refusals.{Refusal, held_full, item_too_large, late, 
 use Rattle.rsp_engine.specs.Readings.{reading_of}
 use Rattle.rsp_engine.specs.World.{World, Query, Reading, Registration, next_of, registrations}
 use Rattle.rsp_engine.specs.Kept.{held}
-
--- the most triples of an item, as listed
-abbrev pub most_triples : ℕ
-most_triples = 100000
-
--- the most triples of all items that are kept
-abbrev pub most_held : ℕ
-most_held = 1000000
-
--- the most quads that are stored
-abbrev pub most_quads : ℕ
-most_quads = 1000000
-
--- the most queries that are live at once
-abbrev pub most_queries : ℕ
-most_queries = 256
 
 abbrev pub has_name : List ℕ → Registration → Bool
 has_name name query = bytes_eq query.name name

@@ -2,7 +2,7 @@
 ghost use Rattle.std.specs.Prelude.{◌≡◌, ◌≤◌, ◌<◌, ◌+◌, ◌++◌, ◌∷◌, [], MatchOption, OnOk};
 ghost use Rattle.std.specs.Prelude.{None, Some, false, if◌then◌else◌, length, map, remove, slice_get, unwrap_or};
 ghost use Rattle.std.specs.List.{All, list_any};
-ghost use Rattle.rsp_spec.specs.Windows.{last_instant};
+ghost use Rattle.rsp_spec.specs.Limits.{last_instant, most_queries, most_triples};
 ghost use Rattle.rsp_engine.specs.Accept.{has_name};
 ghost use Rattle.rsp_engine.specs.Inside.{asked, fixed, live_of};
 ghost use Rattle.rsp_engine.specs.Left.{IsFirstLeft};
@@ -22,17 +22,12 @@ use rsp_events::Event;
 use rsp_query::Query;
 use rsp_report::Chosen;
 use rsp_scope::{StoreLog, Stored, StoredFault, Streams};
+use rsp_spec::limits::{MOST_QUERIES, MOST_TRIPLES};
 use rsp_steps::Steps;
 use rsp_terms::{Listed, Quad, Text, Triple};
 use std::alloc::{AllocError, Global};
 use std::marker::Model;
 use std::sync::ledger::Ledger;
-
-// The most queries that are live at once.
-const MOST_QUERIES: usize = 256;
-
-// The most triples of an item, as listed.
-const MOST_TRIPLES: u64 = 100_000;
 
 /// Takes events, one at a time, and gives the reports of each.
 #[derive(Drop)]
@@ -77,7 +72,7 @@ impl<A: Answer> Engine<A> {
     ghost use Rattle.std.specs.Prelude.{IsTrue, MatchOption, Ok, OnOk, OnErr, Some, IfErr, IfOk, length, slice_get};
     ghost use Rattle.std.specs.List.{All, list_any};
     ghost use Rattle.std.specs.Option.{is_some, option_map_or};
-    ghost use Rattle.rsp_spec.specs.Windows.{last_instant};
+    ghost use Rattle.rsp_spec.specs.Limits.{last_instant};
     ghost use Rattle.rsp_terms.specs.declared.statement.Triple.{Triple};
     ghost use Rattle.rsp_syntax.specs.Deciding.{parse};
     ghost use Rattle.rsp_syntax.specs.Periods.{HasPeriods};
@@ -279,7 +274,7 @@ impl<A: Answer> Engine<A> {
         requires idle { IsTrue (is_idle self.old) }
         requires ready { self.old.broken ≡ false }
         requires free { list_any (has_name name) (registrations_in self.old) ≡ false }
-        requires few { length self.old.queries < 256 }
+        requires few { length self.old.queries < most_queries }
         requires policy { policy ≡ choice_of (registered query.now).policy }
         requires unmixed { is_mixed (registered query.now).policy ≡ false }
         requires asked { IsPolicy policy }
@@ -452,7 +447,7 @@ impl<A: Answer> Engine<A> {
 
     // how many triples would be kept with the next item, where that is more than can be; an item that no window needs adds none
     fn too_many(&self, end: Option<u64>, time: u64, triples: u64) -> Option<u64>
-        requires few { triples ≤ 100000 }
+        requires few { triples ≤ most_triples }
         ensures { result ≡ option_map_or (λ _. excess self.now.kept time triples) end None }
     {
         match end {

@@ -1,11 +1,12 @@
 -- Definitions: the blocks of a whole text.
 use Rattle.std.specs.Prelude.{ℕ, zero, suc, ◌+◌, Bool, true, ◌||◌, not, nat_lt, if◌then◌else◌, List, [], ◌∷◌, length, filter, map}
 use Rattle.std.specs.List.{list_any}
+use Rattle.rsp_spec.specs.Limits.{most_block_bytes}
 use Rattle.rsp_events.specs.declared.event.Content.{Content}
 use Rattle.rsp_events.specs.declared.event.Content.TheVariants.{Fault}
 use Rattle.rsp_events.specs.declared.event.BlockFault.TheVariants.{BlockTooLarge}
 use Rattle.rsp_events.specs.declared.event.Block.{Block}
-use Rattle.rsp_events.specs.Lines.{Line, log_lines, text_of, sizes_of, most_bytes, passes, begins_body, ends_body}
+use Rattle.rsp_events.specs.Lines.{Line, log_lines, text_of, sizes_of, passes, begins_body, ends_body}
 use Rattle.rsp_events.specs.Contents.{content_of_texts}
 
 -- ---- groups of lines, one for each block
@@ -56,7 +57,7 @@ ended_lines bytes = filter (λ (line : Line). line.ended) (log_lines bytes)
 abbrev pub content_of : ℕ → List Line → Content
 content_of document [] = Fault BlockTooLarge
 content_of document (head ∷ body) =
-    if nat_lt most_bytes (sizes_of (head ∷ body))
+    if nat_lt most_block_bytes (sizes_of (head ∷ body))
     then Fault BlockTooLarge
     else content_of_texts document head.number (map text_of (head ∷ body))
 
