@@ -3,7 +3,6 @@ use Rattle.std.proofs.Common.{◌≡◌, ◌∙◌, ℕ, Bool, true, false, not,
 use Rattle.std.specs.Bool.{then_some}
 use Rattle.std.specs.List.{list_all}
 use Rattle.std.specs.Option.{option_or}
-use Rattle.rsp_spec.proofs.Truths.{and_left, and_right}
 use Rattle.rsp_expr.specs.Errors.{first_value}
 use Rattle.rsp_expr.specs.declared.slot.Slot.TheVariants.{Variable, Constant}
 use Rattle.rsp_query.specs.Groups.{Part, Parts, Groups, Selection, triple, optional, minus, union, graph, window, filter, exists, bind, values, sub, no_part, part_then, no_group, group_then, selection}
@@ -12,6 +11,14 @@ use Rattle.rsp_shapes.specs.Shapes.{is_among, is_triple, has_just_triples, graph
 use Rattle.rsp_shapes.specs.Walking as walking
 
 -- ---- the first value of two lists, and tests of two
+
+and_left : (a b : Bool) → (a && b) ≡ true → a ≡ true
+and_left true b is = refl
+and_left false b is = is
+
+and_right : (a b : Bool) → (a && b) ≡ true → b ≡ true
+and_right true b is = is
+and_right false b is = absurd (cc)
 
 
 first : (o : Option ℕ) (rest : List (Option ℕ)) → first_value (o ∷ rest) ≡ option_or o (first_value rest)

@@ -1,7 +1,9 @@
 // Windows and graphs that are of no shape that can be translated.
 ghost use Rattle.std.specs.Prelude.{◌≡◌, not, [], map};
 ghost use Rattle.std.specs.Bool.{then_some};
-ghost use Rattle.rsp_query.specs.Groups.{groups_in, parts_in};
+ghost use Rattle.rsp_expr.specs.Errors.{first_value};
+ghost use Rattle.rsp_query.specs.Walks.{below};
+ghost use Rattle.rsp_query.specs.Groups.{sub, groups_in, parts_in};
 ghost use Rattle.rsp_query.specs.Meanings.{part_of, selection_of, registered};
 ghost use Rattle.rsp_shapes.specs.Seeing.{branches_of};
 ghost use Rattle.rsp_shapes.specs.Shapes as shapes;
@@ -142,6 +144,12 @@ fn fault_of(windows: &[WindowClause], select: &Select) -> Option<usize>
     fault_in(windows, &select.body)
 }
 
+fn first_fault(windows: &[WindowClause], select: &Select) -> Option<usize>
+    ensures { result ≡ first_value (map (λ p. shapes.graph_fault (shapes.declared windows.now) p.1) (below (sub (selection_of select.now)))) }
+{
+    fault_of(windows, select)
+}
+
 /// The first place in a query's text where WINDOW, GRAPH or a window's name is of no shape that can be translated, in bytes.
 pub fn graph_shape(query: &Query) -> Option<usize>
     ensures { result ≡ shapes.graph_shape (registered query.now) }
@@ -149,5 +157,5 @@ pub fn graph_shape(query: &Query) -> Option<usize>
     if let Some(at) = repeated_window(&query.windows) {
         return Some(at);
     }
-    fault_of(&query.windows, &query.select)
+    first_fault(&query.windows, &query.select)
 }
