@@ -1,5 +1,6 @@
 -- The tree that is built part by part is the tree of the group's clauses.
-use Rattle.std.proofs.Common.{◌≡◌, ◌∙◌, ℕ, ◌+◌, Bool, true, false, cond, List, [], ◌∷◌, ◌++◌, map, refl, sym, ap, arith, Option, Some, None}
+use Rattle.std.proofs.Common.{◌≡◌, ◌∙◌, ℕ, ◌+◌, Bool, true, false, cond, List, [], ◌∷◌, ◌++◌, map, refl, sym, ap, arith, Option, Some, None, Result, Ok, Err}
+use Rattle.std.specs.Prelude.{IfOk}
 use Rattle.std.specs.List.{fold}
 use Rattle.rsp_expr.specs.Formulas.{Formula, formulas_in, conjunction}
 use Rattle.rsp_query.specs.Groups.{Part, Parts, Groups, Selection, triple, optional, minus, union, graph, window, filter, exists, bind, values, sub, no_part, part_then, no_group, group_then, selection}
@@ -22,16 +23,16 @@ use Rattle.rsp_translation.proofs.Building.{tests_parts}
 mutual
   part_slashes : (part : Part) → begun.slashes_of part ≡ own_slashes part + counted_below own_slashes part
   part_slashes (triple subject verb object) = omega arith
-  part_slashes (optional body) = group_slashes body
-  part_slashes (minus body) = group_slashes body
-  part_slashes (union groups) = groups_slashes groups
-  part_slashes (graph name at body) = group_slashes body
-  part_slashes (window name at body) = group_slashes body
-  part_slashes (filter condition) = refl
-  part_slashes (exists negated at body) = group_slashes body
-  part_slashes (bind v formula) = refl
-  part_slashes (values variables rows) = refl
-  part_slashes (sub (selection distinct star items body grouped keys having aggregates)) = group_slashes body
+  part_slashes (optional body) = let inner = group_slashes body in omega (arith, inner)
+  part_slashes (minus body) = let inner = group_slashes body in omega (arith, inner)
+  part_slashes (union groups) = let inner = groups_slashes groups in omega (arith, inner)
+  part_slashes (graph name at body) = let inner = group_slashes body in omega (arith, inner)
+  part_slashes (window name at body) = let inner = group_slashes body in omega (arith, inner)
+  part_slashes (filter formula) = omega arith
+  part_slashes (exists negated at body) = let inner = group_slashes body in omega (arith, inner)
+  part_slashes (bind v formula) = omega arith
+  part_slashes (values variables rows) = omega arith
+  part_slashes (sub (selection distinct star items body grouped keys having aggregates)) = let inner = group_slashes body in omega (arith, inner)
 
   group_slashes : (body : Parts) → begun.slashes_in body ≡ counted_group own_slashes body
   group_slashes no_part = refl
@@ -61,7 +62,7 @@ slashes_are body = counted_is own_slashes body ∙ sym (group_slashes body)
 
 -- ---- runs
 
-run_of : List Node → Option Node
+abbrev run_of : List Node → Option Node
 run_of [] = None
 run_of (first ∷ others) = Some (fold node.join first others)
 
@@ -163,7 +164,7 @@ mutual
       elements_are s at (fresh + alone (filter formula)) tree run tests more
       ∙ next s at fresh (filter formula) more (so_far tree run tests)
   elements_are s at fresh tree run tests (part_then (exists negated word body) more) =
-      let test = record {
+      let test : Test = record {
         negated = negated;
         tree = begun.closed (begun.with_parts s at fresh begun.nothing body);
         condition = begun.condition_of body;
@@ -257,3 +258,7 @@ mutual
 pub group_is : (s : Setting) (at : Place) (fresh : ℕ) (body : Parts) → group (clauses s at fresh body) ≡ begun.group_node s at fresh body
 group_is s at fresh body =
     whole s at fresh body (elements_are s at fresh node.unit [] [] body) (λ t. tests_are s at fresh t body)
+
+pub if_ok : {A E : Type 0} (r : Result A E) (P Q : A → Type 0) → ((x : A) → P x → Q x) → IfOk r P → IfOk r Q
+if_ok (Ok x) P Q to h = to x h
+if_ok (Err e) P Q to h = tt
