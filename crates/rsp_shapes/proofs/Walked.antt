@@ -20,7 +20,6 @@ and_right : (a b : Bool) → (a && b) ≡ true → b ≡ true
 and_right true b is = is
 and_right false b is = absurd (cc)
 
-
 first : (o : Option ℕ) (rest : List (Option ℕ)) → first_value (o ∷ rest) ≡ option_or o (first_value rest)
 first None rest = refl
 first (Some x) rest = refl
@@ -262,8 +261,10 @@ test_of : (top : Bool) (body : Parts) (at : ℕ) (test : Bool) → test ≡ can_
     ≡ option_or (then_some (top || not (can_be_tested body)) at) (first_value (map exists_fault (parts_within false body)))
 test_of true body at test is = refl
 test_of false body at true is =
-    rw (sym is,
-    no_fault_in_tested (parts_within false body) (sym (first_wherever body) ∙ like_all (parts_within true body) (sym is))) refl
+    rw (
+      sym is,
+      no_fault_in_tested (parts_within false body) (sym (first_wherever body) ∙ like_all (parts_within true body) (sym is)),
+    ) refl
 test_of false body at false is = rw (sym is) refl
 
 mutual

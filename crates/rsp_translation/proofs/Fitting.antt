@@ -362,7 +362,7 @@ pub placed : (q : Registered) (made : Translated) → IsSound q → IsTranslated
 placed q made sound is =
     let counted = alone_is (sub q.selection) in
     record {
-  tree = rw (is.width, is.tree, select_is (setting_of q) place.Default (length q.variables) q.selection)
-      (select_fits (length q.variables) (width_of q) (omega arith) (setting_of q) refl refl place.Default tt (length q.variables) q.selection sound (omega (arith, counted)));
-  shown = rw (is.width, is.shown) (projected_below (length q.variables) (width_of q) (omega arith) q.variables refl q.selection sound);
-}
+      tree = rw (is.width, is.tree, select_is (setting_of q) place.Default (length q.variables) q.selection)
+          (select_fits (length q.variables) (width_of q) (omega arith) (setting_of q) refl refl place.Default tt (length q.variables) q.selection sound (omega (arith, counted)));
+      shown = rw (is.width, is.shown) (projected_below (length q.variables) (width_of q) (omega arith) q.variables refl q.selection sound);
+    }
