@@ -1,6 +1,7 @@
 // The first fault of a query's file.
 ghost use Rattle.std.specs.Prelude.{◌≡◌, IfOk, MatchResult, None, Result};
-ghost use Rattle.rsp_query.specs.Queries.{Registered, registered};
+ghost use Rattle.rsp_query.specs.Queries.{Registered};
+ghost use Rattle.rsp_query.specs.Meanings.{registered};
 ghost use Rattle.rsp_syntax.specs.Answers.{IsParsed};
 ghost use Rattle.rsp_syntax.specs.Deciding.{parse};
 ghost use Rattle.rsp_syntax.specs.declared.fault.SyntaxFault as fault;

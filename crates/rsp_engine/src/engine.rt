@@ -76,7 +76,7 @@ impl<A: Answer> Engine<A> {
     ghost use Rattle.rsp_terms.specs.declared.statement.Triple.{Triple};
     ghost use Rattle.rsp_syntax.specs.Deciding.{parse};
     ghost use Rattle.rsp_syntax.specs.Periods.{HasPeriods};
-    ghost use Rattle.rsp_query.specs.Queries.{registered};
+    ghost use Rattle.rsp_query.specs.Meanings.{registered};
     ghost use Rattle.rsp_report.specs.Policies.{choice_of, is_mixed};
     ghost use Rattle.rsp_algebra.specs.Fitting.{IsPlaced};
     ghost use Rattle.rsp_shapes.specs.Sound.{IsSound};

@@ -3,7 +3,8 @@ ghost use Rattle.std.specs.Prelude.{◌≡◌, [], List, IfErr, IfOk, IfSome, Ma
 ghost use Rattle.std.specs.Prelude.{false, length, map, true, ℕ};
 ghost use Rattle.std.specs.List.{All};
 ghost use Rattle.rsp_report.specs.Policies.{choice_of, is_mixed};
-ghost use Rattle.rsp_query.specs.Queries.{Registered, registered};
+ghost use Rattle.rsp_query.specs.Queries.{Registered};
+ghost use Rattle.rsp_query.specs.Meanings.{registered};
 ghost use Rattle.rsp_algebra.specs.Nodes.{node_of};
 ghost use Rattle.rsp_algebra.specs.Fitting.{IsPlaced};
 ghost use Rattle.rsp_shapes.specs.Sound.{IsSound};

@@ -1,8 +1,8 @@
 // Windows and graphs that are of no shape that can be translated.
 ghost use Rattle.std.specs.Prelude.{◌≡◌, not, [], map};
 ghost use Rattle.std.specs.Bool.{then_some};
-ghost use Rattle.rsp_query.specs.Groups.{groups_in, part_of, parts_in, selection_of};
-ghost use Rattle.rsp_query.specs.Queries.{registered};
+ghost use Rattle.rsp_query.specs.Groups.{groups_in, parts_in};
+ghost use Rattle.rsp_query.specs.Meanings.{part_of, selection_of, registered};
 ghost use Rattle.rsp_shapes.specs.Seeing.{branches_of};
 ghost use Rattle.rsp_shapes.specs.Shapes as shapes;
 

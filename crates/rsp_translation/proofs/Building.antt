@@ -3,7 +3,8 @@ use Rattle.std.proofs.Common.{◌≡◌, ℕ, ◌+◌, ◌<◌, List, [], ◌∷
 use Rattle.std.specs.List.{fold}
 use Rattle.std.proofs.lemmas.List.{at_drop_more}
 use Rattle.rsp_query.specs.declared.select.Element.{Element}
-use Rattle.rsp_query.specs.Groups.{Part, Parts, triple, optional, minus, union, graph, window, filter, exists, bind, values, sub, no_part, part_then, part_of, parts_in}
+use Rattle.rsp_query.specs.Groups.{Part, Parts, triple, optional, minus, union, graph, window, filter, exists, bind, values, sub, no_part, part_then, parts_in}
+use Rattle.rsp_query.specs.Meanings.{part_of}
 use Rattle.rsp_algebra.specs.declared.tree.Place.{Place}
 use Rattle.rsp_algebra.specs.Nodes.{Node}
 use Rattle.rsp_translation.specs.Building.{bare, tests_of, tests_in}

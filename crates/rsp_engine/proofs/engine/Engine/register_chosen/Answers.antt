@@ -1,4 +1,4 @@
-use Rattle.rsp_query.specs.Queries.{registered}
+use Rattle.rsp_query.specs.Meanings.{registered}
 use Rattle.rsp_engine.proofs.Offering.{full_refuses}
 use Rattle.rsp_engine.proofs.engine.Engine.register_chosen.Goals as goal
 

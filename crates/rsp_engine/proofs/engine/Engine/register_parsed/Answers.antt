@@ -1,5 +1,5 @@
 use Rattle.std.proofs.Common.{◌∙◌, ap}
-use Rattle.rsp_query.specs.Queries.{registered}
+use Rattle.rsp_query.specs.Meanings.{registered}
 use Rattle.rsp_engine.specs.Refusals.{text_fault}
 use Rattle.rsp_engine.specs.Stands.{State}
 use Rattle.rsp_engine.proofs.Offering.{breaks, faulty_refuses, shape_is}
