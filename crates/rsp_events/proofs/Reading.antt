@@ -12,9 +12,9 @@ use Rattle.rsp_events.specs.declared.begun.HeldLine.{HeldLine}
 use Rattle.rsp_events.specs.declared.blocks.Place.{Place}
 use Rattle.rsp_events.specs.declared.blocks.Place.TheVariants.{Passed, Inside, Last}
 use Rattle.rsp_events.specs.Lines.{Line, log_lines}
-use Rattle.rsp_events.specs.Begun.{IsInLine, ending_of, begun_block_of, begun_line_of, held_line_of, begun_group, begun_line}
+use Rattle.rsp_events.specs.Begun.{IsInLine, ending_of, begun_block_of, begun_line_of, held_line_of, begun_group, begun_line, whole_groups}
 use Rattle.rsp_events.specs.Reader.{Reader, HasRead}
-use Rattle.rsp_events.specs.Blocks.{blocks, content_of, ended_lines, groups, numbered_from, whole_blocks, whole_groups}
+use Rattle.rsp_events.specs.Blocks.{blocks, content_of, ended_lines, groups, numbered_from, whole_blocks}
 use Rattle.rsp_events.specs.Instants.{AllTimed}
 use Rattle.rsp_events.specs.Steps.{Reads, TakesLine, begun_at, begun_groups, closed_at, place_of}
 use Rattle.rsp_events.proofs.Cutting.{begun_from, begun_from-append, begun_line_is, ended_from, ended_from-append, ended_lines_are, lines_are, unless_empty}

@@ -19,6 +19,10 @@ use Rattle.rsp_events.specs.Lines.{Line, is_end, is_long, parts, size_of, sizes_
 abbrev pub IsInLine : List ℕ → Type 0
 IsInLine bytes = AllByRecursion (λ b. b ≢ 10) bytes
 
+-- the groups that lack nothing
+abbrev pub whole_groups : List Line → List (List Line)
+whole_groups lines = filter is_whole (groups lines)
+
 -- the lines of the group that lacks its `@end`; it is the last
 abbrev pub begun_group : List Line → List Line
 begun_group lines = flat_map (λ group. group) (filter (λ group. not (is_whole group)) (groups lines))
