@@ -2,7 +2,7 @@
 use Rattle.std.specs.Prelude.{ℕ, suc, ◌+◌, ◌-◌, Bool, true, ◌&&◌, cond, nat_lt, nat_le, List, Option, None, Some, length, sum_by, unwrap_or}
 use Rattle.std.specs.List.{list_all}
 use Rattle.std.specs.Option.{option_to_list}
-use Rattle.rsp_spec.specs.Windows.{last_instant}
+use Rattle.rsp_spec.specs.Limits.{last_instant}
 use Rattle.rsp_query.specs.Paths.{Way, Ways}
 use Rattle.rsp_query.specs.Paths as path
 use Rattle.rsp_query.specs.Groups as query

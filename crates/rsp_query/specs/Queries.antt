@@ -1,6 +1,6 @@
 -- Definitions: queries as plain data.
 use Rattle.std.specs.Prelude.{ℕ, List}
-use Rattle.rsp_streams_out.specs.declared.operator.Operator.{Operator}
+use Rattle.rsp_report.specs.declared.operator.Operator.{Operator}
 use Rattle.rsp_report.specs.declared.words.PolicyWords.{PolicyWords}
 use Rattle.rsp_query.specs.declared.query.WindowClause.{WindowClause}
 use Rattle.rsp_query.specs.Groups.{Selection}
