@@ -1,6 +1,6 @@
 // The datatypes that expressions know.
 ghost use Rattle.std.specs.Prelude.{◌≡◌};
-ghost use Rattle.rsp_expr.specs.Datatypes.{type_in, unsigned_types, whole_types, other_types, datatype_of, bounds_of};
+ghost use Rattle.rsp_expr.specs.CodeTypes.{type_in, unsigned_types, whole_types, other_types, datatype_of, bounds_of};
 
 use rsp_expr::{Datatype, WholeType};
 use rsp_terms::XSD_STRING;

@@ -3,7 +3,8 @@ ghost use Rattle.std.specs.Prelude.{◌≡◌, ◌≤◌, ◌^◌, Bool, true, m
 ghost use Rattle.rsp_number.specs.Decimals.{with_sign};
 ghost use Rattle.rsp_number.specs.Texts.{is_negative, without_sign, are_digits, number_after, has_integer_form};
 ghost use Rattle.rsp_number.specs.declared.number.Number.TheVariants as number;
-ghost use Rattle.rsp_expr.specs.Datatypes.{is_at_least, is_at_most, is_in_range, bounds_of};
+ghost use Rattle.rsp_expr.specs.Datatypes.{is_at_least, is_at_most, is_in_range};
+ghost use Rattle.rsp_expr.specs.CodeTypes.{bounds_of};
 ghost use Rattle.rsp_expr.specs.Forms.{reading_map, value_in, whole_number, whole_reading, numeric_reading, number_of};
 
 use crate::datatypes::{datatype_of, greatest_of, least_of};

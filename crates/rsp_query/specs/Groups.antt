@@ -3,7 +3,8 @@ use Rattle.std.specs.Prelude.{ℕ, Bool, List, [], ◌∷◌, Option, map}
 use Rattle.rsp_terms.specs.declared.term.Term.{Term}
 use Rattle.rsp_expr.specs.declared.slot.Slot.{Slot}
 use Rattle.rsp_expr.specs.declared.aggregate.Aggregate.{Aggregate}
-use Rattle.rsp_expr.specs.Formulas.{Formula, formula_of, maybe_formula, Aggregation, aggregation_of}
+use Rattle.rsp_expr.specs.Formulas.{Formula, Aggregation}
+use Rattle.rsp_expr.specs.Meanings.{formula_of, maybe_formula, aggregation_of}
 use Rattle.rsp_query.specs.Paths.{Way, way_of}
 use Rattle.rsp_query.specs.declared.select.SelectItem.{SelectItem}
 use Rattle.rsp_query.specs.declared.select.Element.{Element}

@@ -5,7 +5,7 @@ use Rattle.std.proofs.Common.{ap, ◌∙◌, arith, get_or}
 use Rattle.rsp_multiset.specs.Rows.{Cells}
 use Rattle.rsp_terms.specs.declared.term.Term.{Term}
 use Rattle.rsp_expr.specs.Errors.{all_values}
-use Rattle.rsp_expr.specs.Formulas.{formula_of}
+use Rattle.rsp_expr.specs.Meanings.{formula_of}
 use Rattle.rsp_expr.specs.Functions.{binary_value, ternary_value, value_by_number}
 use Rattle.rsp_expr.specs.Values.{value}
 use Rattle.rsp_expr.specs.declared.expression.Expression.{Expression}

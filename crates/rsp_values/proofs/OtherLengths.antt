@@ -8,7 +8,7 @@ use Rattle.rsp_expr.specs.Booleans.{logical_or}
 use Rattle.rsp_expr.specs.Comparing.{member_truth}
 use Rattle.rsp_expr.specs.Errors.{all_values}
 use Rattle.rsp_expr.specs.Functions.{if_value, value_by_number}
-use Rattle.rsp_expr.specs.Formulas.{formula_of}
+use Rattle.rsp_expr.specs.Meanings.{formula_of}
 use Rattle.rsp_values.specs.Parts.{argument_values}
 use Rattle.rsp_expr.specs.Values.{value}
 use Rattle.rsp_expr.specs.declared.expression.Expression.{Expression}

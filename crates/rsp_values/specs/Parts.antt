@@ -2,7 +2,8 @@
 use Rattle.std.specs.Prelude.{Bool, not, cond, Option, Some, None, List, map}
 use Rattle.rsp_terms.specs.declared.term.Term.{Term}
 use Rattle.rsp_expr.specs.Booleans.{logical_or, logical_and, disjunction_of, conjunction_of}
-use Rattle.rsp_expr.specs.Formulas.{formulas_in, formula_of}
+use Rattle.rsp_expr.specs.Formulas.{formulas_in}
+use Rattle.rsp_expr.specs.Meanings.{formula_of}
 use Rattle.rsp_expr.specs.Values.{values}
 use Rattle.rsp_expr.specs.declared.expression.Expression.{Expression}
 use Rattle.rsp_multiset.specs.Rows.{Cells}

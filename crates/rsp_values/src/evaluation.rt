@@ -4,7 +4,7 @@ ghost use Rattle.std.specs.Option.{option_and_then};
 ghost use Rattle.rsp_expr.specs.Booleans.{truth_of, boolean_result};
 ghost use Rattle.rsp_expr.specs.Comparing as comparing;
 ghost use Rattle.rsp_expr.specs.Errors.{value_of_both, all_values, first_value};
-ghost use Rattle.rsp_expr.specs.Formulas.{formula_of};
+ghost use Rattle.rsp_expr.specs.Meanings.{formula_of};
 ghost use Rattle.rsp_expr.specs.Functions as functions;
 ghost use Rattle.rsp_expr.specs.Values.{value, truth as passes};
 ghost use Rattle.rsp_operands.specs.Operands.{term_for, value_for};

@@ -1,6 +1,6 @@
 use Rattle.std.proofs.Common.{rules, arith, ◌≡◌, ◌∙◌, Some}
 use Rattle.std.proofs.lemmas.Result.{IfOk-weaker}
-use Rattle.rsp_expr.specs.Formulas.{formula_of}
+use Rattle.rsp_expr.specs.Meanings.{formula_of}
 use Rattle.rsp_expr.specs.Values.{value}
 use Rattle.rsp_operands.specs.Operands.{term_for, value_for}
 use Rattle.rsp_values.specs.Parts.{both_values, terms_for}
