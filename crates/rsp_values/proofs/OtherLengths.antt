@@ -1,12 +1,14 @@
 -- Lists of arguments of other lengths than a function takes.
 use Rattle.std.specs.Prelude.{◌≡◌, ◌≤◌, ◌==◌, false, Option, Some, None, List, [], ◌∷◌, length, refl}
 use Rattle.std.specs.Option.{option_map, option_and_then}
-use Rattle.std.proofs.Common.{ap, sym, true≢false, arith}
+use Rattle.std.proofs.Common.{ap, sym, ◌∙◌, true≢false, arith}
 use Rattle.rsp_multiset.specs.Rows.{Cells}
 use Rattle.rsp_terms.specs.declared.term.Term.{Term}
 use Rattle.rsp_expr.specs.Errors.{all_values}
 use Rattle.rsp_expr.specs.Functions.{function_value}
 use Rattle.rsp_expr.specs.Meanings.{formula_of}
+use Rattle.rsp_expr.specs.Comparing.{member_truth}
+use Rattle.rsp_values.proofs.Connectives.{member_is}
 use Rattle.rsp_values.specs.Parts.{argument_values, logical_or, membership_of, if_value}
 use Rattle.rsp_expr.specs.Values.{value}
 use Rattle.rsp_expr.specs.declared.expression.Expression.{Expression}
@@ -18,9 +20,11 @@ all_errors : (values : List (Option Term)) (value : Option Term) → membership_
 all_errors [] value = refl
 all_errors (next ∷ values) value = ap (λ rest. logical_or None rest) (all_errors values next)
 
-pub no_item : (list : List Expression) (row : Cells Term) → false ≡ (length list == 0) → None ≡ membership_of None (argument_values list row)
+pub no_item : (list : List Expression) (row : Cells Term) → false ≡ (length list == 0) → None ≡ member_truth None (argument_values list row)
 no_item [] row some = absurd (true≢false (sym some))
-no_item (first ∷ others) row some = sym (all_errors (argument_values others row) (value (formula_of first) row))
+no_item (first ∷ others) row some =
+    sym (all_errors (argument_values others row) (value (formula_of first) row))
+    ∙ member_is None (argument_values (first ∷ others) row)
 
 -- more than three arguments
 pub choice_of_many : (arguments : List Expression) (row : Cells Term) → 4 ≤ length arguments

@@ -1,7 +1,7 @@
 -- Words of the way: the values of a node's parts, taken one by one.
 use Rattle.std.specs.Prelude.{Bool, true, false, not, cond, Option, Some, None, List, [], ◌∷◌, map}
 use Rattle.rsp_terms.specs.declared.term.Term.{Term}
-use Rattle.rsp_expr.specs.Booleans.{truth_of}
+use Rattle.rsp_expr.specs.Booleans.{truth_of, disjunction_of, conjunction_of}
 use Rattle.rsp_expr.specs.Comparing.{equality}
 use Rattle.rsp_expr.specs.Errors.{value_of_both}
 use Rattle.rsp_expr.specs.Formulas.{formulas_in}
@@ -57,9 +57,12 @@ abbrev pub all_of : List (Option Bool) → Option Bool
 all_of [] = Some true
 all_of (part ∷ parts) = logical_and part (all_of parts)
 
--- `||` or `&&`, by the value that decides it
+-- `||` or `&&`, by the value that decides it, and the same part by part
 abbrev pub connective : Bool → List (Option Bool) → Option Bool
-connective deciding parts = cond deciding (either_of parts) (all_of parts)
+connective deciding parts = cond deciding (disjunction_of parts) (conjunction_of parts)
+
+abbrev pub connected : Bool → List (Option Bool) → Option Bool
+connected deciding parts = cond deciding (either_of parts) (all_of parts)
 
 -- IN
 abbrev pub membership_of : Option Term → List (Option Term) → Option Bool

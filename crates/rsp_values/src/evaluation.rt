@@ -8,7 +8,7 @@ ghost use Rattle.rsp_expr.specs.Meanings.{formula_of};
 ghost use Rattle.rsp_expr.specs.Functions as functions;
 ghost use Rattle.rsp_expr.specs.Values.{value, truth as passes};
 ghost use Rattle.rsp_operands.specs.Operands.{term_for, value_for};
-ghost use Rattle.rsp_values.specs.Parts.{argument_values, both_values, terms_for, connective, membership_of, if_value};
+ghost use Rattle.rsp_values.specs.Parts.{argument_values, both_values, terms_for, connective, if_value};
 
 use crate::nodes;
 use crate::nodes::{
@@ -156,7 +156,7 @@ fn among(
     row: &[Option<Term>],
 ) -> Result<Option<bool>, AllocError>
     ensures { IfOk result (λ truth. truth
-        ≡ membership_of (Some (term_for item.now)) (argument_values list.now row.now)) }
+        ≡ comparing.member_truth (Some (term_for item.now)) (argument_values list.now row.now)) }
 {
     let mut erred = false;
     for other in list {

@@ -9,7 +9,7 @@ ghost use Rattle.rsp_expr.specs.Functions as functions;
 ghost use Rattle.rsp_expr.specs.Values.{cell};
 ghost use Rattle.rsp_operands.specs.Operands as operands;
 ghost use Rattle.rsp_operands.specs.Operands.{term_for, value_for};
-ghost use Rattle.rsp_values.specs.Parts.{terms_for, of_two, of_third, undecided, argument_values, membership_of};
+ghost use Rattle.rsp_values.specs.Parts.{terms_for, of_two, of_third, undecided, argument_values};
 ghost use Rattle.rsp_multiset.specs.Rows.{Cells};
 ghost use Rattle.rsp_terms.specs.declared.term.Term.{Term};
 
@@ -123,7 +123,7 @@ pub(crate) fn membership(negated: bool, truth: Option<bool>) -> Option<Operand>
 
 /// IN of an error.
 pub(crate) fn without_item(list: &[Expression]) -> Option<bool>
-    ensures { (row : Cells Term) → result ≡ membership_of None (argument_values list.now row) }
+    ensures { (row : Cells Term) → result ≡ comparing.member_truth None (argument_values list.now row) }
 {
     if list.is_empty() { Some(false) } else { None }
 }
