@@ -4,7 +4,8 @@ use Rattle.std.specs.List.{fold}
 use Rattle.rsp_multiset.specs.Rows.{Cells}
 use Rattle.rsp_terms.specs.declared.term.Term.{Term}
 use Rattle.rsp_expr.specs.Formulas as formula
-use Rattle.rsp_expr.specs.Formulas.{Formula, Formulas, no_formula, formula_then, formula_of, Aggregation, aggregation_of}
+use Rattle.rsp_expr.specs.Formulas.{Formula, Formulas, no_formula, formula_then, Aggregation}
+use Rattle.rsp_expr.specs.Meanings.{formula_of, aggregation_of}
 use Rattle.rsp_expr.specs.declared.aggregate.Aggregate.{Aggregate}
 use Rattle.rsp_expr.specs.declared.slot.Slot.{Slot}
 use Rattle.rsp_expr.specs.declared.slot.Slot.TheVariants.{Variable, Constant}

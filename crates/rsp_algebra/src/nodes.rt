@@ -1,6 +1,6 @@
 //! Trees of one node over its children. Each call fails only where memory is refused.
 ghost use Rattle.std.specs.Prelude.{◌≡◌, IfOk};
-ghost use Rattle.rsp_expr.specs.Formulas.{formula_of};
+ghost use Rattle.rsp_expr.specs.Meanings.{formula_of};
 ghost use Rattle.rsp_algebra.specs.Nodes as node;
 ghost use Rattle.rsp_algebra.specs.Nodes.{node_of, aggregations_of};
 

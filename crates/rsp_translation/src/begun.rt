@@ -1,7 +1,7 @@
 // The tree of a group while its elements are taken.
 ghost use Rattle.std.specs.Prelude.{◌≡◌, IfOk, None, cond, map, []};
 ghost use Rattle.std.specs.Option.{option_map};
-ghost use Rattle.rsp_expr.specs.Formulas.{formula_of};
+ghost use Rattle.rsp_expr.specs.Meanings.{formula_of};
 ghost use Rattle.rsp_query.specs.Groups.{parts_in};
 ghost use Rattle.rsp_query.specs.Meanings.{part_of};
 ghost use Rattle.rsp_algebra.specs.Nodes as node;
