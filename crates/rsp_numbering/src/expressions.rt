@@ -1,6 +1,7 @@
 // Expressions with numbers in place of names.
 ghost use Rattle.std.specs.Prelude.{◌≡◌, ◌++◌, ◌∷◌, [], IfOk, OnOk, map};
-ghost use Rattle.rsp_expr.specs.Formulas.{arithmetic, call, comparison, formula_of, formulas_in, maybe_formula, membership};
+ghost use Rattle.rsp_expr.specs.Formulas.{arithmetic, call, comparison, formulas_in, membership};
+ghost use Rattle.rsp_expr.specs.Meanings.{formula_of, maybe_formula};
 ghost use Rattle.rsp_written.specs.Building.{exprs_in, operands_in};
 ghost use Rattle.rsp_written.specs.Meanings.{expr_of, operand_of};
 ghost use Rattle.rsp_written.specs.Trees as trees;

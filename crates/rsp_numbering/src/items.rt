@@ -1,6 +1,6 @@
 // Items of SELECTs, keys, HAVING, names of GRAPH and the columns of VALUES.
 ghost use Rattle.std.specs.Prelude.{◌≡◌, IfOk, OnOk, map};
-ghost use Rattle.rsp_expr.specs.Formulas.{formula_of, maybe_formula};
+ghost use Rattle.rsp_expr.specs.Meanings.{formula_of, maybe_formula};
 ghost use Rattle.rsp_query.specs.Meanings as query;
 ghost use Rattle.rsp_written.specs.GroupMeanings as written;
 ghost use Rattle.rsp_written.specs.Meanings.{expr_of};

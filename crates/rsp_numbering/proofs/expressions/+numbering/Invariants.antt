@@ -1,5 +1,5 @@
 use Rattle.std.proofs.Common.{◌≡◌, ◌++◌, map, drop}
-use Rattle.rsp_expr.specs.Formulas.{formula_of}
+use Rattle.rsp_expr.specs.Meanings.{formula_of}
 use Rattle.rsp_written.specs.Building.{exprs_in, operands_in}
 use Rattle.rsp_written.specs.Meanings.{expr_of, operand_of}
 use Rattle.rsp_numbering.specs.Expressions.{behind_exprs, behind_operands, numbered_exprs, numbered_operands, with_aggregates_of_all, with_aggregates_of_row}
