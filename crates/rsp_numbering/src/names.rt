@@ -4,11 +4,12 @@ ghost use Rattle.rsp_written.specs.Building.{elements_in, exprs_in, groups_in, n
 ghost use Rattle.rsp_written.specs.GroupMeanings as written;
 ghost use Rattle.rsp_written.specs.Meanings as meanings;
 ghost use Rattle.rsp_numbering.specs.Counting as counting;
-ghost use Rattle.rsp_numbering.specs.Expressions as expressions;
+ghost use Rattle.rsp_numbering.specs.ExpressionSteps as expressions;
 ghost use Rattle.rsp_numbering.specs.Naming as naming;
 ghost use Rattle.rsp_numbering.specs.Seeing.{scopes_of, written_branches_of};
-ghost use Rattle.rsp_numbering.specs.Selections as numbered;
-ghost use Rattle.rsp_numbering.specs.Triples as triples;
+ghost use Rattle.rsp_numbering.specs.Selections as defined;
+ghost use Rattle.rsp_numbering.specs.SelectionSteps as numbered;
+ghost use Rattle.rsp_numbering.specs.TripleSteps as triples;
 
 use crate::Before;
 use crate::scopes::{Scope, number_of, within};
@@ -233,7 +234,7 @@ fn of_projection(
     projection: &Projection,
 ) -> Result<(), AllocError>
     ensures { OnOk result (before.new
-        ≡ numbered.behind_items (scopes_of at.now) before.old (numbered.items_in (written.projection_of projection.now))) }
+        ≡ numbered.behind_items (scopes_of at.now) before.old (defined.items_in (written.projection_of projection.now))) }
 {
     match projection {
         Projection::Every => Ok(()),

@@ -7,7 +7,7 @@ use Rattle.rsp_query.specs.Queries.{Registered}
 use Rattle.rsp_query.specs.Meanings.{registered}
 use Rattle.rsp_written.specs.Trees.{Written}
 use Rattle.rsp_numbering.specs.Naming.{behind_select, nothing, variable_text, within}
-use Rattle.rsp_numbering.specs.Selections.{behind_selected, projection_of}
+use Rattle.rsp_numbering.specs.SelectionSteps.{behind_selected, projection_of}
 use Rattle.rsp_numbering.specs.Clauses.{query_of}
 use Rattle.rsp_shapes.specs.Sound.{IsSound}
 use Rattle.rsp_syntax.specs.Answers.{IsParsed}
