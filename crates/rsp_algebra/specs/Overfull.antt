@@ -1,6 +1,7 @@
 -- Definitions: when a tree has too many rows.
 use Rattle.std.specs.Prelude.{ℕ, Bool, nat_lt, List, [], ◌∷◌, ◌++◌, length}
 use Rattle.std.specs.List.{list_any}
+pub use Rattle.rsp_spec.specs.Limits.{most_rows}
 use Rattle.rsp_multiset.specs.Rows.{Cells}
 use Rattle.rsp_terms.specs.declared.term.Term.{Term}
 use Rattle.rsp_terms.specs.declared.statement.Fact.{Fact}
@@ -8,10 +9,7 @@ use Rattle.rsp_algebra.specs.Nodes as node
 use Rattle.rsp_algebra.specs.Nodes.{Node}
 use Rattle.rsp_algebra.specs.Solutions.{eval}
 
--- the most rows that a tree may have, counted with multiplicities
-abbrev pub most_rows : ℕ
-most_rows = 1000000
-
+-- rows count with multiplicities
 abbrev pub too_many : List (Cells Term) → Bool
 too_many rows = nat_lt most_rows (length rows)
 

@@ -3,14 +3,15 @@ use Rattle.std.proofs.Common.{◌≡◌, ℕ, true, false, None, Option, Some, L
 use Rattle.std.specs.Option.{is_some}
 use Rattle.std.specs.Str.{is_utf8}
 use Rattle.std.specs.Str.Lossy.{utf8_valid_len}
+use Rattle.rsp_spec.specs.Limits.{most_text_bytes}
 use Rattle.rsp_syntax.specs.Deciding.{parse}
 use Rattle.rsp_engine.specs.Refusals.{Refusal, bad_token, text_fault}
 use Rattle.rsp_call.specs.Checks.{bytes_fault, file_fault}
 
-pub no_fault_of_bytes : (bytes : List ℕ) → nat_lt 65536 (length bytes) ≡ false → is_utf8 bytes ≡ true → bytes_fault bytes ≡ None
+pub no_fault_of_bytes : (bytes : List ℕ) → nat_lt most_text_bytes (length bytes) ≡ false → is_utf8 bytes ≡ true → bytes_fault bytes ≡ None
 no_fault_of_bytes bytes short text = rw (short, text) refl
 
-pub fault_of_bytes : (bytes : List ℕ) (place : ℕ) → nat_lt 65536 (length bytes) ≡ false → is_utf8 bytes ≡ false → place ≡ utf8_valid_len bytes → bytes_fault bytes ≡ Some (bad_token place)
+pub fault_of_bytes : (bytes : List ℕ) (place : ℕ) → nat_lt most_text_bytes (length bytes) ≡ false → is_utf8 bytes ≡ false → place ≡ utf8_valid_len bytes → bytes_fault bytes ≡ Some (bad_token place)
 fault_of_bytes bytes place short text is = rw (short, text, is) refl
 
 pub fault_of_text : (bytes : List ℕ) → bytes_fault bytes ≡ None → file_fault bytes ≡ text_fault (parse bytes)

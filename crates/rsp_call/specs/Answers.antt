@@ -3,6 +3,7 @@ use Rattle.std.specs.Prelude.{◌≡◌, ℕ, ◌^◌, ◌<◌, ◌≤◌, ◌++
 use Rattle.std.specs.Option.{IfSome}
 use Rattle.std.specs.Io.KnownBytes.{IsAtEnd}
 use Rattle.rsp_spec.specs.Faults.{Rose}
+pub use Rattle.rsp_spec.specs.Limits.{most_log_bytes}
 use Rattle.rsp_call.specs.declared.form.Form.{Form}
 use Rattle.rsp_call.specs.declared.form.Form.TheVariants.{Table}
 use Rattle.rsp_call.specs.declared.status.Status.{Status}
@@ -17,10 +18,6 @@ use Rattle.rsp_call.specs.Replays.{replayed}
 use Rattle.rsp_call.specs.FileAnswers.{AnswersFiles}
 use Rattle.rsp_call.specs.Sinks.{SinkSeen, Wrote, WrotePart, WriteFailed}
 
--- the most bytes of standard input
-abbrev pub most_bytes : ℕ
-most_bytes = 2 ^ 40
-
 -- each answer to a log names the bytes that were taken from the source; reports are written in a form
 
 -- the log was read to its end, its text was written, and some block was refused or none; no read failed
@@ -31,7 +28,7 @@ pub record Finishes (form : Form) (before now : SourceSeen) (sink sink' : SinkSe
   pub all : IfSome before.left (λ log. log ≡ bytes)
   pub written : Wrote sink sink' (output form bytes)
   pub refused : has_refusal bytes ≡ some
-  pub short : length bytes ≤ most_bytes
+  pub short : length bytes ≤ most_log_bytes
   pub faultless : now.faults ≡ before.faults
 
 -- a read failed, as those of a sure source don't: what was written is exactly what the blocks give that the bytes end,
@@ -41,7 +38,7 @@ pub record ReadFails (form : Form) (before now : SourceSeen) (sink sink' : SinkS
   pub took : Took before now bytes
   pub written : Wrote sink sink' (whole_text form bytes)
   pub log : IfSome before.left (λ log. WrotePart sink sink' (output form log))
-  pub short : length bytes ≤ most_bytes
+  pub short : length bytes ≤ most_log_bytes
   pub rose : Rose before.faults now.faults
   pub unsure : before.sure ≡ false
 
@@ -51,7 +48,7 @@ pub record WriteFails (form : Form) (before now : SourceSeen) (sink sink' : Sink
   pub took : Took before now bytes
   pub failed : WriteFailed sink sink' (output form bytes)
   pub log : IfSome before.left (λ log. WriteFailed sink sink' (output form log))
-  pub short : length bytes ≤ most_bytes
+  pub short : length bytes ≤ most_log_bytes
   pub faultless : now.faults ≡ before.faults
 
 -- memory was refused, on the way through both
@@ -60,7 +57,7 @@ pub record MemoryFails (form : Form) (before now : SourceSeen) (sink sink' : Sin
   pub took : Took before now bytes
   pub part : WrotePart sink sink' (output form bytes)
   pub log : IfSome before.left (λ log. WrotePart sink sink' (output form log))
-  pub short : length bytes ≤ most_bytes
+  pub short : length bytes ≤ most_log_bytes
   pub faultless : now.faults ≡ before.faults
 
 -- more bytes were taken than the limit allows; those of the last read were only counted
@@ -70,7 +67,7 @@ pub record PassesLimit (form : Form) (before now : SourceSeen) (sink sink' : Sin
   pub took : Took before now (bytes ++ last)
   pub written : Wrote sink sink' (whole_text form bytes)
   pub log : IfSome before.left (λ log. WrotePart sink sink' (output form log))
-  pub long : most_bytes < length (bytes ++ last)
+  pub long : most_log_bytes < length (bytes ++ last)
   pub faultless : now.faults ≡ before.faults
 
 -- on words that ask for the log

@@ -3,6 +3,7 @@ use Rattle.std.specs.Prelude.{ℕ, nat_lt, if◌then◌else◌, Option, None, So
 use Rattle.std.specs.Option.{option_or}
 use Rattle.std.specs.Str.{is_utf8}
 use Rattle.std.specs.Str.Lossy.{utf8_valid_len}
+use Rattle.rsp_spec.specs.Limits.{most_text_bytes}
 use Rattle.rsp_numbering.specs.declared.limit.LimitName.TheVariants as name
 use Rattle.rsp_syntax.specs.Deciding.{parse}
 use Rattle.rsp_engine.specs.Refusals.{Refusal, bad_token, limit, text_fault}
@@ -13,7 +14,7 @@ use Rattle.rsp_call.specs.Output.{Saying, a_refusal, no_fault}
 -- why a file can be no text of a query: it is longer than a text may be, or behind so many bytes it is no UTF-8
 abbrev pub bytes_fault : List ℕ → Option Refusal
 bytes_fault bytes =
-    if nat_lt 65536 (length bytes)
+    if nat_lt most_text_bytes (length bytes)
     then Some (limit name.Text)
     else (if is_utf8 bytes then None else Some (bad_token (utf8_valid_len bytes)))
 

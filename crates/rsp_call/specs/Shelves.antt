@@ -3,11 +3,8 @@ use Rattle.std.specs.Prelude.{◌≡◌, ◌⊎◌, ℕ, ◌<◌, ◌≤◌, Boo
 use Rattle.std.specs.Option.{IfSome}
 use Rattle.std.specs.Io.KnownBytes.{IsAtEnd}
 use Rattle.rsp_spec.specs.Faults.{Rose}
+pub use Rattle.rsp_spec.specs.Limits.{most_file_bytes}
 use Rattle.rsp_io.specs.Files.{file_named}
-
--- the most bytes of a named file
-abbrev pub most_file_bytes : ℕ
-most_file_bytes = 67108864
 
 -- the files by name and the bytes that are left of the one picked last, where the shelf tells them; the number of bytes given
 -- since that pick; its count of faults; and whether it never fails but for a name without a file

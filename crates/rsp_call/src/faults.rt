@@ -1,6 +1,7 @@
 // The first fault of a query's file.
 ghost use Rattle.std.specs.Prelude.{◌≡◌, IfOk, MatchResult, None, Result};
-ghost use Rattle.rsp_query.specs.Queries.{Registered, registered};
+ghost use Rattle.rsp_query.specs.Queries.{Registered};
+ghost use Rattle.rsp_query.specs.Meanings.{registered};
 ghost use Rattle.rsp_syntax.specs.Answers.{IsParsed};
 ghost use Rattle.rsp_syntax.specs.Deciding.{parse};
 ghost use Rattle.rsp_syntax.specs.declared.fault.SyntaxFault as fault;
@@ -12,13 +13,11 @@ ghost use Rattle.rsp_call.specs.Verdicts.{IsFirst};
 use rsp_engine::{LimitName, Refused};
 use rsp_query::{PolicyWords, Query};
 use rsp_report::{PolicyMix, policy};
+use rsp_spec::limits::MOST_TEXT_BYTES;
 use rsp_syntax::{SyntaxFault, parse};
 use rsp_translation::{Shape, translate};
 use std::alloc::{AllocError, Global};
 use std::str;
-
-// The most bytes of a query's text.
-const MOST_BYTES: usize = 65_536;
 
 /// The first fault of the file of a query, by its text alone. Fails only where memory is refused.
 pub(crate) fn file_fault(alloc: Global, bytes: &[u8]) -> Result<Option<Refused>, AllocError>
@@ -35,7 +34,7 @@ pub(crate) fn text_in(bytes: &[u8]) -> Result<&str, Refused>
     ensures { MatchResult result (λ text. (text.now ≡ bytes.now) × (bytes_fault bytes.now ≡ None))
         (λ why. IsFaultOf why (bytes_fault bytes.now)) }
 {
-    if MOST_BYTES < bytes.len() {
+    if MOST_TEXT_BYTES < bytes.len() {
         let what = LimitName::Text;
         return Err(Refused::Limit { what });
     }

@@ -7,12 +7,11 @@ ghost use Rattle.rsp_call.specs.Words.{names_of};
 
 use crate::replay::{Replay, name_at};
 use rsp_io::{Failed, Shelf};
+use rsp_spec::limits::MOST_FILE_BYTES;
 use rsp_terms::Listed;
 use std::alloc::{AllocError, Global};
 
-// The most bytes of a named file, and the bytes of one read.
-const MOST_FILE_BYTES: usize = 67_108_864;
-
+// The bytes of one read.
 const READ_BYTES: usize = 1 << 14;
 
 /// Why a named file isn't read.

@@ -17,8 +17,8 @@ use Rattle.rsp_report.specs.declared.words.Strategy.{Strategy}
 use Rattle.rsp_report.specs.declared.words.Strategy.TheVariants.{Close, Change, NonEmpty, Every}
 use Rattle.rsp_report.specs.declared.words.PolicyWords.TheVariants.{Absent, Listed}
 use Rattle.rsp_report.specs.declared.chosen.Chosen.{Chosen}
-use Rattle.rsp_streams_out.specs.declared.operator.Operator.TheVariants.{Rstream, Istream, Dstream}
-use Rattle.rsp_streams_out.specs.declared.operator.Operator.{Operator}
+use Rattle.rsp_report.specs.declared.operator.Operator.TheVariants.{Rstream, Istream, Dstream}
+use Rattle.rsp_report.specs.declared.operator.Operator.{Operator}
 use Rattle.rsp_query.specs.declared.query.WindowClause.{WindowClause}
 use Rattle.rsp_query.specs.Queries.{Registered}
 use Rattle.rsp_query.specs.Groups as words

@@ -1,5 +1,5 @@
 -- Worked files, by the definitions alone.
-use Rattle.std.proofs.Common.{◌≡◌, ℕ, List, [], ◌∷◌, ◌++◌, refl}
+use Rattle.std.proofs.Common.{arith, ◌≡◌, ℕ, List, [], ◌∷◌, ◌++◌, refl}
 use Rattle.std.specs.Prelude.{None, Some, codes}
 use Rattle.std.specs.Char.{encode_utf8}
 use Rattle.std.specs.Str.{chars, is_utf8}
@@ -19,6 +19,7 @@ use Rattle.rsp_events.specs.declared.refused.RefusedAs.TheVariants.{BadStatement
 use Rattle.rsp_events.specs.declared.recording.RecordedItems.{RecordedItems}
 use Rattle.rsp_events.specs.Files.{loaded}
 use Rattle.rsp_events.specs.Merged.{merged}
+use Rattle.rsp_events.proofs.Listing.{merged_is}
 use Rattle.rsp_events.specs.Recorded.{recorded, generated_at_time, time_in}
 
 -- ---- what the rows speak of
@@ -135,4 +136,8 @@ pub by_time_list_and_place : merged
     ∷ [] ∷ (on (codes "s:b") 1 [] ∷ Tick 1 ∷ on (codes "s:b") 2 [] ∷ on (codes "s:b") 0 [] ∷ []) ∷ [])
     ≡ on (codes "s:b") 0 [] ∷ on (codes "s:a") 1 [] ∷ on (codes "s:a") 1 (triple (codes "1") ∷ []) ∷ on (codes "s:b") 1 []
     ∷ on (codes "s:a") 2 [] ∷ on (codes "s:b") 2 [] ∷ []
-by_time_list_and_place = refl
+by_time_list_and_place =
+    merged_is
+    ((on (codes "s:a") 2 [] ∷ on (codes "s:a") 1 [] ∷ on (codes "s:a") 1 (triple (codes "1") ∷ []) ∷ [])
+    ∷ [] ∷ (on (codes "s:b") 1 [] ∷ Tick 1 ∷ on (codes "s:b") 2 [] ∷ on (codes "s:b") 0 [] ∷ []) ∷ [])
+    (omega arith, (omega arith, (omega arith, (omega arith, (omega arith, (omega arith, tt))))))

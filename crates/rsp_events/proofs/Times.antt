@@ -4,7 +4,7 @@ use Rattle.std.specs.Prelude.{⊤, nat_le, if◌then◌else◌, Option, None, So
 use Rattle.std.specs.List.{before_first, flat_map, list_any, position_or_len}
 use Rattle.std.specs.Option.{option_and_then, option_map, option_map_or, option_or}
 use Rattle.std.proofs.lemmas.Bool.Decides.{nat_tests}
-use Rattle.rsp_spec.specs.Windows.{last_instant}
+use Rattle.rsp_spec.specs.Limits.{last_instant}
 use Rattle.rsp_text.specs.Digits.{fraction, read_u64, thousandths}
 use Rattle.rsp_text.specs.Instants.{day_number, instant, instant_of, is_date, is_fraction, is_offset, is_time, is_utc, minutes_ahead, seconds_of_day, since_1970}
 use Rattle.rsp_nquads.specs.Fields.{absolute_iri}

@@ -1,7 +1,7 @@
 -- The limit and the query of a text, from what its parts are.
 use Rattle.std.proofs.Common.{◌≡◌, ℕ, List, [], Option, refl, sym, map}
 use Rattle.rsp_report.specs.declared.words.PolicyWords.{PolicyWords}
-use Rattle.rsp_streams_out.specs.declared.operator.Operator.{Operator}
+use Rattle.rsp_report.specs.declared.operator.Operator.{Operator}
 use Rattle.rsp_query.specs.declared.query.WindowClause.{WindowClause}
 use Rattle.rsp_query.specs.Groups.{Selection}
 use Rattle.rsp_query.specs.Queries.{Registered}

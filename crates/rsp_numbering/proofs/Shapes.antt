@@ -2,7 +2,8 @@
 use Rattle.std.specs.Prelude.{◌≡◌, refl, ℕ, ◌≤◌, ◌==◌, Bool, true, false, ◌&&◌, nat_le, nat_lt, if◌then◌else◌, List, [], ◌∷◌, Option, Some, None, unwrap_or}
 use Rattle.std.proofs.Common.{arith}
 use Rattle.std.proofs.lemmas.Bool.Decides.{nat_tests}
-use Rattle.rsp_spec.specs.Windows.{last_instant, IsShape}
+use Rattle.rsp_spec.specs.Limits.{last_instant}
+use Rattle.rsp_spec.specs.Windows.{IsShape}
 use Rattle.rsp_spec.proofs.Truths.{and_left, and_right}
 use Rattle.rsp_text.specs.Spans.{span, is_span as is_span_text, span_ms}
 use Rattle.std.specs.Str.{byte}

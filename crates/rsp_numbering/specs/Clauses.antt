@@ -6,8 +6,8 @@ use Rattle.rsp_report.specs.declared.words.Strategy as report
 use Rattle.rsp_report.specs.declared.words.Strategy.TheVariants as strategy
 use Rattle.rsp_report.specs.declared.words.PolicyWords.{PolicyWords}
 use Rattle.rsp_report.specs.declared.words.PolicyWords.TheVariants as policy
-use Rattle.rsp_streams_out.specs.declared.operator.Operator.{Operator}
-use Rattle.rsp_streams_out.specs.declared.operator.Operator.TheVariants as operator
+use Rattle.rsp_report.specs.declared.operator.Operator.{Operator}
+use Rattle.rsp_report.specs.declared.operator.Operator.TheVariants as operator
 use Rattle.rsp_query.specs.declared.query.WindowClause.{WindowClause}
 use Rattle.rsp_query.specs.Queries.{Registered}
 use Rattle.rsp_written.specs.declared.said.Keyword.TheVariants as keyword

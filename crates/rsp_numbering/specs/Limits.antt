@@ -1,7 +1,7 @@
 -- Definitions: what is counted of a query as it is written, and the first limit that it passes.
 use Rattle.std.specs.Prelude.{ℕ, suc, ◌+◌, ◌-◌, Bool, true, ◌&&◌, cond, nat_lt, nat_le, List, [], ◌∷◌, Option, None, Some, map, unwrap_or, length}
 use Rattle.std.specs.List.{list_all}
-use Rattle.rsp_spec.specs.Windows.{last_instant}
+use Rattle.rsp_spec.specs.Limits.{last_instant}
 use Rattle.rsp_query.specs.Paths.{Way, Ways, slashes}
 use Rattle.rsp_query.specs.Paths as path
 use Rattle.rsp_query.specs.Groups as query

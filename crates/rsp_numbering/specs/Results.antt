@@ -3,7 +3,8 @@ use Rattle.std.specs.Prelude.{◌≡◌, List, [], Option, None, Some, Result, O
 use Rattle.rsp_report.specs.declared.words.PolicyWords.{PolicyWords}
 use Rattle.rsp_query.specs.declared.query.Query.{Query}
 use Rattle.rsp_query.specs.declared.query.WindowClause.{WindowClause}
-use Rattle.rsp_query.specs.Queries.{Registered, registered}
+use Rattle.rsp_query.specs.Queries.{Registered}
+use Rattle.rsp_query.specs.Meanings.{registered}
 use Rattle.rsp_written.specs.Trees.{Written}
 use Rattle.rsp_numbering.specs.Naming.{nothing, variable_text}
 use Rattle.rsp_numbering.specs.Selections.{behind_selected, selected_of}

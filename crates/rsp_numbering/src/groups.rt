@@ -1,6 +1,6 @@
 // Groups and SELECTs with numbers in place of names.
 ghost use Rattle.std.specs.Prelude.{◌≡◌, ◌++◌, ◌∷◌, [], IfOk, OnOk, map};
-ghost use Rattle.rsp_query.specs.Groups as query;
+ghost use Rattle.rsp_query.specs.Meanings as query;
 ghost use Rattle.rsp_written.specs.Building.{elements_in, groups_in};
 ghost use Rattle.rsp_written.specs.GroupMeanings as written;
 ghost use Rattle.rsp_written.specs.Meanings.{expr_of};

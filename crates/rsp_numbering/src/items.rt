@@ -1,7 +1,7 @@
 // Items of SELECTs, keys, HAVING, names of GRAPH and the columns of VALUES.
 ghost use Rattle.std.specs.Prelude.{◌≡◌, IfOk, OnOk, map};
 ghost use Rattle.rsp_expr.specs.Formulas.{formula_of, maybe_formula};
-ghost use Rattle.rsp_query.specs.Groups as query;
+ghost use Rattle.rsp_query.specs.Meanings as query;
 ghost use Rattle.rsp_written.specs.GroupMeanings as written;
 ghost use Rattle.rsp_written.specs.Meanings.{expr_of};
 ghost use Rattle.rsp_numbering.specs.Expressions as expressions;

@@ -1,6 +1,6 @@
 // The query that a text is, within the limits.
 ghost use Rattle.std.specs.Prelude.{◌≡◌, IfOk};
-ghost use Rattle.rsp_query.specs.Queries.{registered};
+ghost use Rattle.rsp_query.specs.Meanings.{registered};
 ghost use Rattle.rsp_written.specs.GroupMeanings as written;
 ghost use Rattle.rsp_numbering.specs.Counting as counting;
 ghost use Rattle.rsp_numbering.specs.Results.{IsNumbered, IsNumberedBehind, query_behind};

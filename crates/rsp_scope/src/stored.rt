@@ -1,6 +1,7 @@
 // Stored quads.
 ghost use Rattle.std.specs.Prelude.{◌≡◌, ◌<◌, ◌≤◌, ◌+ℤ◌, ℕ, [], take, drop, length, map, IfOk, IfErr, OnOk, OnErr};
 ghost use Rattle.std.specs.List.{IsDistinct};
+ghost use Rattle.rsp_spec.specs.Limits.{most_quads};
 ghost use Rattle.rsp_multiset.specs.Weights.{times, weight, IsChanged, IsSameMultiset};
 ghost use Rattle.rsp_terms.specs.declared.statement.Fact.{Fact};
 ghost use Rattle.rsp_terms.specs.Same.{fact_eq};
@@ -10,13 +11,11 @@ ghost use Rattle.rsp_scope.specs.Faults.{IsStoredFault};
 use crate::removal::{stored_among, take_out};
 use indexmap::IndexSet;
 use rsp_multiset::Changes;
+use rsp_spec::limits::MOST_QUADS;
 use rsp_terms::{Fact, Quad, Spot};
 use std::alloc::{AllocError, Global};
 use std::marker::Model;
 use thiserror::Error;
-
-/// At most so many quads are stored.
-pub(crate) const MOST_QUADS: u64 = 1_000_000;
 
 /// Why quads weren't stored.
 #[derive(Debug, Drop, Error)]
@@ -59,6 +58,7 @@ impl Model for Stored {
 impl Stored {
     ghost use Rattle.std.specs.Prelude.{◌≡◌, ◌<◌, ◌≤◌, ◌+ℤ◌, ℕ, [], take, drop, length, map, IfOk, OnOk, OnErr, IfErr};
     ghost use Rattle.std.specs.List.{IsDistinct};
+    ghost use Rattle.rsp_spec.specs.Limits.{most_quads};
     ghost use Rattle.rsp_multiset.specs.Weights.{times, weight, IsChanged, IsSameMultiset};
     ghost use Rattle.rsp_terms.specs.declared.statement.Fact.{Fact};
     ghost use Rattle.rsp_terms.specs.Same.{fact_eq};
@@ -87,7 +87,7 @@ impl Stored {
     pub fn insert(&mut self, quads: &[Quad]) -> Result<Changes<Fact>, StoredFault>
         ensures stored { OnOk result (self.new ≡ stored_with self.old quads.now) }
         ensures change { IfOk result (λ change. IsChanged fact_eq self.old change self.new) }
-        ensures within { OnOk result (length self.new ≤ 1000000) }
+        ensures within { OnOk result (length self.new ≤ most_quads) }
         ensures fault { IfErr result (λ fault. IsStoredFault (length (stored_with self.old quads.now)) fault) }
         ensures err { OnErr result (self.new ≡ self.old) }
     {
@@ -126,7 +126,7 @@ fn put_within(
 ) -> Result<Changes<Fact>, StoredFault>
     ensures stored { OnOk result (facts.new.keys ≡ stored_with facts.old.keys quads.now) }
     ensures change { IfOk result (λ change. IsChanged fact_eq facts.old.keys change facts.new.keys) }
-    ensures within { OnOk result (length facts.new.keys ≤ 1000000) }
+    ensures within { OnOk result (length facts.new.keys ≤ most_quads) }
     ensures fault { IfErr result (λ fault. IsStoredFault (length (stored_with facts.old.keys quads.now)) fault) }
     ensures kept { take (length facts.old.keys) facts.new.keys ≡ facts.old.keys }
 {

@@ -3,7 +3,8 @@ use Rattle.std.proofs.Common.{◌≡◌, ℕ, List, [], length, map, Result, Ok,
 use Rattle.std.specs.Result.{IfOk}
 use Rattle.std.proofs.lemmas.List.{length-map}
 use Rattle.rsp_query.specs.declared.query.Query.{Query}
-use Rattle.rsp_query.specs.Queries.{Registered, registered}
+use Rattle.rsp_query.specs.Queries.{Registered}
+use Rattle.rsp_query.specs.Meanings.{registered}
 use Rattle.rsp_written.specs.Trees.{Written}
 use Rattle.rsp_numbering.specs.Naming.{behind_select, nothing, variable_text, within}
 use Rattle.rsp_numbering.specs.Selections.{behind_selected, projection_of}

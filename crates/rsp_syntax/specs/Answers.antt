@@ -1,7 +1,8 @@
 -- Definitions: what the call answers; want of memory alone is free.
 use Rattle.std.specs.Prelude.{◌≡◌, ⊤, Result, Ok, Err}
 use Rattle.rsp_query.specs.declared.query.Query.{Query}
-use Rattle.rsp_query.specs.Queries.{Registered, registered}
+use Rattle.rsp_query.specs.Queries.{Registered}
+use Rattle.rsp_query.specs.Meanings.{registered}
 use Rattle.rsp_syntax.specs.declared.fault.SyntaxFault.{SyntaxFault}
 use Rattle.rsp_syntax.specs.declared.fault.SyntaxFault.TheVariants.{BadToken, Syntax, LeftOut, Limit, OutOfMemory}
 

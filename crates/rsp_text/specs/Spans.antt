@@ -4,7 +4,7 @@ use Rattle.std.specs.Cmp.Lexicographic.{pointwise}
 use Rattle.std.specs.List.{starts_with}
 use Rattle.std.specs.Str.{byte}
 use Rattle.std.specs.Str.Parse.{digits_value}
-use Rattle.rsp_spec.specs.Windows.{last_instant}
+use Rattle.rsp_spec.specs.Limits.{last_instant}
 use Rattle.rsp_text.specs.Fronts.{leading_digits}
 use Rattle.rsp_text.specs.Digits.{fraction, thousandths}
 

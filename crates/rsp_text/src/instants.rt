@@ -8,7 +8,7 @@ ghost use Rattle.rsp_text.specs.Instants as words;
 
 use crate::digits::{fraction, has_form, number, thousandths};
 use jiff::civil::Date;
-use rsp_spec::LAST_INSTANT;
+use rsp_spec::limits::LAST_INSTANT;
 
 /// An instant as XML Schema's dateTime writes it, in ms since 1970; None exactly where the text isn't of the form
 /// `YYYY-MM-DDThh:mm:ss`, then optionally `.` and 1 to 9 digits, then `Z`, `+hh:mm` or `-hh:mm`, where the calendar

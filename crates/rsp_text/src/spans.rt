@@ -8,9 +8,7 @@ ghost use Rattle.rsp_text.specs.Spans as length_of;
 
 use crate::digits::{fraction, thousandths, value_of};
 use crate::fronts::leading_digits;
-
-// as many milliseconds as to the end of the year 9999
-const LONGEST: u64 = 253_402_300_799_999;
+use rsp_spec::limits::LAST_INSTANT;
 
 /// A span as ISO 8601 writes it in days, hours, minutes and seconds, in ms; None exactly where the text isn't of the
 /// form `P`, then optionally `nD`, then optionally `T` with at least one of `nH`, `nM` and `nS` in this order, with at
@@ -28,7 +26,7 @@ pub fn span(text: &[u8]) -> Option<u64>
     let (days, behind) = count(behind, b'D');
     let ms = ms_behind_days(days.is_empty(), behind)?;
     let all = plus_times(ms, units(days), 86_400_000);
-    if LONGEST < all { None } else { Some(all) }
+    if LAST_INSTANT < all { None } else { Some(all) }
 }
 
 // The calls below count up to the type's end and stay there, which is past the longest span.

@@ -2,11 +2,12 @@
 ghost use Rattle.std.specs.Prelude.{◌≡◌, IfOk, None, cond, map, []};
 ghost use Rattle.std.specs.Option.{option_map};
 ghost use Rattle.rsp_expr.specs.Formulas.{formula_of};
-ghost use Rattle.rsp_query.specs.Groups.{part_of, parts_in};
+ghost use Rattle.rsp_query.specs.Groups.{parts_in};
+ghost use Rattle.rsp_query.specs.Meanings.{part_of};
 ghost use Rattle.rsp_algebra.specs.Nodes as node;
 ghost use Rattle.rsp_algebra.specs.Nodes.{Node, node_of};
 ghost use Rattle.rsp_translation.specs.Building.{begun_of};
-ghost use Rattle.rsp_translation.specs.Trees as trees;
+ghost use Rattle.rsp_translation.specs.Begun as trees;
 
 use crate::filters::condition;
 use rsp_algebra::{Tree, nodes};

@@ -1,5 +1,5 @@
 use Rattle.std.proofs.Common.{◌-◌, ◌+◌}
-use Rattle.rsp_call.specs.Answers.{most_bytes}
+use Rattle.rsp_call.specs.Answers.{most_log_bytes}
 use Rattle.rsp_call.specs.Sinks.{sink_seen}
 use Rattle.rsp_call.specs.Sources.{source_seen}
 use Rattle.rsp_call.proofs.Going.{Going}
@@ -19,4 +19,4 @@ invariant-reads g l =
     l.taken
 
 abbrev pub decreases-reads : goal.decreases-reads
-decreases-reads g l = most_bytes + 1 - l.taken
+decreases-reads g l = most_log_bytes + 1 - l.taken

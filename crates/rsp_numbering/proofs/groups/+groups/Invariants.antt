@@ -1,5 +1,5 @@
 use Rattle.std.proofs.Common.{◌≡◌, ◌+◌, ◌*◌, ◌++◌, map, drop}
-use Rattle.rsp_query.specs.Groups as query
+use Rattle.rsp_query.specs.Meanings as query
 use Rattle.rsp_written.specs.Building.{elements_in, groups_in}
 use Rattle.rsp_written.specs.GroupMeanings as written
 use Rattle.rsp_numbering.specs.Seeing.{branches_of, scopes_of, written_branches_of}

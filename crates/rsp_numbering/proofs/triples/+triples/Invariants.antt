@@ -1,6 +1,5 @@
 use Rattle.std.proofs.Common.{◌≡◌, map, drop}
-use Rattle.rsp_query.specs.Groups.{part_of}
-use Rattle.rsp_query.specs.Paths.{way_of}
+use Rattle.rsp_query.specs.Meanings.{part_of, way_of}
 use Rattle.rsp_written.specs.Building.{nodes_in}
 use Rattle.rsp_written.specs.Meanings as written
 use Rattle.rsp_numbering.specs.Seeing.{scopes_of}
