@@ -9,10 +9,10 @@ use Rattle.rsp_written.specs.Trees as written
 use Rattle.rsp_written.specs.Trees.{Verb, named, along, Node, variable_node, iri_node, constant_node, label_node, blank_node, described, Nodes, no_node, node_then, Properties, no_property, property_then, Element, Elements, no_element, element_then, Selected, selected}
 use Rattle.rsp_numbering.specs.declared.counts.Count.{Count}
 use Rattle.rsp_numbering.specs.declared.counts.Count.TheVariants as count
-use Rattle.rsp_numbering.specs.Naming.{Scope, Before, behind_select, within, nothing}
+use Rattle.rsp_numbering.specs.Naming.{Scope, Before, behind_select, nothing}
 use Rattle.rsp_numbering.specs.TripleSteps.{behind_inner, behind_nodes, behind_slot, behind_verb, slot_of, verb_of, with_inner, with_objects, with_properties, with_triples}
 use Rattle.rsp_numbering.specs.Selections.{items_in}
-use Rattle.rsp_numbering.specs.SelectionSteps.{behind_element, behind_elements, behind_graph, behind_items, groups_of, projection_of, selected_of, selected_within, with_element, with_elements}
+use Rattle.rsp_numbering.specs.SelectionSteps.{behind_element, behind_elements, behind_graph, behind_items, groups_of, projection_of, selected_of, selected_within, with_element, with_elements, within}
 use Rattle.rsp_query.specs.Counts.{counted_below, counted_group, counted_groups, counted_select}
 use Rattle.rsp_query.specs.Walks.{counted, own_slashes}
 use Rattle.rsp_query.proofs.Counted.{counted_is}

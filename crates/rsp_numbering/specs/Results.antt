@@ -1,4 +1,4 @@
--- Words of the way: what the answer to a text is that the grammar has read: `limit_of` and `query_of` as one answer; and the same in
+-- Words of the way: the answer to a text that the grammar has read, `limit_of` and `query_of` as one answer; and the same in
 -- the words by which the code makes it.
 use Rattle.std.specs.Prelude.{◌≡◌, cond, List, [], Option, None, Some, Result, Ok, Err, length, map}
 use Rattle.rsp_report.specs.declared.words.PolicyWords.{PolicyWords}

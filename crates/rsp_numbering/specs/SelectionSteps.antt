@@ -9,7 +9,7 @@ use Rattle.rsp_query.specs.Groups.{Part, optional, minus, union, graph, window, 
 use Rattle.rsp_query.specs.Groups as query
 use Rattle.rsp_written.specs.Trees as written
 use Rattle.rsp_written.specs.Trees.{Element, Elements, no_element, element_then, Item, shown, computed, Projection, Graph, graph_variable, graph_iri, Selected, selected}
-use Rattle.rsp_numbering.specs.Naming.{Scope, Before, number, behind, behind_select, within}
+use Rattle.rsp_numbering.specs.Naming.{Scope, Before, number, behind, behind_select, scope}
 use Rattle.rsp_numbering.specs.Naming as naming
 use Rattle.rsp_numbering.specs.Selections.{is_grouped, is_star, items_in}
 use Rattle.rsp_numbering.specs.ExpressionSteps.{behind_expr, numbered_expr, with_aggregates}
@@ -76,6 +76,10 @@ numbers_of at before [] = []
 numbers_of at before (x ∷ more) = number before (naming.named at x) ∷ numbers_of at (behind before (naming.named at x)) more
 
 -- ---- behind elements and SELECTs
+
+-- within a SELECT that begins here
+abbrev pub within : Before → Projection → List Scope → List Scope
+within before projection at = scope before.selects projection at
 
 abbrev pub projection_of : Selected → Projection
 projection_of (selected distinct projection body keys having) = projection

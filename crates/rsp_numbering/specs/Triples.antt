@@ -9,7 +9,8 @@ use Rattle.rsp_query.specs.Paths as path
 use Rattle.rsp_query.specs.Groups.{Part, triple}
 use Rattle.rsp_written.specs.Trees as written
 use Rattle.rsp_written.specs.Trees.{Verb, named, along, Node, variable_node, iri_node, constant_node, label_node, blank_node, described, Nodes, no_node, node_then, Properties, no_property, property_then}
-use Rattle.rsp_numbering.specs.Naming.{Scope, bracket, label}
+use Rattle.rsp_numbering.specs.declared.variable.Variable.TheVariants as variable
+use Rattle.rsp_numbering.specs.Naming.{Scope, bracket}
 use Rattle.rsp_numbering.specs.Numbered.{Numbered, give, ◌>>=◌, making, numbered, numbered_name}
 
 -- ---- paths, which name no variable
@@ -35,7 +36,7 @@ abbrev pub node_slot : List Scope → Node → Numbered Slot
 node_slot at (variable_node x) = making slot.Variable (numbered_name at x)
 node_slot at (iri_node x) = give (slot.Constant (term.Iri x))
 node_slot at (constant_node t) = give (slot.Constant t)
-node_slot at (label_node x) = making slot.Variable (numbered (λ before. label x))
+node_slot at (label_node x) = making slot.Variable (numbered (λ before. variable.Label x))
 node_slot at blank_node = making slot.Variable (numbered bracket)
 node_slot at (described properties) = making slot.Variable (numbered bracket)
 

@@ -6,6 +6,7 @@ ghost use Rattle.rsp_written.specs.Meanings as meanings;
 ghost use Rattle.rsp_numbering.specs.Counting as counting;
 ghost use Rattle.rsp_numbering.specs.ExpressionSteps as expressions;
 ghost use Rattle.rsp_numbering.specs.Naming as naming;
+ghost use Rattle.rsp_numbering.specs.Same as same;
 ghost use Rattle.rsp_numbering.specs.Seeing.{scopes_of, written_branches_of};
 ghost use Rattle.rsp_numbering.specs.Selections as defined;
 ghost use Rattle.rsp_numbering.specs.SelectionSteps as numbered;
@@ -122,7 +123,7 @@ fn of_verb(at: &[Scope], before: &mut Before, verb: &Verb) -> Result<(), AllocEr
 }
 
 fn label(before: &mut Before, label: &Text) -> Result<(), AllocError>
-    ensures { OnOk result (before.new ≡ naming.behind before.old (naming.label label.now)) }
+    ensures { OnOk result (before.new ≡ naming.behind before.old (same.label label.now)) }
 {
     before.label(label)?;
     Ok(())
