@@ -3,7 +3,7 @@ ghost use Rattle.std.specs.Prelude.{◌≡◌, ◌&&◌, if◌then◌else◌, []
 ghost use Rattle.rsp_expr.specs.Meanings.{maybe_formula};
 ghost use Rattle.rsp_query.specs.Groups.{parts_in};
 ghost use Rattle.rsp_query.specs.Meanings.{item_of, numbered_aggregation, part_of, selection_of};
-ghost use Rattle.rsp_algebra.specs.Nodes.{node_of};
+ghost use Rattle.rsp_algebra.specs.Meanings.{node_of};
 ghost use Rattle.rsp_shapes.specs.Visible as visible;
 ghost use Rattle.rsp_translation.specs.Selects as selects;
 
