@@ -232,9 +232,9 @@ def one_row(node, count):
     clause = "FROM NAMED WINDOW <w:1> ON <s:a> [RANGE PT1S]"
     head = f"REGISTER ISTREAM <q:o> REPORT CLOSE TICK TIME AS SELECT {columns} {clause} WHERE {{ {body} }}{end}\n"
     half = count // 2
-    quads = [f"<a:{k}> <p:v> <b:{k}> .\n<b:{2 * k + 1}> <p:m> <c:{k}> .\n" for k in range(half)]
 
     def load(size):
+        quads = [f"<a:{k}> <p:v> <b:{k}> .\n<b:{2 * k + 1}> <p:m> <c:{k}> .\n" for k in range(half)]
         stored = b"".join(block("@insert", quads[at:at + 500]) for at in range(0, half, 500))
         keys = [2 * (number % half) + 1 if key == "marked" else 2 * (half + number) for number in range(size)]
         rounds = [
