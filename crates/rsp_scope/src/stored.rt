@@ -7,8 +7,10 @@ ghost use Rattle.rsp_terms.specs.declared.statement.Fact.{Fact};
 ghost use Rattle.rsp_terms.specs.Same.{fact_eq};
 ghost use Rattle.rsp_scope.specs.Quads.{fact_of, stored_with, stored_without};
 ghost use Rattle.rsp_scope.specs.Faults.{IsStoredFault};
+ghost use Rattle.rsp_scope.specs.Putting.{IsUncounted};
 
 use crate::removal::{stored_among, take_out};
+use crate::room::counted;
 use indexmap::IndexSet;
 use rsp_multiset::Changes;
 use rsp_spec::limits::MOST_QUADS;
@@ -83,7 +85,8 @@ impl Stored {
         self.facts.len() as u64
     }
 
-    /// Stores the quads that aren't stored. Gives what came in. A refusal, want of memory too, leaves all as it was.
+    /// Stores the quads that aren't stored. Gives what came in. A refusal, want of memory too, leaves all as it was. Memory is
+    /// wanted only where the quads would fit.
     pub fn insert(&mut self, quads: &[Quad]) -> Result<Changes<Fact>, StoredFault>
         ensures stored { OnOk result (self.new ≡ stored_with self.old quads.now) }
         ensures change { IfOk result (λ change. IsChanged fact_eq self.old change self.new) }
@@ -92,11 +95,13 @@ impl Stored {
         ensures err { OnErr result (self.new ≡ self.old) }
     {
         let before = self.facts.len();
-        let change = put_within(self.alloc, &mut self.facts, quads);
-        if change.is_err() {
-            self.facts.truncate(before);
+        match put_within(self.alloc, &mut self.facts, quads) {
+            Ok(change) => Ok(change),
+            Err(fault) => {
+                self.facts.truncate(before);
+                Err(counted(fault, self.facts.as_slice(), quads))
+            }
         }
-        change
     }
 
     /// Takes out the named quads that are stored. Gives what went. The order of those that stay is left open. Want of
@@ -127,7 +132,7 @@ fn put_within(
     ensures stored { OnOk result (facts.new.keys ≡ stored_with facts.old.keys quads.now) }
     ensures change { IfOk result (λ change. IsChanged fact_eq facts.old.keys change facts.new.keys) }
     ensures within { OnOk result (length facts.new.keys ≤ most_quads) }
-    ensures fault { IfErr result (λ fault. IsStoredFault (length (stored_with facts.old.keys quads.now)) fault) }
+    ensures fault { IfErr result (IsUncounted (length (stored_with facts.old.keys quads.now))) }
     ensures kept { take (length facts.old.keys) facts.new.keys ≡ facts.old.keys }
 {
     let before = facts.len();
