@@ -52,13 +52,7 @@ impl<'a, R: Files> DirShelf<'a, R> {
 impl<R: Files> Source for DirShelf<'_, R> {
     ghost use Rattle.std.specs.Prelude.{None, false};
 
-    ghost left = { λ _. None };
-
-    ghost given = { λ s. s.given };
-
-    ghost faults = { λ s. s.faults };
-
-    ghost sure = { λ _. false };
+    ghost seen = { λ s. record { left = None; given = s.given; faults = s.faults; sure = false } };
 
     /// As `Source::read`: one read of the file that was picked last. Each that fails is a fault. Before any pick that
     /// succeeded there is nothing to read.

@@ -59,13 +59,7 @@ impl MemoryShelf {
 impl Source for MemoryShelf {
     ghost use Rattle.std.specs.Prelude.{Some, false};
 
-    ghost left = { λ s. Some s.left };
-
-    ghost given = { λ s. s.given };
-
-    ghost faults = { λ s. s.faults };
-
-    ghost sure = { λ _. false };
+    ghost seen = { λ s. record { left = Some s.left; given = s.given; faults = s.faults; sure = false } };
 
     ghost files = { λ s. Some s.files };
 

@@ -69,11 +69,7 @@ impl MemorySink {
 impl Sink for MemorySink {
     ghost use Rattle.std.specs.Prelude.{Some, None};
 
-    ghost taken = { λ s. Some s.taken };
-
-    ghost room = { λ _. None };
-
-    ghost faults = { λ s. s.faults };
+    ghost seen = { λ s. record { taken = Some s.taken; room = None; faults = s.faults } };
 
     /// As `Sink::write`: as many bytes as there are, fit and `piece` allows; Failed exactly where the call is listed
     /// or no space is left.

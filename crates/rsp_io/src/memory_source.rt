@@ -55,13 +55,7 @@ impl MemorySource {
 impl Source for MemorySource {
     ghost use Rattle.std.specs.Prelude.{Some, false};
 
-    ghost left = { λ s. Some s.left };
-
-    ghost given = { λ s. s.given };
-
-    ghost faults = { λ s. s.faults };
-
-    ghost sure = { λ _. false };
+    ghost seen = { λ s. record { left = Some s.left; given = s.given; faults = s.faults; sure = false } };
 
     /// As `Source::read`: as many bytes as are left, fit and `piece` allows; Failed exactly where the call is listed.
     fn read(&mut self, buf: &mut [u8]) -> Result<usize, Failed>

@@ -11,10 +11,10 @@ pub trait Shelf: Source {
     /// it answers. Failed: the bytes are as they were, and the count of faults rose; over a sure shelf only for a
     /// name without a file.
     fn pick(&mut self, name: &str) -> Result<(), Failed>
-        ensures bytes { PickFinds (Self.files self.old) name.now (Self.left self.old) (Self.left self.new) result }
-        ensures given { Self.given self.new ≡ 0 }
-        ensures cause { HasCause (Self.faults self.old) (Self.faults self.new) result }
-        ensures sure { IsTrue (Self.sure self.old) → FailsForName (Self.files self.old) name.now result }
-        ensures still_sure { Self.sure self.new ≡ Self.sure self.old }
+        ensures bytes { PickFinds (Self.files self.old) name.now (Self.seen self.old).left (Self.seen self.new).left result }
+        ensures given { (Self.seen self.new).given ≡ 0 }
+        ensures cause { HasCause (Self.seen self.old).faults (Self.seen self.new).faults result }
+        ensures sure { IsTrue (Self.seen self.old).sure → FailsForName (Self.files self.old) name.now result }
+        ensures still_sure { (Self.seen self.new).sure ≡ (Self.seen self.old).sure }
         ensures files { Self.files self.new ≡ Self.files self.old };
 }

@@ -43,13 +43,7 @@ impl<R: Input> StdSource<R> {
 impl<R: Input> Source for StdSource<R> {
     ghost use Rattle.std.specs.Prelude.{None, false};
 
-    ghost left = { λ _. None };
-
-    ghost given = { λ s. s.given };
-
-    ghost faults = { λ s. s.faults };
-
-    ghost sure = { λ _. false };
+    ghost seen = { λ s. record { left = None; given = s.given; faults = s.faults; sure = false } };
 
     /// As `Source::read`: one read of the runtime's. Each that fails is a fault.
     fn read(&mut self, buf: &mut [u8]) -> Result<usize, Failed>
@@ -113,11 +107,7 @@ impl<'a, P: Print> StdSink<'a, P> {
 impl<P: Print> Sink for StdSink<'_, P> {
     ghost use Rattle.std.specs.Prelude.{None};
 
-    ghost taken = { λ _. None };
-
-    ghost room = { λ _. None };
-
-    ghost faults = { λ s. s.faults };
+    ghost seen = { λ s. record { taken = None; room = None; faults = s.faults } };
 
     /// As `Sink::write`: one unbuffered write of the runtime's. Each that fails is a fault, and one that takes no
     /// byte is too.

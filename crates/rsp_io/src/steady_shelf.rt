@@ -53,13 +53,7 @@ impl SteadyShelf {
 impl Source for SteadyShelf {
     ghost use Rattle.std.specs.Prelude.{Some, true};
 
-    ghost left = { λ s. Some s.left };
-
-    ghost given = { λ s. s.given };
-
-    ghost faults = { λ s. s.faults };
-
-    ghost sure = { λ _. true };
+    ghost seen = { λ s. record { left = Some s.left; given = s.given; faults = s.faults; sure = true } };
 
     ghost files = { λ s. Some s.files };
 

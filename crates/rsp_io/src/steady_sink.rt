@@ -59,11 +59,7 @@ impl SteadySink {
 impl Sink for SteadySink {
     ghost use Rattle.std.specs.Prelude.{Some};
 
-    ghost taken = { λ s. Some s.taken };
-
-    ghost room = { λ s. Some s.room };
-
-    ghost faults = { λ s. s.faults };
+    ghost seen = { λ s. record { taken = Some s.taken; room = Some s.room; faults = s.faults } };
 
     /// As `Sink::write`: as many bytes as there are, fit and `piece` allows; Failed exactly at room 0.
     fn write(&mut self, piece: &[u8]) -> Result<usize, Failed>

@@ -45,13 +45,7 @@ impl SteadySource {
 impl Source for SteadySource {
     ghost use Rattle.std.specs.Prelude.{Some, true};
 
-    ghost left = { λ s. Some s.left };
-
-    ghost given = { λ s. s.given };
-
-    ghost faults = { λ _. 0 };
-
-    ghost sure = { λ _. true };
+    ghost seen = { λ s. record { left = Some s.left; given = s.given; faults = 0; sure = true } };
 
     /// As `Source::read`: as many bytes as are left, fit and `piece` allows.
     fn read(&mut self, buf: &mut [u8]) -> Result<usize, Failed>

@@ -24,8 +24,9 @@ use Rattle.rsp_query.specs.Queries.{Registered}
 use Rattle.rsp_algebra.specs.declared.tree.Translated.{Translated}
 use Rattle.rsp_shapes.specs.Sound.{IsSound}
 use Rattle.rsp_translation.specs.Translation.{IsTranslated, setting_of, width_of}
-use Rattle.rsp_translation.specs.Trees.{Begun, Setting, Test, closed, condition_of, filter_of, filtered, filters, finished, graph_place, group_node, group_nodes, joined, longer, nothing, select_node, slashes_among, slashes_in, slashes_of, slashes_within, tested, value_for, values_row, window_place, with_part, with_parts, with_run, with_test, with_tree, with_triple}
+use Rattle.rsp_translation.specs.Begun.{Begun, Setting, Test, closed, condition_of, filter_of, filtered, filters, finished, graph_place, group_node, group_nodes, joined, longer, nothing, select_node, slashes_among, slashes_in, slashes_of, slashes_within, tested, value_for, values_row, window_place, with_part, with_parts, with_run, with_test, with_tree, with_triple}
 use Rattle.rsp_shapes.specs.Visible.{is_given, is_visible_in, name_of, variables_of}
+use Rattle.rsp_translation.proofs.Clauses.{alone_is, select_is}
 
 -- ---- lists of variables
 
@@ -358,8 +359,10 @@ mutual
       (parts_fit n w wide s width count at a fresh nothing body sound.1.0 room (nothing_fits w)))
 
 pub placed : (q : Registered) (made : Translated) → IsSound q → IsTranslated q made → IsPlaced made
-placed q made sound is = record {
-  tree = rw (is.width, is.tree)
-      (select_fits (length q.variables) (width_of q) (omega arith) (setting_of q) refl refl place.Default tt (length q.variables) q.selection sound (omega arith));
-  shown = rw (is.width, is.shown) (projected_below (length q.variables) (width_of q) (omega arith) q.variables refl q.selection sound);
-}
+placed q made sound is =
+    let counted = alone_is (sub q.selection) in
+    record {
+      tree = rw (is.width, is.tree, select_is (setting_of q) place.Default (length q.variables) q.selection)
+          (select_fits (length q.variables) (width_of q) (omega arith) (setting_of q) refl refl place.Default tt (length q.variables) q.selection sound (omega (arith, counted)));
+      shown = rw (is.width, is.shown) (projected_below (length q.variables) (width_of q) (omega arith) q.variables refl q.selection sound);
+    }

@@ -15,7 +15,7 @@ use Rattle.rsp_algebra.specs.declared.tree.Place.TheVariants as place
 use Rattle.rsp_algebra.specs.Nodes as node
 use Rattle.rsp_algebra.specs.Nodes.{Node}
 use Rattle.rsp_translation.specs.Paths.{path_node, triple_node}
-use Rattle.rsp_translation.specs.Trees.{Setting, group_node, select_node}
+use Rattle.rsp_translation.specs.Trees.{Setting, clauses as clauses_in, group, select_node}
 use Rattle.rsp_translation.specs.Selects.{projected}
 
 iri : List ℕ → Slot
@@ -44,7 +44,7 @@ here = record {
 
 -- the tree of a group in the default graph; the first `/` has the variable 4
 tree : List Part → Node
-tree parts = group_node here place.Default 4 (parts_in parts)
+tree parts = group (clauses_in here place.Default 4 (parts_in parts))
 
 d : ℕ → List ℕ → ℕ → Node
 d = at place.Default

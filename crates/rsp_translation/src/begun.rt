@@ -7,7 +7,7 @@ ghost use Rattle.rsp_query.specs.Meanings.{part_of};
 ghost use Rattle.rsp_algebra.specs.Nodes as node;
 ghost use Rattle.rsp_algebra.specs.Nodes.{Node, node_of};
 ghost use Rattle.rsp_translation.specs.Building.{begun_of};
-ghost use Rattle.rsp_translation.specs.Trees as trees;
+ghost use Rattle.rsp_translation.specs.Begun as trees;
 
 use crate::filters::condition;
 use rsp_algebra::{Tree, nodes};

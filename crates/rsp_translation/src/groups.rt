@@ -6,7 +6,7 @@ ghost use Rattle.rsp_query.specs.Meanings.{part_of, selection_of};
 ghost use Rattle.rsp_algebra.specs.Nodes.{node_of};
 ghost use Rattle.rsp_shapes.specs.Seeing.{branches_of};
 ghost use Rattle.rsp_translation.specs.Building.{bare, begun_of, fixed_by, tests_in, tests_of};
-ghost use Rattle.rsp_translation.specs.Trees as trees;
+ghost use Rattle.rsp_translation.specs.Begun as trees;
 
 use crate::begun::{
     Begun, closed, nothing, tested, with_bind, with_joined, with_minus, with_optional, with_triple,

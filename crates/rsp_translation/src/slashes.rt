@@ -5,7 +5,7 @@ ghost use Rattle.rsp_query.specs.Meanings.{part_of, selection_of, way_of};
 ghost use Rattle.rsp_query.specs.Paths.{ways_in};
 ghost use Rattle.rsp_shapes.specs.Seeing.{branches_of};
 ghost use Rattle.rsp_query.specs.Paths as paths;
-ghost use Rattle.rsp_translation.specs.Trees as trees;
+ghost use Rattle.rsp_translation.specs.Begun as trees;
 
 use crate::sums::sum;
 use rsp_query::{Element, Path, Select};
