@@ -12,8 +12,19 @@ PROGRAM = os.path.abspath(os.environ.get("RSP") or f"{TOP}/crates/rsp_main/out/r
 # the functions that the libraries stand before: what takes memory, and what reads, writes, opens and looks at files
 TAKES_MEMORY = {"malloc", "realloc"}
 OF_FILES = {"read", "write", "open", "statx"}
-# what the program calls beside these, none of which takes memory for it, or reads or writes a byte
-OTHERS = set()
+# what the program calls beside these, none of which takes memory for it, or reads or writes a byte of its input and output
+OTHERS = {
+    # copies in memory, and gives memory back
+    "memcpy", "memmove", "memset", "free",
+    # of files: their end, and where standard input stands
+    "close", "lseek",
+    # before `main`, and behind it
+    "__libc_start_main", "__gmon_start__", "__cxa_finalize", "_ITM_registerTMCloneTable", "_ITM_deregisterTMCloneTable",
+    # at the front of `main`: SIGPIPE is ignored, and the processor is asked what it can; where that is too little, `__write` says
+    # so to standard error, and nothing else is done
+    "__sysv_signal", "__x86_get_cpuid_feature_leaf", "__write",
+    "__errno_location",
+}
 
 
 def library(source, room):
@@ -45,10 +56,10 @@ def system_calls(program):
 
 def checks(program):
     """Each check as its name and what it found wrong."""
-    known = TAKES_MEMORY | OF_FILES | OTHERS
-    others, missing = sorted(called(program) - known), sorted(known - called(program))
+    stood_before, names = TAKES_MEMORY | OF_FILES, called(program)
+    others, missing = sorted(names - stood_before - OTHERS), sorted(stood_before - names)
     yield "each function that the program calls is known", f"not so {others}" if others else None
-    yield "each function that is known is called", f"not so {missing}" if missing else None
+    yield "each function that a library stands before is called", f"not so {missing}" if missing else None
     needed = sorted(libraries(program) - {"libc.so.6"})
     yield "the program stands on the C library alone", f"and on {needed}" if needed else None
     count = system_calls(program)

@@ -24,7 +24,7 @@ use Rattle.rsp_query.specs.Queries.{Registered}
 use Rattle.rsp_query.specs.Groups as words
 use Rattle.rsp_query.specs.Paths.{step}
 use Rattle.rsp_algebra.specs.declared.tree.Place.TheVariants.{Default, Window}
-use Rattle.rsp_algebra.specs.Nodes.{Node, join, pattern, project, unit}
+use Rattle.rsp_algebra.specs.Nodes.{Node, join, pattern, project, unit, over, of_two}
 use Rattle.rsp_translation.specs.declared.shape.Shape.TheVariants as shape
 use Rattle.rsp_translation.specs.Translation.{first_fault}
 use Rattle.rsp_syntax.specs.Deciding.{parse}
@@ -90,7 +90,7 @@ subjects policy windows body =
       output = codes "o:a";
       policy = policy;
       windows = windows;
-      node = project body (0 ∷ []);
+      node = over (project (0 ∷ [])) body;
       width = 2;
       shown = 0 ∷ [];
       variables = codes "s" ∷ [];
@@ -362,7 +362,7 @@ stored_quads_are_seen = refl
 
 -- the subjects of the triples that both windows have
 abbrev joining : Reading
-joining = subjects (at_instants (Close ∷ NonEmpty ∷ [])) over_both (join (triples_in 0) (triples_in 1))
+joining = subjects (at_instants (Close ∷ NonEmpty ∷ [])) over_both (of_two join (triples_in 0) (triples_in 1))
 
 abbrev clause : List ℕ → StreamWindow → WindowClause
 clause name w = record { name = name; stream = w.stream; window = w.shape; at = 0 }

@@ -13,7 +13,7 @@ use Rattle.rsp_multiset.specs.Weights.{IsSameMultiset, times}
 use Rattle.rsp_report.specs.declared.chosen.Chosen.{Chosen}
 use Rattle.rsp_report.specs.declared.contents.Watched.{Watched}
 use Rattle.rsp_report.specs.declared.operator.Operator.{Operator}
-use Rattle.rsp_algebra.specs.Nodes.{node_of}
+use Rattle.rsp_algebra.specs.Meanings.{node_of}
 use Rattle.rsp_algebra.specs.declared.tree.Translated.{Translated}
 use Rattle.rsp_scope.specs.Contents.{Accepted, Watch, window_facts}
 use Rattle.rsp_scope.specs.Ends.{IsKept}

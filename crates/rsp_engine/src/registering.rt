@@ -2,7 +2,7 @@
 ghost use Rattle.std.specs.Prelude.{◌≡◌, [], IfOk, IfSome, false, map};
 ghost use Rattle.std.specs.List.{All};
 ghost use Rattle.rsp_query.specs.Meanings.{registered};
-ghost use Rattle.rsp_algebra.specs.Nodes.{node_of};
+ghost use Rattle.rsp_algebra.specs.Meanings.{node_of};
 ghost use Rattle.rsp_shapes.specs.Visible.{name_of};
 ghost use Rattle.rsp_engine.specs.Accept.{new_query};
 ghost use Rattle.rsp_engine.specs.Due.{watched_window};

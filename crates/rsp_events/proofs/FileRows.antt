@@ -7,7 +7,7 @@ use Rattle.std.specs.Str.Lossy.{utf8_valid_len}
 use Rattle.rsp_terms.specs.declared.term.Term.TheVariants.{Blank, Iri, Literal}
 use Rattle.rsp_terms.specs.declared.statement.Triple.{Triple}
 use Rattle.rsp_text.specs.Digits.{read_u64, has_form, fraction}
-use Rattle.rsp_text.specs.Instants.{instant, is_date, is_time, is_offset}
+use Rattle.rsp_text.specs.Instants.{instant, is_date_time, minutes_ahead}
 use Rattle.rsp_scan.specs.Enclosed.{sign}
 use Rattle.rsp_scan.specs.Readers.{enclosed, iri_escape, label, spelled, tag, uchar, echar, string_escape, iri, string}
 use Rattle.rsp_nquads.specs.Parts.{datatype, literal, literal_of, node, object}
@@ -100,7 +100,7 @@ unfolding read_u64
 no_digits = refl
 
 pub no_date : time_in (Literal (codes "1704067200500") (codes "http://www.w3.org/2001/XMLSchema#dateTime")) ≡ None
-unfolding instant is_date is_time is_offset has_form fraction
+unfolding instant is_date_time minutes_ahead has_form fraction
 no_date = refl
 
 -- comments and blank lines count; a line that is no statement changes nothing else; the last line has no line feed

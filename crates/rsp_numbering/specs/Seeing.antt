@@ -5,7 +5,8 @@ use Rattle.std.specs.Str.{bytes_eq}
 use Rattle.rsp_expr.specs.declared.aggregate.Aggregate.{Aggregate}
 use Rattle.rsp_expr.specs.declared.expression.Expression.{Expression}
 use Rattle.rsp_functions.specs.declared.function.Sign.{Sign}
-use Rattle.rsp_expr.specs.Formulas.{Aggregation, Formula, formula_of}
+use Rattle.rsp_expr.specs.Formulas.{Aggregation, Formula}
+use Rattle.rsp_expr.specs.Meanings.{formula_of}
 use Rattle.rsp_query.specs.Meanings.{numbered_aggregation, part_of}
 use Rattle.std.specs.formers.vec.Vec.{mapped}
 use Rattle.std.specs.Prelude.{Vec}

@@ -7,7 +7,7 @@ ghost use Rattle.rsp_written.specs.Meanings.{expr_of};
 ghost use Rattle.rsp_written.specs.Trees as trees;
 ghost use Rattle.rsp_numbering.specs.Naming as naming;
 ghost use Rattle.rsp_numbering.specs.Seeing.{branches_of, scopes_of, written_branches_of};
-ghost use Rattle.rsp_numbering.specs.Selections as numbered;
+ghost use Rattle.rsp_numbering.specs.SelectionSteps as numbered;
 
 use crate::Before;
 use crate::items::{

@@ -6,7 +6,7 @@ ghost use Rattle.rsp_written.specs.Building.{nodes_in};
 ghost use Rattle.rsp_written.specs.Meanings as written;
 ghost use Rattle.rsp_numbering.specs.Naming as naming;
 ghost use Rattle.rsp_numbering.specs.Seeing.{scopes_of};
-ghost use Rattle.rsp_numbering.specs.Triples as numbered;
+ghost use Rattle.rsp_numbering.specs.TripleSteps as numbered;
 
 use crate::Before;
 use crate::paths::path_of;

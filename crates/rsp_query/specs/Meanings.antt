@@ -1,7 +1,8 @@
 -- Words of the way: what the code's paths, groups, SELECTs and queries say, as the plain trees of the definitions.
 use Rattle.std.specs.Prelude.{ℕ, List, map}
 use Rattle.rsp_expr.specs.declared.aggregate.Aggregate.{Aggregate}
-use Rattle.rsp_expr.specs.Formulas.{formula_of, maybe_formula, Aggregation, aggregation_of}
+use Rattle.rsp_expr.specs.Formulas.{Aggregation}
+use Rattle.rsp_expr.specs.Meanings.{formula_of, maybe_formula, aggregation_of}
 use Rattle.rsp_query.specs.declared.path.Path.{Path}
 use Rattle.rsp_query.specs.declared.path.Path.TheOpen.{Path-F}
 use Rattle.rsp_query.specs.declared.path.Path.TheOpen as path_layer

@@ -1,7 +1,7 @@
 // Variables that stand where the scope of their names doesn't allow it.
 ghost use Rattle.std.specs.Prelude.{◌≡◌, ◌||◌, ◌&&◌, not, Some, [], map};
 ghost use Rattle.std.specs.Option.{option_or};
-ghost use Rattle.rsp_expr.specs.Formulas.{formula_of, maybe_formula};
+ghost use Rattle.rsp_expr.specs.Meanings.{formula_of, maybe_formula};
 ghost use Rattle.rsp_query.specs.Groups.{groups_in, parts_in};
 ghost use Rattle.rsp_query.specs.Meanings.{item_of, numbered_aggregation, part_of, selection_of, registered};
 ghost use Rattle.rsp_algebra.specs.Patterns.{among};

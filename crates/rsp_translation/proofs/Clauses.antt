@@ -64,16 +64,16 @@ slashes_are body = counted_is own_slashes body ∙ sym (group_slashes body)
 
 abbrev run_of : List Node → Option Node
 run_of [] = None
-run_of (first ∷ others) = Some (fold node.join first others)
+run_of (first ∷ others) = Some (fold (node.of_two node.join) first others)
 
 run_is : (tree : Node) (run : List Node) → with_run tree run ≡ begun.with_run tree (run_of run)
 run_is tree [] = refl
 run_is tree (first ∷ others) = refl
 
 fold_more : (first : Node) (others : List Node) (next : Node)
-    → fold node.join first (others ++ (next ∷ [])) ≡ node.join (fold node.join first others) next
+    → fold (node.of_two node.join) first (others ++ (next ∷ [])) ≡ node.of_two node.join (fold (node.of_two node.join) first others) next
 fold_more first [] next = refl
-fold_more first (x ∷ others) next = fold_more (node.join first x) others next
+fold_more first (x ∷ others) next = fold_more (node.of_two node.join first x) others next
 
 longer_is : (run : List Node) (next : Node) → run_of (run ++ (next ∷ [])) ≡ Some (begun.longer (run_of run) next)
 longer_is [] next = refl
@@ -125,11 +125,11 @@ after s at fresh part more made tree new tests is same =
     ∙ (ap (λ t. begun.closed (begun.with_parts s at (fresh + alone part) (ended t tests) more)) same
     ∙ next s at fresh part more (ended new tests))
 
-optional_is : (a b x y : Node) (c d : Formula) → a ≡ x → b ≡ y → c ≡ d → node.left_join a b c ≡ node.left_join x y d
+optional_is : (a b x y : Node) (c d : Formula) → a ≡ x → b ≡ y → c ≡ d → node.of_two (node.left_join c) a b ≡ node.of_two (node.left_join d) x y
 optional_is a b x y c d left right test = rw (left, right, test) refl
 
 test_is : (negated : Bool) (tree a b : Node) (c d : Formula) → a ≡ b → c ≡ d
-    → cond negated node.not_exists node.exists tree a c ≡ begun.tested tree (record { negated = negated; tree = b; condition = d })
+    → node.of_two (cond negated node.not_exists node.exists c) tree a ≡ begun.tested tree (record { negated = negated; tree = b; condition = d })
 test_is true tree a b c d same test = rw (same, test) refl
 test_is false tree a b c d same test = rw (same, test) refl
 
@@ -179,13 +179,13 @@ mutual
   elements_are s at fresh tree run tests (part_then (minus body) more) =
       after s at fresh (minus body) more _ _ _ tests
       (elements_are s at (fresh + alone (minus body)) _ [] tests more)
-      (both node.minus (with_run tree run) (group (clauses s at fresh body)) _ _ (run_is tree run)
+      (both (node.of_two node.minus) (with_run tree run) (group (clauses s at fresh body)) _ _ (run_is tree run)
       (whole s at fresh body (elements_are s at fresh node.unit [] [] body) (λ t. tests_are s at fresh t body)))
   elements_are s at fresh tree run tests (part_then (union groups) more) =
       after s at fresh (union groups) more _ _ _ tests
       (elements_are s at (fresh + alone (union groups)) _ [] tests more)
-      (both joined (with_run tree run) (from_left node.union (group_nodes s at fresh groups)) _ _ (run_is tree run)
-      (ap (λ ns. from_left node.union ns) (nodes_are s at fresh groups)))
+      (both joined (with_run tree run) (from_left (node.of_two node.union) (group_nodes s at fresh groups)) _ _ (run_is tree run)
+      (ap (λ ns. from_left (node.of_two node.union) ns) (nodes_are s at fresh groups)))
   elements_are s at fresh tree run tests (part_then (graph name word body) more) =
       after s at fresh (graph name word body) more _ _ _ tests
       (elements_are s at (fresh + alone (graph name word body)) _ [] tests more)
@@ -201,7 +201,7 @@ mutual
   elements_are s at fresh tree run tests (part_then (bind v formula) more) =
       after s at fresh (bind v formula) more _ _ _ tests
       (elements_are s at (fresh + alone (bind v formula)) _ [] tests more)
-      (ap (λ left. node.extend left v formula) (run_is tree run))
+      (ap (λ left. node.over (node.extend v formula) left) (run_is tree run))
   elements_are s at fresh tree run tests (part_then (values variables rows) more) =
       after s at fresh (values variables rows) more _ _ _ tests
       (elements_are s at (fresh + alone (values variables rows)) _ [] tests more)

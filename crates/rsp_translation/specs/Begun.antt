@@ -61,7 +61,8 @@ pub record Test : Type 0 where
 
 abbrev pub tested : Node → Test → Node
 tested left test =
-    cond test.negated (node.not_exists left test.tree test.condition) (node.exists left test.tree test.condition)
+    cond test.negated (node.of_two (node.not_exists test.condition) left test.tree)
+    (node.of_two (node.exists test.condition) left test.tree)
 
 -- A group so far: the tree of the elements before the run of triples at its end; the join of this run, if one stands there;
 -- and the EXISTS of the group, which are tested at the end.
@@ -87,7 +88,7 @@ with_tree group tree = record { tree = tree; run = None; tests = group.tests }
 
 abbrev pub longer : Option Node → Node → Node
 longer None part = part
-longer (Some run) part = node.join run part
+longer (Some run) part = node.of_two node.join run part
 
 abbrev pub with_triple : Begun → Node → Begun
 with_triple group part = record { tree = group.tree; run = Some (longer group.run part); tests = group.tests }
@@ -110,16 +111,16 @@ abbrev mutual
       with_test group
       (record { negated = negated; tree = closed (with_parts s at fresh nothing body); condition = condition_of body })
   with_part s at fresh group (optional body) =
-      with_tree group (node.left_join (closed group) (closed (with_parts s at fresh nothing body)) (condition_of body))
+      with_tree group (node.of_two (node.left_join (condition_of body)) (closed group) (closed (with_parts s at fresh nothing body)))
   with_part s at fresh group (minus body) =
-      with_tree group (node.minus (closed group) (finished body (with_parts s at fresh nothing body)))
+      with_tree group (node.of_two node.minus (closed group) (finished body (with_parts s at fresh nothing body)))
   with_part s at fresh group (union groups) =
-      with_tree group (joined (closed group) (from_left node.union (group_nodes s at fresh groups)))
+      with_tree group (joined (closed group) (from_left (node.of_two node.union) (group_nodes s at fresh groups)))
   with_part s at fresh group (graph name word body) =
       with_tree group (joined (closed group) (finished body (with_parts s (graph_place name) fresh nothing body)))
   with_part s at fresh group (window name word body) =
       with_tree group (joined (closed group) (finished body (with_parts s (window_place s.windows name) fresh nothing body)))
-  with_part s at fresh group (bind v formula) = with_tree group (node.extend (closed group) v formula)
+  with_part s at fresh group (bind v formula) = with_tree group (node.over (node.extend v formula) (closed group))
   with_part s at fresh group (values variables rows) =
       with_tree group (joined (closed group) (node.values (map (values_row s.width variables) rows)))
   with_part s at fresh group (sub inner) = with_tree group (joined (closed group) (select_node s at fresh inner))

@@ -6,7 +6,8 @@ use Rattle.rsp_query.specs.Queries.{Registered}
 use Rattle.rsp_query.specs.Walks.{slashes_in}
 use Rattle.rsp_algebra.specs.declared.tree.Place.TheVariants as place
 use Rattle.rsp_algebra.specs.declared.tree.Translated.{Translated}
-use Rattle.rsp_algebra.specs.Nodes.{Node, node_of}
+use Rattle.rsp_algebra.specs.Nodes.{Node}
+use Rattle.rsp_algebra.specs.Meanings.{node_of}
 use Rattle.rsp_translation.specs.declared.shape.Shape.{Shape}
 use Rattle.rsp_translation.specs.declared.shape.Shape.TheVariants.{GraphShape, ExistsShape, Scope, OutOfMemory}
 use Rattle.rsp_shapes.specs.declared.unscoped.Unscoped.{Unscoped}

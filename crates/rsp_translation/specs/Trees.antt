@@ -58,12 +58,12 @@ pub data Clause : Type 0 where
 -- the unit vanishes on the left of a join
 abbrev pub joined : Node → Node → Node
 joined node.unit right = right
-joined left right = node.join left right
+joined left right = node.of_two node.join left right
 
 -- behind a run of triples
 abbrev pub with_run : Node → List Node → Node
 with_run tree [] = tree
-with_run tree (first ∷ others) = joined tree (fold node.join first others)
+with_run tree (first ∷ others) = joined tree (fold (node.of_two node.join) first others)
 
 -- with the clauses from left to right, behind a tree and a run of triples; neither a filter nor an EXISTS ends a run
 abbrev pub built : Node → List Node → List Clause → Node
@@ -89,7 +89,7 @@ condition clauses = conjunction (formulas_in (filters_in clauses))
 
 abbrev pub filtered : List Formula → Node → Node
 filtered [] tree = tree
-filtered (first ∷ others) tree = node.filter tree (conjunction (formulas_in (first ∷ others)))
+filtered (first ∷ others) tree = node.over (node.filter (conjunction (formulas_in (first ∷ others)))) tree
 
 abbrev pub tested_by : Node → Clause → Node
 tested_by tree (testing test) = test tree
@@ -105,15 +105,16 @@ abbrev mutual
   clause s at fresh (triple subject verb object) = triples (path_node at fresh subject verb object)
   clause s at fresh (filter formula) = filtering formula
   clause s at fresh (exists negated word body) = testing (λ left.
-      cond negated node.not_exists node.exists left (elements (clauses s at fresh body)) (condition (clauses s at fresh body)))
+      node.of_two (cond negated node.not_exists node.exists (condition (clauses s at fresh body))) left
+      (elements (clauses s at fresh body)))
   clause s at fresh (optional body) = behind (λ left.
-      node.left_join left (elements (clauses s at fresh body)) (condition (clauses s at fresh body)))
-  clause s at fresh (minus body) = behind (λ left. node.minus left (group (clauses s at fresh body)))
-  clause s at fresh (union groups) = behind (λ left. joined left (from_left node.union (group_nodes s at fresh groups)))
+      node.of_two (node.left_join (condition (clauses s at fresh body))) left (elements (clauses s at fresh body)))
+  clause s at fresh (minus body) = behind (λ left. node.of_two node.minus left (group (clauses s at fresh body)))
+  clause s at fresh (union groups) = behind (λ left. joined left (from_left (node.of_two node.union) (group_nodes s at fresh groups)))
   clause s at fresh (graph name word body) = behind (λ left. joined left (group (clauses s (graph_place name) fresh body)))
   clause s at fresh (window name word body) =
       behind (λ left. joined left (group (clauses s (window_place s.windows name) fresh body)))
-  clause s at fresh (bind v formula) = behind (λ left. node.extend left v formula)
+  clause s at fresh (bind v formula) = behind (λ left. node.over (node.extend v formula) left)
   clause s at fresh (values variables rows) =
       behind (λ left. joined left (node.values (map (values_row s.width variables) rows)))
   clause s at fresh (sub inner) = behind (λ left. joined left (select_node s at fresh inner))

@@ -3,7 +3,7 @@ ghost use Rattle.std.specs.Prelude.{◌≡◌, IfOk, map};
 ghost use Rattle.std.specs.List.{fold};
 ghost use Rattle.rsp_query.specs.Groups.{groups_in, parts_in};
 ghost use Rattle.rsp_query.specs.Meanings.{part_of, selection_of};
-ghost use Rattle.rsp_algebra.specs.Nodes.{node_of};
+ghost use Rattle.rsp_algebra.specs.Meanings.{node_of};
 ghost use Rattle.rsp_shapes.specs.Seeing.{branches_of};
 ghost use Rattle.rsp_translation.specs.Building.{bare, begun_of, fixed_by, tests_in, tests_of};
 ghost use Rattle.rsp_translation.specs.Begun as trees;

@@ -4,7 +4,7 @@ ghost use Rattle.rsp_query.specs.Queries.{Registered};
 ghost use Rattle.rsp_query.specs.Groups.{no_part, part_then, sub};
 ghost use Rattle.rsp_query.specs.Meanings.{registered, selection_of};
 ghost use Rattle.rsp_query.specs.Walks.{slashes_in};
-ghost use Rattle.rsp_algebra.specs.Nodes.{node_of};
+ghost use Rattle.rsp_algebra.specs.Meanings.{node_of};
 ghost use Rattle.rsp_algebra.specs.Fitting.{IsPlaced};
 ghost use Rattle.rsp_shapes.specs.Sound.{IsSound};
 ghost use Rattle.rsp_translation.specs.Selects as selects;

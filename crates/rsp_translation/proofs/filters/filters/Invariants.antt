@@ -1,5 +1,5 @@
 use Rattle.std.proofs.Common.{◌≡◌, ◌++◌, map, drop}
-use Rattle.rsp_expr.specs.Formulas.{formula_of}
+use Rattle.rsp_expr.specs.Meanings.{formula_of}
 use Rattle.rsp_query.specs.Groups.{parts_in}
 use Rattle.rsp_query.specs.Meanings.{part_of}
 use Rattle.rsp_translation.specs.Begun as trees
