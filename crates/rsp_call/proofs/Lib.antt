@@ -19,5 +19,6 @@ pub mod Cutting
 pub mod Filed
 pub mod Recorded
 pub mod Played
+pub mod Replayed
 pub mod Spoken
 pub mod Generated

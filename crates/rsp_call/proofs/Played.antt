@@ -8,15 +8,15 @@ use Rattle.rsp_engine.specs.declared.refused.Refused.{Refused}
 use Rattle.rsp_engine.specs.Passing.{IsFaultOf}
 use Rattle.rsp_engine.specs.Refusals.{Refusal, refusal_of}
 use Rattle.rsp_engine.specs.World.{World}
+use Rattle.rsp_io.specs.Seen.{SinkSeen}
 use Rattle.rsp_call.specs.declared.form.Form.{Form}
 use Rattle.rsp_call.specs.declared.refusing.Place.TheVariants.{Block}
 use Rattle.rsp_call.specs.declared.stop.Stop.{Stop}
 use Rattle.rsp_call.specs.Checks.{bytes_fault}
-use Rattle.rsp_call.specs.Output.{event_step}
+use Rattle.rsp_call.specs.Runs.{event_step}
 use Rattle.rsp_call.specs.Refusals.{of_event}
-use Rattle.rsp_call.specs.Replays.{query_step}
+use Rattle.rsp_call.specs.Played.{query_step}
 use Rattle.rsp_call.specs.Sayings.{Says}
-use Rattle.rsp_call.specs.Sinks.{SinkSeen}
 use Rattle.rsp_call.specs.Stops.{Ends, IsLineOf}
 use Rattle.rsp_call.proofs.Speaking.{refusal_says}
 

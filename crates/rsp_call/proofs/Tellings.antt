@@ -21,6 +21,7 @@ use Rattle.rsp_engine.specs.Reports.{IsOutcome, IsReport, reports, world_behind}
 use Rattle.rsp_engine.specs.Stands.{State, Stands, is_idle}
 use Rattle.rsp_engine.specs.Offers.{Answers, GivesFirst, GivesOf, HasNone, Refuses}
 use Rattle.rsp_engine.proofs.ReportSteps.{reports_step, world_step}
+use Rattle.rsp_io.specs.Seen.{SinkSeen}
 use Rattle.rsp_call.specs.declared.form.Form.{Form}
 use Rattle.rsp_call.specs.declared.form.Form.TheVariants.{Table, Json}
 use Rattle.rsp_call.specs.declared.stop.Stop.{Stop}
@@ -29,9 +30,10 @@ use Rattle.rsp_call.specs.Apart.{IsTold, have_tab}
 use Rattle.rsp_call.specs.Output.{a_report, answer_step, is_refusal, outcome_text, text_of, text_of_report}
 use Rattle.std.specs.Fmt.{decimal}
 use Rattle.std.specs.Prelude.{codes}
-use Rattle.rsp_call.specs.Refusals.{Reason, details, kind, of_event, place_text, refusal_line}
+use Rattle.rsp_call.specs.Reasons.{details, kind}
+use Rattle.rsp_call.specs.Refusals.{Reason, of_event, place_text, refusal_line}
 use Rattle.rsp_call.specs.Runs.{event_refused, event_text, event_world, reports_text}
-use Rattle.rsp_call.specs.Sinks.{SinkSeen, Wrote, WrotePart}
+use Rattle.rsp_call.specs.Sinks.{Wrote, WrotePart}
 use Rattle.rsp_call.specs.Stops.{IsLineOf, Stops}
 use Rattle.rsp_call.proofs.Tabless.{same_json}
 use Rattle.rsp_call.proofs.Writings.{wrote_more, wrote_part, stops_behind, stops_before_more}

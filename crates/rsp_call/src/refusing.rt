@@ -1,7 +1,7 @@
 // The line of a refusal.
 ghost use Rattle.std.specs.Prelude.{◌≡◌, List, ℕ, Some, true, IfOk, IsSome, is_some, option_map, string_bytes};
-ghost use Rattle.rsp_call.specs.Refusals.{Reason, details, kind, limit_word, place_text, reason_of, refusal_line};
-ghost use Rattle.rsp_call.specs.Sinks.{sink_seen};
+ghost use Rattle.rsp_call.specs.Reasons.{details, kind, reason_of};
+ghost use Rattle.rsp_call.specs.Refusals.{Reason, limit_word, place_text, refusal_line};
 ghost use Rattle.rsp_call.specs.Stops.{Ends, IsLineOf};
 
 use crate::stop::Stop;
@@ -39,10 +39,7 @@ pub(crate) fn refuse<K: Sink>(
     out: &mut K,
 ) -> Result<bool, Stop>
     ensures text { (text : List ℕ) → IsLineOf place (reason_of answered) text
-        → Ends
-        (sink_seen (K.taken out.old) (K.room out.old) (K.faults out.old))
-        (sink_seen (K.taken out.new) (K.room out.new) (K.faults out.new))
-        text result }
+        → Ends (K.seen out.old) (K.seen out.new) text result }
     ensures refused { IfOk result (λ refused. (refused ≡ true) × (is_some (reason_of answered) ≡ true)) }
 {
     write_line(alloc, place, &answered, out)
@@ -56,10 +53,7 @@ fn write_line<K: Sink>(
     out: &mut K,
 ) -> Result<bool, Stop>
     ensures text { (text : List ℕ) → IsLineOf place (reason_of answered.now) text
-        → Ends
-        (sink_seen (K.taken out.old) (K.room out.old) (K.faults out.old))
-        (sink_seen (K.taken out.new) (K.room out.new) (K.faults out.new))
-        text result }
+        → Ends (K.seen out.old) (K.seen out.new) text result }
     ensures refused { IfOk result (λ refused. (refused ≡ true) × (is_some (reason_of answered.now) ≡ true)) }
 {
     match line(alloc, place, answered) {
