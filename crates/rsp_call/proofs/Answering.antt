@@ -5,6 +5,7 @@ use Rattle.rsp_io.specs.Seen.{SinkSeen}
 use Rattle.rsp_call.specs.declared.reading.Unread.{Unread}
 use Rattle.rsp_call.specs.declared.reading.Unread.TheVariants as unread
 use Rattle.rsp_call.specs.declared.form.Form.{Form}
+use Rattle.rsp_call.specs.declared.status.Status.{Status}
 use Rattle.rsp_call.specs.declared.stop.Stop.{Stop}
 use Rattle.rsp_call.specs.declared.stop.Stop.TheVariants.{Memory, Write}
 use Rattle.rsp_call.specs.Answers.{most_file_bytes}
@@ -36,6 +37,11 @@ pub told_says : (form : Form) (names : List (List ℕ)) (said : SayingOf) (befor
 told_says form names said before now sink sink' files (Ok refused) read says = told form names said before now sink sink' files (Ok refused) read says.0 says.1
 told_says form names said before now sink sink' files (Err why) read says = told form names said before now sink sink' files (Err why) read says tt
 
+-- by the status, and by other words for what they say
+pub files_told : (form : Form) (names : List (List ℕ)) (said : SayingOf) (before now : ShelfSeen) (sink sink' : SinkSeen) (files : List (List ℕ)) (result : Result Bool Stop) (other : List Saying) (status : Status) → status ≡ status_of result → other ≡ said files → ReadsAll most_file_bytes before now names files → Says form sink sink' other result → AnswersFiles most_file_bytes form names said before now sink sink' status
+files_told form names said before now sink sink' files result other status is same read says =
+    rw is (told_says form names said before now sink sink' files result read (rw same at says))
+
 -- one of them wasn't read
 pub not_read_any : (form : Form) (names : List (List ℕ)) (said : SayingOf) (before now : ShelfSeen) (sink : SinkSeen) (why : Unread) → EndsAt most_file_bytes (readings.Ends why) before now names → AnswersFiles most_file_bytes form names said before now sink sink (readings.status_of_unread why)
 not_read_any form names said before now sink unread.Memory ends = inr (ends, wrote_nothing sink)
@@ -45,3 +51,6 @@ not_read_any form names said before now sink unread.TooLong ends = inr (ends, wr
 -- the one file wasn't read
 pub not_read : (form : Form) (name : List ℕ) (said : SayingOf) (before now : ShelfSeen) (sink : SinkSeen) (why : Unread) → readings.Ends why before now name → AnswersFiles most_file_bytes form (name ∷ []) said before now sink sink (readings.status_of_unread why)
 not_read form name said before now sink why ends = not_read_any form (name ∷ []) said before now sink why (inl ends)
+
+pub files_unread : (form : Form) (names : List (List ℕ)) (said : SayingOf) (before now : ShelfSeen) (sink : SinkSeen) (why : Unread) (status : Status) → status ≡ readings.status_of_unread why → EndsAt most_file_bytes (readings.Ends why) before now names → AnswersFiles most_file_bytes form names said before now sink sink status
+files_unread form names said before now sink why status is ends = rw is (not_read_any form names said before now sink why ends)
