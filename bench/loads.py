@@ -205,6 +205,47 @@ def operators(operator):
     return lambda size: block("@register q", [text]) + stored(size) + rounds(size)
 
 
+# what a report costs whose answer changes by one row, by each kind of node: the columns, the group, what stands behind it, and
+# the key of the triple that comes before each report. Every second key below the number of triples has a mark.
+ONE_ROW = {
+    "pattern": ("?x ?y", "?x <p:v> ?y", "", "new"),
+    "join": ("?x ?z", "?x <p:v> ?y . ?y <p:m> ?z", "", "marked"),
+    "filter": ("?x ?y", "?x <p:v> ?y FILTER(STR(?y) != 'b:x')", "", "new"),
+    "bind": ("?x ?z", "?x <p:v> ?y BIND(STR(?y) AS ?z)", "", "new"),
+    "project": ("?y", "{ SELECT ?y WHERE { ?x <p:v> ?y } }", "", "new"),
+    "distinct": ("?y", "{ SELECT DISTINCT ?y WHERE { ?x <p:v> ?y } }", "", "new"),
+    "union": ("?x ?y", "{ ?x <p:v> ?y } UNION { ?x <p:m> ?y }", "", "new"),
+    "optional": ("?x ?z", "?x <p:v> ?y OPTIONAL { ?y <p:m> ?z }", "", "marked"),
+    "optional with a filter": ("?x ?z", "?x <p:v> ?y OPTIONAL { ?y <p:m> ?z FILTER(?x != ?z) }", "", "marked"),
+    "minus": ("?x ?y", "?x <p:v> ?y MINUS { ?y <p:m> ?z }", "", "new"),
+    "exists": ("?x ?y", "?x <p:v> ?y FILTER EXISTS { ?y <p:m> ?z }", "", "marked"),
+    "not exists": ("?x ?y", "?x <p:v> ?y FILTER NOT EXISTS { ?y <p:m> ?z }", "", "new"),
+    "groups": ("?y (COUNT(*) AS ?n)", "?x <p:v> ?y", " GROUP BY ?y", "marked"),
+    "one group": ("(COUNT(*) AS ?n) (MAX(STR(?y)) AS ?most)", "?x <p:v> ?y", "", "new"),
+}
+FEW_STORED, MANY_STORED = 1_000, 100_000
+
+
+def one_row(node, count):
+    """A load of so many reports under ISTREAM over this many stored quads, each with one row more by a node of this kind."""
+    columns, body, end, key = ONE_ROW[node]
+    clause = "FROM NAMED WINDOW <w:1> ON <s:a> [RANGE PT1S]"
+    head = f"REGISTER ISTREAM <q:o> REPORT CLOSE TICK TIME AS SELECT {columns} {clause} WHERE {{ {body} }}{end}\n"
+    half = count // 2
+    quads = [f"<a:{k}> <p:v> <b:{k}> .\n<b:{2 * k + 1}> <p:m> <c:{k}> .\n" for k in range(half)]
+
+    def load(size):
+        stored = b"".join(block("@insert", quads[at:at + 500]) for at in range(0, half, 500))
+        keys = [2 * (number % half) + 1 if key == "marked" else 2 * (half + number) for number in range(size)]
+        rounds = [
+            block("@insert", [f"<n:{number}> <p:v> <b:{at}> .\n"]) + b"@tick %d\n" % (1000 * number + 1000)
+            for number, at in enumerate(keys)
+        ]
+        return block("@register q", [head]) + stored + b"@tick 1\n" + b"".join(rounds)
+
+    return load
+
+
 def terms(size):
     """One report of so many rows over what is stored, with terms of each kind in turn."""
     kinds = [
@@ -258,6 +299,25 @@ def one_stream(size):
         for k in range(256)
     ]
     return b"".join(live) + short_items(size, ["a"])
+
+
+SILENT = " ".join(f"FROM NAMED WINDOW <w:{k}> ON <s:b{k}> [RANGE PT10S STEP PT0.002S]" for k in range(1, 17))
+
+
+def beside_silent(count, policy):
+    """A load of so many items of one stream, which one query of this policy reads, beside this many over sixteen others each."""
+    silent = [registration(f"q{k}", policy, SILENT, PATTERN) for k in range(count)]
+    window = "FROM NAMED WINDOW <w:1> ON <s:a> [RANGE PT0.1S STEP PT0.002S]"
+    live = b"".join([*silent, registration("q", policy, window, PATTERN)])
+    return lambda size: live + short_items(size, ["a"])
+
+
+def all_due(size):
+    """So many seconds, each with an item and with a report of each of 256 queries at its end."""
+    window = "FROM NAMED WINDOW <w:1> ON <s:a> [RANGE PT1S]"
+    live = [registration(f"q{number}", "REPORT CLOSE TICK TIME", window, PATTERN) for number in range(256)]
+    items = [b"@item <s:a> %d\n<a:%d> <p:v> <o:1> .\n@end\n" % (1000 * k + 500, k) for k in range(size)]
+    return b"".join(live + items) + b"@tick %d\n" % (1000 * size)
 
 
 def full(items, before):

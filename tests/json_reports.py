@@ -72,22 +72,33 @@ def report(name, time, header, lines):
     return members({b"at": time, b"head": head, b"query": string(name), b"results": results})
 
 
-def as_json(tables):
-    """The output with its reports as lines of JSON; each other line stays as it is."""
+def sayings(tables):
+    """The lines of each thing that is said: those of a report, or the one of a refusal and the like."""
     lines = tables.split(b"\n")
     assert lines.pop() == b""
-    out, at = [], 0
+    at = 0
     while at < len(lines):
-        fields = lines[at].split(b" ")
-        if fields[:2] == [b"#", b"report"]:
-            _, _, name, time, rows = fields
-            behind = at + 2 + int(rows)
-            out.append(report(name, time, lines[at + 1], lines[at + 2:behind]))
-            at = behind
-        else:
-            out.append(lines[at])
-            at += 1
-    return b"".join(line + b"\n" for line in out)
+        behind = at + (2 + int(lines[at].split(b" ")[4]) if lines[at].startswith(b"# report ") else 1)
+        yield lines[at:behind]
+        at = behind
+
+
+def report_rows(tables):
+    """The number of rows of each report."""
+    return (len(lines) - 2 for lines in sayings(tables) if lines[0].startswith(b"# report "))
+
+
+def line_of(lines):
+    """A report as a line of JSON; each other line stays as it is."""
+    if not lines[0].startswith(b"# report "):
+        return lines[0]
+    _, _, name, time, _ = lines[0].split(b" ")
+    return report(name, time, lines[1], lines[2:])
+
+
+def as_json(tables):
+    """The output with its reports as lines of JSON."""
+    return b"".join(line_of(lines) + b"\n" for lines in sayings(tables))
 
 
 def unread_line(output):

@@ -10,7 +10,7 @@ from collections import Counter, namedtuple
 
 import query_model
 from algebra_model import DEFAULT, Overfull, solutions, translated
-from json_reports import as_json
+from json_reports import as_json, report_rows
 from policy_model import content, instants, is_due, is_due_on_arrival, is_mixed, is_needed, policy_of, window_of
 from query_model import LAST_INSTANT, instant
 from shape_model import fault
@@ -22,6 +22,14 @@ MOST_TRIPLES = 100_000
 MOST_HELD = 1_000_000
 MOST_QUERIES = 256
 MOST_QUADS = 1_000_000
+MOST_COUNT = 1_000_000
+GENERATED_QUERY = b"""@register g
+PREFIX ex: <http://example.org/>
+REGISTER ISTREAM ex:out AS SELECT ?s (COUNT(*) AS ?n) (SUM(?v) AS ?t)
+FROM NAMED WINDOW ex:w ON ex:in [RANGE PT60S STEP PT10S]
+WHERE { WINDOW ex:w { ?s ex:v ?v OPTIONAL { ?s ex:off ?f } } FILTER(!BOUND(?f)) } GROUP BY ?s
+@end
+"""
 
 
 def is_utf8(text):
@@ -201,6 +209,10 @@ def is_end(line):
     return line.text.startswith(b"@end") and not line.text[4:].strip(b" \t")
 
 
+def begins_body(line):
+    return not line.is_long and re.split(rb"[ \t]", line.text, maxsplit=1)[0] in BODIES
+
+
 def groups(lines):
     """The lines of each block."""
     lines = iter(lines)
@@ -208,12 +220,18 @@ def groups(lines):
         if not line.is_long and (line.text.startswith(b"#") or not line.text.strip(b" \t")):
             continue
         group = [line]
-        if not line.is_long and re.split(rb"[ \t]", line.text, maxsplit=1)[0] in BODIES:
+        if begins_body(line):
             for member in lines:
                 group.append(member)
                 if is_end(member):
                     break
         yield group
+
+
+def whole_blocks(log):
+    """How many blocks of a log lack nothing, where only the lines count that have ended."""
+    ended = log[:log.rfind(b"\n") + 1]
+    return sum(not begins_body(group[0]) or is_end(group[-1]) for group in groups(lines_of(io.BytesIO(ended))))
 
 
 def directive(text):
@@ -440,19 +458,47 @@ def answer(world, group):
         return b"", str(why)
 
 
+def answers(log):
+    """For each block of a log what it gives, and whether it is refused."""
+    world = World()
+    for number, group in enumerate(groups(lines_of(io.BytesIO(log))), 1):
+        text, why = answer(world, group)
+        yield (text, False) if why is None else (b"# refused block %d %s\n" % (number, why.encode()), True)
+
+
 def run(words, log):
     """The output and the status of a run."""
     if words in ([b"events", b"--json"], [b"events", b"--json", b"--"]):
         tables, status = run([b"events"], log)
         return as_json(tables), status
+    if len(words) == 2 and words[0] == b"gen" and re.fullmatch(rb"0*[1-9][0-9]{0,6}", words[1]) and int(words[1]) <= MOST_COUNT:
+        return summary(int(words[1])), 0
     if words not in ([b"events"], [b"events", b"--"]):
         return USAGE, 2
-    world, written, refused = World(), [], False
-    for number, group in enumerate(groups(lines_of(io.BytesIO(log))), 1):
-        text, why = answer(world, group)
-        written.append(text if why is None else b"# refused block %d %s\n" % (number, why.encode()))
-        refused = refused or why is not None
-    return b"".join(written), int(refused)
+    given = list(answers(log))
+    return b"".join(text for text, _ in given), int(any(is_refused for _, is_refused in given))
+
+
+# ---- the generator
+
+
+def generated(count):
+    """The events of the generator as a log: one query, so many items, and a tick."""
+    yield GENERATED_QUERY
+    number = 1
+    for i in range(1, count + 1):
+        number = (6364136223846793005 * number + 1442695040888963407) % 2 ** 64
+        sensor = b"<http://example.org/s%d>" % (number // 2 ** 32 % 100)
+        reading = b'"%d"^^<http://www.w3.org/2001/XMLSchema#integer>' % (number // 2 ** 40 % 1000)
+        off = b"%s <http://example.org/off> <http://example.org/x> .\n" % sensor if i % 50 == 0 else b""
+        yield b"@item <http://example.org/in> %d\n%s <http://example.org/v> %s .\n%s@end\n" % (100 * i, sensor, reading, off)
+    yield b"@tick %d\n" % (100 * count)
+
+
+def summary(count):
+    """What the program says of the generator's events."""
+    rows = list(report_rows(run([b"events"], b"".join(generated(count)))[0]))
+    return b"gen %d reports %d rows %d\n" % (count, len(rows), sum(rows))
 
 
 # ---- the rows

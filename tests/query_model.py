@@ -59,12 +59,20 @@ Token = namedtuple("Token", "kind text start end")
 
 
 class Name(str):
-    """A text that a token says, with the byte at which the token begins; else it is that text."""
+    """A text that a token says, or the name of what begins with it, with the byte at which it begins; else it is that text."""
 
     def __new__(cls, text, start=None):
         made = super().__new__(cls, text)
         made.start = start
         return made
+
+
+class Listed(list):
+    """A list of parts, with the byte at which it begins, or those of the marks in it; else it is that list."""
+
+    def __init__(self, parts, start=None, marks=()):
+        super().__init__(parts)
+        self.start, self.marks = start, marks
 
 
 class Numbered(int):
@@ -199,8 +207,16 @@ def token(test, value=lambda said: said):
     return lambda go_on: [Way(test, lambda said: go_on(value(said)))]
 
 
+def at(said):
+    return said.token.start
+
+
 def named_value(said):
-    return Name(said.value, said.token.start)
+    return Name(said.value, at(said))
+
+
+def word(said):
+    return Name(said.kind, at(said))
 
 
 def one_of(*kinds):
@@ -246,7 +262,9 @@ def some(rule):
 
 def listed(rule, mark):
     """The rule once or more, with marks between."""
-    return mapped(lambda v: [v[0], *(x[1] for x in v[1])], row(rule, many(row(mark, rule))))
+    return mapped(
+        lambda v: Listed([v[0], *(x for _, x in v[1])], marks=[at(sign) for sign, _ in v[1]]), row(rule, many(row(mark, rule)))
+    )
 
 
 def lazy(make):
@@ -265,10 +283,11 @@ variable = token(lambda said: said.kind == "Variable", named_value)
 TYPES = {"Integer": XSD + "integer", "Decimal": XSD + "decimal", "Double": XSD + "double"}
 
 
-def number(sign):
+def number(sign="", start=None):
+    """A number; with a sign before it, it begins there."""
     return token(
         lambda said: said.kind in TYPES,
-        lambda said: ("literal", Name(sign + said.value, said.token.start), TYPES[said.kind]),
+        lambda said: ("literal", Name(sign + said.value, at(said) if start is None else start), TYPES[said.kind]),
     )
 
 
@@ -280,9 +299,11 @@ string = then(
         mapped(lambda datatype: ("literal", text, datatype), kept(1, one_of("^^"), iri)),
     ),
 )
-boolean = token(lambda said: said.kind in ("TRUE", "FALSE"), lambda said: ("literal", said.kind.lower(), XSD + "boolean"))
-literal = either(string, number(""), kept(1, one_of("-"), number("-")), boolean)
-unsigned_literal = either(string, number(""), boolean)
+boolean = token(
+    lambda said: said.kind in ("TRUE", "FALSE"), lambda said: ("literal", Name(said.kind.lower(), at(said)), XSD + "boolean")
+)
+unsigned_literal = either(string, number(), boolean)
+literal = either(unsigned_literal, then(one_of("-"), lambda sign: number("-", at(sign))))
 
 # ---- expressions
 
@@ -304,14 +325,14 @@ def call(inner):
             more = kept(1, one_of(","), inner)
             counts = ARITIES.get(name.kind, {1})
             rule = either(*(in_parens(row(inner, *[more] * (count - 1))) for count in counts))
-        return mapped(lambda values: ("call", name.kind, values), rule)
-    bound = mapped(lambda x: ("bound", x), kept(1, one_of("BOUND"), in_parens(variable)))
+        return mapped(lambda values: ("call", word(name), values), rule)
+    bound = mapped(lambda v: (Name("bound", at(v[0])), v[1]), row(one_of("BOUND"), in_parens(variable)))
     return either(bound, then(one_of(*FUNCTIONS), arguments))
 
 
 def from_left(name, found):
     first, rest = found
-    return (name, first, [(sign.kind, part) for sign, part in rest]) if rest else first
+    return (name, first, [(word(sign), part) for sign, part in rest]) if rest else first
 
 
 def signs(name, part, *kinds):
@@ -325,30 +346,29 @@ def expression(extra=None):
         mapped(lambda x: ("variable", x), variable), mapped(lambda x: ("constant", x), unsigned_literal),
         *([extra] if extra else []),
     )
-    unary = either(primary, mapped(lambda v: ("signed", v[0].kind, v[1]), row(one_of("!", "-", "+"), primary)))
+    unary = either(primary, mapped(lambda v: ("signed", word(v[0]), v[1]), row(one_of("!", "-", "+"), primary)))
     sums = signs("sum", signs("product", unary, "*", "/"), "+", "-")
-    compared = mapped(lambda v: ("compare", v[1].kind, v[0], v[2]), row(sums, one_of("=", "!=", "<", ">", "<=", ">="), sums))
+    compared = mapped(lambda v: ("compare", word(v[1]), v[0], v[2]), row(sums, one_of("=", "!=", "<", ">", "<=", ">="), sums))
     members = either(in_parens(nothing([])), in_parens(listed(inner, one_of(","))))
-    among = mapped(lambda v: ("member", v[1] is not None, v[0], v[3]), row(sums, maybe(one_of("NOT")), one_of("IN"), members))
+    among = mapped(
+        lambda v: (Name("member", at(v[1] or v[2])), v[1] is not None, v[0], v[3]),
+        row(sums, maybe(one_of("NOT")), one_of("IN"), members),
+    )
     return signs("or", signs("and", either(sums, compared, among), "&&"), "||")
 
 
 plain = expression()
-counted = mapped(
-    lambda v: ("aggregate", "COUNT", v is not None and v[0] is not None, v and v[1]),
-    kept(1, one_of("COUNT"), in_parens(either(mapped(lambda star: None, one_of("*")), row(maybe(one_of("DISTINCT")), plain)))),
-)
-folded = mapped(
-    lambda v: ("aggregate", v[0].kind, v[1][0] is not None, v[1][1]),
-    row(one_of("SUM", "AVG", "MIN", "MAX"), in_parens(row(maybe(one_of("DISTINCT")), plain))),
-)
-with_aggregates = expression(either(counted, folded))
+all_rows = mapped(lambda star: [None, None], one_of("*"))
+counted = row(one_of("COUNT"), in_parens(either(all_rows, row(maybe(one_of("DISTINCT")), plain))))
+folded = row(one_of("SUM", "AVG", "MIN", "MAX"), in_parens(row(maybe(one_of("DISTINCT")), plain)))
+aggregate = mapped(lambda v: ("aggregate", word(v[0]), v[1][0] is not None, v[1][1]), either(counted, folded))
+with_aggregates = expression(aggregate)
 
 # ---- paths and triples
 
 
 def path():
-    a = mapped(lambda word: ("step", Name(RDF_TYPE, word.token.start)), one_of("a"))
+    a = mapped(lambda a: ("step", Name(RDF_TYPE, at(a))), one_of("a"))
     name = either(mapped(lambda x: ("step", x), iri), a)
     part = mapped(
         lambda v: ("inverse", v[1]) if v[0] else v[1], row(maybe(one_of("^")), either(name, in_parens(lazy(path))))
@@ -360,10 +380,10 @@ def path():
 verb = either(mapped(lambda x: ("variable", x), variable), path())
 subject_name = either(
     mapped(lambda x: ("variable", x), variable), mapped(lambda x: ("iri", x), iri),
-    token(lambda said: said.kind == "Label", lambda said: ("label", said.value)),
+    token(lambda said: said.kind == "Label", lambda said: ("label", named_value(said))),
 )
-empty_node = mapped(lambda v: ("node", []), row(one_of("["), one_of("]")))
-described = mapped(lambda v: ("node", v[1]), row(one_of("["), lazy(lambda: properties), one_of("]")))
+empty_node = mapped(lambda v: (Name("node", at(v[0])), []), row(one_of("["), one_of("]")))
+described = mapped(lambda v: (Name("node", at(v[0])), v[1]), row(one_of("["), lazy(lambda: properties), one_of("]")))
 object_node = either(subject_name, literal, empty_node, described)
 property_row = row(verb, listed(object_node, one_of(",")))
 properties = mapped(
@@ -384,7 +404,9 @@ def triples():
 
 # ---- VALUES
 
-value = either(mapped(lambda x: ("iri", x), iri), literal, mapped(lambda word: None, one_of("UNDEF")))
+term = either(mapped(lambda x: ("iri", x), iri), literal)
+value = either(term, mapped(lambda word: None, one_of("UNDEF")))
+single = either(mapped(lambda x: Listed([x], x[1].start), term), mapped(lambda word: Listed([None], at(word)), one_of("UNDEF")))
 
 
 def new_names(names):
@@ -393,12 +415,12 @@ def new_names(names):
 
 
 def value_rows(names):
-    rows = many(in_parens(row(*(value for _ in names))))
-    return mapped(lambda rows: ("values", names, rows), kept(1, one_of("{"), rows, one_of("}")))
+    one = mapped(lambda v: Listed(v[1], at(v[0])), row(one_of("("), row(*(value for _ in names)), one_of(")")))
+    return mapped(lambda rows: (names, rows), kept(1, one_of("{"), many(one), one_of("}")))
 
 
 block = either(
-    mapped(lambda v: ("values", [v[0]], [[x] for x in v[2]]), row(variable, one_of("{"), many(value), one_of("}"))),
+    mapped(lambda v: ([v[0]], v[2]), row(variable, one_of("{"), many(single), one_of("}"))),
     then(in_parens(new_names([])), value_rows),
 )
 
@@ -412,7 +434,7 @@ def items(rule):
 
 
 select_clause = mapped(
-    lambda v: (v[1] is not None, v[2]),
+    lambda v: (v[1] is not None, v[2], at(v[0])),
     row(
         one_of("SELECT"), maybe(one_of("DISTINCT")),
         either(mapped(lambda star: Name("*", star.token.start), one_of("*")), items(with_aggregates)),
@@ -428,36 +450,37 @@ def select_of(clause, body, behind):
     return {"distinct": clause[0], "items": clause[1], "body": body, "keys": behind[0], "having": behind[1]}
 
 
-def at(word):
-    return word.token.start
+def element(name, rule, word):
+    """An element of a group that begins with this word: its name, and the values of the rule."""
+    return mapped(lambda v: (Name(name, at(v[0])), *v[1]), row(one_of(word), rule))
 
 
 def other(group):
     graph_name = either(mapped(lambda x: ("variable", x), variable), mapped(lambda x: ("iri", x), iri))
     exists = mapped(
-        lambda v: ("exists", v[0] is not None, at(v[1]), v[2]), row(maybe(one_of("NOT")), one_of("EXISTS"), group)
+        lambda v: (Name("exists", at(v[0])), v[1] is not None, at(v[2]), v[3]),
+        row(one_of("FILTER"), maybe(one_of("NOT")), one_of("EXISTS"), group),
     )
     condition = either(in_parens(plain), call(plain))
     return either(
-        mapped(lambda g: ("optional", g), kept(1, one_of("OPTIONAL"), group)),
-        mapped(lambda g: ("minus", g), kept(1, one_of("MINUS"), group)),
-        mapped(lambda gs: ("union", gs), listed(group, one_of("UNION"))),
-        mapped(lambda v: ("graph", v[1], at(v[0]), v[2]), row(one_of("GRAPH"), graph_name, group)),
-        mapped(lambda v: ("window", v[1], at(v[0]), v[2]), row(one_of("WINDOW"), iri, group)),
-        kept(1, one_of("FILTER"), either(mapped(lambda e: ("filter", e), condition), exists)),
-        mapped(lambda v: ("bind", v[0], v[1]), kept(1, one_of("BIND"), as_variable(plain))),
-        kept(1, one_of("VALUES"), block),
+        element("optional", mapped(lambda g: [g], group), "OPTIONAL"),
+        element("minus", mapped(lambda g: [g], group), "MINUS"),
+        mapped(lambda gs: (Name("union", gs[0].start), gs), listed(group, one_of("UNION"))),
+        mapped(lambda v: (Name("graph", at(v[0])), v[1], at(v[0]), v[2]), row(one_of("GRAPH"), graph_name, group)),
+        mapped(lambda v: (Name("window", at(v[0])), v[1], at(v[0]), v[2]), row(one_of("WINDOW"), iri, group)),
+        exists, element("filter", mapped(lambda e: [e], condition), "FILTER"),
+        element("bind", as_variable(plain), "BIND"), element("values", block, "VALUES"),
     )
 
 
 def group():
     inner = lazy(group)
     sub = mapped(
-        lambda v: [("sub", select_of(v[0], v[2], v[3]))], row(select_clause, maybe(one_of("WHERE")), inner, tail)
+        lambda v: [(Name("sub", v[0][2]), select_of(v[0], v[2], v[3]))], row(select_clause, maybe(one_of("WHERE")), inner, tail)
     )
     piece = mapped(lambda v: [v[0], *(v[2] or [])], row(other(inner), maybe(one_of(".")), maybe(triples())))
     body = mapped(lambda v: [*(v[0] or []), *(x for xs in v[1] for x in xs)], row(maybe(triples()), many(piece)))
-    return kept(1, one_of("{"), either(sub, body), one_of("}"))
+    return mapped(lambda v: Listed(v[1], at(v[0])), row(one_of("{"), either(sub, body), one_of("}")))
 
 
 # ---- the query
@@ -600,19 +623,23 @@ def wrong(text, token_there):
 
 
 class Numbers:
-    """The variables so far. A name belongs to the innermost SELECT that doesn't project it, or to the outermost."""
+    """The variables so far, and the first place of each. A name belongs to the innermost SELECT that doesn't project it, or to
+    the outermost.
+    """
 
     def __init__(self):
-        self.variables, self.selects, self.slashes = [], 0, 0
+        self.variables, self.places, self.selects = [], [], 0
 
-    def number(self, variable):
+    def number(self, variable, start):
         if variable not in self.variables:
             self.variables.append(variable)
-        return self.variables.index(variable)
+            self.places.append(start)
+        number = self.variables.index(variable)
+        self.places[number] = min(start, self.places[number])
+        return number
 
-    def new(self, what):
-        self.variables.append((what, len(self.variables)))
-        return len(self.variables) - 1
+    def new(self, what, start):
+        return self.number((what, len(self.variables)), start)
 
 
 def projects(select, name):
@@ -625,7 +652,7 @@ def owner(scopes, name):
 
 
 def named(numbers, scopes, name):
-    return Numbered(numbers.number(("name", owner(scopes, name), name)), getattr(name, "start", None))
+    return Numbered(numbers.number(("name", owner(scopes, name), name), name.start), name.start)
 
 
 def numbered(numbers, scopes, e, aggregates):
@@ -637,7 +664,7 @@ def numbered(numbers, scopes, e, aggregates):
     if kind == "constant":
         return e
     if kind == "aggregate":
-        place = numbers.new("()")
+        place = numbers.new("()", e[1].start)
         aggregates.append((place, e[1], e[2], e[3] and inner(e[3])))
         return ("variable", place)
     if kind in ("or", "and"):
@@ -663,9 +690,9 @@ def slot(numbers, scopes, node):
     if node[0] == "variable":
         return ("variable", named(numbers, scopes, node[1]))
     if node[0] == "label":
-        return ("variable", numbers.number(("_:", node[1])))
+        return ("variable", numbers.number(("_:", node[1]), node[1].start))
     if node[0] == "node":
-        return ("variable", numbers.new("[]"))
+        return ("variable", numbers.new("[]", node[0].start))
     return ("constant", node)
 
 
@@ -707,7 +734,7 @@ def parts_of(numbers, scopes, e):
         return [(kind, named(numbers, scopes, e[2]), value_there)]
     if kind == "values":
         return [(kind, [named(numbers, scopes, x) for x in e[1]], e[2])]
-    return [("sub", numbered_select(numbers, scopes, e[1]))]
+    return [(kind, numbered_select(numbers, scopes, e[1]))]
 
 
 def numbered_items(numbers, scopes, found, aggregates):

@@ -1,6 +1,8 @@
-/* Loaded before the C library: the call of malloc or realloc whose number REFUSE gives is refused, and told by a
-   byte on file descriptor 3. Calls are counted from 1, from when this is loaded. */
+/* Loaded before the C library: the call of malloc or realloc whose number REFUSE gives is refused, and told by a `!` on the file
+   descriptor 3. Calls are counted from 1, from when this is loaded; where none is refused, how many there were is told in
+   digits when the program ends. */
 #include <errno.h>
+#include <stdio.h>
 #include <stdlib.h>
 #include <unistd.h>
 
@@ -16,7 +18,7 @@ __attribute__((constructor)) static void begin(void) {
 }
 
 static int is_refused(void) {
-    if (refused == 0 || ++calls != refused)
+    if (++calls != refused)
         return 0;
     if (write(3, "!", 1) != 1)
         _exit(126);
@@ -27,3 +29,10 @@ static int is_refused(void) {
 void *malloc(size_t size) { return is_refused() ? NULL : __libc_malloc(size); }
 
 void *realloc(void *old, size_t size) { return is_refused() ? NULL : __libc_realloc(old, size); }
+
+__attribute__((destructor)) static void end(void) {
+    char digits[24];
+    int size = snprintf(digits, sizeof digits, "%lld", calls);
+    if ((refused == 0 || calls < refused) && write(3, digits, size) != size)
+        _exit(126);
+}

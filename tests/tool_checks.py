@@ -16,8 +16,9 @@ TOP = os.path.dirname(os.path.dirname(os.path.realpath(__file__)))
 sys.path.insert(0, f"{TOP}/tools")
 import documents  # noqa: E402
 import model  # noqa: E402
+import query_model  # noqa: E402
 import tool_cases  # noqa: E402
-from beside import explaining, limits, mistakes, of_texts, pages, refusals, words  # noqa: E402
+from beside import counted, explaining, limits, mistakes, of_texts, pages, refusals, texts, words  # noqa: E402
 from documents import read  # noqa: E402
 
 EXPECTED = f"{TOP}/tests/tools.expected"
@@ -120,6 +121,46 @@ def fault_of_slow_text():
     return None if (found.place.column, found.said) == (37, of_texts.UNREAD) else f"it says {found}"
 
 
+# ---- limits
+
+# longer texts are left to the cases
+MOST_READ = 1000
+
+
+def fault_of_long_text():
+    """A text of a byte too many is told at that byte, and one of the most bytes isn't."""
+    query = b"ASK".ljust(query_model.MOST_TEXT)
+    found = [texts.looked(content) for content in (query, query + b" ")]
+    given = [(its.why, its.at) for its in found]
+    wanted = [("9 LeftOut at=0 what=ASK", 0), ("10 Limit what=text", query_model.MOST_TEXT)]
+    return None if given == wanted else f"it says {given}"
+
+
+def queries_of_rows():
+    """The texts of queries in the logs and files of the rows, each once, as far as they are read soon."""
+    found = set()
+    for name in sorted(os.listdir(f"{TOP}/tests/rows")):
+        row = f"{TOP}/tests/rows/{name}"
+        if os.path.exists(f"{row}/stdin"):
+            found.update(re.findall(rb"(?m)^@register .*\n((?:(?!@end).*\n)*)@end$", read(f"{row}/stdin")))
+        if os.path.isfile(f"{row}/files/q.rq"):
+            found.add(read(f"{row}/files/q.rq"))
+    return sorted(text.decode() for text in found if len(text) <= MOST_READ and model.is_utf8(text))
+
+
+def faults_of_counts():
+    """What has a limit has as many places as the model counts of it."""
+    for text in queries_of_rows():
+        try:
+            tree, numbers, select = query_model.numbered_tree(text, query_model.tokens_of(text))
+        except query_model.Refused:
+            continue
+        for name, count, _ in query_model.counts(tree, numbers, select):
+            places = counted.counted(name, tree, numbers)
+            if sum(how_many for _, how_many in places) != count:
+                yield f"{name} of {text[:200]}: {count}, and {places}"
+
+
 # ---- the mistakes of QUERIES
 
 
@@ -201,6 +242,8 @@ def checks():
     wrong = list(faults_of_words())
     yield "the tools take the words of the program", f"not so in {wrong}" if wrong else None
     yield "a text that the model hasn't read in time", fault_of_slow_text()
+    yield "a text of a byte too many, and one of the most bytes", fault_of_long_text()
+    yield "what has a limit has as many places as there are", next(faults_of_counts(), None)
     for mistake in mistakes.mistakes():
         yield f"explain of the mistake {mistake.mistake}", fault_of_mistake(mistake)
     yield from checks_of_calls()

@@ -1,7 +1,8 @@
-"""Limits that a text passes, 10: how many there are, and how many there may be."""
+"""Limits that a text passes, 10: how many there are, how many there may be, and where the count comes past that."""
 import query_model
 from query_model import MOST_OPEN, tokens_of
 
+from .counted import place_past
 from .looks import Looked, Sign
 from .places import quoted
 
@@ -22,5 +23,5 @@ def of_passed_limit(text, name):
         return of_limit(name, wrong.start, f"{quoted(wrong)} is {size} ms, and 1 to {query_model.LAST_INSTANT} may be")
     found = {what: (count, most) for what, count, most in query_model.counts(tree, numbers, select)}
     count, most = found[name]
-    at = tree["windows"][most]["at"] if name == "windows" else tokens[0].start
-    return of_limit(name, at, f"the query has {count} {name}, and {most} may be")
+    at = place_past(name, most, tree, numbers)
+    return of_limit(name, at, f"the query has {count} {name}, and {most} may be; the first too many stands here")

@@ -65,10 +65,10 @@ same_solutions width (node.pattern place triple) facts others same =
     sum_z-filter_map counted (solution width place triple) facts
     ∙ (sum-same fact_same (λ fact. sum_z counted (option_to_list (solution width place triple fact))) facts others same
     ∙ sym (sum_z-filter_map counted (solution width place triple) others))
-same_solutions width (node.join left right) facts others same =
+same_solutions width (node.of_two node.join left right) facts others same =
     same-pairs term_same (compatible term_eq) (eval width left facts) (eval width left others) (eval width right facts) (eval width right others)
     (same_solutions width left facts others same) (same_solutions width right facts others same)
-same_solutions width (node.left_join left right condition) facts others same =
+same_solutions width (node.of_two (node.left_join condition) left right) facts others same =
     same-append (row_decides term_same)
     (merged_pairs (pass_together condition) (eval width left facts) (eval width right facts)) (merged_pairs (pass_together condition) (eval width left others) (eval width right others))
     (without_partner (pass_together condition) (eval width left facts) (eval width right facts)) (without_partner (pass_together condition) (eval width left others) (eval width right others))
@@ -76,28 +76,28 @@ same_solutions width (node.left_join left right condition) facts others same =
     (same_solutions width left facts others same) (same_solutions width right facts others same))
     (same-without_partner term_same (pass_together condition) (eval width left facts) (eval width left others) (eval width right facts) (eval width right others)
     (same_solutions width left facts others same) (same_solutions width right facts others same))
-same_solutions width (node.union left right) facts others same =
+same_solutions width (node.of_two node.union left right) facts others same =
     same-append (row_decides term_same) (eval width left facts) (eval width left others) (eval width right facts) (eval width right others)
     (same_solutions width left facts others same) (same_solutions width right facts others same)
-same_solutions width (node.minus left right) facts others same =
+same_solutions width (node.of_two node.minus left right) facts others same =
     same-without_partner term_same takes_away (eval width left facts) (eval width left others) (eval width right facts) (eval width right others)
     (same_solutions width left facts others same) (same_solutions width right facts others same)
-same_solutions width (node.exists left right condition) facts others same =
+same_solutions width (node.of_two (node.exists condition) left right) facts others same =
     same-with_partner term_same (pass_together condition) (eval width left facts) (eval width left others) (eval width right facts) (eval width right others)
     (same_solutions width left facts others same) (same_solutions width right facts others same)
-same_solutions width (node.not_exists left right condition) facts others same =
+same_solutions width (node.of_two (node.not_exists condition) left right) facts others same =
     same-without_partner term_same (pass_together condition) (eval width left facts) (eval width left others) (eval width right facts) (eval width right others)
     (same_solutions width left facts others same) (same_solutions width right facts others same)
-same_solutions width (node.filter child condition) facts others same =
+same_solutions width (node.over (node.filter condition) child) facts others same =
     same-filter (row_decides term_same) (truth condition) (eval width child facts) (eval width child others) (same_solutions width child facts others same)
-same_solutions width (node.extend child variable formula) facts others same =
+same_solutions width (node.over (node.extend variable formula) child) facts others same =
     same_mapped (extended_by width variable formula) (eval width child facts) (eval width child others) (same_solutions width child facts others same)
 same_solutions width (node.values rows) facts others same = λ q. refl
-same_solutions width (node.project child variables) facts others same =
+same_solutions width (node.over (node.project variables) child) facts others same =
     same_mapped (projection width variables) (eval width child facts) (eval width child others) (same_solutions width child facts others same)
-same_solutions width (node.distinct child) facts others same =
+same_solutions width (node.over node.distinct child) facts others same =
     same-once (row_decides term_same) (eval width child facts) (eval width child others) (same_solutions width child facts others same)
-same_solutions width (node.group child keys aggregates) facts others same =
+same_solutions width (node.over (node.group keys aggregates) child) facts others same =
     same-grouped width keys aggregates (eval width child facts) (eval width child others) (same_solutions width child facts others same)
 
 any_alike : {X : Type 0} (p q : X → Bool) → ((x : X) → p x ≡ q x) → (xs : List X) → list_any p xs ≡ list_any q xs

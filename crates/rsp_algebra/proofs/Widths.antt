@@ -107,28 +107,28 @@ grouped-length width aggregates group (key ∷ keys) all =
 pub eval-length : (width : ℕ) (tree : Node) (facts : List Fact) → Fits width tree → AllHave width (eval width tree facts)
 eval-length width node.unit facts fits = (row_by-length width (λ _. None), tt)
 eval-length width (node.pattern place triple) facts fits = solutions-length width place triple facts
-eval-length width (node.join left right) facts fits =
+eval-length width (node.of_two node.join left right) facts fits =
     pairs-length width (compatible term_eq) (eval width left facts) (eval width right facts) (eval-length width left facts fits.0) (eval-length width right facts fits.1)
-eval-length width (node.left_join left right condition) facts fits =
+eval-length width (node.of_two (node.left_join condition) left right) facts fits =
     all-append (λ row. length row ≡ width)
     (merged_pairs (pass_together condition) (eval width left facts) (eval width right facts))
     (without_partner (pass_together condition) (eval width left facts) (eval width right facts))
     (pairs-length width (pass_together condition) (eval width left facts) (eval width right facts) (eval-length width left facts fits.1.0) (eval-length width right facts fits.1.1))
     (without-length width (pass_together condition) (eval width left facts) (eval width right facts) (eval-length width left facts fits.1.0))
-eval-length width (node.union left right) facts fits =
+eval-length width (node.of_two node.union left right) facts fits =
     all-append (λ row. length row ≡ width) (eval width left facts) (eval width right facts) (eval-length width left facts fits.0) (eval-length width right facts fits.1)
-eval-length width (node.minus left right) facts fits =
+eval-length width (node.of_two node.minus left right) facts fits =
     without-length width takes_away (eval width left facts) (eval width right facts) (eval-length width left facts fits.0)
-eval-length width (node.exists left right condition) facts fits =
+eval-length width (node.of_two (node.exists condition) left right) facts fits =
     all-filter (λ row. length row ≡ width) (has_partner (pass_together condition) (eval width right facts)) (eval width left facts) (eval-length width left facts fits.1.0)
-eval-length width (node.not_exists left right condition) facts fits =
+eval-length width (node.of_two (node.not_exists condition) left right) facts fits =
     without-length width (pass_together condition) (eval width left facts) (eval width right facts) (eval-length width left facts fits.1.0)
-eval-length width (node.filter child condition) facts fits =
+eval-length width (node.over (node.filter condition) child) facts fits =
     all-filter (λ row. length row ≡ width) (truth condition) (eval width child facts) (eval-length width child facts fits.1)
-eval-length width (node.extend child variable formula) facts fits = extended-length width variable formula (eval width child facts)
+eval-length width (node.over (node.extend variable formula) child) facts fits = extended-length width variable formula (eval width child facts)
 eval-length width (node.values rows) facts fits = fits
-eval-length width (node.project child variables) facts fits = projected-length width variables (eval width child facts)
-eval-length width (node.distinct child) facts fits =
+eval-length width (node.over (node.project variables) child) facts fits = projected-length width variables (eval width child facts)
+eval-length width (node.over node.distinct child) facts fits =
     all-once (λ row. length row ≡ width) same_row (eval width child facts) (eval-length width child facts fits)
-eval-length width (node.group child keys aggregates) facts fits =
+eval-length width (node.over (node.group keys aggregates) child) facts fits =
     grouped-length width aggregates (group_of width keys (eval width child facts)) (group_keys width keys (eval width child facts)) (keys-length width keys (eval width child facts))

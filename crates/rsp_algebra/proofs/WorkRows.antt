@@ -9,7 +9,7 @@ use Rattle.rsp_functions.specs.declared.aggregate.Kind.TheVariants.{Count}
 use Rattle.rsp_expr.specs.declared.slot.Slot.TheVariants.{Variable, Constant}
 use Rattle.rsp_algebra.specs.declared.tree.Place.TheVariants as place
 use Rattle.rsp_algebra.specs.declared.tree.TriplePattern.{TriplePattern}
-use Rattle.rsp_algebra.specs.Nodes.{Node, pattern, left_join, union, minus, exists, not_exists, extend, values, project, group, left_deep}
+use Rattle.rsp_algebra.specs.Nodes.{Node, pattern, left_join, union, minus, exists, not_exists, extend, values, project, group, left_deep, over, of_two}
 use Rattle.rsp_algebra.specs.Work.{certain_variables, key, join_work, work}
 
 abbrev a : Term
@@ -38,23 +38,23 @@ incoming = record { subject = Variable 0; predicate = Constant p; object = Const
 abbrev both : Node
 both = left_deep (place.Window 0) (outgoing ∷ incoming ∷ [])
 
-pub projection_forgets : certain_variables (project both (1 ∷ 2 ∷ [])) ≡ 1 ∷ []
+pub projection_forgets : certain_variables (over (project (1 ∷ 2 ∷ [])) both) ≡ 1 ∷ []
 projection_forgets = refl
 
-pub union_binds_what_both_bind : certain_variables (union both (pattern (place.Window 0) incoming)) ≡ 0 ∷ 0 ∷ []
+pub union_binds_what_both_bind : certain_variables (of_two union both (pattern (place.Window 0) incoming)) ≡ 0 ∷ 0 ∷ []
 union_binds_what_both_bind = refl
 
 -- the condition of nodes that match rows
 abbrev condition : Formula
 condition = variable 0
 
-pub left_rows_may_stay_bare : certain_variables (left_join (pattern (place.Window 0) incoming) (pattern (place.Window 0) outgoing) condition) ≡ 0 ∷ []
+pub left_rows_may_stay_bare : certain_variables (of_two (left_join condition) (pattern (place.Window 0) incoming) (pattern (place.Window 0) outgoing)) ≡ 0 ∷ []
 left_rows_may_stay_bare = refl
 
-pub chosen_rows_bind_what_left_rows_bind : certain_variables (minus (exists (pattern (place.Window 0) outgoing) both condition) both) ≡ 0 ∷ 1 ∷ []
+pub chosen_rows_bind_what_left_rows_bind : certain_variables (of_two minus (of_two (exists condition) (pattern (place.Window 0) outgoing) both) both) ≡ 0 ∷ 1 ∷ []
 chosen_rows_bind_what_left_rows_bind = refl
 
-pub extension_may_be_unbound : certain_variables (extend both 1 (variable 0)) ≡ 0 ∷ 0 ∷ []
+pub extension_may_be_unbound : certain_variables (over (extend 1 (variable 0)) both) ≡ 0 ∷ 0 ∷ []
 extension_may_be_unbound = refl
 
 pub values_bind_what_each_row_binds : certain_variables (values ((Some a ∷ None ∷ Some b ∷ []) ∷ (Some a ∷ Some b ∷ Some a ∷ []) ∷ [])) ≡ 0 ∷ 2 ∷ []
@@ -67,23 +67,23 @@ pub graph_variable_is_bound : certain_variables (pattern (place.AnyNamed 2) outg
 graph_variable_is_bound = refl
 
 -- ?2 may be unbound, and ?1 is the aggregate's
-pub keys_bind_what_the_child_binds : certain_variables (group both (0 ∷ 1 ∷ 2 ∷ []) ((1, record { kind = Count; distinct = false; argument = None }) ∷ [])) ≡ 0 ∷ []
+pub keys_bind_what_the_child_binds : certain_variables (over (group (0 ∷ 1 ∷ 2 ∷ []) ((1, record { kind = Count; distinct = false; argument = None }) ∷ [])) both) ≡ 0 ∷ []
 keys_bind_what_the_child_binds = refl
 
-pub group_adds_nothing : work 2 (group both (0 ∷ []) []) (fact a a ∷ []) (fact a a ∷ []) ≡ 4
+pub group_adds_nothing : work 2 (over (group (0 ∷ []) []) both) (fact a a ∷ []) (fact a a ∷ []) ≡ 4
 group_adds_nothing = refl
 
-pub union_adds_nothing : work 2 (union both both) (fact a a ∷ []) (fact a a ∷ []) ≡ 8
+pub union_adds_nothing : work 2 (of_two union both both) (fact a a ∷ []) (fact a a ∷ []) ≡ 8
 union_adds_nothing = refl
 
 -- as the join of the same rows
-pub rows_without_partner_are_matched : work 2 (not_exists (pattern (place.Window 0) outgoing) (pattern (place.Window 0) incoming) condition) (fact a a ∷ []) (fact a a ∷ fact a b ∷ []) ≡ 20
+pub rows_without_partner_are_matched : work 2 (of_two (not_exists condition) (pattern (place.Window 0) outgoing) (pattern (place.Window 0) incoming)) (fact a a ∷ []) (fact a a ∷ fact a b ∷ []) ≡ 20
 rows_without_partner_are_matched = refl
 
 pub rows_are_matched_by_shared_variables : key (pattern (place.Window 0) outgoing) (pattern (place.Window 0) incoming) ≡ 0 ∷ []
 rows_are_matched_by_shared_variables = refl
 
-pub join_without_change_takes_four : work 2 (project both (0 ∷ [])) (fact a a ∷ []) (fact a a ∷ []) ≡ 4
+pub join_without_change_takes_four : work 2 (over (project (0 ∷ [])) both) (fact a a ∷ []) (fact a a ∷ []) ≡ 4
 join_without_change_takes_four = refl
 
 -- a row of each side comes: (a, b) on the left meets the new (a) on the right, and (a) on the right meets the old (a, a) on

@@ -10,7 +10,8 @@ use Rattle.rsp_functions.specs.declared.aggregate.Kind.{Kind}
 use Rattle.rsp_functions.specs.declared.aggregate.Kind.TheVariants.{Count}
 use Rattle.rsp_algebra.specs.declared.tree.Translated.{Translated}
 use Rattle.rsp_algebra.specs.Nodes as node
-use Rattle.rsp_algebra.specs.Nodes.{Node, node_of, pattern_variables, formula_variables}
+use Rattle.rsp_algebra.specs.Nodes.{Node, pattern_variables, formula_variables}
+use Rattle.rsp_algebra.specs.Meanings.{node_of}
 
 -- the variables of an aggregate's argument
 abbrev pub argument_variables : Option Formula → List ℕ
@@ -36,21 +37,21 @@ AggregateFits width (variable, aggregation) =
 abbrev pub Fits : ℕ → Node → Type 0
 Fits width node.unit = ⊤
 Fits width (node.pattern place triple) = AreBelow width (pattern_variables place triple)
-Fits width (node.join left right) = Fits width left × Fits width right
-Fits width (node.left_join left right condition) =
+Fits width (node.of_two node.join left right) = Fits width left × Fits width right
+Fits width (node.of_two (node.left_join condition) left right) =
     AreBelow width (formula_variables condition) × (Fits width left × Fits width right)
-Fits width (node.union left right) = Fits width left × Fits width right
-Fits width (node.minus left right) = Fits width left × Fits width right
-Fits width (node.exists left right condition) =
+Fits width (node.of_two node.union left right) = Fits width left × Fits width right
+Fits width (node.of_two node.minus left right) = Fits width left × Fits width right
+Fits width (node.of_two (node.exists condition) left right) =
     AreBelow width (formula_variables condition) × (Fits width left × Fits width right)
-Fits width (node.not_exists left right condition) =
+Fits width (node.of_two (node.not_exists condition) left right) =
     AreBelow width (formula_variables condition) × (Fits width left × Fits width right)
-Fits width (node.filter child condition) = AreBelow width (formula_variables condition) × Fits width child
-Fits width (node.extend child v expression) = (v < width) × (AreBelow width (formula_variables expression) × Fits width child)
+Fits width (node.over (node.filter condition) child) = AreBelow width (formula_variables condition) × Fits width child
+Fits width (node.over (node.extend v expression) child) = (v < width) × (AreBelow width (formula_variables expression) × Fits width child)
 Fits width (node.values rows) = AllByRecursion (λ row. length row ≡ width) rows
-Fits width (node.project child variables) = AreBelow width variables × Fits width child
-Fits width (node.distinct child) = Fits width child
-Fits width (node.group child keys aggregates) =
+Fits width (node.over (node.project variables) child) = AreBelow width variables × Fits width child
+Fits width (node.over node.distinct child) = Fits width child
+Fits width (node.over (node.group keys aggregates) child) =
     AreBelow width keys × (AllByRecursion (AggregateFits width) aggregates × Fits width child)
 
 -- each place that a translated query names is below its width
@@ -72,22 +73,22 @@ AggregateFits-prop width (variable, aggregation) =
 pub Fits-prop : (width : ℕ) (tree : Node) → IsProp (Fits width tree)
 Fits-prop width node.unit = Unit-prop
 Fits-prop width (node.pattern place triple) = AreBelow-prop width (pattern_variables place triple)
-Fits-prop width (node.join left right) = ×_prop (Fits-prop width left) (Fits-prop width right)
-Fits-prop width (node.left_join left right condition) =
+Fits-prop width (node.of_two node.join left right) = ×_prop (Fits-prop width left) (Fits-prop width right)
+Fits-prop width (node.of_two (node.left_join condition) left right) =
     ×_prop (AreBelow-prop width (formula_variables condition)) (×_prop (Fits-prop width left) (Fits-prop width right))
-Fits-prop width (node.union left right) = ×_prop (Fits-prop width left) (Fits-prop width right)
-Fits-prop width (node.minus left right) = ×_prop (Fits-prop width left) (Fits-prop width right)
-Fits-prop width (node.exists left right condition) =
+Fits-prop width (node.of_two node.union left right) = ×_prop (Fits-prop width left) (Fits-prop width right)
+Fits-prop width (node.of_two node.minus left right) = ×_prop (Fits-prop width left) (Fits-prop width right)
+Fits-prop width (node.of_two (node.exists condition) left right) =
     ×_prop (AreBelow-prop width (formula_variables condition)) (×_prop (Fits-prop width left) (Fits-prop width right))
-Fits-prop width (node.not_exists left right condition) =
+Fits-prop width (node.of_two (node.not_exists condition) left right) =
     ×_prop (AreBelow-prop width (formula_variables condition)) (×_prop (Fits-prop width left) (Fits-prop width right))
-Fits-prop width (node.filter child condition) = ×_prop (AreBelow-prop width (formula_variables condition)) (Fits-prop width child)
-Fits-prop width (node.extend child v formula) =
+Fits-prop width (node.over (node.filter condition) child) = ×_prop (AreBelow-prop width (formula_variables condition)) (Fits-prop width child)
+Fits-prop width (node.over (node.extend v formula) child) =
     ×_prop le_prop (×_prop (AreBelow-prop width (formula_variables formula)) (Fits-prop width child))
 Fits-prop width (node.values rows) =
     AllByRecursion-prop (λ (row : Cells Term). length row ≡ width) (λ row. Coded-set coded_ℕ (length row) width) rows
-Fits-prop width (node.project child variables) = ×_prop (AreBelow-prop width variables) (Fits-prop width child)
-Fits-prop width (node.distinct child) = Fits-prop width child
-Fits-prop width (node.group child keys aggregates) =
+Fits-prop width (node.over (node.project variables) child) = ×_prop (AreBelow-prop width variables) (Fits-prop width child)
+Fits-prop width (node.over node.distinct child) = Fits-prop width child
+Fits-prop width (node.over (node.group keys aggregates) child) =
     ×_prop (AreBelow-prop width keys)
     (×_prop (AllByRecursion-prop (AggregateFits width) (AggregateFits-prop width) aggregates) (Fits-prop width child))

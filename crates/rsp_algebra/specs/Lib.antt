@@ -9,3 +9,4 @@ pub mod Work
 pub mod Changing
 pub mod Fitting
 pub mod Spines
+pub mod Meanings

@@ -1,62 +1,43 @@
 -- Definitions: the nodes of an algebra tree (SPARQL 1.1 Query, section 18.2), apart from how the code keeps them.
-use Rattle.std.specs.Prelude.{ℕ, List, [], ◌∷◌, ◌++◌, map}
+use Rattle.std.specs.Prelude.{ℕ, List, [], ◌∷◌, ◌++◌}
 use Rattle.std.specs.List.{fold}
 use Rattle.rsp_multiset.specs.Rows.{Cells}
 use Rattle.rsp_terms.specs.declared.term.Term.{Term}
 use Rattle.rsp_expr.specs.Formulas as formula
-use Rattle.rsp_expr.specs.Formulas.{Formula, Formulas, no_formula, formula_then, formula_of, Aggregation, aggregation_of}
-use Rattle.rsp_expr.specs.declared.aggregate.Aggregate.{Aggregate}
+use Rattle.rsp_expr.specs.Formulas.{Formula, Formulas, no_formula, formula_then, Aggregation}
 use Rattle.rsp_expr.specs.declared.slot.Slot.{Slot}
 use Rattle.rsp_expr.specs.declared.slot.Slot.TheVariants.{Variable, Constant}
 use Rattle.rsp_algebra.specs.declared.tree.Place.{Place}
 use Rattle.rsp_algebra.specs.declared.tree.Place.TheVariants.{AnyNamed}
 use Rattle.rsp_algebra.specs.declared.tree.TriplePattern.{TriplePattern}
-use Rattle.rsp_algebra.specs.declared.tree.Tree.{Tree}
-use Rattle.rsp_algebra.specs.declared.tree.Tree.TheVariants.{Unit, Pattern, Join', LeftJoin', Union', Minus', Exists', NotExists'}
-use Rattle.rsp_algebra.specs.declared.tree.Tree.TheVariants.{Filter', Extend', Values, Project', Distinct', Group'}
+
+-- what has one child, and what has two
+pub data Single : Type 0 where
+  filter : Formula → Single
+  extend : ℕ → Formula → Single
+  project : List ℕ → Single
+  distinct : Single
+  group : List ℕ → List (ℕ × Aggregation) → Single
+
+pub data Double : Type 0 where
+  join : Double
+  left_join : Formula → Double
+  union : Double
+  minus : Double
+  exists : Formula → Double
+  not_exists : Formula → Double
 
 pub data Node : Type 0 where
   unit : Node
   pattern : Place → TriplePattern → Node
-  join : Node → Node → Node
-  left_join : Node → Node → Formula → Node
-  union : Node → Node → Node
-  minus : Node → Node → Node
-  exists : Node → Node → Formula → Node
-  not_exists : Node → Node → Formula → Node
-  filter : Node → Formula → Node
-  extend : Node → ℕ → Formula → Node
   values : List (Cells Term) → Node
-  project : Node → List ℕ → Node
-  distinct : Node → Node
-  group : Node → List ℕ → List (ℕ × Aggregation) → Node
-
--- the aggregates of a group, each with its variable
-abbrev pub aggregations_of : List (ℕ × Aggregate) → List (ℕ × Aggregation)
-aggregations_of aggregates = map {B = ℕ × Aggregation} (λ entry. (entry.0, aggregation_of entry.1)) aggregates
-
--- the node that a tree of the code is
-abbrev pub node_of : Tree → Node
-node_of Unit = unit
-node_of (Pattern place subject predicate object) =
-    pattern place (record { subject = subject; predicate = predicate; object = object })
-node_of (Join' _ left _ right) = join (node_of left) (node_of right)
-node_of (LeftJoin' _ left _ right condition) = left_join (node_of left) (node_of right) (formula_of condition)
-node_of (Union' _ left _ right) = union (node_of left) (node_of right)
-node_of (Minus' _ left _ right) = minus (node_of left) (node_of right)
-node_of (Exists' _ left _ right condition) = exists (node_of left) (node_of right) (formula_of condition)
-node_of (NotExists' _ left _ right condition) = not_exists (node_of left) (node_of right) (formula_of condition)
-node_of (Filter' _ child condition) = filter (node_of child) (formula_of condition)
-node_of (Extend' _ child variable expression) = extend (node_of child) variable (formula_of expression)
-node_of (Values rows) = values rows.items
-node_of (Project' _ child variables) = project (node_of child) variables.items
-node_of (Distinct' _ child) = distinct (node_of child)
-node_of (Group' _ child keys aggregates) = group (node_of child) keys.items (aggregations_of aggregates.items)
+  over : Single → Node → Node
+  of_two : Double → Node → Node → Node
 
 -- the left-deep join of triple patterns at one place
 abbrev pub left_deep : Place → List TriplePattern → Node
 left_deep place [] = unit
-left_deep place (first ∷ others) = fold (λ node triple. join node (pattern place triple)) (pattern place first) others
+left_deep place (first ∷ others) = fold (λ node triple. of_two join node (pattern place triple)) (pattern place first) others
 
 -- the variables of a slot, and of a triple pattern
 abbrev pub slot_variables : Slot → List ℕ

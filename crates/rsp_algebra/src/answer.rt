@@ -23,7 +23,8 @@ pub trait Answer: Sized + Drop {
     ghost use Rattle.rsp_terms.specs.declared.statement.Fact.{Fact};
     ghost use Rattle.rsp_terms.specs.Same.{term_eq};
     ghost use Rattle.rsp_terms.specs.Same.{fact_eq};
-    ghost use Rattle.rsp_algebra.specs.Nodes.{Node, node_of};
+    ghost use Rattle.rsp_algebra.specs.Nodes.{Node};
+    ghost use Rattle.rsp_algebra.specs.Meanings.{node_of};
     ghost use Rattle.rsp_algebra.specs.Fitting.{IsPlaced};
     ghost use Rattle.rsp_algebra.specs.Solutions.{eval};
     ghost use Rattle.rsp_algebra.specs.Overfull.{overfull as is_too_full};

@@ -1,8 +1,8 @@
 //! Trees of one node over its children. Each call fails only where memory is refused.
 ghost use Rattle.std.specs.Prelude.{◌≡◌, IfOk};
-ghost use Rattle.rsp_expr.specs.Formulas.{formula_of};
+ghost use Rattle.rsp_expr.specs.Meanings.{formula_of};
 ghost use Rattle.rsp_algebra.specs.Nodes as node;
-ghost use Rattle.rsp_algebra.specs.Nodes.{node_of, aggregations_of};
+ghost use Rattle.rsp_algebra.specs.Meanings.{node_of, aggregations_of};
 
 use crate::{Place, Tree};
 use rsp_expr::{Aggregate, Expression, Slot};
@@ -30,7 +30,7 @@ pub fn pattern(
 
 /// The join of two trees.
 pub fn join(alloc: Global, left: Tree, right: Tree) -> Result<Tree, AllocError>
-    ensures { IfOk result (λ tree. node_of tree ≡ node.join (node_of left) (node_of right)) }
+    ensures { IfOk result (λ tree. node_of tree ≡ node.of_two node.join (node_of left) (node_of right)) }
 {
     Ok(Tree::Join {
         left: Box::new(alloc, left)?,
@@ -46,7 +46,7 @@ pub fn left_join(
     condition: &Expression,
 ) -> Result<Tree, AllocError>
     ensures { IfOk result (λ tree. node_of tree
-        ≡ node.left_join (node_of left) (node_of right) (formula_of condition.now)) }
+        ≡ node.of_two (node.left_join (formula_of condition.now)) (node_of left) (node_of right)) }
 {
     Ok(Tree::LeftJoin {
         left: Box::new(alloc, left)?,
@@ -57,7 +57,7 @@ pub fn left_join(
 
 /// The union of two trees.
 pub fn union(alloc: Global, left: Tree, right: Tree) -> Result<Tree, AllocError>
-    ensures { IfOk result (λ tree. node_of tree ≡ node.union (node_of left) (node_of right)) }
+    ensures { IfOk result (λ tree. node_of tree ≡ node.of_two node.union (node_of left) (node_of right)) }
 {
     Ok(Tree::Union {
         left: Box::new(alloc, left)?,
@@ -67,7 +67,7 @@ pub fn union(alloc: Global, left: Tree, right: Tree) -> Result<Tree, AllocError>
 
 /// The left tree without what the right one is compatible with.
 pub fn minus(alloc: Global, left: Tree, right: Tree) -> Result<Tree, AllocError>
-    ensures { IfOk result (λ tree. node_of tree ≡ node.minus (node_of left) (node_of right)) }
+    ensures { IfOk result (λ tree. node_of tree ≡ node.of_two node.minus (node_of left) (node_of right)) }
 {
     Ok(Tree::Minus {
         left: Box::new(alloc, left)?,
@@ -83,7 +83,7 @@ pub fn exists(
     condition: &Expression,
 ) -> Result<Tree, AllocError>
     ensures { IfOk result (λ tree. node_of tree
-        ≡ node.exists (node_of left) (node_of right) (formula_of condition.now)) }
+        ≡ node.of_two (node.exists (formula_of condition.now)) (node_of left) (node_of right)) }
 {
     Ok(Tree::Exists {
         left: Box::new(alloc, left)?,
@@ -100,7 +100,7 @@ pub fn not_exists(
     condition: &Expression,
 ) -> Result<Tree, AllocError>
     ensures { IfOk result (λ tree. node_of tree
-        ≡ node.not_exists (node_of left) (node_of right) (formula_of condition.now)) }
+        ≡ node.of_two (node.not_exists (formula_of condition.now)) (node_of left) (node_of right)) }
 {
     Ok(Tree::NotExists {
         left: Box::new(alloc, left)?,
@@ -111,7 +111,7 @@ pub fn not_exists(
 
 /// The child's solutions on which a condition is true.
 pub fn filter(alloc: Global, child: Tree, condition: &Expression) -> Result<Tree, AllocError>
-    ensures { IfOk result (λ tree. node_of tree ≡ node.filter (node_of child) (formula_of condition.now)) }
+    ensures { IfOk result (λ tree. node_of tree ≡ node.over (node.filter (formula_of condition.now)) (node_of child)) }
 {
     Ok(Tree::Filter {
         child: Box::new(alloc, child)?,
@@ -126,7 +126,7 @@ pub fn extend(
     variable: usize,
     expression: &Expression,
 ) -> Result<Tree, AllocError>
-    ensures { IfOk result (λ tree. node_of tree ≡ node.extend (node_of child) variable (formula_of expression.now)) }
+    ensures { IfOk result (λ tree. node_of tree ≡ node.over (node.extend variable (formula_of expression.now)) (node_of child)) }
 {
     Ok(Tree::Extend {
         child: Box::new(alloc, child)?,
@@ -148,7 +148,7 @@ pub fn values(alloc: Global, rows: &[Row<Term>]) -> Result<Tree, AllocError>
 
 /// The child's solutions with these variables alone.
 pub fn project(alloc: Global, child: Tree, variables: &[usize]) -> Result<Tree, AllocError>
-    ensures { IfOk result (λ tree. node_of tree ≡ node.project (node_of child) variables.now) }
+    ensures { IfOk result (λ tree. node_of tree ≡ node.over (node.project variables.now) (node_of child)) }
 {
     Ok(Tree::Project {
         child: Box::new(alloc, child)?,
@@ -158,7 +158,7 @@ pub fn project(alloc: Global, child: Tree, variables: &[usize]) -> Result<Tree, 
 
 /// The child's solutions, each once.
 pub fn distinct(alloc: Global, child: Tree) -> Result<Tree, AllocError>
-    ensures { IfOk result (λ tree. node_of tree ≡ node.distinct (node_of child)) }
+    ensures { IfOk result (λ tree. node_of tree ≡ node.over node.distinct (node_of child)) }
 {
     Ok(Tree::Distinct {
         child: Box::new(alloc, child)?,
@@ -187,7 +187,7 @@ pub fn group(
     aggregates: &[(usize, Aggregate)],
 ) -> Result<Tree, AllocError>
     ensures { IfOk result (λ tree. node_of tree
-        ≡ node.group (node_of child) keys.now (aggregations_of aggregates.now)) }
+        ≡ node.over (node.group keys.now (aggregations_of aggregates.now)) (node_of child)) }
 {
     Ok(Tree::Group {
         child: Box::new(alloc, child)?,

@@ -2,13 +2,13 @@
 use Rattle.std.proofs.Common.{◌≡◌, inl, inr, ℕ, Bool, true, false, Result, Ok, Err, IfOk, List, [], ◌∷◌, refl, sym}
 use Rattle.std.specs.List.{list_any}
 use Rattle.rsp_io.specs.Seen.{SinkSeen}
+use Rattle.rsp_spec.specs.Limits.{most_file_bytes}
 use Rattle.rsp_call.specs.declared.reading.Unread.{Unread}
 use Rattle.rsp_call.specs.declared.reading.Unread.TheVariants as unread
 use Rattle.rsp_call.specs.declared.form.Form.{Form}
 use Rattle.rsp_call.specs.declared.status.Status.{Status}
 use Rattle.rsp_call.specs.declared.stop.Stop.{Stop}
 use Rattle.rsp_call.specs.declared.stop.Stop.TheVariants.{Memory, Write}
-use Rattle.rsp_call.specs.Answers.{most_file_bytes}
 use Rattle.rsp_call.specs.FileAnswers.{AnswersFiles, SayingOf, Told}
 use Rattle.rsp_call.specs.Output.{Saying, is_refusal, text_of}
 use Rattle.rsp_call.specs.Readings as readings

@@ -4,7 +4,7 @@ use Rattle.std.specs.Prelude.{IsSomeAnd}
 use Rattle.std.specs.Io.KnownBytes.{Consumes, IsAtEnd}
 use Rattle.rsp_io.specs.Files.{NamedFile, file_named}
 use Rattle.rsp_io.specs.Reading.{given_after}
-use Rattle.rsp_call.specs.Answers.{most_file_bytes}
+use Rattle.rsp_spec.specs.Limits.{most_file_bytes}
 use Rattle.rsp_call.specs.Shelves.{ShelfSeen}
 use Rattle.rsp_call.specs.Readings.{Reads, ReadsPicked, Takes, TakesTooMany}
 use Rattle.rsp_call.specs.declared.reading.Unread.{Unread}

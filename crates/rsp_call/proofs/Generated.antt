@@ -5,9 +5,9 @@ use Rattle.std.specs.List.{list_any}
 use Rattle.std.proofs.lemmas.Bool.{leb-true}
 use Rattle.rsp_text.specs.Digits.{read_u64}
 use Rattle.rsp_io.specs.Seen.{SinkSeen}
+use Rattle.rsp_spec.specs.Limits.{most_file_bytes}
 use Rattle.rsp_call.specs.declared.form.Form.{Form}
 use Rattle.rsp_call.specs.declared.stop.Stop.{Stop}
-use Rattle.rsp_call.specs.Answers.{most_file_bytes}
 use Rattle.rsp_call.specs.FileAnswers.{AnswersFiles, SayingOf}
 use Rattle.rsp_call.specs.Output.{is_refusal, text_of}
 use Rattle.rsp_call.specs.Shelves.{ShelfSeen}

@@ -9,6 +9,7 @@ use Rattle.rsp_io.specs.Reading.{given_after}
 use Rattle.rsp_events.specs.declared.event.Block.{Block}
 use Rattle.rsp_events.specs.Reader.{Reader}
 use Rattle.rsp_engine.specs.Stands.{State, is_idle}
+use Rattle.rsp_spec.specs.Limits.{most_log_bytes}
 use Rattle.rsp_call.specs.declared.form.Form.{Form}
 use Rattle.rsp_call.specs.declared.stop.Stop.{Stop}
 use Rattle.rsp_call.specs.declared.stop.Stop.TheVariants.{Memory, Write}
@@ -19,7 +20,7 @@ use Rattle.rsp_call.specs.Sinks.{Wrote, WrotePart}
 use Rattle.rsp_call.specs.Stops.{Ends, Stops, status_of}
 use Rattle.rsp_call.specs.Sessions.{IsAt, Adds, Breaks, Closes, log_blocks, log_whole_blocks, start_of}
 use Rattle.rsp_call.specs.declared.status.Status.TheVariants.{Done, DoneWithRefusals}
-use Rattle.rsp_call.specs.Answers.{AnswersLog, PassesLimit, ReadFails, most_bytes}
+use Rattle.rsp_call.specs.Answers.{AnswersLog, PassesLimit, ReadFails}
 use Rattle.rsp_call.specs.FileAnswers.{Told}
 use Rattle.rsp_call.proofs.Consuming.{consumed_more, consumed_nothing}
 use Rattle.rsp_call.proofs.Writings.{wrote_nothing, wrote_more, wrote_part, ends_behind, stops_behind}
@@ -63,7 +64,7 @@ of_log P (Some log) (Some rest) bytes consumed holds = rw consumed (holds rest)
 pub record Going (form : Form) (source_before : SourceSeen) (before : SinkSeen) (source : SourceSeen) (now : SinkSeen) (reader : Reader) (engine : State) (known : Bool) (total : ℕ) : Type 0 where
   pub bytes : List ℕ
   pub count : total ≡ length bytes
-  pub short : total ≤ most_bytes
+  pub short : total ≤ most_log_bytes
   pub took : Took source_before source bytes
   pub faultless : source.faults ≡ source_before.faults
   pub sure : source.sure ≡ source_before.sure
@@ -91,7 +92,7 @@ going_nothing form source sink reader engine known at idle =
     }
 
 -- a piece more
-pub going_on : (form : Form) (source_before source source_after : SourceSeen) (before mid now : SinkSeen) (reader reader_after : Reader) (engine engine_after : State) (known known_after : Bool) (total n : ℕ) (piece : List ℕ) → Going form source_before before source mid reader engine known total → n ≡ length piece → Consumes source.left source_after.left piece → source_after.given ≡ given_after source.given n → total + n ≤ most_bytes → source_after.faults ≡ source.faults → source_after.sure ≡ source.sure → IsTrue (is_idle engine_after) → ((bytes : List ℕ) → IsAt reader engine known bytes → IsAt reader_after engine_after known_after (bytes ++ piece) × Adds form mid now bytes piece) → Going form source_before before source_after now reader_after engine_after known_after (total + n)
+pub going_on : (form : Form) (source_before source source_after : SourceSeen) (before mid now : SinkSeen) (reader reader_after : Reader) (engine engine_after : State) (known known_after : Bool) (total n : ℕ) (piece : List ℕ) → Going form source_before before source mid reader engine known total → n ≡ length piece → Consumes source.left source_after.left piece → source_after.given ≡ given_after source.given n → total + n ≤ most_log_bytes → source_after.faults ≡ source.faults → source_after.sure ≡ source.sure → IsTrue (is_idle engine_after) → ((bytes : List ℕ) → IsAt reader engine known bytes → IsAt reader_after engine_after known_after (bytes ++ piece) × Adds form mid now bytes piece) → Going form source_before before source_after now reader_after engine_after known_after (total + n)
 going_on form source_before source source_after before mid now reader reader_after engine engine_after known known_after total n piece going size consumed given within faultless sure idle adds =
     let added = adds going.bytes going.at in
     record {
@@ -130,7 +131,7 @@ read_failed form law source_before source source_after before now reader engine 
       unsure = sym going.sure ∙ not_sure source.sure unsure;
     }
 
-pub too_long : (form : Form) → Begins → (source_before source source_after : SourceSeen) (before now : SinkSeen) (reader : Reader) (engine : State) (known : Bool) (total n : ℕ) (piece : List ℕ) → Going form source_before before source now reader engine known total → n ≡ length piece → Consumes source.left source_after.left piece → source_after.given ≡ given_after source.given n → source_after.faults ≡ source.faults → most_bytes < total + n → PassesLimit (start_of form) source_before source_after before now
+pub too_long : (form : Form) → Begins → (source_before source source_after : SourceSeen) (before now : SinkSeen) (reader : Reader) (engine : State) (known : Bool) (total n : ℕ) (piece : List ℕ) → Going form source_before before source now reader engine known total → n ≡ length piece → Consumes source.left source_after.left piece → source_after.given ≡ given_after source.given n → source_after.faults ≡ source.faults → most_log_bytes < total + n → PassesLimit (start_of form) source_before source_after before now
 too_long form law source_before source source_after before now reader engine known total n piece going size consumed given faultless past =
     let count = going.count in
     record {
@@ -143,7 +144,7 @@ too_long form law source_before source source_after before now reader engine kno
       faultless = faultless ∙ going.faultless;
     }
 
-answers_stop : (form : Form) (source_before source : SourceSeen) (before now : SinkSeen) (bytes : List ℕ) (why : Stop) → Took source_before source bytes → length bytes ≤ most_bytes → source.faults ≡ source_before.faults → Stops before now (output (start_of form) bytes) why → IfSome source_before.left (λ log. Stops before now (output (start_of form) log) why) → AnswersLog (start_of form) source_before source before now (status_of (Err why))
+answers_stop : (form : Form) (source_before source : SourceSeen) (before now : SinkSeen) (bytes : List ℕ) (why : Stop) → Took source_before source bytes → length bytes ≤ most_log_bytes → source.faults ≡ source_before.faults → Stops before now (output (start_of form) bytes) why → IfSome source_before.left (λ log. Stops before now (output (start_of form) log) why) → AnswersLog (start_of form) source_before source before now (status_of (Err why))
 answers_stop form source_before source before now bytes Memory took short faultless stops log =
     record { bytes = bytes; took = took; told = stops; log = log; at_end = λ done. absurd (true≢false (sym done)); short = short; faultless = faultless }
 answers_stop form source_before source before now bytes Write took short faultless stops log =
@@ -154,7 +155,7 @@ stopped_at : (form : Form) (before mid now : SinkSeen) (bytes piece more : List 
 stopped_at form before mid now bytes piece more why wrote broke =
     rw (append_assoc bytes piece more, broke.added) (stops_behind before mid now _ _ why wrote broke.stops)
 
-pub work_stopped : (form : Form) (source_before source source_after : SourceSeen) (before mid now : SinkSeen) (reader : Reader) (engine : State) (known : Bool) (total n : ℕ) (piece : List ℕ) (why : Stop) → Going form source_before before source mid reader engine known total → n ≡ length piece → Consumes source.left source_after.left piece → source_after.given ≡ given_after source.given n → source_after.faults ≡ source.faults → total + n ≤ most_bytes → ((bytes more : List ℕ) → IsAt reader engine known bytes → Breaks form mid now bytes (piece ++ more) why) → AnswersLog (start_of form) source_before source_after before now (status_of (Err why))
+pub work_stopped : (form : Form) (source_before source source_after : SourceSeen) (before mid now : SinkSeen) (reader : Reader) (engine : State) (known : Bool) (total n : ℕ) (piece : List ℕ) (why : Stop) → Going form source_before before source mid reader engine known total → n ≡ length piece → Consumes source.left source_after.left piece → source_after.given ≡ given_after source.given n → source_after.faults ≡ source.faults → total + n ≤ most_log_bytes → ((bytes more : List ℕ) → IsAt reader engine known bytes → Breaks form mid now bytes (piece ++ more) why) → AnswersLog (start_of form) source_before source_after before now (status_of (Err why))
 work_stopped form source_before source source_after before mid now reader engine known total n piece why going size consumed given faultless within breaks =
     let took = took_more source_before source source_after going.bytes piece going.took consumed (rw size at given) in
     let stops : (more : List ℕ) → Stops before now (output (start_of form) ((going.bytes ++ piece) ++ more)) why
@@ -171,7 +172,7 @@ of_all : (P : List ℕ → Type 0) (left : Option (List ℕ)) (bytes : List ℕ)
 of_all P None bytes all holds = tt
 of_all P (Some log) bytes all holds = rw all holds
 
-answers_end : (form : Form) (source_before source : SourceSeen) (before now : SinkSeen) (bytes : List ℕ) (result : Result Bool Stop) → Took source_before source bytes → length bytes ≤ most_bytes → source.faults ≡ source_before.faults → IsAtEnd source.left → Ends before now (output (start_of form) bytes) result → MatchResult result (λ refused. refused ≡ has_refusal (start_of form) bytes) (λ _. ⊤) → AnswersLog (start_of form) source_before source before now (status_of result)
+answers_end : (form : Form) (source_before source : SourceSeen) (before now : SinkSeen) (bytes : List ℕ) (result : Result Bool Stop) → Took source_before source bytes → length bytes ≤ most_log_bytes → source.faults ≡ source_before.faults → IsAtEnd source.left → Ends before now (output (start_of form) bytes) result → MatchResult result (λ refused. refused ≡ has_refusal (start_of form) bytes) (λ _. ⊤) → AnswersLog (start_of form) source_before source before now (status_of result)
 answers_end form source_before source before now bytes (Ok false) took short faultless at_end ends told =
     record {
       bytes = bytes;

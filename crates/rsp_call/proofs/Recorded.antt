@@ -2,7 +2,7 @@
 use Rattle.std.proofs.Common.{◌≡◌, ℕ, zero, suc, ◌+◌, ◌-◌, List, [], ◌∷◌, ◌++◌, length, drop, map, Some, refl, sym, ◌∙◌, ap, append_assoc, arith, ◌≤◌}
 use Rattle.std.specs.List.{AllByRecursion, slice_get}
 use Rattle.std.specs.Option.{option_map, option_to_list}
-use Rattle.rsp_spec.specs.Windows.{last_instant}
+use Rattle.rsp_spec.specs.Limits.{last_instant}
 use Rattle.rsp_events.specs.declared.event.Event.{Event}
 use Rattle.rsp_events.specs.declared.event.Event.TheVariants as event
 use Rattle.rsp_events.specs.declared.recording.RecordedItems.{RecordedItems}

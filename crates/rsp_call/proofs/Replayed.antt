@@ -7,7 +7,8 @@ use Rattle.rsp_events.specs.declared.event.Event.TheVariants.{Register}
 use Rattle.rsp_events.specs.declared.recording.RecordedItems.{RecordedItems}
 use Rattle.rsp_events.specs.declared.refused.LineRefused.{LineRefused}
 use Rattle.rsp_events.specs.Files.{loaded}
-use Rattle.rsp_engine.specs.Refusals.{Refusal}
+use Rattle.rsp_engine.specs.declared.refused.Refused.TheVariants.{Text}
+use Rattle.rsp_engine.specs.declared.refused.TextFault.{TextFault}
 use Rattle.rsp_engine.specs.World.{World, empty_world}
 use Rattle.rsp_call.specs.declared.refusing.Place.TheVariants.{Block, Line}
 use Rattle.rsp_call.specs.Checks.{bytes_fault}
@@ -44,7 +45,7 @@ all_lines_run world (stream ∷ streams) (read ∷ reads) =
 
 -- ---- the query and the events
 
-query_by : (world : World) (number : ℕ) (bytes : List ℕ) (fault : Option Refusal) → step world (option_map_or (λ why. a_refused (Block number) (of_event why)) fault (a_block (event_block (number, Register (codes "query") bytes)))) ≡ step_by world number bytes fault
+query_by : (world : World) (number : ℕ) (bytes : List ℕ) (fault : Option TextFault) → step world (option_map_or (λ why. a_refused (Block number) (of_event (Text why))) fault (a_block (event_block (number, Register (codes "query") bytes)))) ≡ step_by world number bytes fault
 query_by world number bytes None = refl
 query_by world number bytes (Some why) = refl
 

@@ -22,7 +22,8 @@ use Rattle.rsp_terms.specs.Same.{term_eq, term_same}
 use Rattle.rsp_terms.specs.Terms.{term_text, iri_text, string_text, escaped_text, escaped_byte, datatype_text, xsd_string}
 use Rattle.rsp_terms.proofs.Injective.{iris, strings, datatypes}
 use Rattle.rsp_streams_out.specs.Rows.{AreRows, cell_text, row_text}
-use Rattle.rsp_streams_out.specs.Json.{term_data, with_cell, with_cells, row_data, report_json}
+use Rattle.rsp_streams_out.specs.Json.{term_data, with_cell, row_data, report_json}
+use Rattle.rsp_streams_out.specs.JsonParts.{with_cells}
 use Rattle.rsp_streams_out.proofs.JsonData.{no_more}
 use Rattle.rsp_call.specs.Apart.{cell_has_tab, has_tab, have_tab, row_has_tab}
 

@@ -15,22 +15,22 @@ use Rattle.rsp_engine.specs.declared.report.Outcome.TheVariants.{Rows, Overfull}
 use Rattle.rsp_engine.specs.World.{World, empty_world}
 use Rattle.rsp_engine.specs.Accept.{accept}
 use Rattle.rsp_engine.specs.Moments.{Moment, moments}
-use Rattle.rsp_engine.specs.Refusals.{Refusal, refusal_of}
 use Rattle.rsp_engine.specs.Reports.{IsOutcome, reports, world_behind}
 use Rattle.rsp_engine.specs.Stands.{State, Stands, is_idle}
-use Rattle.rsp_engine.specs.Offers.{Answers, GivesFirst, HasNone, Refuses}
+use Rattle.rsp_engine.specs.Offers.{GivesFirst, HasNone, Refuses}
 use Rattle.rsp_engine.proofs.ReportSteps.{reports_step, world_step}
 use Rattle.rsp_call.specs.declared.counting.Tally.{Tally}
 use Rattle.rsp_call.specs.declared.refusing.Place.{Place}
 use Rattle.rsp_call.specs.declared.refusing.Place.TheVariants as place
 use Rattle.rsp_call.specs.Generator.{item, item_of, next_random, query_text, random}
 use Rattle.rsp_call.specs.Output.{Saying, a_refusal, a_report, answer_step}
+use Rattle.rsp_call.specs.Reasons.{event_reason}
 use Rattle.rsp_call.specs.Refusals.{of_event}
 use Rattle.rsp_call.specs.Runs.{event_step, event_world, run_blocks, world_from}
 use Rattle.rsp_call.specs.Summaries.{is_report, numbered, rows_in, rows_said, said_of}
 use Rattle.rsp_call.specs.Tallies.{Counts, CountsReports, items_from, rows_of}
 use Rattle.rsp_call.proofs.Folding.{run_blocks-append}
-use Rattle.rsp_call.proofs.Tellings.{counted}
+use Rattle.rsp_call.proofs.Tellings.{counted, named_refusal, refused_idle}
 
 -- ---- counts of one list behind another
 
@@ -72,26 +72,19 @@ accepted_counts world place event after engine before now is counts stands = (
   rw (ap (λ answer. (answer_step world place event answer).after) is) stands,
 )
 
-counts_refusal : (tally : Tally) (place : Place) (refusal : Refusal) → Counts tally tally (a_refusal place (of_event refusal) ∷ [])
-counts_refusal tally place refusal = record { reports = omega arith; rows = omega arith }
+counts_refusal : (tally : Tally) (place : Place) (why : Refused) → Counts tally tally (a_refusal place (of_event why) ∷ [])
+counts_refusal tally place why = record { reports = omega arith; rows = omega arith }
 
-pub refused_counts : (world : World) (place : Place) (event : events.Event) (why : Refused) (old new : State) (tally : Tally) → Refuses old event why new → is_some (refusal_of why) ≡ true → Stands old world []
+pub refused_counts : (world : World) (place : Place) (event : events.Event) (why : Refused) (old new : State) (tally : Tally) → Refuses old event why new → is_some (event_reason why) ≡ true → Stands old world []
     → Counts tally tally (event_step world place event).said × Stands new (event_world world place event) []
-refused_counts world place event why old new tally refuses some stands = by (refusal_of why) refuses some
-  where
-    by : (o : Option Refusal) → Answers old event why o new → is_some o ≡ true → Counts tally tally (event_step world place event).said × Stands new (event_world world place event) []
-    by None answers some = cc
-    by (Some refusal) answers some = (
-      rw (ap (λ answer. (answer_step world place event answer).said) (answers.refused world stands)) (counts_refusal tally place refusal),
+refused_counts world place event why old new tally refuses some stands =
+    let answers = named_refusal old new event why refuses some in (
+      rw (ap (λ answer. (answer_step world place event answer).said) (answers.refused world stands)) (counts_refusal tally place why),
       rw (ap (λ answer. (answer_step world place event answer).after) (answers.refused world stands), answers.unchanged) stands,
     )
 
-pub refused_stays_idle : (old new : State) (event : events.Event) (why : Refused) → Refuses old event why new → is_some (refusal_of why) ≡ true → IsTrue (is_idle old) → IsTrue (is_idle new)
-refused_stays_idle old new event why refuses some idle = by (refusal_of why) refuses some
-  where
-    by : (o : Option Refusal) → Answers old event why o new → is_some o ≡ true → IsTrue (is_idle new)
-    by None answers some = cc
-    by (Some refusal) answers some = rw answers.unchanged idle
+pub refused_stays_idle : (old new : State) (event : events.Event) (why : Refused) → Refuses old event why new → is_some (event_reason why) ≡ true → IsTrue (is_idle old) → IsTrue (is_idle new)
+refused_stays_idle old new event why refuses some idle = refused_idle old new event why refuses some idle
 
 -- ---- the reports of an event, one at a time
 

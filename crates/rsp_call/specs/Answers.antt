@@ -1,8 +1,9 @@
 -- Definitions: what each answer of the call says.
-use Rattle.std.specs.Prelude.{◌≡◌, ℕ, ◌^◌, ◌<◌, ◌≤◌, ◌++◌, Bool, true, false, IsTrue, Option, Some, None, List, [], ◌∷◌, length}
+use Rattle.std.specs.Prelude.{◌≡◌, ℕ, ◌<◌, ◌≤◌, ◌++◌, Bool, true, false, IsTrue, Option, Some, None, List, [], ◌∷◌, length}
 use Rattle.std.specs.Option.{IfSome}
 use Rattle.std.specs.Io.KnownBytes.{IsAtEnd}
 use Rattle.rsp_spec.specs.Faults.{Rose}
+use Rattle.rsp_spec.specs.Limits.{most_file_bytes, most_log_bytes}
 use Rattle.rsp_io.specs.Seen.{SinkSeen, SourceSeen}
 use Rattle.rsp_engine.specs.World.{empty_world}
 use Rattle.rsp_call.specs.declared.form.Form.TheVariants.{Table}
@@ -17,13 +18,6 @@ use Rattle.rsp_call.specs.Summaries.{counted}
 use Rattle.rsp_call.specs.Replays.{replayed}
 use Rattle.rsp_call.specs.FileAnswers.{AnswersFiles, Told}
 use Rattle.rsp_call.specs.Sinks.{Wrote, WrotePart, WriteFailed}
-
--- the most bytes of standard input, and of a named file
-abbrev pub most_bytes : ℕ
-most_bytes = 2 ^ 40
-
-abbrev pub most_file_bytes : ℕ
-most_file_bytes = 67108864
 
 -- each answer to a log names the bytes that were taken from the source
 
@@ -40,7 +34,7 @@ pub record Works (start : Start) (before now : SourceSeen) (sink sink' : SinkSee
   pub told : Told (output start bytes) (has_refusal start bytes) sink sink' status
   pub log : IfSome before.left (λ log. Told (output start log) (has_refusal start log) sink sink' status)
   pub at_end : IsTrue (is_done status) → IsAtEnd now.left
-  pub short : length bytes ≤ most_bytes
+  pub short : length bytes ≤ most_log_bytes
   pub faultless : now.faults ≡ before.faults
 
 -- a read failed, as those of a sure source don't: what was written is exactly what the blocks give that the bytes end,
@@ -50,7 +44,7 @@ pub record ReadFails (start : Start) (before now : SourceSeen) (sink sink' : Sin
   pub took : Took before now bytes
   pub written : Wrote sink sink' (whole_text start bytes)
   pub log : IfSome before.left (λ log. WrotePart sink sink' (output start log))
-  pub short : length bytes ≤ most_bytes
+  pub short : length bytes ≤ most_log_bytes
   pub rose : Rose before.faults now.faults
   pub unsure : before.sure ≡ false
 
@@ -61,7 +55,7 @@ pub record PassesLimit (start : Start) (before now : SourceSeen) (sink sink' : S
   pub took : Took before now (bytes ++ last)
   pub written : Wrote sink sink' (whole_text start bytes)
   pub log : IfSome before.left (λ log. WrotePart sink sink' (output start log))
-  pub long : most_bytes < length (bytes ++ last)
+  pub long : most_log_bytes < length (bytes ++ last)
   pub faultless : now.faults ≡ before.faults
 
 -- on words that ask for the log

@@ -18,7 +18,6 @@ pub mod Asked
 pub mod Reasons
 pub mod Played
 pub mod Apart
-pub mod Verdicts
 pub mod Tallies
 pub mod Readings
 pub mod Runs

@@ -15,7 +15,7 @@ use Rattle.rsp_engine.specs.declared.report.Report.{Report}
 use Rattle.rsp_engine.specs.declared.report.Outcome.{Outcome}
 use Rattle.rsp_engine.specs.declared.report.Outcome.TheVariants.{Rows, Overfull}
 use Rattle.rsp_engine.specs.World.{World}
-use Rattle.rsp_engine.specs.Refusals.{Refusal}
+use Rattle.rsp_engine.specs.declared.refused.Refused.{Refused}
 use Rattle.rsp_engine.specs.Accept.{accept}
 use Rattle.rsp_engine.specs.Moments.{moments}
 use Rattle.rsp_engine.specs.Reports.{reports, world_behind}
@@ -75,7 +75,7 @@ abbrev pub refused : World → Place → Reason → Step
 refused world place reason = record { said = a_refusal place reason ∷ []; after = world }
 
 -- an accepted event says its reports; a refused one says why, and leaves the world
-abbrev pub answer_step : World → Place → Event → Result World Refusal → Step
+abbrev pub answer_step : World → Place → Event → Result World Refused → Step
 answer_step world place event (Ok after) = record {
   said = map a_report (reports after (moments world event after));
   after = world_behind after (moments world event after);

@@ -7,7 +7,8 @@ use Rattle.rsp_events.specs.declared.loading.LoadedQuads.{LoadedQuads}
 use Rattle.rsp_events.specs.declared.recording.RecordedItems.{RecordedItems}
 use Rattle.rsp_events.specs.declared.refused.LineRefused.{LineRefused}
 use Rattle.rsp_events.specs.Files.{loaded}
-use Rattle.rsp_engine.specs.Refusals.{Refusal}
+use Rattle.rsp_engine.specs.declared.refused.Refused.TheVariants.{Text}
+use Rattle.rsp_engine.specs.declared.refused.TextFault.{TextFault}
 use Rattle.rsp_engine.specs.World.{World, empty_world}
 use Rattle.rsp_call.specs.declared.refusing.Place.TheVariants.{Block, Line}
 use Rattle.rsp_call.specs.Checks.{bytes_fault}
@@ -33,9 +34,9 @@ all_lines_said (stream ∷ streams) (read ∷ reads) = lines_said stream.file re
 
 -- ---- the query
 
-abbrev pub step_by : World → ℕ → List ℕ → Option Refusal → Step
+abbrev pub step_by : World → ℕ → List ℕ → Option TextFault → Step
 step_by world number bytes None = event_step world (Block number) (Register (codes "query") bytes)
-step_by world number bytes (Some why) = refused world (Block number) (of_event why)
+step_by world number bytes (Some why) = refused world (Block number) (of_event (Text why))
 
 abbrev pub query_step : World → ℕ → List ℕ → Step
 query_step world number bytes = step_by world number bytes (bytes_fault bytes)

@@ -2,7 +2,7 @@
 use Rattle.std.specs.Prelude.{◌≡◌, ℕ, ◌<◌, ◌≤◌, IsTrue, List, Result, Ok, Err, Vec, length}
 use Rattle.std.specs.Io.KnownBytes.{Consumes, IsAtEnd}
 use Rattle.rsp_spec.specs.Faults.{Rose}
-use Rattle.rsp_call.specs.Answers.{most_file_bytes}
+use Rattle.rsp_spec.specs.Limits.{most_file_bytes}
 use Rattle.rsp_call.specs.Shelves.{ShelfSeen, ReadsWhole, ReadsAll, EndsAt, CantRead, IsTooLong, LacksMemory}
 use Rattle.rsp_call.specs.declared.status.Status.{Status}
 use Rattle.rsp_call.specs.declared.status.Status.TheVariants as status

@@ -9,6 +9,7 @@ use Rattle.rsp_events.specs.declared.loading.LoadedQuads.{LoadedQuads}
 use Rattle.rsp_events.specs.declared.recording.RecordedItems.{RecordedItems}
 use Rattle.rsp_events.specs.declared.refused.LineRefused.{LineRefused}
 use Rattle.rsp_events.specs.Files.{loaded}
+use Rattle.rsp_engine.specs.declared.refused.Refused.TheVariants.{Text}
 use Rattle.rsp_engine.specs.World.{empty_world}
 use Rattle.rsp_call.specs.declared.refusing.Place.TheVariants.{Block, Line}
 use Rattle.rsp_call.specs.Checks.{bytes_fault}
@@ -28,7 +29,7 @@ all_lines_given streams reads = flat_map (λ x. lines_given x.0.file x.1.refused
 -- the query's registration; a file that can be no text of a query is refused in its place
 abbrev pub query_given : ℕ → List ℕ → Given
 query_given number bytes =
-    option_map_or (λ why. a_refused (Block number) (of_event why)) (bytes_fault bytes)
+    option_map_or (λ why. a_refused (Block number) (of_event (Text why))) (bytes_fault bytes)
     (a_block (event_block (number, Register (codes "query") bytes)))
 
 -- the query, as the block of this number, and the events behind it

@@ -1,8 +1,8 @@
 // Checking the query in a file.
 ghost use Rattle.std.specs.Prelude.{◌≡◌, ◌∷◌, [], IfOk};
 ghost use Rattle.std.specs.List.{list_any};
+ghost use Rattle.rsp_spec.specs.Limits.{most_file_bytes};
 ghost use Rattle.rsp_call.specs.Checks.{checked};
-ghost use Rattle.rsp_call.specs.Answers.{most_file_bytes};
 ghost use Rattle.rsp_call.specs.FileAnswers.{AnswersFiles};
 ghost use Rattle.rsp_call.specs.declared.form.Form.TheVariants.{Table};
 ghost use Rattle.rsp_call.specs.Output.{is_refusal, text_of};
@@ -16,6 +16,7 @@ use crate::refusing::{Answered, Place, refuse};
 use crate::status::Status;
 use crate::stop::{Stop, status_of};
 use crate::writing::write_all;
+use rsp_engine::Refused;
 use rsp_io::{Shelf, Sink};
 use std::alloc::{AllocError, Global};
 
@@ -42,7 +43,10 @@ fn tell_verdict<K: Sink>(alloc: Global, bytes: &[u8], out: &mut K) -> Result<boo
     ensures refused { IfOk result (λ refused. refused ≡ list_any is_refusal (checked (bytes.now ∷ []))) }
 {
     match file_fault(alloc, bytes) {
-        Ok(Some(why)) => refuse(alloc, Place::Query, Answered::Event(why), out),
+        Ok(Some(why)) => {
+            let why = Refused::Text(why);
+            refuse(alloc, Place::Query, Answered::Event(why), out)
+        }
         Ok(None) => {
             write_all(out, b"ok\n")?;
             Ok(false)

@@ -2,11 +2,11 @@
 ghost use Rattle.std.specs.Prelude.{◌≡◌, ◌≤◌, ◌+◌, IsTrue, IfOk, OnOk, List, [], false, is_some};
 ghost use Rattle.rsp_events.specs.Instants.{IsInstant};
 ghost use Rattle.rsp_engine.specs.Moments.{Moment};
-ghost use Rattle.rsp_engine.specs.Refusals.{refusal_of};
+ghost use Rattle.rsp_call.specs.Reasons.{event_reason};
 ghost use Rattle.rsp_engine.specs.Reports.{reports, world_behind};
 ghost use Rattle.rsp_engine.specs.World.{World, empty_world};
 ghost use Rattle.rsp_engine.specs.Stands.{Stands, is_idle};
-ghost use Rattle.rsp_call.specs.Answers.{most_file_bytes};
+ghost use Rattle.rsp_spec.specs.Limits.{most_file_bytes};
 ghost use Rattle.rsp_call.specs.FileAnswers.{AnswersFiles};
 ghost use Rattle.rsp_call.specs.declared.form.Form.TheVariants.{Table};
 ghost use Rattle.rsp_call.specs.Output.{a_summary, text_of, text_of_saying};
@@ -162,7 +162,7 @@ fn count_event<L: Ledger>(
 
 // whether this isn't for want of memory
 fn is_refusal(why: &Refused) -> bool
-    ensures { result ≡ is_some (refusal_of why.now) }
+    ensures { result ≡ is_some (event_reason why.now) }
 {
     !matches!(why, Refused::Broken | Refused::OutOfMemory)
 }

@@ -1,19 +1,18 @@
 // Reading a named file whole.
 ghost use Rattle.std.specs.Prelude.{◌≡◌, MatchResult};
+ghost use Rattle.rsp_spec.specs.Limits.{most_file_bytes};
 ghost use Rattle.rsp_call.specs.Playing.{replay_for};
-ghost use Rattle.rsp_call.specs.Answers.{most_file_bytes};
 ghost use Rattle.rsp_call.specs.Shelves.{ReadsWhole, shelf_seen};
 ghost use Rattle.rsp_call.specs.Readings.{Ends, Reads, ReadsFiles, ReadsPicked};
 ghost use Rattle.rsp_call.specs.Words.{names_of};
 
 use crate::replay::{Replay, name_at};
 use rsp_io::{Failed, Shelf};
+use rsp_spec::limits::MOST_FILE_BYTES;
 use rsp_terms::Listed;
 use std::alloc::{AllocError, Global};
 
-// The most bytes of a named file, and the bytes of one read.
-const MOST_FILE_BYTES: usize = 67_108_864;
-
+// The bytes of one read.
 const READ_BYTES: usize = 1 << 14;
 
 /// Why a named file isn't read.

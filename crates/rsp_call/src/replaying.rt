@@ -3,7 +3,7 @@ ghost use Rattle.std.specs.Prelude.{◌≡◌, ◌≤◌, ◌+◌, ◌∷◌, �
 ghost use Rattle.rsp_events.specs.declared.event.Event.TheVariants as event;
 ghost use Rattle.rsp_engine.specs.Stands.{Stands, is_idle};
 ghost use Rattle.rsp_engine.specs.World.{World, empty_world};
-ghost use Rattle.rsp_call.specs.Answers.{most_file_bytes};
+ghost use Rattle.rsp_spec.specs.Limits.{most_file_bytes};
 ghost use Rattle.rsp_call.specs.FileAnswers.{AnswersFiles};
 ghost use Rattle.rsp_call.specs.declared.form.Form as forms;
 ghost use Rattle.rsp_call.specs.Playing.{AreTimed, replay_for, stream_for};
@@ -28,7 +28,7 @@ use crate::session::{either, take_blocks};
 use crate::status::Status;
 use crate::stop::{Stop, status_of};
 use crate::taking::take_event;
-use rsp_engine::Engine;
+use rsp_engine::{Engine, Refused};
 use rsp_eval::Plain;
 use rsp_events::{Event, LineRefused, LoadedQuads, RecordedItems, loaded};
 use rsp_io::{Shelf, Sink};
@@ -391,7 +391,10 @@ fn take_query<K: Sink, L: Ledger>(
             Ok(event) => take_event(alloc, engine, Place::Block(number), event, form, out, steps),
             Err(AllocError) => Err(Stop::Memory),
         },
-        Err(why) => refuse(alloc, Place::Block(number), Answered::Event(why), out),
+        Err(why) => {
+            let why = Refused::Text(why);
+            refuse(alloc, Place::Block(number), Answered::Event(why), out)
+        }
     }
 }
 

@@ -18,14 +18,13 @@ use crate::stop::status_of;
 use crate::words::{Mode, mode_of};
 use crate::writing::write_whole;
 use rsp_io::{Failed, Shelf, Sink, Source};
+use rsp_spec::limits::MOST_LOG_BYTES;
 use rsp_steps::Steps;
 use rsp_terms::Text;
 use std::alloc::Global;
 use std::sync::ledger::Ledger;
 
-// The most bytes of standard input, and the bytes of one read.
-const MOST_BYTES: u64 = 1 << 40;
-
+// The bytes of one read.
 const READ_BYTES: usize = 1 << 14;
 
 const USAGE: &str =
@@ -107,7 +106,7 @@ fn read_log<S: Source, K: Sink, L: Ledger>(
             Ok(0) => return status_of(session.finish(form, out, steps)),
             Ok(read) => {
                 taken += read as u64;
-                if MOST_BYTES < taken {
+                if MOST_LOG_BYTES < taken {
                     return Status::TooLong;
                 }
                 match session.work(buffer.split_at(read).0, form, out, steps) {

@@ -28,7 +28,8 @@ use Rattle.rsp_engine.specs.declared.live_query.StreamWindow.{StreamWindow}
 use Rattle.rsp_engine.specs.Refusals.{Refusal, held_full, item_too_large, late, name_taken, no_query, queries_full, start_overfull, store_full, text_fault}
 use Rattle.rsp_engine.specs.World.{Query, Reading, Registration, World, empty_world, next_of, registrations}
 use Rattle.rsp_engine.specs.Readings.{reading_of}
-use Rattle.rsp_engine.specs.Accept.{accept, accept_held, accept_item, accept_parsed, accept_query, accept_reading, accept_register, accept_stored, accept_text, has_name, is_live, most_held, most_quads, most_queries, most_triples, new_query, starts_overfull, with_item, without}
+use Rattle.rsp_spec.specs.Limits.{most_held, most_quads, most_queries, most_triples}
+use Rattle.rsp_engine.specs.Accept.{accept, accept_held, accept_item, accept_parsed, accept_query, accept_reading, accept_register, accept_stored, accept_text, has_name, is_live, new_query, starts_overfull, with_item, without}
 use Rattle.rsp_engine.specs.Bounds.{IsWorld}
 use Rattle.rsp_engine.specs.Contents.{watches, watches_from}
 use Rattle.rsp_engine.specs.Kept.{held, watches_of}

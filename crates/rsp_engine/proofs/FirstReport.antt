@@ -21,7 +21,8 @@ use Rattle.rsp_engine.specs.World.{Query, Reading, Registration, World, next_of,
 use Rattle.rsp_engine.specs.Kept.{held, watches_of}
 use Rattle.rsp_scope.specs.Needed.{listed_triples, needed_items}
 use Rattle.std.specs.Option.{option_map_or}
-use Rattle.rsp_engine.specs.Accept.{most_held, without}
+use Rattle.rsp_spec.specs.Limits.{most_held}
+use Rattle.rsp_engine.specs.Accept.{without}
 use Rattle.rsp_engine.specs.Contents.{facts_over, watches}
 use Rattle.rsp_engine.specs.Left.{IsFirstLeft, left_from}
 use Rattle.rsp_engine.specs.Watching.{name_of}

@@ -42,7 +42,8 @@ use Rattle.rsp_engine.specs.Offers.{Answers, Offers, Refuses}
 use Rattle.rsp_engine.specs.Refusals.{Refusal, refusal_of, shape_fault, text_fault}
 use Rattle.rsp_engine.specs.World.{Query, Registration, World, empty_world, next_of, registrations}
 use Rattle.rsp_engine.specs.Readings.{reading_of}
-use Rattle.rsp_engine.specs.Accept.{accept, has_name, is_live, most_held, most_quads, most_queries, most_triples, new_query, starts_overfull, with_item, without}
+use Rattle.rsp_spec.specs.Limits.{most_held, most_quads, most_queries, most_triples}
+use Rattle.rsp_engine.specs.Accept.{accept, has_name, is_live, new_query, starts_overfull, with_item, without}
 use Rattle.rsp_engine.specs.Contents.{watches, watches_from}
 use Rattle.rsp_engine.specs.Due.{is_due_over}
 use Rattle.rsp_engine.specs.Keeping.{IsUnmoved, excess}

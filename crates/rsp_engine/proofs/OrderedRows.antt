@@ -8,8 +8,8 @@ use Rattle.rsp_multiset.proofs.Linear.{sum-changed}
 use Rattle.rsp_multiset.proofs.Sums.{sum_z-map}
 use Rattle.rsp_streams_out.specs.Streams.{less, reported}
 use Rattle.rsp_streams_out.specs.Turning.{StandsFor}
-use Rattle.rsp_streams_out.specs.declared.operator.Operator.{Operator}
-use Rattle.rsp_streams_out.specs.declared.operator.Operator.TheVariants.{Rstream, Istream, Dstream}
+use Rattle.rsp_report.specs.declared.operator.Operator.{Operator}
+use Rattle.rsp_report.specs.declared.operator.Operator.TheVariants.{Rstream, Istream, Dstream}
 use Rattle.rsp_multiset.specs.Rows.{Cells, row_eq}
 use Rattle.rsp_terms.specs.declared.term.Term.{Term}
 use Rattle.rsp_terms.specs.Same.{term_eq, term_same}

@@ -1,7 +1,8 @@
 -- What a live query reports over the facts for which its answer then stands.
 use Rattle.std.proofs.Common.{◌≡◌, ℕ, Bool, true, false, List, refl, sym, subst, ◌∙◌, map}
 use Rattle.rsp_terms.specs.declared.statement.Fact.{Fact}
-use Rattle.rsp_algebra.specs.Nodes.{Node, node_of}
+use Rattle.rsp_algebra.specs.Nodes.{Node}
+use Rattle.rsp_algebra.specs.Meanings.{node_of}
 use Rattle.rsp_algebra.specs.Solutions.{eval}
 use Rattle.rsp_algebra.specs.Overfull.{overfull}
 use Rattle.rsp_algebra.proofs.SameFacts.{SameFacts, same_overfull}

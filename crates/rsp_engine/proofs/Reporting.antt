@@ -6,7 +6,7 @@ use Rattle.std.specs.Option.{option_map_or}
 use Rattle.std.proofs.lemmas.List.{length-map}
 use Rattle.std.proofs.lemmas.List.Elements.{All-set, All-weaker}
 use Rattle.std.proofs.lemmas.Option.{get_or_from_slice_get, slice_get_within}
-use Rattle.rsp_spec.specs.Windows.{last_instant}
+use Rattle.rsp_spec.specs.Limits.{last_instant}
 use Rattle.rsp_terms.specs.declared.statement.Fact.{Fact}
 use Rattle.rsp_algebra.specs.Nodes.{Node}
 use Rattle.rsp_scope.specs.Contents.{Accepted, Numbered, Watch}

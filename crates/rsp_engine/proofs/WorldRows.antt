@@ -17,14 +17,14 @@ use Rattle.rsp_report.specs.declared.words.Strategy.{Strategy}
 use Rattle.rsp_report.specs.declared.words.Strategy.TheVariants.{Close, Change, NonEmpty, Every}
 use Rattle.rsp_report.specs.declared.words.PolicyWords.TheVariants.{Absent, Listed}
 use Rattle.rsp_report.specs.declared.chosen.Chosen.{Chosen}
-use Rattle.rsp_streams_out.specs.declared.operator.Operator.TheVariants.{Rstream, Istream, Dstream}
-use Rattle.rsp_streams_out.specs.declared.operator.Operator.{Operator}
+use Rattle.rsp_report.specs.declared.operator.Operator.TheVariants.{Rstream, Istream, Dstream}
+use Rattle.rsp_report.specs.declared.operator.Operator.{Operator}
 use Rattle.rsp_query.specs.declared.query.WindowClause.{WindowClause}
 use Rattle.rsp_query.specs.Queries.{Registered}
 use Rattle.rsp_query.specs.Groups as words
 use Rattle.rsp_query.specs.Paths.{step}
 use Rattle.rsp_algebra.specs.declared.tree.Place.TheVariants.{Default, Window}
-use Rattle.rsp_algebra.specs.Nodes.{Node, join, pattern, project, unit}
+use Rattle.rsp_algebra.specs.Nodes.{Node, join, pattern, project, unit, over, of_two}
 use Rattle.rsp_translation.specs.declared.shape.Shape.TheVariants as shape
 use Rattle.rsp_translation.specs.Translation.{first_fault}
 use Rattle.rsp_syntax.specs.Deciding.{parse}
@@ -87,7 +87,7 @@ subjects policy windows body =
       output = codes "o:a";
       policy = policy;
       windows = windows;
-      node = project body (0 ∷ []);
+      node = over (project (0 ∷ [])) body;
       width = 2;
       shown = 0 ∷ [];
       variables = codes "s" ∷ [];
@@ -360,7 +360,7 @@ stored_quads_are_seen = refl
 
 -- the subjects of the triples that both windows have
 abbrev joining : Reading
-joining = subjects (at_instants (Close ∷ NonEmpty ∷ [])) over_both (join (triples_in 0) (triples_in 1))
+joining = subjects (at_instants (Close ∷ NonEmpty ∷ [])) over_both (of_two join (triples_in 0) (triples_in 1))
 
 abbrev clause : List ℕ → StreamWindow → WindowClause
 clause name w = record { name = name; stream = w.stream; window = w.shape; at = 0 }

@@ -1,7 +1,7 @@
 -- Definitions: which events are accepted, and what an accepted event makes of the world.
 use Rattle.std.specs.Prelude.{ℕ, ◌+◌, Bool, not, nat_lt, nat_le, if◌then◌else◌, Some, Result, Ok, Err, List, [], ◌∷◌, ◌++◌, length, filter, bytes_eq}
 use Rattle.std.specs.List.{list_any}
-use Rattle.std.specs.Option.{option_map_or}
+use Rattle.rsp_spec.specs.Limits.{most_held, most_quads, most_queries, most_triples}
 use Rattle.rsp_terms.specs.declared.statement.Fact.{Fact}
 use Rattle.rsp_terms.specs.declared.statement.Quad.{Quad}
 use Rattle.rsp_scope.specs.Quads.{stored_with, stored_without}
@@ -10,28 +10,13 @@ use Rattle.rsp_events.specs.declared.event.Event.TheVariants.{Register, Cancel, 
 use Rattle.rsp_scope.specs.Contents.{Accepted}
 use Rattle.rsp_query.specs.Queries.{Registered}
 use Rattle.rsp_algebra.specs.Overfull.{overfull}
-use Rattle.rsp_syntax.specs.Deciding.{parse}
-use Rattle.rsp_syntax.specs.declared.fault.SyntaxFault.{SyntaxFault}
-use Rattle.rsp_engine.specs.Refusals.{Refusal, held_full, item_too_large, late, name_taken, no_query, queries_full, start_overfull, store_full, text_fault}
+use Rattle.rsp_engine.specs.declared.refused.Refused.{Refused}
+use Rattle.rsp_engine.specs.declared.refused.Refused.TheVariants.{Text, Late, NameTaken, NoQuery, QueriesFull, HeldFull, StoreFull, ItemTooLarge, StartOverfull}
+use Rattle.rsp_engine.specs.declared.refused.TextFault.{TextFault}
+use Rattle.rsp_engine.specs.Refusals.{read}
 use Rattle.rsp_engine.specs.Readings.{reading_of}
 use Rattle.rsp_engine.specs.World.{World, Query, Reading, Registration, next_of, registrations}
 use Rattle.rsp_engine.specs.Kept.{held}
-
--- the most triples of an item, as listed
-abbrev pub most_triples : ℕ
-most_triples = 100000
-
--- the most triples of all items that are kept
-abbrev pub most_held : ℕ
-most_held = 1000000
-
--- the most quads that are stored
-abbrev pub most_quads : ℕ
-most_quads = 1000000
-
--- the most queries that are live at once
-abbrev pub most_queries : ℕ
-most_queries = 256
 
 abbrev pub has_name : List ℕ → Registration → Bool
 has_name name query = bytes_eq query.name name
@@ -52,78 +37,45 @@ new_query name reading first = record { registration = record { name = name; rea
 abbrev pub starts_overfull : Reading → Bool
 starts_overfull reading = overfull reading.width reading.node []
 
--- a query becomes live, last in order
-abbrev pub accept_reading : World → List ℕ → Reading → Result World Refusal
-accept_reading world name reading =
-    if starts_overfull reading
-    then Err start_overfull
-    else Ok (record world { queries = world.queries ++ new_query name reading (length world.items) ∷ [] })
+-- the first refusal of these that holds, or else the answer
+abbrev pub unless : List (Bool × Refused) → Result World Refused → Result World Refused
+unless [] answer = answer
+unless (check ∷ more) answer = if check.0 then Err check.1 else unless more answer
 
--- so many queries are live at most
-abbrev pub accept_query : World → List ℕ → Registered → Result World Refusal
-accept_query world name q =
-    if nat_le most_queries (length world.queries) then Err queries_full else accept_reading world name (reading_of q)
-
--- what the text is, where it has no fault; want of memory, which is no text, would change nothing
-abbrev pub accept_parsed : World → List ℕ → Result Registered SyntaxFault → Result World Refusal
-accept_parsed world name (Ok q) = accept_query world name q
-accept_parsed world name (Err fault) = Ok world
-
--- a text with a fault is refused for it
-abbrev pub accept_text : World → List ℕ → List ℕ → Result World Refusal
-accept_text world name text = option_map_or Err (text_fault (parse text)) (accept_parsed world name (parse text))
-
--- a name is looked up before the text is read
-abbrev pub accept_register : World → List ℕ → List ℕ → Result World Refusal
-accept_register world name text = if is_live world name then Err name_taken else accept_text world name text
-
--- the query of the name is no longer live
-abbrev pub accept_cancel : World → List ℕ → Result World Refusal
-accept_cancel world name =
-    if is_live world name then Ok (record world { queries = without name world.queries }) else Err no_query
+-- a query becomes live, last in order, unless so many are live or it starts overfull; a text with a fault is refused for it
+abbrev pub accept_text : World → List ℕ → Result Registered TextFault → Result World Refused
+accept_text world name (Ok q) =
+    unless
+    ((nat_le most_queries (length world.queries), QueriesFull) ∷ (starts_overfull (reading_of q), StartOverfull) ∷ [])
+    (Ok (record world { queries = world.queries ++ new_query name (reading_of q) (length world.items) ∷ [] }))
+accept_text world name (Err fault) = Err (Text fault)
 
 -- an item is appended, and every instant before its time is complete
 abbrev pub with_item : World → Accepted → World
 with_item world item = record world { next = Some item.time; items = world.items ++ item ∷ [] }
 
--- the triples of the items that would then be kept are so many at most
-abbrev pub accept_held : World → Result World Refusal
-accept_held after = if nat_lt most_held (held after) then Err (held_full (held after)) else Ok after
-
-abbrev pub accept_item : World → Accepted → Result World Refusal
+-- unless it is late, or has too many triples, or more would be kept than can be
+abbrev pub accept_item : World → Accepted → Result World Refused
 accept_item world item =
-    if nat_lt item.time (next_of world)
-    then Err (late item.time (next_of world))
-    else
-    (if nat_lt most_triples (length item.graph)
-    then Err (item_too_large (length item.graph))
-    else accept_held (with_item world item))
+    unless
+    ((nat_lt item.time (next_of world), Late item.time (next_of world))
+    ∷ (nat_lt most_triples (length item.graph), ItemTooLarge (length item.graph))
+    ∷ (nat_lt most_held (held (with_item world item)), HeldFull (held (with_item world item))) ∷ [])
+    (Ok (with_item world item))
 
--- every instant up to the tick's is complete
-abbrev pub accept_tick : World → ℕ → Result World Refusal
-accept_tick world time =
-    if nat_lt (time + 1) (next_of world)
-    then Err (late time (next_of world))
-    else Ok (record world { next = Some (time + 1) })
-
--- so many quads are stored at most
-abbrev pub accept_stored : World → List Fact → Result World Refusal
+-- these quads are stored, unless they are too many
+abbrev pub accept_stored : World → List Fact → Result World Refused
 accept_stored world stored =
-    if nat_lt most_quads (length stored) then Err (store_full (length stored)) else Ok (record world { stored = stored })
+    unless ((nat_lt most_quads (length stored), StoreFull (length stored)) ∷ []) (Ok (record world { stored = stored }))
 
--- the quads that aren't stored become stored
-abbrev pub accept_insert : World → List Quad → Result World Refusal
-accept_insert world quads = accept_stored world (stored_with world.stored quads)
-
--- the named quads are no longer stored
-abbrev pub accept_delete : World → List Quad → Result World Refusal
-accept_delete world quads = Ok (record world { stored = stored_without world.stored quads })
-
--- the first refusal that holds, or the new world
-abbrev pub accept : World → Event → Result World Refusal
-accept world (Register name text) = accept_register world name text
-accept world (Cancel name) = accept_cancel world name
+-- the first refusal that holds, or the new world: a name is looked up before the text is read; a cancelled query is no longer
+-- live; every instant up to a tick's is complete; inserted quads that aren't stored become stored, deleted ones are no longer
+abbrev pub accept : World → Event → Result World Refused
+accept world (Register name text) = unless ((is_live world name, NameTaken) ∷ []) (accept_text world name (read text))
+accept world (Cancel name) =
+    unless ((not (is_live world name), NoQuery) ∷ []) (Ok (record world { queries = without name world.queries }))
 accept world (Item stream time graph) = accept_item world (record { stream = stream; time = time; graph = graph })
-accept world (Tick time) = accept_tick world time
-accept world (Insert quads) = accept_insert world quads
-accept world (Delete quads) = accept_delete world quads
+accept world (Tick time) =
+    unless ((nat_lt (time + 1) (next_of world), Late time (next_of world)) ∷ []) (Ok (record world { next = Some (time + 1) }))
+accept world (Insert quads) = accept_stored world (stored_with world.stored quads)
+accept world (Delete quads) = Ok (record world { stored = stored_without world.stored quads })

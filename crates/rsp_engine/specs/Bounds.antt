@@ -4,7 +4,7 @@ use Rattle.std.specs.List.{All, IsDistinct}
 use Rattle.std.specs.List.Sorted.{IsNonDecreasingBy}
 use Rattle.rsp_scope.specs.Contents.{Accepted}
 use Rattle.rsp_engine.specs.World.{World, Query, next_of}
-use Rattle.rsp_engine.specs.Accept.{most_held, most_quads, most_queries}
+use Rattle.rsp_spec.specs.Limits.{most_held, most_quads, most_queries}
 use Rattle.rsp_engine.specs.Kept.{held}
 
 -- live queries have distinct names and are no more than can be live, nor is more stored or kept than can be; items' times don't

@@ -1,6 +1,7 @@
 -- Words of the way: the windows by which live queries keep items.
 use Rattle.std.specs.Prelude.{◌≡◌, ℕ, ◌+◌, ◌-◌, ◌^◌, ◌≤◌, ◌+ℤ◌, true, nat_lt, if◌then◌else◌, min, Option, None, Some, List, [], map}
 use Rattle.std.specs.List.{All, flat_map}
+use Rattle.rsp_spec.specs.Limits.{most_held}
 use Rattle.rsp_terms.specs.declared.statement.Fact.{Fact}
 use Rattle.rsp_terms.specs.Same.{fact_eq}
 use Rattle.rsp_multiset.specs.Weights.{times}
@@ -36,7 +37,7 @@ accepted_of arrival = record { stream = arrival.stream; time = arrival.time; gra
 -- how many triples would be kept from an instant on with so many more, as a 64-bit number, where that is more than can be
 abbrev pub excess : Kept → ℕ → ℕ → Option ℕ
 excess kept time triples =
-    if nat_lt 1000000 (triples_of (needed time kept.items) + triples)
+    if nat_lt most_held (triples_of (needed time kept.items) + triples)
     then Some (min (triples_of (needed time kept.items) + triples) (2 ^ 64 - 1))
     else None
 

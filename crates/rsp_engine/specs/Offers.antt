@@ -7,7 +7,6 @@ use Rattle.rsp_engine.specs.declared.refused.Refused.TheVariants.{Broken, OutOfM
 use Rattle.rsp_engine.specs.declared.refused.EngineFault.{EngineFault}
 use Rattle.rsp_engine.specs.declared.refused.EngineFault.TheVariants as fault
 use Rattle.rsp_engine.specs.declared.report.Report.{Report}
-use Rattle.rsp_engine.specs.Refusals.{Refusal, refusal_of}
 use Rattle.rsp_engine.specs.World.{World}
 use Rattle.rsp_engine.specs.Accept.{accept, is_live}
 use Rattle.rsp_engine.specs.Moments.{Moment, moments}
@@ -22,10 +21,10 @@ pub record Accepts (old : State) (event : Event) (new : State) : Type 0 where
       → (after : World) × (accept world event ≡ Ok after) × Stands new after (moments world event after)
 
 -- the event was refused with the refusal of the definition, and nothing has changed
-pub record RefusesAs (old : State) (event : Event) (refusal : Refusal) (new : State) : Type 0 where
+pub record RefusesAs (old : State) (event : Event) (why : Refused) (new : State) : Type 0 where
   pub was_ready : old.broken ≡ false
   pub unchanged : new ≡ old
-  pub refused : (world : World) → Stands old world [] → accept world event ≡ Err refusal
+  pub refused : (world : World) → Stands old world [] → accept world event ≡ Err why
 
 -- the engine was broken, and nothing has changed
 pub record WasBroken (old new : State) : Type 0 where
@@ -47,19 +46,11 @@ pub record Breaks (old : State) (event : Event) (new : State) : Type 0 where
   pub broken : new.broken ≡ true
   pub may_take : (world : World) → Stands old world [] → MayTakeMemory world event
 
--- an answer that names no refusal of the definition
-abbrev pub LacksMemory : State → Event → Refused → State → Type 0
-LacksMemory old event Broken new = WasBroken old new
-LacksMemory old event OutOfMemory new = Breaks old event new
-LacksMemory old event _ new = ⊥
-
--- the answer names this refusal, or none
-abbrev pub Answers : State → Event → Refused → Option Refusal → State → Type 0
-Answers old event why (Some refusal) new = RefusesAs old event refusal new
-Answers old event why None new = LacksMemory old event why new
-
+-- the event was refused: for want of memory, now or before, or as the definition refuses it
 abbrev pub Refuses : State → Event → Refused → State → Type 0
-Refuses old event why new = Answers old event why (refusal_of why) new
+Refuses old event Broken new = WasBroken old new
+Refuses old event OutOfMemory new = Breaks old event new
+Refuses old event why new = RefusesAs old event why new
 
 -- what offering an event does
 abbrev pub Offers : State → Event → Result (Unit {0}) Refused → State → Type 0

@@ -1,15 +1,18 @@
 -- Words of the way: what the engine's calls do to its state.
 use Rattle.std.specs.Prelude.{◌≡◌, ℕ, ◌+◌, Option, Bool, if◌then◌else◌, true, false, None, Some, List, [], ◌++◌, length, map, remove, slice_get, slice_set, unwrap_or}
 use Rattle.std.specs.List.{All}
-use Rattle.std.specs.Option.{is_some}
 use Rattle.rsp_terms.specs.declared.term.Term.{Term}
 use Rattle.rsp_terms.specs.declared.statement.Fact.{Fact}
 use Rattle.rsp_multiset.specs.Rows.{Cells}
 use Rattle.rsp_terms.specs.Same.{fact_eq}
 use Rattle.rsp_multiset.specs.Weights.{IsSameMultiset}
+use Rattle.rsp_report.specs.Policies.{choice_of, is_mixed}
+use Rattle.rsp_query.specs.Meanings.{registered}
 use Rattle.rsp_query.specs.Queries.{Registered}
+use Rattle.rsp_algebra.specs.Fitting.{IsPlaced}
 use Rattle.rsp_algebra.specs.Nodes.{Node}
 use Rattle.rsp_algebra.specs.Overfull.{overfull}
+use Rattle.rsp_translation.specs.Translation.{IsTranslated}
 use Rattle.rsp_scope.specs.Contents.{Accepted, Watch}
 use Rattle.rsp_scope.specs.Ends.{HasContent}
 use Rattle.rsp_scope.specs.Kept.{Kept}
@@ -18,20 +21,19 @@ use Rattle.rsp_scope.specs.Moves.{Followed}
 use Rattle.rsp_streams_out.specs.Streams.{reported}
 use Rattle.rsp_engine.specs.declared.finding.Pending.{Pending}
 use Rattle.rsp_engine.specs.declared.live_query.LiveQuery.{LiveQuery}
-use Rattle.rsp_engine.specs.declared.refused.Refused.{Refused}
 use Rattle.rsp_engine.specs.declared.report.Outcome.{Outcome}
 use Rattle.rsp_engine.specs.declared.report.Outcome.TheVariants as outcomes
 use Rattle.rsp_engine.specs.declared.report.Report.{Report}
+use Rattle.rsp_engine.specs.declared.texts.Asked.{Asked}
 use Rattle.rsp_engine.specs.Accept.{new_query, starts_overfull}
 use Rattle.rsp_engine.specs.Contents.{facts_over, watches}
 use Rattle.rsp_engine.specs.Inside.{Answers, fixed, live_of}
 use Rattle.rsp_engine.specs.Keeping.{IsUnmoved}
 use Rattle.rsp_engine.specs.Left.{IsFirstLeft}
 use Rattle.rsp_engine.specs.Readings.{reading_of}
-use Rattle.rsp_engine.specs.Refusals.{Refusal, refusal_of}
 use Rattle.rsp_engine.specs.Reports.{IsOutcome, rows_over}
 use Rattle.rsp_engine.specs.Stands.{Fits, Follows, Precede, State, Live, asked_in, next_in, reading_in, registration_of, test_in}
-use Rattle.rsp_engine.specs.Watching.{Tells, name_of, reports_by}
+use Rattle.rsp_engine.specs.Watching.{IsPolicy, Tells, name_of, reports_by}
 use Rattle.rsp_engine.specs.World.{Reading}
 
 -- all of a live query but the times that it watches
@@ -151,9 +153,13 @@ pub record ReportsFirst (old : State) (report : Report) (new : State) : Type 0 w
       (place_behind place (is_overfull_outcome report.outcome)) new.first
   pub fits : (items : List Accepted) → Fits old items → Fits new items
 
--- the answer names this refusal
-abbrev pub IsFaultOf : Refused → Option Refusal → Type 0
-IsFaultOf why fault = (fault ≡ refusal_of why) × (is_some (refusal_of why) ≡ true)
+-- a query without fault, with its tree and with what its policy asks
+pub record IsAsked (asked : Asked) : Type 0 where
+  pub unmixed : is_mixed (registered asked.query.value).policy ≡ false
+  pub policy : asked.policy ≡ choice_of (registered asked.query.value).policy
+  pub periods : IsPolicy asked.policy
+  pub translated : IsTranslated (registered asked.query.value) asked.made.value
+  pub placed : IsPlaced asked.made.value
 
 -- the live query of a query's text, as registration fixes it, without a report; or none where it has too many rows over none
 abbrev pub IsBegun : {A : Type 0} → List ℕ → Registered → ℕ → Option (LiveQuery A) → Type 0

@@ -2,7 +2,7 @@
 use Rattle.std.specs.Prelude.{◌≡◌, ℕ, ℤ, pos, ◌+◌, ◌+ℤ◌, ◌-◌, ◌*◌, ◌≤◌, ◌↔◌, Bool, true, false, ◌||◌, not, if◌then◌else◌, Option, None, Some, List, [], ◌∷◌, ⊤, length, map, slice_get, take, bytes_eq, unwrap_or}
 use Rattle.std.specs.List.{All, IsDistinct, flat_map}
 use Rattle.std.specs.Option.{is_some, option_map_or, ForSome}
-use Rattle.rsp_spec.specs.Windows.{last_instant}
+use Rattle.rsp_spec.specs.Limits.{last_instant}
 use Rattle.rsp_terms.specs.declared.statement.Fact.{Fact}
 use Rattle.rsp_terms.specs.declared.statement.Triple.{Triple}
 use Rattle.rsp_terms.specs.declared.statement.Spot.TheVariants as spot
@@ -12,8 +12,8 @@ use Rattle.rsp_multiset.specs.Rows.{Cells, row_eq}
 use Rattle.rsp_multiset.specs.Weights.{IsSameMultiset, times}
 use Rattle.rsp_report.specs.declared.chosen.Chosen.{Chosen}
 use Rattle.rsp_report.specs.declared.contents.Watched.{Watched}
-use Rattle.rsp_streams_out.specs.declared.operator.Operator.{Operator}
-use Rattle.rsp_algebra.specs.Nodes.{node_of}
+use Rattle.rsp_report.specs.declared.operator.Operator.{Operator}
+use Rattle.rsp_algebra.specs.Meanings.{node_of}
 use Rattle.rsp_algebra.specs.declared.tree.Translated.{Translated}
 use Rattle.rsp_scope.specs.Contents.{Accepted, Watch, window_facts}
 use Rattle.rsp_scope.specs.Ends.{IsKept}

@@ -6,7 +6,7 @@ use Rattle.rsp_terms.specs.declared.term.Term.{Term}
 use Rattle.rsp_terms.specs.declared.statement.Fact.{Fact}
 use Rattle.rsp_multiset.specs.Rows.{Cells}
 use Rattle.rsp_report.specs.declared.chosen.Chosen.{Chosen}
-use Rattle.rsp_streams_out.specs.declared.operator.Operator.{Operator}
+use Rattle.rsp_report.specs.declared.operator.Operator.{Operator}
 use Rattle.rsp_algebra.specs.Nodes.{Node}
 use Rattle.rsp_scope.specs.Contents.{Accepted}
 use Rattle.rsp_engine.specs.declared.live_query.StreamWindow.{StreamWindow}

@@ -2,7 +2,7 @@
 ghost use Rattle.std.specs.Prelude.{◌≡◌, ◌≤◌, ◌<◌, ◌+◌, ◌++◌, ◌∷◌, [], MatchOption, OnOk};
 ghost use Rattle.std.specs.Prelude.{None, Some, false, if◌then◌else◌, length, map, remove, slice_get, unwrap_or};
 ghost use Rattle.std.specs.List.{All, list_any};
-ghost use Rattle.rsp_spec.specs.Windows.{last_instant};
+ghost use Rattle.rsp_spec.specs.Limits.{last_instant, most_queries, most_triples};
 ghost use Rattle.rsp_engine.specs.Accept.{has_name};
 ghost use Rattle.rsp_engine.specs.Inside.{asked, fixed, live_of};
 ghost use Rattle.rsp_engine.specs.Left.{IsFirstLeft};
@@ -13,26 +13,20 @@ ghost use Rattle.rsp_engine.specs.declared.live_query.LiveQuery.{LiveQuery};
 use crate::finding::{Pending, first_left};
 use crate::keeping::{Arrival, cut_at, end_of, let_go, lower, take, too_many};
 use crate::live_query::LiveQuery;
-use crate::registering::{begun, chosen, parsed, translated};
+use crate::registering::begun;
 use crate::seeing::report_at;
 use crate::storing::{delete, insert};
+use crate::texts::{Asked, read};
 use crate::{EngineFault, Outcome, Refused, Report};
-use rsp_algebra::{Answer, Translated};
+use rsp_algebra::Answer;
 use rsp_events::Event;
-use rsp_query::Query;
-use rsp_report::Chosen;
 use rsp_scope::{StoreLog, Stored, StoredFault, Streams};
+use rsp_spec::limits::{MOST_QUERIES, MOST_TRIPLES};
 use rsp_steps::Steps;
 use rsp_terms::{Listed, Quad, Text, Triple};
 use std::alloc::{AllocError, Global};
 use std::marker::Model;
 use std::sync::ledger::Ledger;
-
-// The most queries that are live at once.
-const MOST_QUERIES: usize = 256;
-
-// The most triples of an item, as listed.
-const MOST_TRIPLES: u64 = 100_000;
 
 /// Takes events, one at a time, and gives the reports of each.
 #[derive(Drop)]
@@ -77,15 +71,10 @@ impl<A: Answer> Engine<A> {
     ghost use Rattle.std.specs.Prelude.{IsTrue, MatchOption, Ok, OnOk, OnErr, Some, IfErr, IfOk, length, slice_get};
     ghost use Rattle.std.specs.List.{All, list_any};
     ghost use Rattle.std.specs.Option.{is_some, option_map_or};
-    ghost use Rattle.rsp_spec.specs.Windows.{last_instant};
+    ghost use Rattle.rsp_spec.specs.Limits.{last_instant};
     ghost use Rattle.rsp_terms.specs.declared.statement.Triple.{Triple};
     ghost use Rattle.rsp_syntax.specs.Deciding.{parse};
-    ghost use Rattle.rsp_syntax.specs.Periods.{HasPeriods};
-    ghost use Rattle.rsp_query.specs.Queries.{registered};
-    ghost use Rattle.rsp_report.specs.Policies.{choice_of, is_mixed};
-    ghost use Rattle.rsp_algebra.specs.Fitting.{IsPlaced};
-    ghost use Rattle.rsp_shapes.specs.Sound.{IsSound};
-    ghost use Rattle.rsp_translation.specs.Translation.{IsTranslated};
+    ghost use Rattle.rsp_query.specs.Meanings.{registered};
     ghost use Rattle.rsp_scope.specs.Ends.{EndsAt};
     ghost use Rattle.rsp_engine.specs.declared.refused.Refused.TheVariants.{OutOfMemory};
     ghost use Rattle.rsp_engine.specs.Accept.{has_name};
@@ -93,12 +82,12 @@ impl<A: Answer> Engine<A> {
     ghost use Rattle.rsp_engine.specs.Inside.{Answers, asked, live_of};
     ghost use Rattle.rsp_engine.specs.Keeping.{accepted_of, excess, watches_followed};
     ghost use Rattle.rsp_engine.specs.Kept.{held};
-    ghost use Rattle.rsp_engine.specs.Passing.{Begins, Passes, ReportsFirst};
+    ghost use Rattle.rsp_engine.specs.Passing.{Begins, IsAsked, Passes, ReportsFirst};
     ghost use Rattle.rsp_engine.specs.World.{World, empty_world};
     ghost use Rattle.rsp_engine.specs.Moments.{Moment};
     ghost use Rattle.rsp_engine.specs.Stands.{Live, Stands, is_idle, next_in, registrations_in, watches_in};
     ghost use Rattle.rsp_engine.specs.Offers.{Offers, NextReport};
-    ghost use Rattle.rsp_engine.specs.Watching.{IsPolicy, IsPrompt};
+    ghost use Rattle.rsp_engine.specs.Watching.{IsPrompt};
     ghost use Rattle.rsp_events.specs.Instants.{IsInstant};
 
     /// An engine that has taken no event. Takes no memory.
@@ -197,105 +186,39 @@ impl<A: Answer> Engine<A> {
         requires free { list_any (has_name name) (registrations_in self.old) ≡ false }
         ensures { Offers self.old (Event.Register name text) result self.new }
     {
-        match parsed(self.alloc, &text) {
-            Ok(Ok(query)) => self.register_parsed(name, &query),
-            Ok(Err(fault)) => Err(fault),
+        match read(self.alloc, text.as_str()) {
+            Ok(Ok(asked)) => self.register_asked(name, asked),
+            Ok(Err(fault)) => Err(Refused::Text(fault)),
             Err(AllocError) => Err(self.break_off()),
         }
     }
 
-    // registers the query that a text is
-    fn register_parsed(&mut self, name: Text, query: &Query) -> Result<(), Refused>
+    // registers a query without fault
+    fn register_asked(&mut self, name: Text, asked: Asked) -> Result<(), Refused>
         requires idle { IsTrue (is_idle self.old) }
         requires ready { self.old.broken ≡ false }
         requires free { list_any (has_name name) (registrations_in self.old) ≡ false }
-        requires sound { IsSound (registered query.now) }
-        requires periods { HasPeriods (registered query.now).policy }
-        ensures { (text : List ℕ) → parse text ≡ Ok (registered query.now)
-            → Offers self.old (Event.Register name text) result self.new }
-    {
-        match translated(self.alloc, query) {
-            Ok(Ok(made)) => self.register_translated(name, query, made),
-            Ok(Err(shape)) => Err(shape),
-            Err(AllocError) => Err(self.break_off()),
-        }
-    }
-
-    // registers a query whose tree this is
-    fn register_translated(
-        &mut self,
-        name: Text,
-        query: &Query,
-        made: Box<Translated>,
-    ) -> Result<(), Refused>
-        requires idle { IsTrue (is_idle self.old) }
-        requires ready { self.old.broken ≡ false }
-        requires free { list_any (has_name name) (registrations_in self.old) ≡ false }
-        requires periods { HasPeriods (registered query.now).policy }
-        requires translated { IsTranslated (registered query.now) made.value }
-        requires placed { IsPlaced made.value }
-        ensures { (text : List ℕ) → parse text ≡ Ok (registered query.now)
-            → Offers self.old (Event.Register name text) result self.new }
-    {
-        match chosen(&query.policy) {
-            Ok(policy) => self.register_chosen(name, query, policy, made),
-            Err(mixed) => Err(mixed),
-        }
-    }
-
-    // registers a query without fault, under a policy
-    fn register_chosen(
-        &mut self,
-        name: Text,
-        query: &Query,
-        policy: Chosen,
-        made: Box<Translated>,
-    ) -> Result<(), Refused>
-        requires idle { IsTrue (is_idle self.old) }
-        requires ready { self.old.broken ≡ false }
-        requires free { list_any (has_name name) (registrations_in self.old) ≡ false }
-        requires policy { policy ≡ choice_of (registered query.now).policy }
-        requires unmixed { is_mixed (registered query.now).policy ≡ false }
-        requires asked { IsPolicy policy }
-        requires translated { IsTranslated (registered query.now) made.value }
-        requires placed { IsPlaced made.value }
-        ensures { (text : List ℕ) → parse text ≡ Ok (registered query.now)
+        requires asked { IsAsked asked }
+        ensures { (text : List ℕ) → parse text ≡ Ok (registered asked.query.value)
             → Offers self.old (Event.Register name text) result self.new }
     {
         if self.live() >= MOST_QUERIES {
             return Err(Refused::QueriesFull);
         }
-        self.begin(name, query, policy, made)
+        self.begin(name, asked)
     }
 
     // registers a query, if it has not too many rows over no facts
-    fn begin(
-        &mut self,
-        name: Text,
-        query: &Query,
-        policy: Chosen,
-        made: Box<Translated>,
-    ) -> Result<(), Refused>
+    fn begin(&mut self, name: Text, asked: Asked) -> Result<(), Refused>
         requires idle { IsTrue (is_idle self.old) }
         requires ready { self.old.broken ≡ false }
         requires free { list_any (has_name name) (registrations_in self.old) ≡ false }
-        requires few { length self.old.queries < 256 }
-        requires policy { policy ≡ choice_of (registered query.now).policy }
-        requires unmixed { is_mixed (registered query.now).policy ≡ false }
-        requires asked { IsPolicy policy }
-        requires translated { IsTranslated (registered query.now) made.value }
-        requires placed { IsPlaced made.value }
-        ensures { (text : List ℕ) → parse text ≡ Ok (registered query.now)
+        requires few { length self.old.queries < most_queries }
+        requires asked { IsAsked asked }
+        ensures { (text : List ℕ) → parse text ≡ Ok (registered asked.query.value)
             → Offers self.old (Event.Register name text) result self.new }
     {
-        match begun(
-            self.alloc,
-            name,
-            query,
-            policy,
-            made,
-            self.streams.accepted(),
-        ) {
+        match begun(self.alloc, name, asked, self.streams.accepted()) {
             Ok(Some(query)) => self.go_live(query),
             Ok(None) => Err(Refused::StartOverfull),
             Err(AllocError) => Err(self.break_off()),
@@ -452,7 +375,7 @@ impl<A: Answer> Engine<A> {
 
     // how many triples would be kept with the next item, where that is more than can be; an item that no window needs adds none
     fn too_many(&self, end: Option<u64>, time: u64, triples: u64) -> Option<u64>
-        requires few { triples ≤ 100000 }
+        requires few { triples ≤ most_triples }
         ensures { result ≡ option_map_or (λ _. excess self.now.kept time triples) end None }
     {
         match end {

@@ -3,7 +3,7 @@ ghost use Rattle.std.specs.Prelude.{◌≡◌, ◌+◌, ◌≤◌, true, false, 
 ghost use Rattle.std.specs.List.{All, list_any};
 ghost use Rattle.std.specs.Option.{option_map_or};
 ghost use Rattle.rsp_spec.specs.Instants.{IsLeastIn};
-ghost use Rattle.rsp_spec.specs.Windows.{last_instant};
+ghost use Rattle.rsp_spec.specs.Limits.{last_instant};
 ghost use Rattle.rsp_report.specs.Searches.{sooner};
 ghost use Rattle.rsp_report.specs.Due.{IsWatched};
 ghost use Rattle.rsp_engine.specs.Inside.{asked};

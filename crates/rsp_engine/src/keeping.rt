@@ -2,7 +2,7 @@
 ghost use Rattle.std.specs.Prelude.{◌≡◌, ◌≤◌, ◌+◌, ◌^◌, ◌++◌, ◌∷◌, ℕ, List, [], None, Some, true, false, OnOk, IfOk, length, map};
 ghost use Rattle.std.specs.List.{All};
 ghost use Rattle.std.specs.Option.{option_map_or};
-ghost use Rattle.rsp_spec.specs.Windows.{last_instant};
+ghost use Rattle.rsp_spec.specs.Limits.{last_instant, most_triples};
 ghost use Rattle.rsp_terms.specs.declared.statement.Triple.{Triple};
 ghost use Rattle.rsp_scope.specs.Contents.{Accepted, Numbered, Watch};
 ghost use Rattle.rsp_scope.specs.Ends.{as_accepted, AreEnds, EndsAt, IsKept};
@@ -20,11 +20,9 @@ use crate::finding::Pending;
 use crate::live_query::LiveQuery;
 use crate::watching::watch;
 use rsp_scope::{Contents, Streams, later};
+use rsp_spec::limits::MOST_HELD;
 use rsp_terms::{Listed, Text, Triple};
 use std::alloc::{AllocError, Global};
-
-// The most triples of all items that are kept.
-const MOST_HELD: u64 = 1_000_000;
 
 /// Until when the item of this number is needed, in ms since 1970: the greatest closing among the windows of the queries
 /// that contain it; None where none does. Takes no memory.
@@ -61,7 +59,7 @@ fn end_by(contents: &[Contents], number: u64, stream: &Text, time: u64) -> Optio
 /// How many triples would be kept from `time` on, with so many more, where that is more than can be. Looks at the kept items
 /// only where all together are too many.
 pub(crate) fn too_many(streams: &Streams, time: u64, triples: u64) -> Option<u64>
-    requires small { triples ≤ 100000 }
+    requires small { triples ≤ most_triples }
     ensures { result ≡ excess streams.now time triples }
 {
     let room = MOST_HELD - triples;

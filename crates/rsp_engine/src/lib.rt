@@ -3,7 +3,8 @@
 //! An [`Engine`] *stands for* a world, in which every accepted event is kept, and for the moments of the last event that
 //! aren't worked off. `offer` accepts an event exactly where the definition accepts it, and refuses it by name else;
 //! `next_report` gives exactly the reports of the moments, one at a time, for every kind of answer. The engine goes from due
-//! instant to due instant, keeps the items that some window still needs, and hands each answer what came and went.
+//! instant to due instant, keeps the items that some window still needs, and hands each answer what came and went. `text_fault`
+//! says without an engine why a text can't be registered, if it can't.
 //! Above: the program. Below: events, query texts and their trees, answers, windows, terms and the order of rows.
 #![tactic(auto)]
 
@@ -17,10 +18,14 @@ mod report;
 mod rows;
 mod seeing;
 mod storing;
+mod texts;
 mod watching;
 
 pub use engine::Engine;
 use live_query::LiveQuery;
-pub use refused::{EngineFault, Refused};
+pub use refused::{EngineFault, Refused, TextFault};
 pub use report::{Outcome, Report};
-pub use rsp_syntax::LimitName;
+pub use rsp_report::PolicyMix;
+pub use rsp_syntax::{LimitName, SyntaxFault};
+pub use rsp_translation::Shape;
+pub use texts::text_fault;

@@ -1,10 +1,24 @@
 // Why an event is refused, and why no report can be given.
-use rsp_syntax::LimitName;
-use rsp_terms::Text;
+use rsp_report::PolicyMix;
+use rsp_syntax::SyntaxFault;
+use rsp_translation::Shape;
 use thiserror::Error;
 
-/// Why an event was refused. A refused event changes nothing, but for want of memory, which breaks the engine. A place
-/// `at` is a byte of the query's text, from 0.
+/// The first fault of a query's text: of the grammar or its limits, else of the query's shape, else of its policy.
+#[derive(Debug, Drop, Error)]
+pub enum TextFault {
+    /// The text is no query.
+    #[error("{0}")]
+    Syntax(SyntaxFault),
+    /// The query has no translation.
+    #[error("{0}")]
+    Shape(Shape),
+    /// The strategies of the query's policy don't go together: one is named twice, or the tick is TUPLE beside CLOSE or EVERY.
+    #[error("strategies that don't go together")]
+    Policy(PolicyMix),
+}
+
+/// Why an event was refused. A refused event changes nothing, but for want of memory, which breaks the engine.
 #[derive(Debug, Drop, Error)]
 pub enum Refused {
     /// Memory was refused to the engine before.
@@ -13,30 +27,9 @@ pub enum Refused {
     /// Memory is refused to the engine in this call.
     #[error("out of memory")]
     OutOfMemory,
-    /// The first place in the query's text at which no token begins.
-    #[error("no token: byte {at}")]
-    BadToken { at: usize },
-    /// The first token that can't stand; the text's length where the text is unfinished.
-    #[error("no query: byte {at}")]
-    Syntax { at: usize },
-    /// The first token that can't stand is a word or a sign of SPARQL that is left out here.
-    #[error("left out: byte {at}, {what}")]
-    LeftOut { at: usize, what: Text },
-    /// The query's text has too much of something.
-    #[error("past a limit: {what:?}")]
-    Limit { what: LimitName },
-    /// A window or a graph of the query is of no shape that can be translated: the place of its word.
-    #[error("no window or graph of this shape: byte {at}")]
-    GraphShape { at: usize },
-    /// The word EXISTS of an EXISTS of no shape that can be translated.
-    #[error("no EXISTS of this shape: byte {at}")]
-    ExistsShape { at: usize },
-    /// The first variable of the query, or `*`, that stands where its scope doesn't allow it.
-    #[error("out of scope: {variable}")]
-    Scope { variable: Text },
-    /// The strategies of the query's policy don't go together: one is named twice, or the tick is TUPLE beside CLOSE or EVERY.
-    #[error("strategies that don't go together")]
-    PolicyMix,
+    /// The query's text has a fault.
+    #[error("{0}")]
+    Text(TextFault),
     /// The event's time lies in what is complete: an item's time is less than `next`, or a tick's time + 1 is.
     /// Both in ms since 1970.
     #[error("late: time {time}, next {next}")]

@@ -4,7 +4,7 @@ ghost use Rattle.rsp_terms.specs.Same.{term_eq};
 ghost use Rattle.rsp_multiset.specs.Weights.{IsChanged, IsSameMultiset, only, times, total, weight};
 ghost use Rattle.rsp_multiset.specs.Rows.{Cells, row_eq};
 ghost use Rattle.rsp_terms.specs.declared.term.Term.{Term};
-ghost use Rattle.rsp_streams_out.specs.declared.operator.Operator.TheVariants.{Rstream};
+ghost use Rattle.rsp_report.specs.declared.operator.Operator.TheVariants.{Rstream};
 ghost use Rattle.rsp_streams_out.specs.Rows.{AreRows, in_order};
 ghost use Rattle.rsp_streams_out.specs.Streams.{reported};
 ghost use Rattle.rsp_engine.specs.Reports.{cells_at};

@@ -1,7 +1,7 @@
 // What a live query reports at an instant.
 ghost use Rattle.std.specs.Prelude.{◌≡◌, ◌≤◌, ◌+◌, ◌++◌, ◌∷◌, ◌+ℤ◌, [], false, List, ℕ, map, IfOk, OnOk, length, take};
 ghost use Rattle.std.specs.List.{All};
-ghost use Rattle.rsp_spec.specs.Windows.{last_instant};
+ghost use Rattle.rsp_spec.specs.Limits.{last_instant};
 ghost use Rattle.rsp_terms.specs.Same.{fact_eq, term_eq};
 ghost use Rattle.rsp_terms.specs.declared.term.Term.{Term};
 ghost use Rattle.rsp_terms.specs.declared.statement.Fact.{Fact};

@@ -1,6 +1,7 @@
 // Logging what came to and went from the stored quads, for the queries that have reported.
 ghost use Rattle.std.specs.Prelude.{◌≡◌, ◌+ℤ◌, ◌≤◌, ℕ, true, OnOk, IfOk, IfErr, Err, length};
 ghost use Rattle.std.specs.List.{All, Contains, IsDistinct};
+ghost use Rattle.rsp_spec.specs.Limits.{most_quads};
 ghost use Rattle.rsp_terms.specs.Same.{fact_eq};
 ghost use Rattle.rsp_terms.specs.declared.statement.Fact.{Fact};
 ghost use Rattle.rsp_multiset.specs.Weights.{IsSameMultiset, weight};
@@ -26,7 +27,7 @@ pub(crate) fn insert<A>(
     quads: &[Quad],
 ) -> Result<(), StoredFault>
     ensures stored { OnOk result (stored.new ≡ stored_with stored.old quads.now) }
-    ensures within { OnOk result (length stored.new ≤ 1000000) }
+    ensures within { OnOk result (length stored.new ≤ most_quads) }
     ensures logged { OnOk result (All (IsLogged stored.old log.old stored.new log.new) queries.now) }
     ensures fault { IfErr result (λ fault. IsStoredFault (length (stored_with stored.old quads.now)) fault) }
     ensures full { (many : ℕ) → result ≡ Err (StoreFull many) → (stored.new ≡ stored.old) × (log.new ≡ log.old) }

@@ -2,7 +2,7 @@
 ghost use Rattle.std.specs.Prelude.{◌≡◌, ◌≤◌, ◌++◌, ◌∷◌, ℕ, [], false, List, map, OnOk, bytes_eq, length, slice_get, drop};
 ghost use Rattle.std.specs.List.{All};
 ghost use Rattle.std.specs.Option.{option_map_or};
-ghost use Rattle.rsp_spec.specs.Windows.{last_instant};
+ghost use Rattle.rsp_spec.specs.Limits.{last_instant};
 ghost use Rattle.rsp_terms.specs.declared.statement.Triple.{Triple};
 ghost use Rattle.rsp_scope.specs.Contents.{Accepted};
 ghost use Rattle.rsp_report.specs.Due.{IsFreshAt};

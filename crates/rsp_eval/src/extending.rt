@@ -1,6 +1,6 @@
 // Rows with the value of an expression.
 ghost use Rattle.std.specs.Prelude.{◌≡◌, nat_eq, if◌then◌else◌, IfOk, map};
-ghost use Rattle.rsp_expr.specs.Formulas.{formula_of};
+ghost use Rattle.rsp_expr.specs.Meanings.{formula_of};
 ghost use Rattle.rsp_algebra.specs.Patterns.{cell};
 ghost use Rattle.rsp_algebra.specs.Solutions.{extension, extended_by};
 

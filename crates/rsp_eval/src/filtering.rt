@@ -1,7 +1,7 @@
 // Rows that pass a condition, and rows without repetition.
 ghost use Rattle.std.specs.Prelude.{◌≡◌, IfOk, filter};
 ghost use Rattle.rsp_multiset.specs.RowLists.{each_once};
-ghost use Rattle.rsp_expr.specs.Formulas.{formula_of};
+ghost use Rattle.rsp_expr.specs.Meanings.{formula_of};
 ghost use Rattle.rsp_expr.specs.Values.{truth as passes};
 ghost use Rattle.rsp_algebra.specs.Solutions.{same_row};
 

@@ -2,7 +2,7 @@
 ghost use Rattle.std.specs.Prelude.{◌≡◌, IfOk, filter, map};
 ghost use Rattle.rsp_terms.specs.declared.term.Term.{Term};
 ghost use Rattle.rsp_multiset.specs.Rows.{Cells};
-ghost use Rattle.rsp_algebra.specs.Nodes.{aggregations_of};
+ghost use Rattle.rsp_algebra.specs.Meanings.{aggregations_of};
 ghost use Rattle.rsp_algebra.specs.Solutions.{projection, group_keys, group_of, with_aggregates, grouped};
 ghost use Rattle.rsp_eval.specs.Keys.{bucket_of};
 

@@ -6,8 +6,7 @@ use rsp_multiset::{Cell, Row};
 use rsp_terms::Term;
 use std::alloc::{AllocError, Global};
 
-/// How many rows a tree may have at most, counted with multiplicities.
-pub(crate) const MOST_ROWS: usize = 1_000_000;
+pub(crate) use rsp_spec::limits::MOST_ROWS;
 
 /// The rows; None exactly where they are too many.
 pub(crate) fn within_limit(rows: Vec<Row<Term>>) -> Option<Vec<Row<Term>>>

@@ -4,7 +4,7 @@ ghost use Rattle.std.specs.Option.{ForSome};
 ghost use Rattle.rsp_multiset.specs.Weights.{IsChanged};
 ghost use Rattle.rsp_terms.specs.Same.{fact_eq};
 ghost use Rattle.rsp_algebra.specs.Fitting.{Fits-prop, Fits, IsPlaced};
-ghost use Rattle.rsp_algebra.specs.Nodes.{node_of};
+ghost use Rattle.rsp_algebra.specs.Meanings.{node_of};
 ghost use Rattle.rsp_algebra.specs.Solutions.{eval};
 ghost use Rattle.rsp_algebra.specs.Overfull.{overfull};
 ghost use Rattle.rsp_algebra.specs.Changing.{IsSet, MayChange};
@@ -86,7 +86,7 @@ fn with_rows(
 impl Answer for Plain {
     ghost use Rattle.std.specs.Prelude.{◌≡◌, ◌+◌, ◌≤◌, false, is_none, not, IfOk, List};
     ghost use Rattle.rsp_terms.specs.declared.statement.Fact.{Fact};
-    ghost use Rattle.rsp_algebra.specs.Nodes.{node_of};
+    ghost use Rattle.rsp_algebra.specs.Meanings.{node_of};
     ghost use Rattle.rsp_algebra.specs.Work.{work};
     ghost use Rattle.rsp_algebra.specs.Changing.{IfNet, goes_on, is_overfull};
 

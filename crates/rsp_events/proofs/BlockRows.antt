@@ -6,7 +6,7 @@ use Rattle.std.specs.Option.{option_map}
 use Rattle.std.specs.Str.{chars, is_utf8}
 use Rattle.std.specs.Str.Lossy.{utf8_valid_len}
 use Rattle.rsp_text.specs.Digits.{read_u64, has_form, fraction}
-use Rattle.rsp_text.specs.Instants.{instant, is_date, is_time, is_offset}
+use Rattle.rsp_text.specs.Instants.{instant, is_date_time, minutes_ahead}
 use Rattle.rsp_scan.specs.Enclosed.{sign}
 use Rattle.rsp_scan.specs.Readers.{enclosed, iri_escape, label, spelled, tag, uchar, iri, string}
 use Rattle.rsp_nquads.specs.Parts.{datatype, literal, literal_of, node, object}
@@ -83,7 +83,7 @@ ten_seconds = refl
 
 -- past the year 9999
 pub too_late : directive_of (codes "@tick 253402300800000") ≡ None
-unfolding directive_by read_u64 instant is_date is_time is_offset has_form fraction
+unfolding directive_by read_u64 instant is_date_time minutes_ahead has_form fraction
 too_late = refl
 
 pub not_absolute : directive_of (codes "@item <a> 1") ≡ None

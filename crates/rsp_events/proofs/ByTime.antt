@@ -1,5 +1,5 @@
 -- A stable sort of the items by time gives `merged`.
-use Rattle.std.proofs.Common.{◌≡◌, ℕ, Bool, true, false, cond, List, [], ◌∷◌, refl, sym, ap, ◌∙◌}
+use Rattle.std.proofs.Common.{◌≡◌, ℕ, ◌<◌, ◌^◌, Bool, true, false, cond, List, [], ◌∷◌, refl, sym, ap, subst, ◌∙◌}
 use Rattle.std.proofs.lemmas.List.MinMax.{ranks_by}
 use Rattle.std.specs.Prelude.{◌==◌, nat_lt, filter}
 use Rattle.std.specs.Cmp.{IsStrictWeakOrder, nat_cmp_total}
@@ -10,7 +10,9 @@ use Rattle.std.specs.declared.cmp.Ordering.TheVariants.{Less, Equal, Greater}
 use Rattle.rsp_streams_out.proofs.Sorted.{put, put_all, put_all-from_sort}
 use Rattle.rsp_events.specs.declared.event.Event.{Event}
 use Rattle.rsp_events.specs.Instants.{IsInstant}
-use Rattle.rsp_events.specs.Merged.{all_items, by_time, is_earlier, is_item, item_time, merged, put_in}
+use Rattle.rsp_events.specs.Merged.{item_time, merged}
+use Rattle.rsp_events.specs.Sorting.{all_items, by_time, is_earlier, is_item, put_in}
+use Rattle.rsp_events.proofs.Listing.{merged_is}
 use Rattle.rsp_events.proofs.RecordedTimes.{AreInstants, AreInstants-append}
 
 abbrev pub before : Event → Event → Bool
@@ -39,10 +41,14 @@ by_time_is : (items : List Event) → by_time items ≡ put_all before ranks ite
 by_time_is [] = refl
 by_time_is (item ∷ items) = put_in_is item (by_time items) ∙ ap (put before ranks item) (by_time_is items)
 
-pub merged-from_sort : (lists : List (List Event)) (items out : List Event) → items ≡ all_items lists
+by_time-from_sort : (items out : List Event) → IsSortedByKey item_time nat_cmp out → IsStableByKey item_time nat_cmp items out → out ≡ by_time items
+by_time-from_sort items out sorted stable = put_all-from_sort before ranks items out sorted stable ∙ sym (by_time_is items)
+
+pub merged-from_sort : (lists : List (List Event)) (items out : List Event) → items ≡ all_items lists → AllByRecursion (λ e. item_time e < 2 ^ 64) items
     → IsSortedByKey item_time nat_cmp out → IsStableByKey item_time nat_cmp items out → out ≡ merged lists
-merged-from_sort lists items out is sorted stable =
-    put_all-from_sort before ranks items out sorted stable ∙ sym (by_time_is items) ∙ ap by_time is
+merged-from_sort lists items out is low sorted stable =
+    by_time-from_sort items out sorted stable
+    ∙ (ap by_time is ∙ sym (merged_is lists (subst (AllByRecursion (λ e. item_time e < 2 ^ 64)) is low)))
 
 -- ---- the times
 
@@ -70,5 +76,8 @@ together_timed : (lists : List (List Event)) → AllByRecursion AreInstants list
 together_timed [] hs = tt
 together_timed (list ∷ lists) hs = AreInstants-append list _ (hs.0) (together_timed lists (hs.1))
 
-pub merged_timed : (lists : List (List Event)) → AllByRecursion AreInstants lists → AreInstants (merged lists)
-merged_timed lists hs = by_time_timed (all_items lists) (items_timed (flat_map (λ list. list) lists) (together_timed lists hs))
+pub sorted_timed : (lists : List (List Event)) (items out : List Event) → items ≡ all_items lists
+    → IsSortedByKey item_time nat_cmp out → IsStableByKey item_time nat_cmp items out → AllByRecursion AreInstants lists → AreInstants out
+sorted_timed lists items out is sorted stable hs =
+    subst AreInstants (sym (by_time-from_sort items out sorted stable ∙ ap by_time is))
+    (by_time_timed (all_items lists) (items_timed (flat_map (λ list. list) lists) (together_timed lists hs)))

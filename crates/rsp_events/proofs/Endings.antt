@@ -7,11 +7,12 @@ use Rattle.std.proofs.Math.Seq.{get_or-append_seam, take-append_seam}
 use Rattle.std.proofs.lemmas.List.{length-take-le, take-append-drop, take_more}
 use Rattle.std.proofs.lemmas.List.Folds.{list_all-append}
 use Rattle.std.proofs.lemmas.Bool.Decides.{nat_tests}
+use Rattle.rsp_spec.specs.Limits.{most_block_bytes}
 use Rattle.rsp_events.specs.declared.begun.Ending.{Ending}
 use Rattle.rsp_events.specs.declared.begun.BegunLine.TheVariants as begun
 use Rattle.rsp_events.specs.Begun.{begun_line_of, ending_of}
 use Rattle.rsp_text.specs.Fronts.{is_blank}
-use Rattle.rsp_events.specs.Lines.{is_end, most_bytes}
+use Rattle.rsp_events.specs.Lines.{is_end}
 
 regrouped : (p q b : Bool) → (p && (q && (b && true))) ≡ ((p && q) && b)
 regrouped true true true = refl
@@ -60,18 +61,18 @@ next_other bytes byte long ending is blank last is_blank_byte both other =
     rw (is_end-more bytes byte long, fed-more bytes byte long, test, both, is_blank_byte, ← is) refl
 
 -- how bytes stand to `@end` once they are more than a block may have
-pub long_now : (bytes run front rest : List ℕ) (ending : Ending) → length bytes ≤ most_bytes
-    → most_bytes - length bytes < length run → front ≡ take (most_bytes - length bytes) run
-    → rest ≡ drop (most_bytes - length bytes) run
+pub long_now : (bytes run front rest : List ℕ) (ending : Ending) → length bytes ≤ most_block_bytes
+    → most_block_bytes - length bytes < length run → front ≡ take (most_block_bytes - length bytes) run
+    → rest ≡ drop (most_block_bytes - length bytes) run
     → ((b : List ℕ) → 4 ≤ length b → ending_of b ≡ ending_of (bytes ++ front) → ending ≡ ending_of (b ++ rest))
     → begun.Long ending ≡ begun_line_of (bytes ++ run)
 long_now bytes run front rest ending low more front_is rest_is behind =
-    let room = most_bytes - length bytes in
+    let room = most_block_bytes - length bytes in
     let cut : front ++ rest ≡ run = rw (front_is, rest_is) (take-append-drop room run) in
     let front_length : length front ≡ room = ap length front_is ∙ length-take-le room run (omega (arith, more)) in
     let full : length (bytes ++ front) ≡ length bytes + length front = length-append bytes front in
     let all : length (bytes ++ run) ≡ length bytes + length run = length-append bytes run in
-    let long : nat_lt most_bytes (length (bytes ++ run)) ≡ true = grind (arith, nat_tests) in
+    let long : nat_lt most_block_bytes (length (bytes ++ run)) ≡ true = grind (arith, nat_tests) in
     let is = behind (bytes ++ front) (omega (arith, full, front_length, low)) refl in
     rw long (ap begun.Long (is ∙ ap ending_of (append_assoc bytes front rest ∙ ap (λ r. bytes ++ r) cut)))
 
@@ -79,12 +80,12 @@ pub long_still : (bytes run : List ℕ) (old ending : Ending) → begun_line_of 
     → ((b : List ℕ) → 4 ≤ length b → ending_of b ≡ old → ending ≡ ending_of (b ++ run))
     → begun.Long ending ≡ begun_line_of (bytes ++ run)
 long_still bytes run old ending is behind =
-    elim (nat_lt most_bytes (length bytes)) as (λ v. nat_lt most_bytes (length bytes) ≡ v
+    elim (nat_lt most_block_bytes (length bytes)) as (λ v. nat_lt most_block_bytes (length bytes) ≡ v
     → cond v (begun.Long (ending_of bytes)) (begun.Kept bytes) ≡ begun.Long old → begun.Long ending ≡ begun_line_of (bytes ++ run)) [
       | true ↦ λ test h.
           let all : length (bytes ++ run) ≡ length bytes + length run = length-append bytes run in
-          let over : most_bytes < length bytes = grind (arith, nat_tests) in
-          let long : nat_lt most_bytes (length (bytes ++ run)) ≡ true = grind (arith, nat_tests) in
+          let over : most_block_bytes < length bytes = grind (arith, nat_tests) in
+          let long : nat_lt most_block_bytes (length (bytes ++ run)) ≡ true = grind (arith, nat_tests) in
           let same : ending_of bytes ≡ old = cc in
           rw long (ap begun.Long (behind bytes (omega (arith, over)) same))
       | false ↦ λ test h. cc

@@ -1,5 +1,5 @@
 -- Worked files, by the definitions alone.
-use Rattle.std.proofs.Common.{◌≡◌, ℕ, List, [], ◌∷◌, ◌++◌, refl}
+use Rattle.std.proofs.Common.{arith, ◌≡◌, ℕ, List, [], ◌∷◌, ◌++◌, refl}
 use Rattle.std.specs.Prelude.{None, Some, codes}
 use Rattle.std.specs.Char.{encode_utf8}
 use Rattle.std.specs.Str.{chars, is_utf8}
@@ -7,7 +7,7 @@ use Rattle.std.specs.Str.Lossy.{utf8_valid_len}
 use Rattle.rsp_terms.specs.declared.term.Term.TheVariants.{Blank, Iri, Literal}
 use Rattle.rsp_terms.specs.declared.statement.Triple.{Triple}
 use Rattle.rsp_text.specs.Digits.{read_u64, has_form, fraction}
-use Rattle.rsp_text.specs.Instants.{instant, is_date, is_time, is_offset}
+use Rattle.rsp_text.specs.Instants.{instant, is_date_time, minutes_ahead}
 use Rattle.rsp_scan.specs.Enclosed.{sign}
 use Rattle.rsp_scan.specs.Readers.{enclosed, iri_escape, label, spelled, tag, uchar, echar, string_escape, iri, string}
 use Rattle.rsp_nquads.specs.Parts.{datatype, literal, literal_of, node, object}
@@ -19,6 +19,7 @@ use Rattle.rsp_events.specs.declared.refused.RefusedAs.TheVariants.{BadStatement
 use Rattle.rsp_events.specs.declared.recording.RecordedItems.{RecordedItems}
 use Rattle.rsp_events.specs.Files.{loaded}
 use Rattle.rsp_events.specs.Merged.{merged}
+use Rattle.rsp_events.proofs.Listing.{merged_is}
 use Rattle.rsp_events.specs.Recorded.{recorded, generated_at_time, time_in}
 
 -- ---- what the rows speak of
@@ -99,7 +100,7 @@ unfolding read_u64
 no_digits = refl
 
 pub no_date : time_in (Literal (codes "1704067200500") (codes "http://www.w3.org/2001/XMLSchema#dateTime")) ≡ None
-unfolding instant is_date is_time is_offset has_form fraction
+unfolding instant is_date_time minutes_ahead has_form fraction
 no_date = refl
 
 -- comments and blank lines count; a line that is no statement changes nothing else; the last line has no line feed
@@ -135,4 +136,8 @@ pub by_time_list_and_place : merged
     ∷ [] ∷ (on (codes "s:b") 1 [] ∷ Tick 1 ∷ on (codes "s:b") 2 [] ∷ on (codes "s:b") 0 [] ∷ []) ∷ [])
     ≡ on (codes "s:b") 0 [] ∷ on (codes "s:a") 1 [] ∷ on (codes "s:a") 1 (triple (codes "1") ∷ []) ∷ on (codes "s:b") 1 []
     ∷ on (codes "s:a") 2 [] ∷ on (codes "s:b") 2 [] ∷ []
-by_time_list_and_place = refl
+by_time_list_and_place =
+    merged_is
+    ((on (codes "s:a") 2 [] ∷ on (codes "s:a") 1 [] ∷ on (codes "s:a") 1 (triple (codes "1") ∷ []) ∷ [])
+    ∷ [] ∷ (on (codes "s:b") 1 [] ∷ Tick 1 ∷ on (codes "s:b") 2 [] ∷ on (codes "s:b") 0 [] ∷ []) ∷ [])
+    (omega arith, (omega arith, (omega arith, (omega arith, (omega arith, (omega arith, tt))))))

@@ -1,13 +1,13 @@
 -- The groups of lines, front to back: which groups lines end behind those of a group that has begun, and which group
 -- is then begun.
 use Rattle.std.proofs.Common.{◌≡◌, ℕ, zero, suc, ◌≤◌, Bool, true, false, cond, List, [], ◌∷◌, ◌++◌, length, refl, ap, sym, ◌∙◌, append_assoc, append-nil, arith}
-use Rattle.std.specs.Prelude.{filter, not, ◌||◌}
-use Rattle.std.specs.List.{list_any, flat_map}
+use Rattle.std.specs.Prelude.{◌+◌, drop, filter, not, take, ◌||◌}
+use Rattle.std.specs.List.{after_first, list_any, flat_map, position_or_len}
 use Rattle.std.proofs.lemmas.List.Elements.{filter-append}
 use Rattle.rsp_events.specs.declared.blocks.Place.TheVariants.{Passed, Inside, Last}
 use Rattle.rsp_events.specs.Lines.{Line, passes, begins_body, ends_body}
-use Rattle.rsp_events.specs.Blocks.{body_of, behind_body, groups_within, groups, is_whole, whole_groups}
-use Rattle.rsp_events.specs.Begun.{begun_group}
+use Rattle.rsp_events.specs.Blocks.{groups_within, groups, is_whole}
+use Rattle.rsp_events.specs.Begun.{begun_group, whole_groups}
 use Rattle.rsp_events.specs.Steps.{place_of, begun_at, closed_at, begun_groups}
 
 abbrev pub closed_from : List Line → List Line → List (List Line)
@@ -37,6 +37,38 @@ left_from-append group (x ∷ xs) ys = left_from-append (begun_at (place_of grou
 
 abbrev all_from : List Line → List Line → List (List Line)
 all_from group lines = closed_from group lines ++ begun_groups (left_from group lines)
+
+-- the lines of a body up to its `@end`, that one included, and the lines behind it
+abbrev body_of : List Line → List Line
+body_of [] = []
+body_of (line ∷ lines) = cond (ends_body line) (line ∷ []) (line ∷ body_of lines)
+
+abbrev behind_body : List Line → List Line
+behind_body [] = []
+behind_body (line ∷ lines) = cond (ends_body line) lines (behind_body lines)
+
+one_more : (n : ℕ) → 1 + n + 1 ≡ suc (n + 1)
+one_more n = omega arith
+
+body_is : (lines : List Line) → take (position_or_len ends_body lines + 1) lines ≡ body_of lines
+body_is [] = refl
+body_is (line ∷ lines) =
+    let rest = body_is lines in
+    elim (ends_body line) as (λ v.
+    take (cond (not v) (1 + position_or_len ends_body lines) 0 + 1) (line ∷ lines) ≡ cond v (line ∷ []) (line ∷ body_of lines)) [
+      | true ↦ refl
+      | false ↦ ap (λ n. take n (line ∷ lines)) (one_more (position_or_len ends_body lines)) ∙ ap (λ more. line ∷ more) rest
+    ]
+
+behind_is : (lines : List Line) → after_first ends_body lines ≡ behind_body lines
+behind_is [] = refl
+behind_is (line ∷ lines) =
+    let rest = behind_is lines in
+    elim (ends_body line) as (λ v.
+    drop (cond (not v) (1 + position_or_len ends_body lines) 0 + 1) (line ∷ lines) ≡ cond v lines (behind_body lines)) [
+      | true ↦ refl
+      | false ↦ ap (λ n. drop n (line ∷ lines)) (one_more (position_or_len ends_body lines)) ∙ rest
+    ]
 
 through_body : (head : Line) (body lines : List Line)
     → all_from (head ∷ body) lines ≡ ((head ∷ body) ++ body_of lines) ∷ all_from [] (behind_body lines)
@@ -69,17 +101,20 @@ groups_are (suc n) [] h = refl
 groups_are (suc n) (line ∷ lines) h =
     elim (passes line) as (λ p.
     cond p (groups_within n lines)
-    (cond (begins_body line) ((line ∷ body_of lines) ∷ groups_within n (behind_body lines)) ((line ∷ []) ∷ groups_within n lines))
+    (cond (begins_body line)
+    ((line ∷ take (position_or_len ends_body lines + 1) lines) ∷ groups_within n (after_first ends_body lines))
+    ((line ∷ []) ∷ groups_within n lines))
     ≡ (closed_at (cond p Passed (cond (begins_body line) Inside Last)) [] line
     ++ closed_from (begun_at (cond p Passed (cond (begins_body line) Inside Last)) [] line) lines)
     ++ begun_groups (left_from (begun_at (cond p Passed (cond (begins_body line) Inside Last)) [] line) lines)) [
       | true ↦ groups_are n lines (omega arith)
       | false ↦ elim (begins_body line) as (λ b.
-          cond b ((line ∷ body_of lines) ∷ groups_within n (behind_body lines)) ((line ∷ []) ∷ groups_within n lines)
+          cond b ((line ∷ take (position_or_len ends_body lines + 1) lines) ∷ groups_within n (after_first ends_body lines)) ((line ∷ []) ∷ groups_within n lines)
           ≡ (closed_at (cond b Inside Last) [] line ++ closed_from (begun_at (cond b Inside Last) [] line) lines)
           ++ begun_groups (left_from (begun_at (cond b Inside Last) [] line) lines)) [
             | true ↦ let shorter = behind_shorter lines in
-                ap (λ more. (line ∷ body_of lines) ∷ more) (groups_are n (behind_body lines) (omega arith))
+                (λ i. (line ∷ body_is lines i) ∷ groups_within n (behind_is lines i))
+                ∙ ap (λ more. (line ∷ body_of lines) ∷ more) (groups_are n (behind_body lines) (omega arith))
                 ∙ sym (through_body line [] lines)
             | false ↦ ap (λ more. (line ∷ []) ∷ more) (groups_are n lines (omega arith))
           ]

@@ -10,6 +10,7 @@ pub mod FileLines
 pub mod Recordings
 pub mod FileLaws
 pub mod RecordedTimes
+pub mod Listing
 pub mod ByTime
 mod BlockRows
 mod FileRows

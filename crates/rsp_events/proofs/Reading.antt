@@ -5,15 +5,16 @@ use Rattle.std.specs.List.{position_or_len}
 use Rattle.std.proofs.lemmas.List.{take-append-drop}
 use Rattle.std.proofs.lemmas.Result.{IfOk-weaker}
 use Rattle.std.proofs.lemmas.Bool.Decides.{nat_tests}
+use Rattle.rsp_spec.specs.Limits.{most_block_bytes}
 use Rattle.rsp_events.specs.declared.event.Block.{Block}
 use Rattle.rsp_events.specs.declared.begun.BegunLine.TheVariants as kept
 use Rattle.rsp_events.specs.declared.begun.HeldLine.{HeldLine}
 use Rattle.rsp_events.specs.declared.blocks.Place.{Place}
 use Rattle.rsp_events.specs.declared.blocks.Place.TheVariants.{Passed, Inside, Last}
-use Rattle.rsp_events.specs.Lines.{Line, log_lines, most_bytes}
-use Rattle.rsp_events.specs.Begun.{IsInLine, ending_of, begun_block_of, begun_line_of, held_line_of, begun_group, begun_line}
+use Rattle.rsp_events.specs.Lines.{Line, log_lines}
+use Rattle.rsp_events.specs.Begun.{IsInLine, ending_of, begun_block_of, begun_line_of, held_line_of, begun_group, begun_line, whole_groups}
 use Rattle.rsp_events.specs.Reader.{Reader, HasRead}
-use Rattle.rsp_events.specs.Blocks.{blocks, content_of, ended_lines, groups, numbered_from, whole_blocks, whole_groups}
+use Rattle.rsp_events.specs.Blocks.{blocks, content_of, ended_lines, groups, numbered_from, whole_blocks}
 use Rattle.rsp_events.specs.Instants.{AllTimed}
 use Rattle.rsp_events.specs.Steps.{Reads, TakesLine, begun_at, begun_groups, closed_at, place_of}
 use Rattle.rsp_events.proofs.Cutting.{begun_from, begun_from-append, begun_line_is, ended_from, ended_from-append, ended_lines_are, lines_are, unless_empty}
@@ -254,7 +255,7 @@ ends old last each before read =
 pub none_begun : (line : List ℕ) → begun_line_of line ≡ kept.Kept [] → line ≡ []
 none_begun [] is = refl
 none_begun (b ∷ bs) is =
-    elim (nat_lt most_bytes (length (b ∷ bs))) as (λ v.
+    elim (nat_lt most_block_bytes (length (b ∷ bs))) as (λ v.
     cond v (kept.Long (ending_of (b ∷ bs))) (kept.Kept (b ∷ bs)) ≡ kept.Kept [] → b ∷ bs ≡ []) [
       | true ↦ λ h. cc
       | false ↦ λ h. cc

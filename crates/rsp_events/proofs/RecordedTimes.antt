@@ -15,7 +15,7 @@ use Rattle.rsp_events.specs.Instants.{IsInstant}
 use Rattle.rsp_events.specs.FileLines.{FileLine, said}
 use Rattle.rsp_events.specs.Recorded.{generated_at_time, time_in, time_stated}
 use Rattle.rsp_events.specs.Openings.{item_opened, items, opening_in}
-use Rattle.rsp_events.proofs.Times.{AtMost, chosen, instant_within, number_within}
+use Rattle.rsp_events.proofs.Times.{AtMost, chosen, instant_at_most, number_within}
 
 abbrev pub AreInstants : List Event → Type 0
 AreInstants events = AllByRecursion IsInstant events
@@ -32,7 +32,7 @@ time_within : (term : Term) → AtMost (time_in term)
 time_within (Iri text) = tt
 time_within (Blank document label) = tt
 time_within (Literal lexical datatype) =
-    either (bytes_eq datatype (codes "http://www.w3.org/2001/XMLSchema#dateTime")) (instant lexical) _ (instant_within lexical)
+    either (bytes_eq datatype (codes "http://www.w3.org/2001/XMLSchema#dateTime")) (instant lexical) _ (instant_at_most lexical)
     (chosen (bytes_eq datatype (codes "http://www.w3.org/2001/XMLSchema#integer")) (number_of lexical) (number_within (read_u64 lexical)))
 time_within (Tagged lexical language) = tt
 

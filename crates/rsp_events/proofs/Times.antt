@@ -1,12 +1,13 @@
 -- The times of a log's events are instants.
 use Rattle.std.proofs.Common.{◌≡◌, ℕ, ◌+◌, ◌*◌, ◌≤◌, Bool, true, false, List, [], ◌∷◌, ◌++◌, length, take, drop, refl, arith}
-use Rattle.std.specs.Prelude.{⊤, nat_le, if◌then◌else◌, Option, None, Some, ℤ, pos, negsuc, ◌&&◌, ◌||◌, ◌==◌, bytes_eq, codes, ◌+ℤ◌, ◌-ℤ◌, ◌*ℤ◌}
+use Rattle.std.specs.Prelude.{⊤, nat_le, if◌then◌else◌, IfSome, Option, None, Some, ℤ, pos, negsuc, ◌&&◌, ◌||◌, ◌==◌, bytes_eq, codes, ◌+ℤ◌, ◌-ℤ◌, ◌*ℤ◌}
 use Rattle.std.specs.List.{before_first, flat_map, list_any, position_or_len}
 use Rattle.std.specs.Option.{option_and_then, option_map, option_map_or, option_or}
 use Rattle.std.proofs.lemmas.Bool.Decides.{nat_tests}
-use Rattle.rsp_spec.specs.Windows.{last_instant}
-use Rattle.rsp_text.specs.Digits.{fraction, read_u64, thousandths}
-use Rattle.rsp_text.specs.Instants.{day_number, instant, instant_of, is_date, is_fraction, is_offset, is_time, is_utc, minutes_ahead, seconds_of_day, since_1970}
+use Rattle.rsp_spec.specs.Limits.{last_instant}
+use Rattle.rsp_text.specs.Digits.{read_u64}
+use Rattle.rsp_text.specs.Instants.{instant}
+use Rattle.rsp_text.proofs.InstantLaws.{instant_within}
 use Rattle.rsp_nquads.specs.Fields.{absolute_iri}
 use Rattle.rsp_events.specs.declared.directives.Directive.{Directive}
 use Rattle.rsp_events.specs.declared.directives.Directive.TheVariants as directive
@@ -56,33 +57,23 @@ pub number_within : (o : Option ℕ) → AtMost (option_and_then (λ n. if nat_l
 number_within None = tt
 number_within (Some n) = within n
 
-since_within : (z : ℤ) → AtMost (since_1970 z)
-since_within (pos n) = within n
-since_within (negsuc n) = tt
-
 pub chosen : (b : Bool) (o : Option ℕ) → AtMost o → AtMost (if b then o else None)
 chosen true o h = h
 chosen false o h = tt
 
-instant_of_within : (date time part zone : List ℕ) → AtMost (instant_of date time part zone)
-instant_of_within date time part zone =
-    let ms : ℤ =
-    ((day_number date *ℤ pos 86400000) +ℤ pos (seconds_of_day time * 1000 + thousandths part)) -ℤ (minutes_ahead zone *ℤ pos 60000) in
-    chosen ((is_date date && is_time time) && (is_fraction part && (is_utc zone || is_offset zone))) (since_1970 ms) (since_within ms)
+at_most : (o : Option ℕ) → IfSome o (λ time. time ≤ last_instant) → AtMost o
+at_most None is = tt
+at_most (Some time) is = is
 
-pub instant_within : (text : List ℕ) → AtMost (instant text)
-unfolding instant
-instant_within text =
-    let behind = drop 19 text in
-    let part = fraction behind in
-    instant_of_within (take 10 text) (take 9 (drop 10 text)) part (drop (length part) behind)
+pub instant_at_most : (text : List ℕ) → AtMost (instant text)
+instant_at_most text = at_most (instant text) (instant_within text)
 
 either_within : (a b : Option ℕ) → AtMost a → AtMost b → AtMost (option_or a b)
 either_within None b ha hb = hb
 either_within (Some n) b ha hb = ha
 
 time_within : (text : List ℕ) → AtMost (time_of text)
-time_within text = either_within (number_of text) (instant text) (number_within (read_u64 text)) (instant_within text)
+time_within text = either_within (number_of text) (instant text) (number_within (read_u64 text)) (instant_at_most text)
 
 registered : (o : Option (List ℕ)) → IsTimedDirective (option_map (λ name. directive.Register name) o)
 registered None = tt

@@ -4,6 +4,7 @@
 use Rattle.std.specs.Prelude.{ℕ, ◌≢◌, not, nat_lt, if◌then◌else◌, List, [], ◌∷◌, filter, map, length}
 use Rattle.std.specs.List.{AllByRecursion, flat_map}
 use Rattle.std.specs.Str.Lines.{strip_carriage_return}
+use Rattle.rsp_spec.specs.Limits.{most_block_bytes}
 use Rattle.rsp_events.specs.declared.begun.Ending.{Ending}
 use Rattle.rsp_events.specs.declared.begun.BegunLine.{BegunLine}
 use Rattle.rsp_events.specs.declared.begun.BegunLine.TheVariants as line
@@ -12,11 +13,15 @@ use Rattle.rsp_events.specs.declared.begun.BegunBlock.TheVariants as block
 use Rattle.rsp_events.specs.declared.begun.HeldLine.{HeldLine}
 use Rattle.rsp_events.specs.declared.begun.HeldLine.TheVariants as held
 use Rattle.rsp_events.specs.Blocks.{groups, is_whole}
-use Rattle.rsp_events.specs.Lines.{Line, is_end, is_long, most_bytes, parts, size_of, sizes_of, text_of}
+use Rattle.rsp_events.specs.Lines.{Line, is_end, is_long, parts, size_of, sizes_of, text_of}
 
 -- no line feed among the bytes
 abbrev pub IsInLine : List ℕ → Type 0
 IsInLine bytes = AllByRecursion (λ b. b ≢ 10) bytes
+
+-- the groups that lack nothing
+abbrev pub whole_groups : List Line → List (List Line)
+whole_groups lines = filter is_whole (groups lines)
 
 -- the lines of the group that lacks its `@end`; it is the last
 abbrev pub begun_group : List Line → List Line
@@ -37,7 +42,7 @@ ending_of bytes = record { last = is_end bytes; fed = is_end (strip_carriage_ret
 
 -- of a line with more bytes than a block may have it is kept only how it may end a body
 abbrev pub begun_line_of : List ℕ → BegunLine
-begun_line_of bytes = if nat_lt most_bytes (length bytes) then line.Long (ending_of bytes) else line.Kept bytes
+begun_line_of bytes = if nat_lt most_block_bytes (length bytes) then line.Long (ending_of bytes) else line.Kept bytes
 
 -- the same of a line that has come to its end
 abbrev pub held_line_of : Line → HeldLine
@@ -47,6 +52,6 @@ held_line_of l = if is_long l then held.Long (is_end (text_of l)) else held.Kept
 abbrev pub begun_block_of : List Line → BegunBlock
 begun_block_of [] = block.Between
 begun_block_of (head ∷ body) =
-    if nat_lt most_bytes (sizes_of (head ∷ body))
+    if nat_lt most_block_bytes (sizes_of (head ∷ body))
     then block.TooLarge
     else block.Within head.number (map text_of (head ∷ body)) (sizes_of (head ∷ body))

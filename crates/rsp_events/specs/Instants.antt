@@ -1,7 +1,7 @@
 -- Definitions: which events and blocks have a time that is an instant, up to the end of the year 9999.
 use Rattle.std.specs.Prelude.{◌≤◌, List, ⊤}
 use Rattle.std.specs.List.{AllByRecursion}
-use Rattle.rsp_spec.specs.Windows.{last_instant}
+use Rattle.rsp_spec.specs.Limits.{last_instant}
 use Rattle.rsp_events.specs.declared.event.Event.{Event}
 use Rattle.rsp_events.specs.declared.event.Event.TheVariants.{Item, Tick}
 use Rattle.rsp_events.specs.declared.event.Content.{Content}

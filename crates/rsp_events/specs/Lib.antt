@@ -8,6 +8,7 @@ pub mod Files
 pub mod Recorded
 pub mod Merged
 -- Words of the way
+pub mod Sorting
 pub mod FileLines
 pub mod Openings
 pub mod Begun

@@ -3,6 +3,7 @@ use Rattle.std.specs.Prelude.{ℕ, ◌+◌, Bool, true, false, ◌&&◌, ◌||�
 use Rattle.std.specs.List.{list_any, list_all, slice_split, starts_with, before_first}
 use Rattle.std.specs.Str.{byte}
 use Rattle.std.specs.Str.Lines.{strip_carriage_return}
+use Rattle.rsp_spec.specs.Limits.{most_block_bytes}
 use Rattle.rsp_text.specs.Fronts.{is_blank}
 
 -- a line: its number in the text, from 1, its bytes before the line feed, and whether a line feed ends it, which only
@@ -35,17 +36,13 @@ text_of line = if line.ended then strip_carriage_return line.bytes else line.byt
 abbrev pub size_of : Line → ℕ
 size_of line = length line.bytes + (if line.ended then 1 else 0)
 
--- the most bytes of a block
-abbrev pub most_bytes : ℕ
-most_bytes = 16777216
-
 -- the bytes of some lines
 abbrev pub sizes_of : List Line → ℕ
 sizes_of lines = sum_by size_of lines
 
 -- a line that has more bytes than a block may have, its line feed apart
 abbrev pub is_long : Line → Bool
-is_long line = nat_lt most_bytes (length line.bytes)
+is_long line = nat_lt most_block_bytes (length line.bytes)
 
 -- a line that is passed over between blocks: blanks alone, or one that begins with `#`
 unfoldable pub is_passed : List ℕ → Bool

@@ -1,34 +1,20 @@
--- Definitions: the items of several lists as one list: by time, then by list, then by place in the list.
-use Rattle.std.specs.Prelude.{ℕ, Bool, true, false, nat_lt, if◌then◌else◌, List, [], ◌∷◌, filter}
-use Rattle.std.specs.List.{flat_map}
+-- Definitions: the items of several lists as one list: those of time 0, by list and then by place in the list, then those of
+-- time 1, and so on.
+use Rattle.std.specs.Prelude.{ℕ, ◌^◌, Bool, false, ◌==◌, List, filter}
+use Rattle.std.specs.List.{flat_map, range_with_len}
 use Rattle.rsp_events.specs.declared.event.Event.{Event}
 use Rattle.rsp_events.specs.declared.event.Event.TheVariants.{Item}
-
-abbrev pub is_item : Event → Bool
-is_item (Item stream time graph) = true
-is_item _ = false
 
 -- the time of an item; of other events none is asked
 abbrev pub item_time : Event → ℕ
 item_time (Item stream time graph) = time
 item_time _ = 0
 
-abbrev pub is_earlier : Event → Event → Bool
-is_earlier item other = nat_lt (item_time item) (item_time other)
+-- an item of this time
+abbrev pub has_time : ℕ → Event → Bool
+has_time t (Item stream time graph) = time == t
+has_time t _ = false
 
--- an item before the first that isn't earlier
-abbrev pub put_in : Event → List Event → List Event
-put_in item [] = item ∷ []
-put_in item (first ∷ items) = if is_earlier first item then first ∷ put_in item items else item ∷ (first ∷ items)
-
--- items by time; those of one time keep their order
-abbrev pub by_time : List Event → List Event
-by_time [] = []
-by_time (item ∷ items) = put_in item (by_time items)
-
--- the items by list, then by place in the list; other events are left out
-abbrev pub all_items : List (List Event) → List Event
-all_items lists = filter is_item (flat_map (λ list. list) lists)
-
-abbrev pub merged : List (List Event) → List Event
-merged lists = by_time (all_items lists)
+-- a time has 64 bits; other events are left out
+unfoldable pub merged : List (List Event) → List Event
+merged lists = flat_map (λ t. filter (has_time t) (flat_map (λ list. list) lists)) (range_with_len 0 (2 ^ 64))

@@ -1,6 +1,7 @@
 // What is kept of a line and of a block that have begun: their bytes, as long as they are no more than a block may have.
 ghost use Rattle.std.specs.Prelude.{◌≡◌, ◌+◌, ◌++◌, ◌∷◌, ◌≤◌, ◌<◌, ◌&&◌, [], ℕ, List, IfOk, length, if◌then◌else◌, nat_lt};
 ghost use Rattle.std.specs.Str.Lines.{strip_carriage_return};
+ghost use Rattle.rsp_spec.specs.Limits.{most_block_bytes};
 ghost use Rattle.rsp_events.specs.Begun.{begun_block_of, begun_line_of, ending_of, held_line_of};
 ghost use Rattle.rsp_events.specs.Lines as lines;
 ghost use Rattle.rsp_events.specs.Lines.{Line};
@@ -8,12 +9,10 @@ ghost use Rattle.rsp_events.specs.declared.begun.HeldLine.TheVariants as held;
 ghost use Rattle.rsp_events.specs.declared.begun.BegunBlock.TheVariants as begun;
 
 use crate::lines::{is_end, without_return};
+use rsp_spec::limits::MOST_BLOCK_BYTES;
 use rsp_terms::Listed;
 use rsp_text::is_blank;
 use std::alloc::{AllocError, Global};
-
-// The most bytes of a block.
-const MOST_BYTES: usize = 16_777_216;
 
 /// Whether bytes are an `@end`: as the last line of a text, and as a line that a line feed ends, which drops a carriage
 /// return before it.
@@ -60,9 +59,9 @@ pub(crate) fn lengthened(line: BegunLine, run: &[u8]) -> Result<BegunLine, Alloc
 }
 
 fn lengthened_bytes(bytes: Listed<u8>, run: &[u8]) -> Result<BegunLine, AllocError>
-    ensures { IfOk result (λ new. length bytes ≤ lines.most_bytes → new ≡ begun_line_of (bytes ++ run.now)) }
+    ensures { IfOk result (λ new. length bytes ≤ most_block_bytes → new ≡ begun_line_of (bytes ++ run.now)) }
 {
-    let room = MOST_BYTES.saturating_sub(bytes.as_slice().len());
+    let room = MOST_BLOCK_BYTES.saturating_sub(bytes.as_slice().len());
     if run.len() <= room {
         return Ok(BegunLine::Kept(joined(bytes, run)?));
     }
@@ -180,13 +179,13 @@ fn within(
     text: Listed<u8>,
     size: usize,
 ) -> Result<BegunBlock, AllocError>
-    ensures { IfOk result (λ new. new ≡ (if nat_lt lines.most_bytes (before + size)
+    ensures { IfOk result (λ new. new ≡ (if nat_lt most_block_bytes (before + size)
         then begun.TooLarge else begun.Within first (texts ++ (text ∷ [])) (before + size))) }
 {
     let Some(all) = before.checked_add(size) else {
         return Ok(BegunBlock::TooLarge);
     };
-    if MOST_BYTES < all {
+    if MOST_BLOCK_BYTES < all {
         return Ok(BegunBlock::TooLarge);
     }
     let mut texts = texts;

@@ -4,7 +4,7 @@ ghost use Rattle.std.specs.List.{list_all};
 ghost use Rattle.rsp_events.specs.Directives as form;
 
 use crate::lines::first_blank;
-use rsp_spec::LAST_INSTANT;
+use rsp_spec::limits::LAST_INSTANT;
 use rsp_terms::{Text, ascii_text};
 use rsp_text::{behind_blanks, instant, read_u64};
 use std::alloc::{AllocError, Global};

@@ -1,9 +1,10 @@
 // The items of several streams as one list.
-ghost use Rattle.std.specs.Prelude.{◌≡◌, ◌++◌, IfOk, OnOk, filter};
+ghost use Rattle.std.specs.Prelude.{◌≡◌, ◌++◌, ◌<◌, ◌^◌, IfOk, OnOk, filter};
 ghost use Rattle.std.specs.List.{AllByRecursion};
 ghost use Rattle.std.specs.List.Sorted.{IsPermutation};
 ghost use Rattle.rsp_events.specs.Instants.{IsInstant};
-ghost use Rattle.rsp_events.specs.Merged as order;
+ghost use Rattle.rsp_events.specs.Merged.{item_time, merged};
+ghost use Rattle.rsp_events.specs.Sorting as sorting;
 
 use crate::Event;
 use rsp_terms::Listed;
@@ -12,8 +13,8 @@ use std::alloc::{AllocError, Global};
 /// The items of all lists by time, those of one time by list and then by place in the list; other events are left out.
 /// Compares about n log n times. Fails only where memory is refused.
 pub fn merge(alloc: Global, lists: Listed<Listed<Event>>) -> Result<Listed<Event>, AllocError>
-    ensures value { IfOk result (λ items. items ≡ order.merged lists) }
-    ensures permutation { IfOk result (λ items. IsPermutation (order.all_items lists) items) }
+    ensures value { IfOk result (λ items. items ≡ merged lists) }
+    ensures permutation { IfOk result (λ items. IsPermutation (sorting.all_items lists) items) }
     ensures timed { AllByRecursion (λ events. AllByRecursion IsInstant events) lists
         → IfOk result (λ items. AllByRecursion IsInstant items) }
 {
@@ -23,7 +24,8 @@ pub fn merge(alloc: Global, lists: Listed<Listed<Event>>) -> Result<Listed<Event
 }
 
 fn all_items(alloc: Global, lists: Listed<Listed<Event>>) -> Result<Vec<Event>, AllocError>
-    ensures { IfOk result (λ items. items.items ≡ order.all_items lists) }
+    ensures value { IfOk result (λ items. items.items ≡ sorting.all_items lists) }
+    ensures low { IfOk result (λ items. AllByRecursion (λ item. item_time item < 2 ^ 64) items.items) }
 {
     let mut items = Vec::new(alloc);
     for events in lists.into_vec() {
@@ -34,7 +36,9 @@ fn all_items(alloc: Global, lists: Listed<Listed<Event>>) -> Result<Vec<Event>, 
 
 // puts the items among some events behind the items
 fn push_items(items: &mut Vec<Event>, events: Listed<Event>) -> Result<(), AllocError>
-    ensures { OnOk result (items.new.items ≡ items.old.items ++ filter order.is_item events) }
+    ensures value { OnOk result (items.new.items ≡ items.old.items ++ filter sorting.is_item events) }
+    ensures low { AllByRecursion (λ item. item_time item < 2 ^ 64) items.old.items
+        → AllByRecursion (λ item. item_time item < 2 ^ 64) items.new.items }
 {
     for event in events.into_vec() {
         if is_item(&event) {
@@ -45,8 +49,11 @@ fn push_items(items: &mut Vec<Event>, events: Listed<Event>) -> Result<(), Alloc
 }
 
 fn is_item(event: &Event) -> bool
-    ensures { result ≡ order.is_item event.now }
+    ensures value { result ≡ sorting.is_item event.now }
+    ensures low { item_time event.now < 2 ^ 64 }
 {
+    // a time that is read has 64 bits
+    let _time = item_time(event);
     match event {
         Event::Item { .. } => true,
         _ => false,
@@ -55,7 +62,7 @@ fn is_item(event: &Event) -> bool
 
 // the time of an item; 0 stands for other events
 fn item_time(event: &Event) -> u64
-    ensures { result ≡ order.item_time event.now }
+    ensures { result ≡ item_time event.now }
 {
     match event {
         Event::Item { time, .. } => *time,

@@ -9,3 +9,4 @@ pub mod Extremes
 pub mod Reordered
 pub mod SameAggregates
 pub mod TermOrder
+pub mod TypeLaws

@@ -7,10 +7,10 @@ use Rattle.rsp_number.specs.declared.reading.Reading.{Reading}
 use Rattle.rsp_number.specs.declared.reading.Reading.TheVariants.{Value, Beyond, NotForm}
 use Rattle.rsp_terms.specs.declared.term.Term.{Term}
 use Rattle.rsp_terms.specs.declared.term.Term.TheVariants.{Literal, Tagged}
-use Rattle.rsp_expr.specs.Datatypes.{datatype_of}
 use Rattle.rsp_expr.specs.Forms.{numeric_reading}
-use Rattle.rsp_expr.specs.declared.datatypes.Datatype.{Datatype}
-use Rattle.rsp_expr.specs.declared.datatypes.Datatype.TheVariants.{Boolean, String}
+
+abbrev pub xsd_boolean : List ℕ
+xsd_boolean = codes "http://www.w3.org/2001/XMLSchema#boolean"
 
 -- the four forms of a boolean
 abbrev pub boolean_reading : List ℕ → Option Bool
@@ -20,12 +20,8 @@ boolean_reading text =
     else None
 
 -- the value of a boolean with the form
-abbrev pub typed_boolean : Datatype → List ℕ → Option Bool
-typed_boolean Boolean text = boolean_reading text
-typed_boolean type text = None
-
 abbrev pub boolean_of : Term → Option Bool
-boolean_of (Literal lexical datatype) = typed_boolean (datatype_of datatype) lexical
+boolean_of (Literal lexical datatype) = if bytes_eq datatype xsd_boolean then boolean_reading lexical else None
 boolean_of term = None
 
 abbrev pub is_filled : List ℕ → Bool
@@ -38,14 +34,12 @@ numeric_value (Some (Value number)) = Some (not (is_zero (value_of number)))
 numeric_value (Some Beyond) = None
 numeric_value (Some NotForm) = Some false
 
-abbrev pub typed_value : Datatype → List ℕ → Option Bool
-typed_value Boolean text = Some (unwrap_or (boolean_reading text) false)
-typed_value String text = Some (is_filled text)
-typed_value type text = numeric_value (numeric_reading type text)
-
 -- None is an expression error
 abbrev pub boolean_value : Term → Option Bool
-boolean_value (Literal lexical datatype) = typed_value (datatype_of datatype) lexical
+boolean_value (Literal lexical datatype) =
+    if bytes_eq datatype xsd_boolean then Some (unwrap_or (boolean_reading lexical) false)
+    else if bytes_eq datatype (codes "http://www.w3.org/2001/XMLSchema#string") then Some (is_filled lexical)
+    else numeric_value (numeric_reading datatype lexical)
 boolean_value (Tagged lexical language) = Some (is_filled lexical)
 boolean_value term = None
 
@@ -53,4 +47,4 @@ abbrev pub boolean_text : Bool → List ℕ
 boolean_text value = if value then codes "true" else codes "false"
 
 abbrev pub boolean_literal : Bool → Term
-boolean_literal value = Literal (boolean_text value) (codes "http://www.w3.org/2001/XMLSchema#boolean")
+boolean_literal value = Literal (boolean_text value) xsd_boolean

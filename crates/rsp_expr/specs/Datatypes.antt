@@ -1,73 +1,29 @@
--- Definitions: the datatypes that expressions know (XML Schema Definition Language 1.1 Part 2, section 3; SPARQL 1.1,
--- section 17.1), and the range of each type of whole numbers.
-use Rattle.std.specs.Prelude.{ℕ, ◌-◌, ◌^◌, ℤ, pos, neg_ℤ, int_le, Bool, true, ◌&&◌, if◌then◌else◌, Option, None, Some, List, [], ◌∷◌, codes}
+-- Definitions: the types of whole numbers (XML Schema Definition Language 1.1 Part 2, section 3; SPARQL 1.1, section 17.1),
+-- each by its IRI, with its least and its greatest number, where it has one.
+use Rattle.std.specs.Prelude.{ℕ, ◌-◌, ◌^◌, ℤ, pos, neg_ℤ, int_le, Bool, true, ◌&&◌, Option, None, Some, List, [], ◌∷◌, codes}
+use Rattle.std.specs.Map.{lookup}
 use Rattle.std.specs.Str.{bytes_eq}
-use Rattle.rsp_expr.specs.declared.datatypes.WholeType.{WholeType}
-use Rattle.rsp_expr.specs.declared.datatypes.WholeType.TheVariants.{Integer, NonPositiveInteger, NegativeInteger, Long, Int, Short, Byte, NonNegativeInteger, UnsignedLong, UnsignedInt, UnsignedShort, UnsignedByte, PositiveInteger}
-use Rattle.rsp_expr.specs.declared.datatypes.Datatype.{Datatype}
-use Rattle.rsp_expr.specs.declared.datatypes.Datatype.TheVariants.{Whole, Decimal, Double, Float, Boolean, String, LangString, Other}
 
--- the types of whole numbers, by their IRIs: first those without a number below 0, then all
-abbrev pub unsigned_types : List (List ℕ × WholeType)
-unsigned_types =
-    (codes "http://www.w3.org/2001/XMLSchema#nonNegativeInteger", NonNegativeInteger)
-    ∷ (codes "http://www.w3.org/2001/XMLSchema#positiveInteger", PositiveInteger)
-    ∷ (codes "http://www.w3.org/2001/XMLSchema#unsignedLong", UnsignedLong)
-    ∷ (codes "http://www.w3.org/2001/XMLSchema#unsignedInt", UnsignedInt)
-    ∷ (codes "http://www.w3.org/2001/XMLSchema#unsignedShort", UnsignedShort)
-    ∷ (codes "http://www.w3.org/2001/XMLSchema#unsignedByte", UnsignedByte)
-    ∷ []
-
-abbrev pub whole_types : List (List ℕ × WholeType)
+abbrev pub whole_types : List (List ℕ × (Option ℤ × Option ℤ))
 whole_types =
-    (codes "http://www.w3.org/2001/XMLSchema#integer", Integer)
-    ∷ (codes "http://www.w3.org/2001/XMLSchema#long", Long)
-    ∷ (codes "http://www.w3.org/2001/XMLSchema#int", Int)
-    ∷ (codes "http://www.w3.org/2001/XMLSchema#short", Short)
-    ∷ (codes "http://www.w3.org/2001/XMLSchema#byte", Byte)
-    ∷ (codes "http://www.w3.org/2001/XMLSchema#nonPositiveInteger", NonPositiveInteger)
-    ∷ (codes "http://www.w3.org/2001/XMLSchema#negativeInteger", NegativeInteger)
-    ∷ unsigned_types
-
--- the others that are known
-abbrev pub other_types : List (List ℕ × Datatype)
-other_types =
-    (codes "http://www.w3.org/2001/XMLSchema#string", String)
-    ∷ (codes "http://www.w3.org/2001/XMLSchema#decimal", Decimal)
-    ∷ (codes "http://www.w3.org/2001/XMLSchema#boolean", Boolean)
-    ∷ (codes "http://www.w3.org/2001/XMLSchema#double", Double)
-    ∷ (codes "http://www.w3.org/2001/XMLSchema#float", Float)
-    ∷ (codes "http://www.w3.org/1999/02/22-rdf-syntax-ns#langString", LangString)
+    (codes "http://www.w3.org/2001/XMLSchema#integer", (None, None))
+    ∷ (codes "http://www.w3.org/2001/XMLSchema#long", (Some (neg_ℤ (pos (2 ^ 63))), Some (pos (2 ^ 63 - 1))))
+    ∷ (codes "http://www.w3.org/2001/XMLSchema#int", (Some (neg_ℤ (pos (2 ^ 31))), Some (pos (2 ^ 31 - 1))))
+    ∷ (codes "http://www.w3.org/2001/XMLSchema#short", (Some (neg_ℤ (pos (2 ^ 15))), Some (pos (2 ^ 15 - 1))))
+    ∷ (codes "http://www.w3.org/2001/XMLSchema#byte", (Some (neg_ℤ (pos (2 ^ 7))), Some (pos (2 ^ 7 - 1))))
+    ∷ (codes "http://www.w3.org/2001/XMLSchema#nonPositiveInteger", (None, Some (pos 0)))
+    ∷ (codes "http://www.w3.org/2001/XMLSchema#negativeInteger", (None, Some (neg_ℤ (pos 1))))
+    ∷ (codes "http://www.w3.org/2001/XMLSchema#nonNegativeInteger", (Some (pos 0), None))
+    ∷ (codes "http://www.w3.org/2001/XMLSchema#positiveInteger", (Some (pos 1), None))
+    ∷ (codes "http://www.w3.org/2001/XMLSchema#unsignedLong", (Some (pos 0), Some (pos (2 ^ 64 - 1))))
+    ∷ (codes "http://www.w3.org/2001/XMLSchema#unsignedInt", (Some (pos 0), Some (pos (2 ^ 32 - 1))))
+    ∷ (codes "http://www.w3.org/2001/XMLSchema#unsignedShort", (Some (pos 0), Some (pos (2 ^ 16 - 1))))
+    ∷ (codes "http://www.w3.org/2001/XMLSchema#unsignedByte", (Some (pos 0), Some (pos (2 ^ 8 - 1))))
     ∷ []
 
--- what stands beside the IRI
-abbrev pub type_in : {T : Type 0} → List (List ℕ × T) → List ℕ → Option T
-type_in [] iri = None
-type_in (entry ∷ entries) iri = if bytes_eq iri entry.0 then Some entry.1 else type_in entries iri
-
-abbrev pub datatype_among : Option WholeType → Option Datatype → Datatype
-datatype_among (Some whole) other = Whole whole
-datatype_among None (Some other) = other
-datatype_among None None = Other
-
-abbrev pub datatype_of : List ℕ → Datatype
-datatype_of iri = datatype_among (type_in whole_types iri) (type_in other_types iri)
-
--- the least and the greatest number of a type, where it has one
-abbrev pub bounds_of : WholeType → Option ℤ × Option ℤ
-bounds_of Integer = (None, None)
-bounds_of NonPositiveInteger = (None, Some (pos 0))
-bounds_of NegativeInteger = (None, Some (neg_ℤ (pos 1)))
-bounds_of Long = (Some (neg_ℤ (pos (2 ^ 63))), Some (pos (2 ^ 63 - 1)))
-bounds_of Int = (Some (neg_ℤ (pos (2 ^ 31))), Some (pos (2 ^ 31 - 1)))
-bounds_of Short = (Some (neg_ℤ (pos (2 ^ 15))), Some (pos (2 ^ 15 - 1)))
-bounds_of Byte = (Some (neg_ℤ (pos (2 ^ 7))), Some (pos (2 ^ 7 - 1)))
-bounds_of NonNegativeInteger = (Some (pos 0), None)
-bounds_of UnsignedLong = (Some (pos 0), Some (pos (2 ^ 64 - 1)))
-bounds_of UnsignedInt = (Some (pos 0), Some (pos (2 ^ 32 - 1)))
-bounds_of UnsignedShort = (Some (pos 0), Some (pos (2 ^ 16 - 1)))
-bounds_of UnsignedByte = (Some (pos 0), Some (pos (2 ^ 8 - 1)))
-bounds_of PositiveInteger = (Some (pos 1), None)
+-- the bounds of the type that the IRI names; None where it names none
+abbrev pub range_of : List ℕ → Option (Option ℤ × Option ℤ)
+range_of iri = lookup (bytes_eq iri) whole_types
 
 abbrev pub is_at_least : Option ℤ → ℤ → Bool
 is_at_least None n = true
@@ -77,6 +33,6 @@ abbrev pub is_at_most : Option ℤ → ℤ → Bool
 is_at_most None n = true
 is_at_most (Some greatest) n = int_le n greatest
 
--- the number is one of the type
-abbrev pub is_in_range : WholeType → ℤ → Bool
-is_in_range type n = is_at_least (bounds_of type).0 n && is_at_most (bounds_of type).1 n
+-- the number is within the bounds
+abbrev pub is_in_range : Option ℤ × Option ℤ → ℤ → Bool
+is_in_range range n = is_at_least range.0 n && is_at_most range.1 n

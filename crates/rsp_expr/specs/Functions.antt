@@ -78,10 +78,7 @@ are_compatible tag (Some other) = option_eq bytes_eq tag (Some other)
 -- a function of two compatible texts
 abbrev pub value_of_texts : (Written → Written → Term) → Term → Term → Option Term
 value_of_texts f left right =
-    value_of_both
-    (λ (a : Written) (b : Written). then_some (are_compatible a.tag b.tag) (f a b))
-    (written_of left)
-    (written_of right)
+    value_of_both (λ (a b : Written). then_some (are_compatible a.tag b.tag) (f a b)) (written_of left) (written_of right)
 
 abbrev pub test_of_texts : (List ℕ → List ℕ → Bool) → Term → Term → Option Term
 test_of_texts test left right = value_of_texts (λ a b. boolean_literal (test a.text b.text)) left right
@@ -99,7 +96,7 @@ integer_in (Decimal d) = None
 abbrev pub integer_of : Term → Option ℤ
 integer_of term = option_and_then integer_in (number_of term)
 
--- ---- of one argument
+-- ---- terms
 
 -- STR (section 17.4.2.5)
 abbrev pub lexical_form : Term → Option Term
@@ -139,27 +136,6 @@ abbrev pub is_blank : Term → Bool
 is_blank (Blank document label) = true
 is_blank _ = false
 
-abbrev pub unary_value : Function → Term → Option Term
-unary_value function.IsIri term = boolean_result (Some (is_iri term))  -- 17.4.2.1
-unary_value function.IsUri term = boolean_result (Some (is_iri term))  -- 17.4.2.1
-unary_value function.IsBlank term = boolean_result (Some (is_blank term))  -- 17.4.2.2
-unary_value function.IsLiteral term = boolean_result (Some (is_literal term))  -- 17.4.2.3
-unary_value function.IsNumeric term = then_some (not (is_inexact term)) (boolean_literal (is_some (number_of term)))
-unary_value function.Str term = lexical_form term  -- 17.4.2.5
-unary_value function.Lang term = language_tag term  -- 17.4.2.6
-unary_value function.Datatype term = datatype_iri term  -- 17.4.2.7
-unary_value function.Iri term = iri_of term  -- 17.4.2.8
-unary_value function.Uri term = iri_of term  -- 17.4.2.8
-unary_value function.StrLen term =
-    option_and_then (λ (w : Written). numeral_result (integer_result (pos (character_count w.text)))) (written_of term)
-unary_value function.Abs term = numeral_result (option_map absolute_value (number_of term))  -- 17.4.4.1
-unary_value function.Round term = numeral_result (option_map (rounding round_of) (number_of term))
-unary_value function.Ceil term = numeral_result (option_map (rounding ceil_of) (number_of term))
-unary_value function.Floor term = numeral_result (option_map (rounding floor_of) (number_of term))
-unary_value name term = None
-
--- ---- of two arguments
-
 -- STRDT (section 17.4.2.10)
 abbrev pub typed_literal : List ℕ → Term → Option Term
 typed_literal text (Iri datatype) = then_some (not (bytes_eq datatype lang_string)) (Literal text datatype)
@@ -173,32 +149,9 @@ language_literal text language = then_some (is_tag_text language) (Tagged text l
 abbrev pub part_from : Written → ℤ → Option Term
 part_from written start = Some (text_literal written.tag (substring_from written.text start))
 
-abbrev pub binary_value : Function → Term → Term → Option Term
-binary_value function.SameTerm left right = boolean_result (Some (term_eq left right))  -- 17.4.1.8
-binary_value function.StrDt text type = option_and_then (λ lexical. typed_literal lexical type) (string_of text)
-binary_value function.StrLang text tag = value_of_both language_literal (string_of text) (string_of tag)
-binary_value function.Substr text start = value_of_both part_from (written_of text) (integer_of start)
-binary_value function.StrStarts text part = test_of_texts texts.begins_with text part  -- 17.4.3.6
-binary_value function.StrEnds text part = test_of_texts texts.finishes_with text part  -- 17.4.3.7
-binary_value function.Contains text part = test_of_texts texts.contains text part  -- 17.4.3.8
-binary_value function.StrBefore text part = value_of_texts (λ a b. part_of a (texts.text_before a.text b.text)) text part
-binary_value function.StrAfter text part = value_of_texts (λ a b. part_of a (texts.text_after a.text b.text)) text part
-binary_value function.LangMatches tag range =
-    value_of_both (λ a b. boolean_result (Some (is_matched_by a b))) (string_of tag) (string_of range)
-binary_value name left right = None
-
--- ---- of three arguments
-
 -- SUBSTR (section 17.4.3.3)
 abbrev pub part_within : ℤ → Written → ℤ → Option Term
 part_within count written start = Some (text_literal written.tag (substring written.text start count))
-
-abbrev pub ternary_value : Function → Term → Term → Term → Option Term
-ternary_value function.Substr text start count =
-    option_and_then (λ n. value_of_both (part_within n) (written_of text) (integer_of start)) (integer_of count)
-ternary_value name first second third = None
-
--- ---- of any number
 
 -- CONCAT (section 17.4.3.12): the tag that all have
 abbrev pub common_tag : List (Option (List ℕ)) → Option (List ℕ)
@@ -214,29 +167,43 @@ concatenation terms = option_map joined_text (all_values (map written_of terms))
 
 -- ---- all
 
--- IF (section 17.4.1.2): the part that isn't branch may be an error
-abbrev pub branch : Option Bool → Option Term → Option Term → Option Term
-branch None first second = None
-branch (Some true) first second = first
-branch (Some false) first second = second
-
-abbrev pub if_value : List (Option Term) → Option Term
-if_value (condition ∷ first ∷ second ∷ []) = branch (truth_of condition) first second
-if_value arguments = None
-
--- another number of arguments is an error
-abbrev pub value_by_number : Function → List Term → Option Term
-value_by_number name (first ∷ []) = unary_value name first
-value_by_number name (first ∷ second ∷ []) = binary_value name first second
-value_by_number name (first ∷ second ∷ third ∷ []) = ternary_value name first second third
-value_by_number name terms = None
-
--- the functions whose arguments may not be errors
+-- the functions whose arguments may not be errors; another number of arguments is an error
 abbrev pub function_value : Function → List Term → Option Term
-function_value function.Concat terms = concatenation terms
-function_value name terms = value_by_number name terms
+function_value function.IsIri (term ∷ []) = boolean_result (Some (is_iri term))  -- 17.4.2.1
+function_value function.IsUri (term ∷ []) = boolean_result (Some (is_iri term))  -- 17.4.2.1
+function_value function.IsBlank (term ∷ []) = boolean_result (Some (is_blank term))  -- 17.4.2.2
+function_value function.IsLiteral (term ∷ []) = boolean_result (Some (is_literal term))  -- 17.4.2.3
+function_value function.IsNumeric (term ∷ []) = then_some (not (is_inexact term)) (boolean_literal (is_some (number_of term)))
+function_value function.Str (term ∷ []) = lexical_form term  -- 17.4.2.5
+function_value function.Lang (term ∷ []) = language_tag term  -- 17.4.2.6
+function_value function.Datatype (term ∷ []) = datatype_iri term  -- 17.4.2.7
+function_value function.Iri (term ∷ []) = iri_of term  -- 17.4.2.8
+function_value function.Uri (term ∷ []) = iri_of term  -- 17.4.2.8
+function_value function.StrLen (term ∷ []) =
+    option_and_then (λ (w : Written). numeral_result (integer_result (pos (character_count w.text)))) (written_of term)
+function_value function.Abs (term ∷ []) = numeral_result (option_map absolute_value (number_of term))  -- 17.4.4.1
+function_value function.Round (term ∷ []) = numeral_result (option_map (rounding round_of) (number_of term))
+function_value function.Ceil (term ∷ []) = numeral_result (option_map (rounding ceil_of) (number_of term))
+function_value function.Floor (term ∷ []) = numeral_result (option_map (rounding floor_of) (number_of term))
+function_value function.SameTerm (left ∷ right ∷ []) = boolean_result (Some (term_eq left right))  -- 17.4.1.8
+function_value function.StrDt (text ∷ type ∷ []) = option_and_then (λ lexical. typed_literal lexical type) (string_of text)
+function_value function.StrLang (text ∷ tag ∷ []) = value_of_both language_literal (string_of text) (string_of tag)
+function_value function.StrStarts (text ∷ part ∷ []) = test_of_texts texts.begins_with text part  -- 17.4.3.6
+function_value function.StrEnds (text ∷ part ∷ []) = test_of_texts texts.finishes_with text part  -- 17.4.3.7
+function_value function.Contains (text ∷ part ∷ []) = test_of_texts texts.contains text part  -- 17.4.3.8
+function_value function.StrBefore (text ∷ part ∷ []) = value_of_texts (λ a b. part_of a (texts.text_before a.text b.text)) text part
+function_value function.StrAfter (text ∷ part ∷ []) = value_of_texts (λ a b. part_of a (texts.text_after a.text b.text)) text part
+function_value function.LangMatches (tag ∷ range ∷ []) =
+    value_of_both (λ a b. boolean_result (Some (is_matched_by a b))) (string_of tag) (string_of range)
+function_value function.Substr (text ∷ start ∷ []) = value_of_both part_from (written_of text) (integer_of start)
+function_value function.Substr (text ∷ start ∷ count ∷ []) =
+    option_and_then (λ n. value_of_both (part_within n) (written_of text) (integer_of start)) (integer_of count)
+function_value name terms = None
 
+-- IF and COALESCE may have arguments that are errors (sections 17.4.1.2 and 17.4.1.3)
 abbrev pub call_value : Function → List (Option Term) → Option Term
-call_value function.If arguments = if_value arguments
-call_value function.Coalesce arguments = first_value arguments  -- 17.4.1.3
+call_value function.If (condition ∷ first ∷ second ∷ []) =
+    option_and_then (λ holds. if holds then first else second) (truth_of condition)
+call_value function.Coalesce arguments = first_value arguments
+call_value function.Concat arguments = option_and_then concatenation (all_values arguments)
 call_value name arguments = option_and_then (function_value name) (all_values arguments)

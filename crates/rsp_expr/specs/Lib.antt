@@ -12,3 +12,6 @@ pub mod Functions
 pub mod Values
 pub mod Order
 pub mod Aggregates
+-- Words of the way:
+pub mod CodeTypes
+pub mod Meanings

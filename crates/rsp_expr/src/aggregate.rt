@@ -1,6 +1,6 @@
 // Aggregates.
 ghost use Rattle.std.specs.Prelude.{◌≡◌, IfOk};
-ghost use Rattle.rsp_expr.specs.Formulas.{aggregation_of, maybe_formula};
+ghost use Rattle.rsp_expr.specs.Meanings.{aggregation_of, maybe_formula};
 
 use crate::{Expression, Kind};
 use std::alloc::{AllocError, Global};

@@ -1,6 +1,6 @@
 // Expressions.
 ghost use Rattle.std.specs.Prelude.{◌≡◌, IfOk, map};
-ghost use Rattle.rsp_expr.specs.Formulas.{formula_of};
+ghost use Rattle.rsp_expr.specs.Meanings.{formula_of};
 
 use crate::{Function, Sign};
 use rsp_terms::Term;

@@ -1,6 +1,7 @@
 -- The longest token of a kind, as the automaton finds it, and the longest of all.
 use Rattle.std.proofs.Common.{◌≡◌, ℕ, Bool, true, false, List, [], ◌∷◌, length, take, refl, sym, ◌∙◌, IsUtf8, chars, if◌then◌else◌}
 use Rattle.std.specs.Prelude.{nat_lt}
+use Rattle.std.specs.List.{fold}
 use Rattle.std.specs.Str.{IsCharBoundary, encode_utf8_all}
 use Rattle.std.proofs.lemmas.Str.{scalars-chars}
 use Rattle.rsp_scan.specs.Fronts.{longest_front, longest_up_to}
@@ -13,7 +14,7 @@ use Rattle.rsp_lex.specs.declared.lexing.Front.{Front}
 use Rattle.rsp_lex.specs.Forms.{is_token, front_bytes}
 use Rattle.rsp_lex.specs.Kinds.{start, token_machine}
 use Rattle.rsp_lex.proofs.FormLaws.{form_is}
-use Rattle.rsp_lex.specs.Tokens.{longer, longest_among, further_kinds, token_at}
+use Rattle.rsp_lex.specs.Tokens.{longer, further_kinds, token_at}
 
 pub front_is : (kind : TokenKind) (text : List ℕ) → front_bytes kind text ≡ scanned_bytes token_machine (start kind) (chars text)
 unfolding front_bytes
@@ -41,7 +42,7 @@ longer_is best kind text is = by (nat_lt best.len (front_bytes kind text))
     by true = refl
     by false = is
 
-among_is : (best : Front) (kinds : List TokenKind) (text : List ℕ) → IsFrontOf text best → IsFrontOf text (longest_among best kinds text)
+among_is : (best : Front) (kinds : List TokenKind) (text : List ℕ) → IsFrontOf text best → IsFrontOf text (fold (λ best kind. longer best kind text) best kinds)
 among_is best [] text is = is
 among_is best (kind ∷ kinds) text is = among_is (longer best kind text) kinds text (longer_is best kind text is)
 

@@ -1,7 +1,6 @@
 -- Definitions: the words that forms of tokens are written with. A form says of a text whether some front of it is of this form
 -- and what stands behind that front passes a test.
 use Rattle.std.specs.Prelude.{ℕ, zero, suc, Bool, true, false, ◌&&◌, ◌||◌, ◌==◌, Option, None, Some, List, [], ◌∷◌, length}
-use Rattle.std.specs.List.{list_any}
 use Rattle.std.specs.Str.{byte}
 use Rattle.rsp_scan.specs.declared.escaping.Escape.{Escape}
 use Rattle.rsp_scan.specs.declared.escaping.Escape.TheVariants.{Begun}
@@ -57,9 +56,6 @@ escaped step test escape rest (c ∷ cs) =
 -- an escape, by its steps behind `\`, of a character of a class
 abbrev pub escape_of : (Escape → ℕ → Option Escaped) → (ℕ → Bool) → Form
 escape_of step test = text (byte "\\" ∷ []) before escaped step test Begun
-
-abbrev pub is_one_of : List ℕ → ℕ → Bool
-is_one_of cs c = list_any (λ d. c == d) cs
 
 abbrev pub ended : List ℕ → Bool
 ended [] = true

@@ -1,6 +1,7 @@
 -- Definitions: the tokens of a text: at each place behind white space and comments the longest, and of equally long ones the
 -- kind that stands first. Places count bytes.
 use Rattle.std.specs.Prelude.{ℕ, zero, suc, ◌+◌, Bool, true, false, not, ◌||◌, ◌==◌, nat_lt, if◌then◌else◌, Option, None, Some, List, [], ◌∷◌, length, take, drop, Result, Ok, Err}
+use Rattle.std.specs.List.{fold}
 use Rattle.std.specs.Option.{option_map_or}
 use Rattle.std.specs.Str.{byte, chars, encode_utf8_all}
 use Rattle.rsp_lex.specs.declared.token.Token.{Token}
@@ -32,17 +33,14 @@ abbrev pub longer : Front → TokenKind → List ℕ → Front
 longer best kind text =
     if nat_lt best.len (front_bytes kind text) then record { kind = kind; len = front_bytes kind text } else best
 
-abbrev pub longest_among : Front → List TokenKind → List ℕ → Front
-longest_among best [] text = best
-longest_among best (kind ∷ kinds) text = longest_among (longer best kind text) kinds text
-
 abbrev pub further_kinds : List TokenKind
 further_kinds =
     kind.Prefixed ∷ kind.Label ∷ kind.Variable ∷ kind.Span ∷ kind.Word ∷ kind.Tag ∷ kind.Double ∷ kind.Decimal ∷ kind.Integer
     ∷ kind.String ∷ kind.Symbol ∷ []
 
 unfoldable pub token_at : List ℕ → Front
-token_at text = longest_among (record { kind = kind.Iri; len = front_bytes kind.Iri text }) further_kinds text
+token_at text =
+    fold (λ best kind. longer best kind text) (record { kind = kind.Iri; len = front_bytes kind.Iri text }) further_kinds
 
 -- ---- all tokens, or the place where none begins
 

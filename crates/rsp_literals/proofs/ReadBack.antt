@@ -159,7 +159,7 @@ held-is n fits = let within : nat_le (unsigned_abs n) largest ≡ true = grind (
 
 whole_text : (n : ℤ) (text ds : List ℕ) → Writes (unsigned_abs n) ds → Signs (is_below_zero n) ds text
     → unsigned_abs n ≤ largest
-    → whole_reading Integer text ≡ Value n
+    → whole_reading (None, None) text ≡ Value n
 whole_text n text ds writes signs fits =
     let is : whole_number text ≡ n =
     ap (λ negative. with_sign negative (number_after 0 (without_sign text))) signs.sign

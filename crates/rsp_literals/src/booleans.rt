@@ -1,8 +1,9 @@
 // Booleans and boolean values.
 ghost use Rattle.std.specs.Prelude.{◌≡◌, Some, IfOk};
 ghost use Rattle.rsp_number.specs.Numbers.{value_of, is_zero};
-ghost use Rattle.rsp_expr.specs.BooleanValues.{boolean_reading, typed_boolean, boolean_of, is_filled, numeric_value, typed_value};
+ghost use Rattle.rsp_expr.specs.BooleanValues.{boolean_reading, boolean_of, is_filled, numeric_value};
 ghost use Rattle.rsp_expr.specs.BooleanValues.{boolean_value, boolean_literal};
+ghost use Rattle.rsp_expr.specs.CodeTypes.{typed_boolean, typed_value};
 
 use crate::datatypes::{XSD_BOOLEAN, datatype_of};
 use crate::forms::numeric_reading;

@@ -1,6 +1,6 @@
 // The datatypes that expressions know.
 ghost use Rattle.std.specs.Prelude.{◌≡◌};
-ghost use Rattle.rsp_expr.specs.Datatypes.{type_in, unsigned_types, whole_types, other_types, datatype_of, bounds_of};
+ghost use Rattle.rsp_expr.specs.CodeTypes.{type_in, unsigned_types, known_whole_types, other_types, datatype_of, bounds_of};
 
 use rsp_expr::{Datatype, WholeType};
 use rsp_terms::XSD_STRING;
@@ -98,7 +98,7 @@ pub fn datatype_of(iri: &str) -> Datatype
 
 /// The type of whole numbers that the IRI names, if it names one.
 fn whole_type(iri: &str) -> Option<WholeType>
-    ensures { result ≡ type_in whole_types iri.now }
+    ensures { result ≡ type_in known_whole_types iri.now }
 {
     match iri {
         XSD_INTEGER => Some(WholeType::Integer),

@@ -3,8 +3,9 @@ ghost use Rattle.std.specs.Prelude.{◌≡◌, ◌≤◌, ◌^◌, Bool, true, m
 ghost use Rattle.rsp_number.specs.Decimals.{with_sign};
 ghost use Rattle.rsp_number.specs.Texts.{is_negative, without_sign, are_digits, number_after, has_integer_form};
 ghost use Rattle.rsp_number.specs.declared.number.Number.TheVariants as number;
-ghost use Rattle.rsp_expr.specs.Datatypes.{is_at_least, is_at_most, is_in_range, bounds_of};
-ghost use Rattle.rsp_expr.specs.Forms.{reading_map, value_in, whole_number, whole_reading, numeric_reading, number_of};
+ghost use Rattle.rsp_expr.specs.Datatypes.{is_at_least, is_at_most, is_in_range};
+ghost use Rattle.rsp_expr.specs.CodeTypes.{bounds_of, typed_reading};
+ghost use Rattle.rsp_expr.specs.Forms.{reading_map, value_in, whole_number, whole_reading, number_of};
 
 use crate::datatypes::{datatype_of, greatest_of, least_of};
 use rsp_expr::{Datatype, WholeType};
@@ -14,7 +15,7 @@ use rsp_terms::Term;
 /// What a literal with this lexical form reads as: its number, Beyond, or without the form. None where the datatype
 /// isn't `xsd:decimal` or a type of whole numbers.
 pub(crate) fn numeric_reading(datatype: Datatype, lexical: &str) -> Option<Reading<Number>>
-    ensures { result ≡ numeric_reading datatype lexical.now }
+    ensures { result ≡ typed_reading datatype lexical.now }
 {
     let text = lexical.as_bytes();
     match datatype {
@@ -68,7 +69,7 @@ fn value_in(reading: Option<Reading<Number>>) -> Option<Number>
 
 /// What a text reads as under a type of whole numbers, whose range belongs to the form.
 fn whole_reading(whole_type: WholeType, text: &[u8]) -> Reading<IntegerNumber>
-    ensures { result ≡ whole_reading whole_type text.now }
+    ensures { result ≡ whole_reading (bounds_of whole_type) text.now }
 {
     match integer(text) {
         Reading::Value(value) => {
@@ -92,7 +93,7 @@ fn whole_reading(whole_type: WholeType, text: &[u8]) -> Reading<IntegerNumber>
 /// Whether the type has the number that the text writes, however large that is.
 fn is_in_range(whole_type: WholeType, text: &[u8]) -> bool
     requires { has_integer_form text.now ≡ true }
-    ensures { result ≡ is_in_range whole_type (whole_number text.now) }
+    ensures { result ≡ is_in_range (bounds_of whole_type) (whole_number text.now) }
 {
     match text {
         [b'-', digits @ ..] => is_size_in_range(whole_type, true, size_up_to_bound(digits)),
@@ -119,7 +120,7 @@ fn size_up_to_bound(digits: &[u8]) -> u128
 /// Whether the type has the number of this size, negated where `negative`.
 fn is_size_in_range(whole_type: WholeType, negative: bool, size: u128) -> bool
     requires { size ≤ 2 ^ 64 }
-    ensures { result ≡ is_in_range whole_type (with_sign negative size) }
+    ensures { result ≡ is_in_range (bounds_of whole_type) (with_sign negative size) }
 {
     is_at_least(whole_type, negative, size) && is_at_most(whole_type, negative, size)
 }

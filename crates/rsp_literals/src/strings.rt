@@ -1,7 +1,8 @@
 // Strings.
 ghost use Rattle.std.specs.Prelude.{◌≡◌};
 ghost use Rattle.std.specs.Option.{option_copied};
-ghost use Rattle.rsp_expr.specs.Strings.{typed_string, string_of, is_floating, is_inexact};
+ghost use Rattle.rsp_expr.specs.Strings.{string_of, is_inexact};
+ghost use Rattle.rsp_expr.specs.CodeTypes.{typed_string, is_floating};
 
 use crate::datatypes::datatype_of;
 use rsp_expr::Datatype;

@@ -5,9 +5,11 @@ use Rattle.std.proofs.lemmas.Int.{unsigned_abs-mul}
 use Rattle.std.proofs.lemmas.Bool.{cases_lt}
 use Rattle.std.proofs.lemmas.Bool.Decides.{nat_tests}
 use Rattle.std.proofs.Math.Nat.{mul-one, mul_right_comm, zero-mul, eq_of_mul-eq-mul_right}
-use Rattle.rsp_number.specs.Decimals.{largest, most_digits, Scaled, IsDecimal, with_sign, greatest, cut, fit_size, HasValue}
+use Rattle.rsp_number.specs.Decimals.{largest, most_digits, Scaled, IsDecimal, with_sign, greatest, cut, fit_size}
+use Rattle.rsp_number.specs.SecondReadings.{HasValue}
 use Rattle.rsp_number.specs.SecondReadings.{IsFitOf}
-use Rattle.rsp_number.specs.Texts.{has_decimal_form, is_negative, without_sign, before_point, behind_point, number_after, exact_decimal, value_or_beyond, read_decimal, IsWritten, IsReadExactly}
+use Rattle.rsp_number.specs.Texts.{has_decimal_form, is_negative, without_sign, before_point, behind_point, number_after, exact_decimal, value_or_beyond, read_decimal}
+use Rattle.rsp_number.specs.SecondReadings.{IsWritten, IsReadExactly}
 use Rattle.rsp_number.specs.declared.reading.Reading.{Reading}
 use Rattle.rsp_number.specs.declared.reading.Reading.TheVariants.{NotForm}
 use Rattle.rsp_number.proofs.Shortest.{power-above-zero, unsigned_abs-signed, IsShortest, shortest-form, one-form}

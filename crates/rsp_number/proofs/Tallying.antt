@@ -5,7 +5,7 @@ use Rattle.std.proofs.lemmas.Int.{ints, unsigned_abs-mul}
 use Rattle.std.proofs.lemmas.Nat.{mul-le, mul-mod_first, pow-add}
 use Rattle.std.proofs.Math.Nat.{mul-mod_left, mul_assoc, zero-mul}
 use Rattle.rsp_number.specs.Decimals.{largest}
-use Rattle.rsp_number.specs.Tallies.{IsTally, IsWhole}
+use Rattle.rsp_number.specs.TallyBounds.{IsTally, IsWhole}
 use Rattle.rsp_number.specs.Totals.{integers_of, decimals_of}
 use Rattle.rsp_number.specs.declared.number.Number.{Number}
 use Rattle.rsp_number.specs.declared.number.Number.TheVariants.{Integer, Decimal}

@@ -1,6 +1,6 @@
 -- Definitions: decimals of at most 18 digits after the point, and the decimal that a fraction of whole numbers is cut to
 -- (XML Schema 1.1 part 2, section 3.3.3: a processor may limit the digits of a decimal).
-use Rattle.std.specs.Prelude.{ℕ, zero, suc, ◌*◌, ◌/◌, ◌%◌, ◌^◌, ◌-◌, ◌≤◌, Bool, cond, nat_le, ◌==◌, ℤ, pos, neg_ℤ, unsigned_abs, int_lt, Option, Some, None, option_map, ◌*ℤ◌, ◌≡◌, ◌≢◌, ◌⊎◌}
+use Rattle.std.specs.Prelude.{ℕ, zero, suc, ◌*◌, ◌/◌, ◌%◌, ◌^◌, ◌-◌, ◌≤◌, Bool, cond, nat_le, ◌==◌, ℤ, pos, neg_ℤ, unsigned_abs, int_lt, Option, Some, None, option_map, ◌≡◌, ◌≢◌, ◌⊎◌}
 
 -- the greatest size of an integer, and of a decimal's coefficient
 abbrev pub largest : ℕ
@@ -59,7 +59,3 @@ fit_size negative numerator denominator =
 -- The decimal that numerator / denominator is cut to, toward zero.
 abbrev pub fit : ℤ → ℕ → Option Scaled
 fit numerator denominator = fit_size (is_below_zero numerator) (unsigned_abs numerator) denominator
-
--- the number is size / 10 ^ scale, under a sign
-abbrev pub HasValue : Scaled → Bool → ℕ → ℕ → Type 0
-HasValue number negative size scale = number.coefficient *ℤ pos (10 ^ scale) ≡ with_sign negative size *ℤ pos (10 ^ number.scale)

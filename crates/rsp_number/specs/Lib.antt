@@ -6,3 +6,4 @@ pub mod Tallies
 pub mod Totals
 -- Words of the way
 pub mod SecondReadings
+pub mod TallyBounds

@@ -1,10 +1,10 @@
 -- Definitions: the written forms of integers and decimals, as bytes, and what they read as (XML Schema 1.1 part 2, sections
 -- 3.3.3 and 3.4.13).
-use Rattle.std.specs.Prelude.{ℕ, ◌+◌, ◌-◌, ◌*◌, Bool, false, cond, not, ◌&&◌, ◌||◌, nat_le, ◌==◌, ℤ, unsigned_abs, List, [], ◌∷◌, ◌++◌, length, Option, Some, None, ◌≡◌}
+use Rattle.std.specs.Prelude.{ℕ, ◌+◌, ◌-◌, ◌*◌, Bool, false, cond, not, ◌&&◌, ◌||◌, nat_le, ◌==◌, ℤ, unsigned_abs, List, [], ◌∷◌, ◌++◌, length, Option, Some, None}
 use Rattle.std.specs.Char.{is_ascii_digit}
 use Rattle.std.specs.List.{list_all}
 use Rattle.std.specs.Str.{byte}
-use Rattle.rsp_number.specs.Decimals.{largest, most_digits, Scaled, IsDecimal, HasValue, integer_in_range, with_sign, shortest_form}
+use Rattle.rsp_number.specs.Decimals.{largest, most_digits, Scaled, integer_in_range, with_sign, shortest_form}
 use Rattle.rsp_number.specs.declared.reading.Reading.{Reading}
 use Rattle.rsp_number.specs.declared.reading.Reading.TheVariants.{Value, Beyond, NotForm}
 
@@ -73,17 +73,3 @@ read_decimal text =
     (exact_decimal (is_negative text) (number_after 0 (before_point (without_sign text) ++ behind_point (without_sign text)))
     (length (behind_point (without_sign text)))))
     NotForm
-
--- ---- what a text reads as, in terms of values
-
--- the number is what the text writes
-abbrev pub IsWritten : List ℕ → Scaled → Type 0
-IsWritten text number =
-    HasValue number (is_negative text) (number_after 0 (before_point (without_sign text) ++ behind_point (without_sign text)))
-    (length (behind_point (without_sign text)))
-
--- A decimal that the text writes, or Beyond where it writes none that there is.
-abbrev pub IsReadExactly : List ℕ → Reading Scaled → Type 0
-IsReadExactly text (Value number) = IsDecimal number × IsWritten text number
-IsReadExactly text Beyond = (other : Scaled) → IsDecimal other → ¬ IsWritten text other
-IsReadExactly text NotForm = has_decimal_form text ≡ false

@@ -1,7 +1,8 @@
 // What a text reads as.
 
 ghost use Rattle.std.specs.Prelude.{◌≡◌};
-ghost use Rattle.rsp_number.specs.Texts.{read_integer, read_decimal, value_or_beyond, IsReadExactly};
+ghost use Rattle.rsp_number.specs.Texts.{read_integer, read_decimal, value_or_beyond};
+ghost use Rattle.rsp_number.specs.SecondReadings.{IsReadExactly};
 
 use crate::decimals::DecimalNumber;
 use crate::digits::{are_digits, before_point, behind_point, is_negative, unsigned};

@@ -2,7 +2,7 @@
 
 ghost use Rattle.std.specs.Prelude.{◌≡◌, ◌≤◌, ◌<◌, ◌*◌, ◌^◌, ◌+ℤ◌, ◌*ℤ◌, ℤ, neg_ℤ, pos, int_div, unsigned_abs};
 ghost use Rattle.rsp_number.specs.Decimals.{largest, integer_in_range, fit};
-ghost use Rattle.rsp_number.specs.Tallies.{IsWhole};
+ghost use Rattle.rsp_number.specs.TallyBounds.{IsWhole};
 
 use crate::decimals::DecimalNumber;
 use crate::fit::fit_wide;

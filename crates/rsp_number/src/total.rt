@@ -2,7 +2,7 @@
 
 ghost use Rattle.std.specs.Prelude.{◌≡◌, ◌≤◌, ◌+◌, ◌*◌, ◌^◌, unsigned_abs};
 ghost use Rattle.rsp_number.specs.Decimals.{largest};
-ghost use Rattle.rsp_number.specs.Tallies.{IsTally, IsWhole, IsWithin};
+ghost use Rattle.rsp_number.specs.TallyBounds.{IsTally, IsWhole, IsWithin};
 ghost use Rattle.rsp_number.specs.Totals.{units, integers_of, decimals_of, empty_tally, after_taking, after_giving, value_of_total};
 
 use crate::number::Number;
@@ -18,7 +18,8 @@ pub struct Total {
 }
 
 impl Model for Total {
-    ghost use Rattle.rsp_number.specs.Tallies.{Tally, IsTally};
+    ghost use Rattle.rsp_number.specs.Tallies.{Tally};
+    ghost use Rattle.rsp_number.specs.TallyBounds.{IsTally};
 
     ghost Value = { Tally };
 

@@ -9,11 +9,14 @@ use Rattle.rsp_written.specs.Trees as written
 use Rattle.rsp_written.specs.Trees.{Verb, named, along, Node, variable_node, iri_node, constant_node, label_node, blank_node, described, Nodes, no_node, node_then, Properties, no_property, property_then, Element, Elements, no_element, element_then, Selected, selected}
 use Rattle.rsp_numbering.specs.declared.counts.Count.{Count}
 use Rattle.rsp_numbering.specs.declared.counts.Count.TheVariants as count
-use Rattle.rsp_numbering.specs.declared.limit.LimitName.{LimitName}
-use Rattle.rsp_numbering.specs.Naming.{Scope, Before, behind_select, within, nothing}
-use Rattle.rsp_numbering.specs.Triples.{behind_inner, behind_nodes, behind_slot, behind_verb, slot_of, verb_of, with_inner, with_objects, with_properties, with_triples}
-use Rattle.rsp_numbering.specs.Selections.{behind_element, behind_elements, behind_graph, behind_items, groups_of, items_in, projection_of, selected_of, selected_within, with_element, with_elements}
-use Rattle.rsp_numbering.specs.Limits.{counted_group, counted_groups, counted_inside, counted_select, one_unless_triple, passed_by_counts, rows_of_values, triple_slashes, triple_steps}
+use Rattle.rsp_numbering.specs.Naming.{Scope, Before, behind_select, nothing}
+use Rattle.rsp_numbering.specs.TripleSteps.{behind_inner, behind_nodes, behind_slot, behind_verb, slot_of, verb_of, with_inner, with_objects, with_properties, with_triples}
+use Rattle.rsp_numbering.specs.Selections.{items_in}
+use Rattle.rsp_numbering.specs.SelectionSteps.{behind_element, behind_elements, behind_graph, behind_items, groups_of, projection_of, selected_of, selected_within, with_element, with_elements, within}
+use Rattle.rsp_query.specs.Counts.{counted_below, counted_group, counted_groups, counted_select}
+use Rattle.rsp_query.specs.Walks.{counted, own_slashes}
+use Rattle.rsp_query.proofs.Counted.{counted_is}
+use Rattle.rsp_numbering.specs.Limits.{body_of, own_element, own_rows, own_steps, passed_by_counts}
 use Rattle.rsp_numbering.specs.Counting.{measure, verb_count, node_count, objects_count, properties_count, element_one, values_count, element_count, group_count, groups_count, select_count, passed_as_written}
 
 -- ---- parts behind others
@@ -22,14 +25,14 @@ appended : (f : Part → ℕ) (those others : List Part)
     → counted_group f (parts_in (those ++ others)) ≡ counted_group f (parts_in those) + counted_group f (parts_in others)
 appended f [] others = sym (zero-add _)
 appended f (part ∷ those) others =
-    ap (λ n. (f part + counted_inside f part) + n) (appended f those others)
-    ∙ sym (add_assoc (f part + counted_inside f part) _ _)
+    ap (λ n. (f part + counted_below f part) + n) (appended f those others)
+    ∙ sym (add_assoc (f part + counted_below f part) _ _)
 
-one_more : (f : Part → ℕ) (those : List Part) (part : Part) (own inside : ℕ) → f part ≡ own → counted_inside f part ≡ inside
+one_more : (f : Part → ℕ) (those : List Part) (part : Part) (own inside : ℕ) → f part ≡ own → counted_below f part ≡ inside
     → counted_group f (parts_in (those ++ (part ∷ []))) ≡ counted_group f (parts_in those) + (own + inside)
 one_more f those part own inside is more = rw (appended f those (part ∷ []), is, more) (omega arith)
 
-one_alone : (f : Part → ℕ) (those : List Part) (part : Part) (own : ℕ) → f part ≡ own → counted_inside f part ≡ 0
+one_alone : (f : Part → ℕ) (those : List Part) (part : Part) (own : ℕ) → f part ≡ own → counted_below f part ≡ 0
     → counted_group f (parts_in (those ++ (part ∷ []))) ≡ counted_group f (parts_in those) + own
 one_alone f those part own is more = rw (appended f those (part ∷ []), is, more) (omega arith)
 
@@ -91,8 +94,8 @@ triples_counted c at before those node properties =
 -- ---- groups
 
 -- a part that counts as one element alone
-alone : (c : Count) (part : Part) → triple_steps part ≡ 0 → triple_slashes part ≡ 0 → one_unless_triple part ≡ 1
-    → rows_of_values part ≡ 0 → measure c part ≡ element_one c
+alone : (c : Count) (part : Part) → own_steps part ≡ 0 → own_slashes part ≡ 0 → own_element part ≡ 1
+    → own_rows part ≡ 0 → measure c part ≡ element_one c
 alone count.Steps part steps slashes one rows = steps
 alone count.Slashes part steps slashes one rows = slashes
 alone count.Elements part steps slashes one rows = one
@@ -156,11 +159,17 @@ mutual
   within_counted c at before (selected distinct projection body keys having) =
       elements_counted c at (behind_items at before (items_in projection)) [] body ∙ zero-add _
 
--- the law: the counts of the tree as it is written are those of the query
-pub select_counted : (c : Count) (s : Selected) → counted_select (measure c) (selected_of [] nothing s) ≡ select_count c s
-select_counted c s = within_counted c (within nothing (projection_of s) []) (behind_select nothing) s
+-- ---- the law: the counts of the tree as it is written are those of the query
+
+body_counted : (f : Part → ℕ) (made : query.Selection) → counted f (body_of made) ≡ counted_select f made
+body_counted f (query.selection distinct star items body grouped keys having aggregates) = counted_is f body
+
+pub select_counted : (c : Count) (s : Selected) → counted (measure c) (body_of (selected_of [] nothing s)) ≡ select_count c s
+select_counted c s =
+    body_counted (measure c) (selected_of [] nothing s)
+    ∙ within_counted c (within nothing (projection_of s) []) (behind_select nothing) s
 
 pub passed_is : (variables signs : ℕ) (s : Selected)
-    → passed_as_written variables s signs ≡ passed_by_counts variables (selected_of [] nothing s) signs
+    → passed_by_counts variables (body_of (selected_of [] nothing s)) signs ≡ passed_as_written variables s signs
 passed_is variables signs s =
-    sym (rw (select_counted count.Slashes s, select_counted count.Steps s, select_counted count.Elements s, select_counted count.Rows s) refl)
+    rw (select_counted count.Slashes s, select_counted count.Steps s, select_counted count.Elements s, select_counted count.Rows s) refl

@@ -5,8 +5,8 @@ use Rattle.std.proofs.lemmas.Bool.Decides.{nat_tests}
 use Rattle.std.proofs.lemmas.List.{length-append}
 use Rattle.rsp_numbering.specs.declared.variable.Variable.{Variable}
 use Rattle.rsp_numbering.specs.declared.variable.Variable.TheVariants.{Name, Label, Bracket, Aggregate}
-use Rattle.rsp_numbering.specs.Naming.{is_same, place_of, with_variable}
-use Rattle.rsp_numbering.specs.Same.{is_older, are_older}
+use Rattle.rsp_numbering.specs.Naming.{is_same, with_variable}
+use Rattle.rsp_numbering.specs.Same.{is_older, are_older, place_of}
 
 -- ---- a list in which none passes
 

@@ -1,5 +1,5 @@
 -- Worked rows: the numbers of a query's variables, and what is counted.
-use Rattle.std.proofs.Common.{◌≡◌, ℕ, Bool, true, false, List, [], ◌∷◌, refl, Option, Some, None, codes, map}
+use Rattle.std.proofs.Common.{◌≡◌, ℕ, true, false, List, [], ◌∷◌, refl, Some, None, codes, map}
 use Rattle.rsp_terms.specs.declared.term.Term.TheVariants as term
 use Rattle.rsp_expr.specs.declared.slot.Slot.TheVariants as slot
 use Rattle.rsp_functions.specs.declared.aggregate.Kind.TheVariants as fold
@@ -7,10 +7,10 @@ use Rattle.rsp_expr.specs.Formulas as formula
 use Rattle.rsp_query.specs.Paths as path
 use Rattle.rsp_query.specs.Groups as query
 use Rattle.rsp_query.specs.Groups.{parts_in}
-use Rattle.rsp_written.specs.Trees.{Node, Verb, Properties, Elements, Selected, Way, variable_node, described, along, step, sequence, way_then, no_way, node_then, no_node, property_then, no_property, shown, computed, count_rows, these, every_name, triples, union_of, group_then, no_group, element_then, no_element, sub_select, selected, variable, any_of, expr_then, no_expr}
+use Rattle.rsp_written.specs.Trees.{Node, Properties, Selected, variable_node, described, along, step, node_then, no_node, property_then, no_property, shown, computed, count_rows, these, every_name, triples, union_of, group_then, no_group, element_then, no_element, sub_select, selected, variable, any_of, expr_then, no_expr}
 use Rattle.rsp_numbering.specs.Naming.{variable_text}
-use Rattle.rsp_numbering.specs.Selections.{behind_selected, selected_of}
-use Rattle.rsp_numbering.specs.Naming.{nothing}
+use Rattle.rsp_numbering.specs.Numbered.{start}
+use Rattle.rsp_numbering.specs.Selections.{select}
 use Rattle.rsp_query.specs.Paths.{slashes}
 use Rattle.rsp_numbering.specs.Limits.{operators, steps}
 
@@ -37,7 +37,7 @@ outer =
     (shown (codes "s") ∷ []) None
 
 -- ?o and ?x are shared with the SELECT round it, ?y isn't
-variables : map variable_text (behind_selected [] nothing outer).variables
+variables : map variable_text (select [] outer start).1.before.variables
     ≡ codes "s" ∷ codes "()" ∷ codes "n" ∷ codes "[]" ∷ codes "o" ∷ codes "x" ∷ codes "y" ∷ []
 unfolding to var inner outer
 variables = refl
@@ -45,7 +45,7 @@ variables = refl
 triple : ℕ → List ℕ → ℕ → query.Part
 triple s x o = query.triple (slot.Variable s) (path.step (slot.Constant (term.Iri x))) (slot.Variable o)
 
-numbered : selected_of [] nothing outer
+numbered : (select [] outer start).0
     ≡ query.selection false false
     (record { variable = 0; formula = None } ∷ record { variable = 2; formula = Some (formula.variable 1) } ∷ [])
     (parts_in
@@ -69,20 +69,20 @@ unfolding to var inner outer triple
 numbered = refl
 
 -- a name twice in two SELECTs of which neither projects it is two variables, and under `*` it is one
-own : map variable_text (behind_selected [] nothing
+own : map variable_text (select []
     (selected false (these (shown (codes "s") ∷ []))
     (element_then (triples (var (codes "s")) (to (codes "a:p") (var (codes "y"))))
-    (element_then (sub_select inner) no_element)) [] None)).variables
+    (element_then (sub_select inner) no_element)) [] None) start).1.before.variables
     ≡ codes "s" ∷ codes "y" ∷ codes "o" ∷ codes "x" ∷ codes "y" ∷ []
 unfolding to var inner
 own = refl
 
-all : map variable_text (behind_selected [] nothing
+all : map variable_text (select []
     (selected false (these (shown (codes "s") ∷ []))
     (element_then (triples (var (codes "s")) (to (codes "a:p") (var (codes "y"))))
     (element_then (sub_select
     (selected false every_name (element_then (triples (var (codes "y")) (to (codes "a:r") (var (codes "x")))) no_element) [] None)) no_element))
-    [] None)).variables
+    [] None) start).1.before.variables
     ≡ codes "s" ∷ codes "y" ∷ codes "x" ∷ []
 unfolding to var
 all = refl

@@ -1,11 +1,12 @@
 -- A window within the limits has a shape.
-use Rattle.std.specs.Prelude.{◌≡◌, refl, ℕ, ◌≤◌, ◌==◌, Bool, true, false, ◌&&◌, nat_le, nat_lt, if◌then◌else◌, List, [], ◌∷◌, Option, Some, None, unwrap_or}
+use Rattle.std.specs.Prelude.{◌≡◌, refl, ℕ, ◌≤◌, ◌==◌, Bool, true, false, ◌&&◌, nat_le, nat_lt, if◌then◌else◌, List, [], ◌∷◌, Option, Some, None, unwrap_or, IfSome}
 use Rattle.std.proofs.Common.{arith}
 use Rattle.std.proofs.lemmas.Bool.Decides.{nat_tests}
-use Rattle.rsp_spec.specs.Windows.{last_instant, IsShape}
+use Rattle.rsp_spec.specs.Limits.{last_instant}
+use Rattle.rsp_spec.specs.Windows.{IsShape}
 use Rattle.rsp_spec.proofs.Truths.{and_left, and_right}
-use Rattle.rsp_text.specs.Spans.{span, is_span as is_span_text, span_ms}
-use Rattle.std.specs.Str.{byte}
+use Rattle.rsp_text.specs.Spans.{span}
+use Rattle.rsp_text.proofs.SpanLaws.{span_within}
 use Rattle.rsp_report.specs.declared.words.PolicyWords.{PolicyWords}
 use Rattle.rsp_report.specs.declared.words.PolicyWords.TheVariants as policy
 use Rattle.rsp_written.specs.Trees as written
@@ -15,16 +16,12 @@ use Rattle.rsp_numbering.specs.Limits.{is_span, is_span_or_none, is_within}
 below : (n : ℕ) → nat_le n last_instant ≡ true → n ≤ last_instant
 below n h = grind (arith, nat_tests)
 
-chosen : (b : Bool) (n : ℕ) → (b ≡ true → n ≤ last_instant) → unwrap_or (if b then Some n else None) 0 ≤ last_instant
-chosen true n h = h refl
-chosen false n h = omega arith
+high : (o : Option ℕ) → IfSome o (λ ms. ms ≤ last_instant) → unwrap_or o 0 ≤ last_instant
+high None within = omega arith
+high (Some n) within = within
 
 span_high : (text : List ℕ) → milliseconds text ≤ last_instant
-unfolding span
-span_high [] = omega arith
-span_high (c ∷ text) =
-    chosen ((c == byte "P") && (is_span_text text && nat_le (span_ms text) last_instant)) (span_ms text)
-    (λ h. below (span_ms text) (and_right (is_span_text text) _ (and_right (c == byte "P") _ h)))
+span_high text = high (span text) (span_within text)
 
 span_low : (text : List ℕ) → is_span text ≡ true → 1 ≤ milliseconds text
 span_low text h = low (milliseconds text) h

@@ -6,16 +6,18 @@ use Rattle.rsp_report.specs.declared.words.Strategy as report
 use Rattle.rsp_report.specs.declared.words.Strategy.TheVariants as strategy
 use Rattle.rsp_report.specs.declared.words.PolicyWords.{PolicyWords}
 use Rattle.rsp_report.specs.declared.words.PolicyWords.TheVariants as policy
-use Rattle.rsp_streams_out.specs.declared.operator.Operator.{Operator}
-use Rattle.rsp_streams_out.specs.declared.operator.Operator.TheVariants as operator
+use Rattle.rsp_report.specs.declared.operator.Operator.{Operator}
+use Rattle.rsp_report.specs.declared.operator.Operator.TheVariants as operator
 use Rattle.rsp_query.specs.declared.query.WindowClause.{WindowClause}
+use Rattle.rsp_query.specs.Groups.{Selection}
 use Rattle.rsp_query.specs.Queries.{Registered}
 use Rattle.rsp_written.specs.declared.said.Keyword.TheVariants as keyword
 use Rattle.rsp_written.specs.declared.said.Kind.TheVariants as kind
 use Rattle.rsp_written.specs.declared.said.Kind as token
 use Rattle.rsp_written.specs.Trees as written
-use Rattle.rsp_numbering.specs.Naming.{nothing, variable_text}
-use Rattle.rsp_numbering.specs.Selections.{behind_selected, selected_of}
+use Rattle.rsp_numbering.specs.Naming.{variable_text}
+use Rattle.rsp_numbering.specs.Numbered.{State, start}
+use Rattle.rsp_numbering.specs.Selections.{select}
 
 -- the milliseconds of a span's text; 0 where there are too many
 abbrev pub milliseconds : List ℕ → ℕ
@@ -71,6 +73,10 @@ shape_of words w = record {
 abbrev pub clause_of : PolicyWords → written.Window → WindowClause
 clause_of words w = record { name = w.name; stream = w.stream; window = shape_of words w; at = w.at }
 
+-- the SELECT of the text, and what stands behind it
+abbrev pub made_of : written.Written → Selection × State
+made_of w = select [] w.select start
+
 -- the query that the text is, where it is within limits
 abbrev pub query_of : written.Written → Registered
 query_of w = record {
@@ -78,6 +84,6 @@ query_of w = record {
   output = w.output;
   policy = policy_of w.policy;
   windows = map (clause_of (policy_of w.policy)) w.windows;
-  selection = selected_of [] nothing w.select;
-  variables = map variable_text (behind_selected [] nothing w.select).variables;
+  selection = (made_of w).0;
+  variables = map variable_text (made_of w).1.before.variables;
 }

@@ -1,26 +1,27 @@
 -- Words of the way: what the limits count, on the tree as it is written; each count by its name.
 use Rattle.std.specs.Prelude.{ℕ, ◌+◌, [], Option, None, length}
 use Rattle.rsp_query.specs.Groups.{Part}
+use Rattle.rsp_query.specs.Walks.{own_slashes}
 use Rattle.rsp_written.specs.Trees as written
 use Rattle.rsp_written.specs.Trees.{Verb, named, along, Node, described, Nodes, no_node, node_then, Properties, no_property, property_then, Element, Elements, no_element, element_then, Selected, selected}
 use Rattle.rsp_numbering.specs.declared.counts.Count.{Count}
 use Rattle.rsp_numbering.specs.declared.counts.Count.TheVariants as count
 use Rattle.rsp_numbering.specs.declared.limit.LimitName.{LimitName}
 use Rattle.rsp_numbering.specs.declared.limit.LimitName.TheVariants as limit
-use Rattle.rsp_numbering.specs.Limits.{triple_steps, triple_slashes, one_unless_triple, rows_of_values, steps, over}
+use Rattle.rsp_numbering.specs.Limits.{own_steps, own_element, own_rows, steps, over}
 use Rattle.rsp_numbering.specs.Limits as limits
 use Rattle.rsp_numbering.specs.Naming.{nothing}
-use Rattle.rsp_numbering.specs.Selections.{behind_selected}
+use Rattle.rsp_numbering.specs.SelectionSteps.{behind_selected}
 use Rattle.rsp_numbering.specs.Triples.{path_of, paths_of}
 use Rattle.rsp_query.specs.Paths as paths
 use Rattle.rsp_query.specs.Paths.{slashes, ways_in}
 
 -- of a part of the query with numbers
 abbrev pub measure : Count → Part → ℕ
-measure count.Steps = triple_steps
-measure count.Slashes = triple_slashes
-measure count.Elements = one_unless_triple
-measure count.Rows = rows_of_values
+measure count.Steps = own_steps
+measure count.Slashes = own_slashes
+measure count.Elements = own_element
+measure count.Rows = own_rows
 
 -- of paths as they are written
 abbrev pub steps_among : written.Ways → ℕ

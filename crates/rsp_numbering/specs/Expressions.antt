@@ -1,7 +1,7 @@
--- Definitions: expressions with numbers in place of names, and their aggregates apart.
-use Rattle.std.specs.Prelude.{ℕ, Bool, false, List, [], ◌∷◌, ◌++◌, Option, None, Some}
+-- Definitions: expressions with numbers in place of names. An aggregate is the variable that stands for it.
+use Rattle.std.specs.Prelude.{Bool, false, List, Option, None, Some}
 use Rattle.rsp_terms.specs.declared.term.Term.TheVariants as term
-use Rattle.rsp_expr.specs.Formulas.{Formula, Aggregation, formulas_in}
+use Rattle.rsp_expr.specs.Formulas.{Formula, Formulas, no_formula, formula_then}
 use Rattle.rsp_expr.specs.Formulas as formula
 use Rattle.rsp_functions.specs.declared.function.Sign.{Sign}
 use Rattle.rsp_functions.specs.declared.function.Sign.TheVariants as sign
@@ -14,8 +14,9 @@ use Rattle.rsp_written.specs.declared.said.Symbol.TheVariants as symbol
 use Rattle.rsp_written.specs.declared.said.Kind.TheVariants as kind
 use Rattle.rsp_written.specs.declared.said.Kind as token
 use Rattle.rsp_written.specs.Trees.{Expr, variable, iri, constant, any_of, all_of, compared, member, sum, product, signed, bound, call, count_rows, aggregate, Exprs, no_expr, expr_then, Operands, no_operand, operand_then}
-use Rattle.rsp_numbering.specs.Naming.{Scope, Before, number, behind, named}
+use Rattle.rsp_numbering.specs.Naming.{Scope}
 use Rattle.rsp_numbering.specs.Naming as naming
+use Rattle.rsp_numbering.specs.Numbered.{Numbered, give, ◌>>=◌, making, numbered, numbered_name, apart, put_aggregate}
 
 -- ---- the words and signs of the grammar; of a token that can't stand there, whichever
 
@@ -31,116 +32,45 @@ abbrev pub fold_of : token.Kind → Kind
 fold_of (kind.Word (keyword.Fold k)) = k
 fold_of _ = fold.Count
 
--- ---- what stands before the place behind an expression. An aggregate comes before its argument.
-
-abbrev mutual
-  pub behind_expr : List Scope → Before → Expr → Before
-  behind_expr at before (variable x) = behind before (named at x)
-  behind_expr at before (iri x) = before
-  behind_expr at before (constant t) = before
-  behind_expr at before (any_of parts) = behind_exprs at before parts
-  behind_expr at before (all_of parts) = behind_exprs at before parts
-  behind_expr at before (compared s left right) = behind_expr at (behind_expr at before left) right
-  behind_expr at before (member negated item items) = behind_exprs at (behind_expr at before item) items
-  behind_expr at before (sum first others) = behind_operands at (behind_expr at before first) others
-  behind_expr at before (product first others) = behind_operands at (behind_expr at before first) others
-  behind_expr at before (signed s part) = behind_expr at before part
-  behind_expr at before (bound x) = behind before (named at x)
-  behind_expr at before (call f arguments) = behind_exprs at before arguments
-  behind_expr at before count_rows = behind before (naming.aggregate before)
-  behind_expr at before (aggregate k distinct argument) = behind_expr at (behind before (naming.aggregate before)) argument
-
-  pub behind_exprs : List Scope → Before → Exprs → Before
-  behind_exprs at before no_expr = before
-  behind_exprs at before (expr_then e more) = behind_exprs at (behind_expr at before e) more
-
-  pub behind_operands : List Scope → Before → Operands → Before
-  behind_operands at before no_operand = before
-  behind_operands at before (operand_then s e more) = behind_operands at (behind_expr at before e) more
-
--- ---- the formula of an expression; an aggregate is the variable that stands for it
-
 abbrev pub signed_formula : token.Kind → Formula → Formula
 signed_formula (kind.Symbol (symbol.Sign sign.Subtract)) part = formula.opposite part
 signed_formula (kind.Symbol (symbol.Sign sign.Add)) part = formula.plus part
 signed_formula _ part = formula.negation part
 
--- a row of signs, from the left
-abbrev pub from_left : Formula → List (Sign × Formula) → Formula
-from_left left [] = left
-from_left left (x ∷ more) = from_left (formula.arithmetic x.0 left x.1) more
+-- ---- expressions
+
+-- an aggregate comes before its argument
+abbrev pub folded : Kind → Bool → Numbered (Option Formula) → Numbered Formula
+folded kind distinct argument =
+    numbered naming.aggregate >>= λ number. apart argument >>= λ made.
+    making formula.variable
+    (put_aggregate (number, record { kind = kind; distinct = distinct; argument = made }))
 
 abbrev mutual
-  pub numbered_expr : List Scope → Before → Expr → Formula
-  numbered_expr at before (variable x) = formula.variable (number before (named at x))
-  numbered_expr at before (iri x) = formula.constant (term.Iri x)
-  numbered_expr at before (constant t) = formula.constant t
-  numbered_expr at before (any_of parts) = formula.disjunction (formulas_in (numbered_exprs at before parts))
-  numbered_expr at before (all_of parts) = formula.conjunction (formulas_in (numbered_exprs at before parts))
-  numbered_expr at before (compared s left right) =
-      formula.comparison (sign_of s) (numbered_expr at before left) (numbered_expr at (behind_expr at before left) right)
-  numbered_expr at before (member negated item items) =
-      formula.membership negated (numbered_expr at before item)
-      (formulas_in (numbered_exprs at (behind_expr at before item) items))
-  numbered_expr at before (sum first others) =
-      from_left (numbered_expr at before first) (numbered_operands at (behind_expr at before first) others)
-  numbered_expr at before (product first others) =
-      from_left (numbered_expr at before first) (numbered_operands at (behind_expr at before first) others)
-  numbered_expr at before (signed s part) = signed_formula s (numbered_expr at before part)
-  numbered_expr at before (bound x) = formula.bound (number before (named at x))
-  numbered_expr at before (call f arguments) = formula.call (function_of f) (formulas_in (numbered_exprs at before arguments))
-  numbered_expr at before count_rows = formula.variable (number before (naming.aggregate before))
-  numbered_expr at before (aggregate k distinct argument) = formula.variable (number before (naming.aggregate before))
+  pub expression : List Scope → Expr → Numbered Formula
+  expression at (variable x) = making formula.variable (numbered_name at x)
+  expression at (iri x) = give (formula.constant (term.Iri x))
+  expression at (constant t) = give (formula.constant t)
+  expression at (any_of parts) = making formula.disjunction (expressions at parts)
+  expression at (all_of parts) = making formula.conjunction (expressions at parts)
+  expression at (compared s left right) =
+      expression at left >>= λ first. making (formula.comparison (sign_of s) first) (expression at right)
+  expression at (member negated item items) =
+      expression at item >>= λ first. making (formula.membership negated first) (expressions at items)
+  expression at (sum first others) = expression at first >>= λ left. row at left others
+  expression at (product first others) = expression at first >>= λ left. row at left others
+  expression at (signed s part) = making (signed_formula s) (expression at part)
+  expression at (bound x) = making formula.bound (numbered_name at x)
+  expression at (call f arguments) = making (formula.call (function_of f)) (expressions at arguments)
+  expression at count_rows = folded fold.Count false (give None)
+  expression at (aggregate k distinct argument) = folded (fold_of k) distinct (making Some (expression at argument))
 
-  pub numbered_exprs : List Scope → Before → Exprs → List Formula
-  numbered_exprs at before no_expr = []
-  numbered_exprs at before (expr_then e more) =
-      numbered_expr at before e ∷ numbered_exprs at (behind_expr at before e) more
+  pub expressions : List Scope → Exprs → Numbered Formulas
+  expressions at no_expr = give no_formula
+  expressions at (expr_then e more) = expression at e >>= λ first. making (formula_then first) (expressions at more)
 
-  pub numbered_operands : List Scope → Before → Operands → List (Sign × Formula)
-  numbered_operands at before no_operand = []
-  numbered_operands at before (operand_then s e more) =
-      (sign_of s, numbered_expr at before e) ∷ numbered_operands at (behind_expr at before e) more
-
--- ---- the aggregates so far, and behind them those of an expression, each with its variable
-
-abbrev pub numbered_aggregate : ℕ → Kind → Bool → Option Formula → ℕ × Aggregation
-numbered_aggregate number kind distinct argument = (number, record { kind = kind; distinct = distinct; argument = argument })
-
-abbrev mutual
-  pub with_aggregates : List Scope → Before → List (ℕ × Aggregation) → Expr → List (ℕ × Aggregation)
-  with_aggregates at before those (variable x) = those
-  with_aggregates at before those (iri x) = those
-  with_aggregates at before those (constant t) = those
-  with_aggregates at before those (any_of parts) = with_aggregates_of_all at before those parts
-  with_aggregates at before those (all_of parts) = with_aggregates_of_all at before those parts
-  with_aggregates at before those (compared s left right) =
-      with_aggregates at (behind_expr at before left) (with_aggregates at before those left) right
-  with_aggregates at before those (member negated item items) =
-      with_aggregates_of_all at (behind_expr at before item) (with_aggregates at before those item) items
-  with_aggregates at before those (sum first others) =
-      with_aggregates_of_row at (behind_expr at before first) (with_aggregates at before those first) others
-  with_aggregates at before those (product first others) =
-      with_aggregates_of_row at (behind_expr at before first) (with_aggregates at before those first) others
-  with_aggregates at before those (signed s part) = with_aggregates at before those part
-  with_aggregates at before those (bound x) = those
-  with_aggregates at before those (call f arguments) = with_aggregates_of_all at before those arguments
-  with_aggregates at before those count_rows =
-      those ++ (numbered_aggregate (number before (naming.aggregate before)) fold.Count false None ∷ [])
-  with_aggregates at before those (aggregate k distinct argument) =
-      those
-      ++ (
-      numbered_aggregate (number before (naming.aggregate before)) (fold_of k) distinct
-      (Some (numbered_expr at (behind before (naming.aggregate before)) argument))
-      ∷ []
-      )
-
-  pub with_aggregates_of_all : List Scope → Before → List (ℕ × Aggregation) → Exprs → List (ℕ × Aggregation)
-  with_aggregates_of_all at before those no_expr = those
-  with_aggregates_of_all at before those (expr_then e more) =
-      with_aggregates_of_all at (behind_expr at before e) (with_aggregates at before those e) more
-
-  pub with_aggregates_of_row : List Scope → Before → List (ℕ × Aggregation) → Operands → List (ℕ × Aggregation)
-  with_aggregates_of_row at before those no_operand = those
-  with_aggregates_of_row at before those (operand_then s e more) =
-      with_aggregates_of_row at (behind_expr at before e) (with_aggregates at before those e) more
+  -- a row of signs, from the left
+  pub row : List Scope → Formula → Operands → Numbered Formula
+  row at left no_operand = give left
+  row at left (operand_then s e more) =
+      expression at e >>= λ right. row at (formula.arithmetic (sign_of s) left right) more

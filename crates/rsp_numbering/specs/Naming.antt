@@ -1,5 +1,5 @@
 -- Definitions: the variables of a query and their numbers, by the first place in the text.
-use Rattle.std.specs.Prelude.{ℕ, suc, Bool, true, false, ◌&&◌, nat_eq, cond, List, [], ◌∷◌, ◌++◌, codes, length, map}
+use Rattle.std.specs.Prelude.{ℕ, suc, Bool, true, false, ◌&&◌, nat_eq, cond, List, [], ◌∷◌, ◌++◌, codes, length}
 use Rattle.std.specs.List.{list_any, position_or_len}
 use Rattle.std.specs.Str.{bytes_eq}
 use Rattle.rsp_numbering.specs.declared.variable.Variable.{Variable}
@@ -14,12 +14,6 @@ is_same (variable.Label x) (variable.Label y) = bytes_eq x y
 is_same (variable.Bracket m) (variable.Bracket n) = nat_eq m n
 is_same (variable.Aggregate m) (variable.Aggregate n) = nat_eq m n
 is_same _ _ = false
-
-abbrev pub name : ℕ → List ℕ → Variable
-name select x = variable.Name select x
-
-abbrev pub label : List ℕ → Variable
-label x = variable.Label x
 
 -- a SELECT, and the names that it shares with the SELECT round it
 pub record Scope : Type 0 where
@@ -45,7 +39,7 @@ owner (here ∷ []) x = here.number
 owner (here ∷ (outer ∷ more)) x = cond (here.shares x) (owner (outer ∷ more) x) here.number
 
 abbrev pub named : List Scope → List ℕ → Variable
-named at x = name (owner at x) x
+named at x = variable.Name (owner at x) x
 
 -- what stands before a place of the text: how many SELECTs begin there, and the variables by their numbers
 pub record Before : Type 0 where
@@ -57,11 +51,8 @@ abbrev pub nothing : Before
 nothing = record { selects = 0; variables = [] }
 
 -- the number of a variable: it has one, or gets the next
-abbrev pub place_of : List Variable → Variable → ℕ
-place_of variables v = position_or_len (is_same v) variables
-
 abbrev pub number : Before → Variable → ℕ
-number before v = place_of before.variables v
+number before v = position_or_len (is_same v) before.variables
 
 -- behind a place where the variable is named
 abbrev pub with_variable : List Variable → Variable → List Variable
@@ -83,10 +74,6 @@ behind_select before = record { selects = suc before.selects; variables = before
 
 abbrev pub scope : ℕ → Projection → List Scope → List Scope
 scope number projection at = record { number = number; shares = projects projection } ∷ at
-
--- within a SELECT that begins here
-abbrev pub within : Before → Projection → List Scope → List Scope
-within before projection at = scope before.selects projection at
 
 -- what a variable is called; what has no name in the text is called by what no variable can be
 abbrev pub variable_text : Variable → List ℕ

@@ -1,10 +1,20 @@
--- Words of the way: the code's test of two variables is the definition's, and what is known of the variables before a place.
+-- Words of the way: the variables before a place as the code keeps them: its test of two of them is the definition's.
 use Rattle.std.specs.Prelude.{◌≡◌, ℕ, Bool, true, nat_lt, List, length, refl}
-use Rattle.std.specs.List.{list_all}
+use Rattle.std.specs.List.{list_all, position_or_len}
 use Rattle.rsp_numbering.specs.declared.variable.Variable.{Variable}
 use Rattle.rsp_numbering.specs.declared.variable.Variable.TheVariants.{Name, Label, Bracket, Aggregate}
 use Rattle.rsp_numbering.specs.contracts.variable.VariablePartialEq.TheImpl.{ghosts as derived}
 use Rattle.rsp_numbering.specs.Naming.{is_same}
+
+abbrev pub name : ℕ → List ℕ → Variable
+name select x = Name select x
+
+abbrev pub label : List ℕ → Variable
+label x = Label x
+
+-- the place of a variable among those that are there, or behind them
+abbrev pub place_of : List Variable → Variable → ℕ
+place_of variables v = position_or_len (is_same v) variables
 
 -- the test that the program computes
 abbrev pub derived_same : Variable → Variable → Bool

@@ -5,13 +5,14 @@ use Rattle.std.specs.Str.{bytes_eq}
 use Rattle.rsp_expr.specs.declared.aggregate.Aggregate.{Aggregate}
 use Rattle.rsp_expr.specs.declared.expression.Expression.{Expression}
 use Rattle.rsp_functions.specs.declared.function.Sign.{Sign}
-use Rattle.rsp_expr.specs.Formulas.{Aggregation, Formula, formula_of}
-use Rattle.rsp_query.specs.Groups.{numbered_aggregation}
+use Rattle.rsp_expr.specs.Formulas.{Aggregation, Formula}
+use Rattle.rsp_expr.specs.Meanings.{formula_of}
+use Rattle.rsp_query.specs.Meanings.{numbered_aggregation, part_of}
 use Rattle.std.specs.formers.vec.Vec.{mapped}
 use Rattle.std.specs.Prelude.{Vec}
 use Rattle.std.specs.Global.{Global}
 use Rattle.rsp_query.specs.declared.select.Element.{Element}
-use Rattle.rsp_query.specs.Groups.{Part, part_of}
+use Rattle.rsp_query.specs.Groups.{Part}
 use Rattle.rsp_written.specs.declared.group.Element as written
 use Rattle.rsp_written.specs.Trees as trees
 use Rattle.rsp_written.specs.GroupMeanings.{element_of}

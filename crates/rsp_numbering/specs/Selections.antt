@@ -4,42 +4,21 @@ use Rattle.rsp_terms.specs.declared.term.Term.TheVariants as term
 use Rattle.rsp_expr.specs.declared.slot.Slot.{Slot}
 use Rattle.rsp_expr.specs.declared.slot.Slot.TheVariants as slot
 use Rattle.rsp_expr.specs.Formulas.{Formula, Aggregation}
-use Rattle.rsp_query.specs.Groups.{Part, optional, minus, union, graph, window, filter, exists, bind, values, sub, Parts, parts_in, groups_in, Selection, selection}
+use Rattle.rsp_query.specs.Groups.{Part, optional, minus, union, graph, window, filter, exists, bind, values, sub, Parts, parts_in, no_group, group_then, Selection, selection}
 use Rattle.rsp_query.specs.Groups as query
 use Rattle.rsp_written.specs.Trees as written
 use Rattle.rsp_written.specs.Trees.{Element, Elements, no_element, element_then, Item, shown, computed, Projection, every_name, these, Graph, graph_variable, graph_iri, Selected, selected}
-use Rattle.rsp_numbering.specs.Naming.{Scope, Before, number, behind, behind_select, within}
-use Rattle.rsp_numbering.specs.Naming as naming
-use Rattle.rsp_numbering.specs.Expressions.{behind_expr, numbered_expr, with_aggregates}
-use Rattle.rsp_numbering.specs.Triples.{with_triples, behind_triples}
+use Rattle.rsp_numbering.specs.Naming.{Scope, scope}
+use Rattle.rsp_numbering.specs.Numbered.{Numbered, give, ◌>>=◌, making, each, maybe, numbered_name, opened, apart, aggregates_so_far}
+use Rattle.rsp_numbering.specs.Expressions.{expression}
+use Rattle.rsp_numbering.specs.Triples.{triples}
 
 -- ---- items and keys: an expression comes before its name
 
-abbrev pub behind_item : List Scope → Before → Item → Before
-behind_item at before (shown x) = behind before (naming.named at x)
-behind_item at before (computed e x) = behind (behind_expr at before e) (naming.named at x)
-
-abbrev pub item_of : List Scope → Before → Item → query.Item
-item_of at before (shown x) = record { variable = number before (naming.named at x); formula = None }
-item_of at before (computed e x) =
-    record { variable = number (behind_expr at before e) (naming.named at x); formula = Some (numbered_expr at before e) }
-
-abbrev pub with_item_aggregates : List Scope → Before → List (ℕ × Aggregation) → Item → List (ℕ × Aggregation)
-with_item_aggregates at before those (shown x) = those
-with_item_aggregates at before those (computed e x) = with_aggregates at before those e
-
-abbrev pub behind_items : List Scope → Before → List Item → Before
-behind_items at before [] = before
-behind_items at before (item ∷ more) = behind_items at (behind_item at before item) more
-
-abbrev pub items_of : List Scope → Before → List Item → List query.Item
-items_of at before [] = []
-items_of at before (item ∷ more) = item_of at before item ∷ items_of at (behind_item at before item) more
-
-abbrev pub with_items_aggregates : List Scope → Before → List (ℕ × Aggregation) → List Item → List (ℕ × Aggregation)
-with_items_aggregates at before those [] = those
-with_items_aggregates at before those (item ∷ more) =
-    with_items_aggregates at (behind_item at before item) (with_item_aggregates at before those item) more
+abbrev pub item : List Scope → Item → Numbered query.Item
+item at (shown x) = making (λ v. record { variable = v; formula = None }) (numbered_name at x)
+item at (computed e x) =
+    expression at e >>= λ made. making (λ v. record { variable = v; formula = Some made }) (numbered_name at x)
 
 abbrev pub items_in : Projection → List Item
 items_in every_name = []
@@ -49,75 +28,9 @@ abbrev pub is_star : Projection → Bool
 is_star every_name = true
 is_star (these items) = false
 
--- ---- HAVING
-
-abbrev pub behind_having : List Scope → Before → Option written.Expr → Before
-behind_having at before None = before
-behind_having at before (Some e) = behind_expr at before e
-
-abbrev pub having_of : List Scope → Before → Option written.Expr → Option Formula
-having_of at before None = None
-having_of at before (Some e) = Some (numbered_expr at before e)
-
-abbrev pub with_having_aggregates : List Scope → Before → List (ℕ × Aggregation) → Option written.Expr → List (ℕ × Aggregation)
-with_having_aggregates at before those None = those
-with_having_aggregates at before those (Some e) = with_aggregates at before those e
-
--- ---- names of GRAPH, and VALUES
-
-abbrev pub behind_graph : List Scope → Before → Graph → Before
-behind_graph at before (graph_variable x) = behind before (naming.named at x)
-behind_graph at before (graph_iri x) = before
-
-abbrev pub graph_of : List Scope → Before → Graph → Slot
-graph_of at before (graph_variable x) = slot.Variable (number before (naming.named at x))
-graph_of at before (graph_iri x) = slot.Constant (term.Iri x)
-
-abbrev pub behind_names : List Scope → Before → List (List ℕ) → Before
-behind_names at before [] = before
-behind_names at before (x ∷ more) = behind_names at (behind before (naming.named at x)) more
-
-abbrev pub numbers_of : List Scope → Before → List (List ℕ) → List ℕ
-numbers_of at before [] = []
-numbers_of at before (x ∷ more) = number before (naming.named at x) ∷ numbers_of at (behind before (naming.named at x)) more
-
--- ---- behind elements and SELECTs
-
-abbrev pub projection_of : Selected → Projection
-projection_of (selected distinct projection body keys having) = projection
-
-abbrev mutual
-  pub behind_element : List Scope → Before → Element → Before
-  behind_element at before (written.triples subject properties) = behind_triples at before subject properties
-  behind_element at before (written.optional_group body) = behind_elements at before body
-  behind_element at before (written.minus_group body) = behind_elements at before body
-  behind_element at before (written.union_of groups) = behind_groups at before groups
-  behind_element at before (written.graph_group name place body) = behind_elements at (behind_graph at before name) body
-  behind_element at before (written.window_group name place body) = behind_elements at before body
-  behind_element at before (written.filter e) = behind_expr at before e
-  behind_element at before (written.exists negated place body) = behind_elements at before body
-  behind_element at before (written.bind e x) = behind (behind_expr at before e) (naming.named at x)
-  behind_element at before (written.values names rows) = behind_names at before names
-  behind_element at before (written.sub_select inner) =
-      behind_within (within before (projection_of inner) at) (behind_select before) inner
-
-  pub behind_elements : List Scope → Before → Elements → Before
-  behind_elements at before no_element = before
-  behind_elements at before (element_then element more) = behind_elements at (behind_element at before element) more
-
-  pub behind_groups : List Scope → Before → written.Groups → Before
-  behind_groups at before written.no_group = before
-  behind_groups at before (written.group_then group more) = behind_groups at (behind_elements at before group) more
-
-  -- behind a SELECT, from behind its word on
-  pub behind_within : List Scope → Before → Selected → Before
-  behind_within at before (selected distinct projection body keys having) =
-      behind_having at
-      (behind_items at (behind_elements at (behind_items at before (items_in projection)) body) keys)
-      having
-
-abbrev pub behind_selected : List Scope → Before → Selected → Before
-behind_selected at before s = behind_within (within before (projection_of s) at) (behind_select before) s
+abbrev pub graph_slot : List Scope → Graph → Numbered Slot
+graph_slot at (graph_variable x) = making slot.Variable (numbered_name at x)
+graph_slot at (graph_iri x) = give (slot.Constant (term.Iri x))
 
 -- ---- elements and SELECTs
 
@@ -125,52 +38,46 @@ abbrev pub is_grouped : List query.Item → Option Formula → List (ℕ × Aggr
 is_grouped [] None [] = false
 is_grouped keys having aggregates = true
 
--- a SELECT of its parts
-abbrev pub selection_of : Bool → Projection → List query.Item → Parts → List query.Item → Option Formula → List (ℕ × Aggregation)
-    → Selection
-selection_of distinct projection items body keys having aggregates =
-    selection distinct (is_star projection) items body (is_grouped keys having aggregates) keys having aggregates
+-- one part; one that has a group
+abbrev pub one : {A : Type 0} → (A → Part) → Numbered A → Numbered (List Part)
+one f made = making (λ a. f a ∷ []) made
+
+abbrev pub holding : (Parts → Part) → Numbered (List Part) → Numbered (List Part)
+holding f made = one (λ parts. f (parts_in parts)) made
 
 abbrev mutual
-  -- the parts so far, and behind them those of an element
-  pub with_element : List Scope → Before → List Part → Element → List Part
-  with_element at before those (written.triples subject properties) = with_triples at before those subject properties
-  with_element at before those (written.optional_group body) =
-      those ++ (optional (parts_in (with_elements at before [] body)) ∷ [])
-  with_element at before those (written.minus_group body) = those ++ (minus (parts_in (with_elements at before [] body)) ∷ [])
-  with_element at before those (written.union_of groups) = those ++ (union (groups_in (groups_of at before groups)) ∷ [])
-  with_element at before those (written.graph_group name place body) =
-      those ++ (graph (graph_of at before name) place (parts_in (with_elements at (behind_graph at before name) [] body)) ∷ [])
-  with_element at before those (written.window_group name place body) =
-      those ++ (window name place (parts_in (with_elements at before [] body)) ∷ [])
-  with_element at before those (written.filter e) = those ++ (filter (numbered_expr at before e) ∷ [])
-  with_element at before those (written.exists negated place body) =
-      those ++ (exists negated place (parts_in (with_elements at before [] body)) ∷ [])
-  with_element at before those (written.bind e x) =
-      those ++ (bind (number (behind_expr at before e) (naming.named at x)) (numbered_expr at before e) ∷ [])
-  with_element at before those (written.values names rows) = those ++ (values (numbers_of at before names) rows ∷ [])
-  with_element at before those (written.sub_select inner) =
-      those ++ (sub (selected_within (within before (projection_of inner) at) (behind_select before) inner) ∷ [])
+  pub element : List Scope → Element → Numbered (List Part)
+  element at (written.triples subject properties) = triples at subject properties
+  element at (written.optional_group body) = holding optional (elements at body)
+  element at (written.minus_group body) = holding minus (elements at body)
+  element at (written.union_of branches) = one union (groups at branches)
+  element at (written.graph_group name place body) =
+      graph_slot at name >>= λ made. holding (graph made place) (elements at body)
+  element at (written.window_group name place body) = holding (window name place) (elements at body)
+  element at (written.filter e) = one filter (apart (expression at e))
+  element at (written.exists negated place body) = holding (exists negated place) (elements at body)
+  element at (written.bind e x) = apart (expression at e) >>= λ made. one (λ v. bind v made) (numbered_name at x)
+  element at (written.values names rows) = one (λ numbers. values numbers rows) (each (numbered_name at) names)
+  element at (written.sub_select inner) = one sub (select at inner)
 
-  pub with_elements : List Scope → Before → List Part → Elements → List Part
-  with_elements at before those no_element = those
-  with_elements at before those (element_then element more) =
-      with_elements at (behind_element at before element) (with_element at before those element) more
+  pub elements : List Scope → Elements → Numbered (List Part)
+  elements at no_element = give []
+  elements at (element_then first more) =
+      element at first >>= λ parts. making (λ others. parts ++ others) (elements at more)
 
-  pub groups_of : List Scope → Before → written.Groups → List (List Part)
-  groups_of at before written.no_group = []
-  groups_of at before (written.group_then group more) =
-      with_elements at before [] group ∷ groups_of at (behind_elements at before group) more
+  pub groups : List Scope → written.Groups → Numbered query.Groups
+  groups at written.no_group = give no_group
+  groups at (written.group_then body more) =
+      elements at body >>= λ parts. making (λ others. group_then (parts_in parts) others) (groups at more)
 
-  -- a SELECT, from behind its word on
-  pub selected_within : List Scope → Before → Selected → Selection
-  selected_within at before (selected distinct projection body keys having) =
-      let behind_clause = behind_items at before (items_in projection) in
-      let behind_body = behind_elements at behind_clause body in
-      let behind_keys = behind_items at behind_body keys in
-      selection_of distinct projection (items_of at before (items_in projection))
-      (parts_in (with_elements at behind_clause [] body)) (items_of at behind_body keys) (having_of at behind_keys having)
-      (with_having_aggregates at behind_keys (with_items_aggregates at before [] (items_in projection)) having)
-
-abbrev pub selected_of : List Scope → Before → Selected → Selection
-selected_of at before s = selected_within (within before (projection_of s) at) (behind_select before) s
+  -- a SELECT, within which its own scope is the innermost
+  pub select : List Scope → Selected → Numbered Selection
+  select at (selected distinct projection body keys having) =
+      opened >>= λ number. let here = scope number projection at in
+      apart
+      (each (item here) (items_in projection) >>= λ items. elements here body >>= λ parts.
+      apart (each (item here) keys) >>= λ made_keys. maybe (expression here) having >>= λ condition.
+      making
+      (λ aggregates. selection distinct (is_star projection) items (parts_in parts) (is_grouped made_keys condition aggregates)
+      made_keys condition aggregates)
+      aggregates_so_far)

@@ -4,6 +4,7 @@ ghost use Rattle.std.specs.List.{position_or_len};
 ghost use Rattle.indexmap.specs.IndexSet.{insert_key};
 ghost use Rattle.rsp_numbering.specs.Naming as naming;
 ghost use Rattle.rsp_numbering.specs.Same.{are_older, derived_same, is_older};
+ghost use Rattle.rsp_numbering.specs.Same as same;
 
 use crate::Variable;
 use indexmap::IndexSet;
@@ -44,8 +45,8 @@ impl Before {
 
     /// The number of a name of this SELECT; it gets one where it has none. Fails only where memory is refused.
     pub fn name(&mut self, select: usize, name: &Text) -> Result<usize, AllocError>
-        ensures number { IfOk result (λ n. n ≡ naming.number self.old (naming.name select name.now)) }
-        ensures behind { OnOk result (self.new ≡ naming.behind self.old (naming.name select name.now)) }
+        ensures number { IfOk result (λ n. n ≡ naming.number self.old (same.name select name.now)) }
+        ensures behind { OnOk result (self.new ≡ naming.behind self.old (same.name select name.now)) }
     {
         let name = name.share()?;
         number_of(&mut self.variables, Variable::Name { select, name })
@@ -53,8 +54,8 @@ impl Before {
 
     /// The number of a label.
     pub fn label(&mut self, label: &Text) -> Result<usize, AllocError>
-        ensures number { IfOk result (λ n. n ≡ naming.number self.old (naming.label label.now)) }
-        ensures behind { OnOk result (self.new ≡ naming.behind self.old (naming.label label.now)) }
+        ensures number { IfOk result (λ n. n ≡ naming.number self.old (same.label label.now)) }
+        ensures behind { OnOk result (self.new ≡ naming.behind self.old (same.label label.now)) }
     {
         let label = label.share()?;
         number_of(&mut self.variables, Variable::Label(label))
@@ -131,7 +132,7 @@ fn text_of(alloc: Global, variable: &Variable) -> Result<Text, AllocError>
 }
 
 fn number_of(variables: &mut IndexSet<Variable>, variable: Variable) -> Result<usize, AllocError>
-    ensures number { IfOk result (λ n. n ≡ naming.place_of variables.old.keys variable) }
+    ensures number { IfOk result (λ n. n ≡ same.place_of variables.old.keys variable) }
     ensures behind { OnOk result (variables.new.keys ≡ naming.with_variable variables.old.keys variable) }
     ensures older { are_older variables.old.keys ≡ true → is_older (suc (length variables.old.keys)) variable ≡ true
         → are_older variables.new.keys ≡ true }

@@ -6,7 +6,7 @@ ghost use Rattle.rsp_numbering.specs.Clauses as numbered;
 ghost use Rattle.rsp_numbering.specs.Limits as limits;
 
 use rsp_query::{Operator, PolicyWords, Strategy, Window, WindowClause};
-use rsp_spec::LAST_INSTANT;
+use rsp_spec::limits::LAST_INSTANT;
 use rsp_terms::{Listed, Text};
 use rsp_text::span;
 use rsp_written::{Keyword, Kind, Policy};

@@ -1,10 +1,12 @@
 // Expressions with numbers in place of names.
 ghost use Rattle.std.specs.Prelude.{◌≡◌, ◌++◌, ◌∷◌, [], IfOk, OnOk, map};
-ghost use Rattle.rsp_expr.specs.Formulas.{arithmetic, call, comparison, formula_of, formulas_in, maybe_formula, membership};
+ghost use Rattle.rsp_expr.specs.Formulas.{arithmetic, call, comparison, formulas_in, membership};
+ghost use Rattle.rsp_expr.specs.Meanings.{formula_of, maybe_formula};
 ghost use Rattle.rsp_written.specs.Building.{exprs_in, operands_in};
 ghost use Rattle.rsp_written.specs.Meanings.{expr_of, operand_of};
 ghost use Rattle.rsp_written.specs.Trees as trees;
-ghost use Rattle.rsp_numbering.specs.Expressions as numbered;
+ghost use Rattle.rsp_numbering.specs.Expressions as defined;
+ghost use Rattle.rsp_numbering.specs.ExpressionSteps as numbered;
 ghost use Rattle.rsp_numbering.specs.Naming as naming;
 ghost use Rattle.rsp_numbering.specs.Seeing.{aggregations_of, scopes_of, signed_formulas};
 
@@ -86,7 +88,7 @@ fn compared(
     left: Box<Expression>,
 ) -> Result<Expression, AllocError>
     ensures formula { IfOk result (λ e. formula_of e
-        ≡ comparison (numbered.sign_of sign) (formula_of left.value)
+        ≡ comparison (defined.sign_of sign) (formula_of left.value)
         (numbered.numbered_expr (scopes_of at.now) before.old (expr_of right.now))) }
     ensures behind { OnOk result (before.new ≡ numbered.behind_expr (scopes_of at.now) before.old (expr_of right.now)) }
     ensures aggregates { OnOk result (aggregations_of aggregates.new.items
@@ -159,7 +161,7 @@ fn prefixed(
     part: &Written,
 ) -> Result<Expression, AllocError>
     ensures formula { IfOk result (λ e. formula_of e
-        ≡ numbered.signed_formula sign (numbered.numbered_expr (scopes_of at.now) before.old (expr_of part.now))) }
+        ≡ defined.signed_formula sign (numbered.numbered_expr (scopes_of at.now) before.old (expr_of part.now))) }
     ensures behind { OnOk result (before.new ≡ numbered.behind_expr (scopes_of at.now) before.old (expr_of part.now)) }
     ensures aggregates { OnOk result (aggregations_of aggregates.new.items
         ≡ numbered.with_aggregates (scopes_of at.now) before.old (aggregations_of aggregates.old.items) (expr_of part.now)) }
@@ -178,7 +180,7 @@ fn called(
     arguments: &[Written],
 ) -> Result<Expression, AllocError>
     ensures formula { IfOk result (λ e. formula_of e
-        ≡ call (numbered.function_of function)
+        ≡ call (defined.function_of function)
         (formulas_in (numbered.numbered_exprs (scopes_of at.now) before.old (exprs_in (map expr_of arguments.now))))) }
     ensures behind { OnOk result (before.new
         ≡ numbered.behind_exprs (scopes_of at.now) before.old (exprs_in (map expr_of arguments.now))) }
@@ -331,7 +333,7 @@ fn joined(
 }
 
 fn signed(sign: Kind, part: Box<Expression>) -> Expression
-    ensures { formula_of result ≡ numbered.signed_formula sign (formula_of part.value) }
+    ensures { formula_of result ≡ defined.signed_formula sign (formula_of part.value) }
 {
     match sign {
         Kind::Symbol(Symbol::Sign(Sign::Subtract)) => Expression::Negate(part),

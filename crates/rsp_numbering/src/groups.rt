@@ -1,13 +1,13 @@
 // Groups and SELECTs with numbers in place of names.
 ghost use Rattle.std.specs.Prelude.{◌≡◌, ◌++◌, ◌∷◌, [], IfOk, OnOk, map};
-ghost use Rattle.rsp_query.specs.Groups as query;
+ghost use Rattle.rsp_query.specs.Meanings as query;
 ghost use Rattle.rsp_written.specs.Building.{elements_in, groups_in};
 ghost use Rattle.rsp_written.specs.GroupMeanings as written;
 ghost use Rattle.rsp_written.specs.Meanings.{expr_of};
 ghost use Rattle.rsp_written.specs.Trees as trees;
 ghost use Rattle.rsp_numbering.specs.Naming as naming;
 ghost use Rattle.rsp_numbering.specs.Seeing.{branches_of, scopes_of, written_branches_of};
-ghost use Rattle.rsp_numbering.specs.Selections as numbered;
+ghost use Rattle.rsp_numbering.specs.SelectionSteps as numbered;
 
 use crate::Before;
 use crate::items::{

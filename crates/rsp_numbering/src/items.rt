@@ -1,13 +1,14 @@
 // Items of SELECTs, keys, HAVING, names of GRAPH and the columns of VALUES.
 ghost use Rattle.std.specs.Prelude.{◌≡◌, IfOk, OnOk, map};
-ghost use Rattle.rsp_expr.specs.Formulas.{formula_of, maybe_formula};
-ghost use Rattle.rsp_query.specs.Groups as query;
+ghost use Rattle.rsp_expr.specs.Meanings.{formula_of, maybe_formula};
+ghost use Rattle.rsp_query.specs.Meanings as query;
 ghost use Rattle.rsp_written.specs.GroupMeanings as written;
 ghost use Rattle.rsp_written.specs.Meanings.{expr_of};
-ghost use Rattle.rsp_numbering.specs.Expressions as expressions;
+ghost use Rattle.rsp_numbering.specs.ExpressionSteps as expressions;
 ghost use Rattle.rsp_numbering.specs.Naming as naming;
 ghost use Rattle.rsp_numbering.specs.Seeing.{aggregations_of, scopes_of};
-ghost use Rattle.rsp_numbering.specs.Selections as numbered;
+ghost use Rattle.rsp_numbering.specs.Selections as defined;
+ghost use Rattle.rsp_numbering.specs.SelectionSteps as numbered;
 
 use crate::Before;
 use crate::expressions::numbered;
@@ -94,12 +95,12 @@ pub(crate) fn projected(
     projection: &Projection,
 ) -> Result<Vec<SelectItem>, AllocError>
     ensures items { IfOk result (λ made. map query.item_of made.items
-        ≡ numbered.items_of (scopes_of at.now) before.old (numbered.items_in (written.projection_of projection.now))) }
+        ≡ numbered.items_of (scopes_of at.now) before.old (defined.items_in (written.projection_of projection.now))) }
     ensures behind { OnOk result (before.new
-        ≡ numbered.behind_items (scopes_of at.now) before.old (numbered.items_in (written.projection_of projection.now))) }
+        ≡ numbered.behind_items (scopes_of at.now) before.old (defined.items_in (written.projection_of projection.now))) }
     ensures aggregates { OnOk result (aggregations_of aggregates.new.items
         ≡ numbered.with_items_aggregates (scopes_of at.now) before.old (aggregations_of aggregates.old.items)
-        (numbered.items_in (written.projection_of projection.now))) }
+        (defined.items_in (written.projection_of projection.now))) }
 {
     match projection {
         Projection::Every => Ok(Vec::new(alloc)),
@@ -152,7 +153,7 @@ pub(crate) fn is_grouped(
     aggregates: &[(usize, Aggregate)],
 ) -> bool
     ensures { result
-        ≡ numbered.is_grouped (map query.item_of keys.now) (maybe_formula having.now) (aggregations_of aggregates.now) }
+        ≡ defined.is_grouped (map query.item_of keys.now) (maybe_formula having.now) (aggregations_of aggregates.now) }
 {
     match (keys, having, aggregates) {
         ([], None, []) => false,

@@ -4,11 +4,13 @@ ghost use Rattle.rsp_written.specs.Building.{elements_in, exprs_in, groups_in, n
 ghost use Rattle.rsp_written.specs.GroupMeanings as written;
 ghost use Rattle.rsp_written.specs.Meanings as meanings;
 ghost use Rattle.rsp_numbering.specs.Counting as counting;
-ghost use Rattle.rsp_numbering.specs.Expressions as expressions;
+ghost use Rattle.rsp_numbering.specs.ExpressionSteps as expressions;
 ghost use Rattle.rsp_numbering.specs.Naming as naming;
+ghost use Rattle.rsp_numbering.specs.Same as same;
 ghost use Rattle.rsp_numbering.specs.Seeing.{scopes_of, written_branches_of};
-ghost use Rattle.rsp_numbering.specs.Selections as numbered;
-ghost use Rattle.rsp_numbering.specs.Triples as triples;
+ghost use Rattle.rsp_numbering.specs.Selections as defined;
+ghost use Rattle.rsp_numbering.specs.SelectionSteps as numbered;
+ghost use Rattle.rsp_numbering.specs.TripleSteps as triples;
 
 use crate::Before;
 use crate::scopes::{Scope, number_of, within};
@@ -121,7 +123,7 @@ fn of_verb(at: &[Scope], before: &mut Before, verb: &Verb) -> Result<(), AllocEr
 }
 
 fn label(before: &mut Before, label: &Text) -> Result<(), AllocError>
-    ensures { OnOk result (before.new ≡ naming.behind before.old (naming.label label.now)) }
+    ensures { OnOk result (before.new ≡ naming.behind before.old (same.label label.now)) }
 {
     before.label(label)?;
     Ok(())
@@ -233,7 +235,7 @@ fn of_projection(
     projection: &Projection,
 ) -> Result<(), AllocError>
     ensures { OnOk result (before.new
-        ≡ numbered.behind_items (scopes_of at.now) before.old (numbered.items_in (written.projection_of projection.now))) }
+        ≡ numbered.behind_items (scopes_of at.now) before.old (defined.items_in (written.projection_of projection.now))) }
 {
     match projection {
         Projection::Every => Ok(()),

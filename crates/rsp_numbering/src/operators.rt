@@ -1,6 +1,6 @@
 // Operators, calls and aggregates of a query, counted on the tree as it is written. A count that 64 bits don't hold is
 // answered as want of memory.
-ghost use Rattle.std.specs.Prelude.{◌≡◌, ◌+◌, IfOk, map};
+ghost use Rattle.std.specs.Prelude.{◌≡◌, ◌+◌, IfOk, map, option_to_list, sum_by};
 ghost use Rattle.rsp_written.specs.Building.{elements_in, exprs_in, groups_in, operands_in};
 ghost use Rattle.rsp_written.specs.GroupMeanings as written;
 ghost use Rattle.rsp_written.specs.Meanings.{expr_of, operand_of};
@@ -27,15 +27,15 @@ fn operators(expression: &Expression) -> Result<usize, AllocError>
         Expression::Variable(_) => Ok(0),
         Expression::Iri(_) => Ok(0),
         Expression::Constant(_) => Ok(0),
-        Expression::AnyOf(parts) => Ok(operators_following(parts)?.saturating_sub(1)),
-        Expression::AllOf(parts) => Ok(operators_following(parts)?.saturating_sub(1)),
+        Expression::AnyOf(parts) => Ok(operators_among(1, parts)?.saturating_sub(1)),
+        Expression::AllOf(parts) => Ok(operators_among(1, parts)?.saturating_sub(1)),
         Expression::Compared { left, right, .. } => {
             let left = operators(left)?;
             plus(1, plus(left, operators(right)?)?)
         }
         Expression::Member { item, list, .. } => {
             let item = operators(item)?;
-            plus(1, plus(item, operators_among(list)?)?)
+            plus(1, plus(item, operators_among(0, list)?)?)
         }
         Expression::Sum { first, rest } => {
             let first = operators(first)?;
@@ -47,31 +47,20 @@ fn operators(expression: &Expression) -> Result<usize, AllocError>
         }
         Expression::Signed { part, .. } => plus(1, operators(part)?),
         Expression::Bound(_) => Ok(1),
-        Expression::Call { arguments, .. } => plus(1, operators_among(arguments)?),
+        Expression::Call { arguments, .. } => plus(1, operators_among(0, arguments)?),
         Expression::CountRows => Ok(1),
         Expression::Aggregate { argument, .. } => plus(1, operators(argument)?),
     }
 }
 
+// each with so many signs before it
 #[cycle(operators)]
-fn operators_among(expressions: &[Expression]) -> Result<usize, AllocError>
-    ensures { IfOk result (λ n. n ≡ limits.operators_among (exprs_in (map expr_of expressions.now))) }
+fn operators_among(signs: usize, expressions: &[Expression]) -> Result<usize, AllocError>
+    ensures { IfOk result (λ n. n ≡ limits.operators_among signs (exprs_in (map expr_of expressions.now))) }
 {
     let mut count = 0;
     for expression in expressions {
-        count = plus(count, operators(expression)?)?;
-    }
-    Ok(count)
-}
-
-// each with a sign before it
-#[cycle(operators)]
-fn operators_following(expressions: &[Expression]) -> Result<usize, AllocError>
-    ensures { IfOk result (λ n. n ≡ limits.operators_following (exprs_in (map expr_of expressions.now))) }
-{
-    let mut count = 0;
-    for expression in expressions {
-        count = plus(count, plus(1, operators(expression)?)?)?;
+        count = plus(count, plus(signs, operators(expression)?)?)?;
     }
     Ok(count)
 }
@@ -99,7 +88,7 @@ fn of_item(item: &Item) -> Result<usize, AllocError>
 }
 
 fn of_items(items: &[Item]) -> Result<usize, AllocError>
-    ensures { IfOk result (λ n. n ≡ limits.items_operators (map written.item_of items.now)) }
+    ensures { IfOk result (λ n. n ≡ sum_by limits.item_operators (map written.item_of items.now)) }
 {
     let mut count = 0;
     for item in items {
@@ -109,7 +98,7 @@ fn of_items(items: &[Item]) -> Result<usize, AllocError>
 }
 
 fn of_projection(projection: &Projection) -> Result<usize, AllocError>
-    ensures { IfOk result (λ n. n ≡ limits.items_operators (items_in (written.projection_of projection.now))) }
+    ensures { IfOk result (λ n. n ≡ sum_by limits.item_operators (items_in (written.projection_of projection.now))) }
 {
     match projection {
         Projection::Every => Ok(0),
@@ -118,7 +107,7 @@ fn of_projection(projection: &Projection) -> Result<usize, AllocError>
 }
 
 fn of_having(having: &Option<Expression>) -> Result<usize, AllocError>
-    ensures { IfOk result (λ n. n ≡ limits.having_operators (written.maybe_expr having.now)) }
+    ensures { IfOk result (λ n. n ≡ sum_by limits.operators (option_to_list (written.maybe_expr having.now))) }
 {
     match having {
         None => Ok(0),

@@ -1,6 +1,7 @@
 // Paths, which name no variable.
 ghost use Rattle.std.specs.Prelude.{◌≡◌, IfOk, map};
-ghost use Rattle.rsp_query.specs.Paths.{way_of, ways_in};
+ghost use Rattle.rsp_query.specs.Paths.{ways_in};
+ghost use Rattle.rsp_query.specs.Meanings.{way_of};
 ghost use Rattle.rsp_written.specs.Building as building;
 ghost use Rattle.rsp_written.specs.Meanings as written;
 ghost use Rattle.rsp_numbering.specs.Triples as numbered;

@@ -1,9 +1,9 @@
 // The query that a text is, within the limits.
 ghost use Rattle.std.specs.Prelude.{◌≡◌, IfOk};
-ghost use Rattle.rsp_query.specs.Queries.{registered};
+ghost use Rattle.rsp_query.specs.Meanings.{registered};
 ghost use Rattle.rsp_written.specs.GroupMeanings as written;
 ghost use Rattle.rsp_numbering.specs.Counting as counting;
-ghost use Rattle.rsp_numbering.specs.Results.{IsNumbered, IsNumberedBehind, query_behind};
+ghost use Rattle.rsp_numbering.specs.Results.{IsNumbered, IsNumberedBehind, IsNumberedBy, query_behind};
 
 use crate::clauses::{has_periods, operator_of, policy_of, windows_of};
 use crate::counts::{Count, in_select};
@@ -18,6 +18,15 @@ use std::alloc::{AllocError, Global};
 /// The query that a text is as the algebra takes it, or the first limit that it passes. Fails only where memory is refused.
 pub fn query_of(alloc: Global, text: &Registration) -> Result<Result<Query, LimitName>, AllocError>
     ensures { IfOk result (IsNumbered (written.written_of text.now)) }
+{
+    query_or_limit(alloc, text)
+}
+
+fn query_or_limit(
+    alloc: Global,
+    text: &Registration,
+) -> Result<Result<Query, LimitName>, AllocError>
+    ensures { IfOk result (IsNumberedBy (written.written_of text.now)) }
 {
     if 16 < text.windows.len() {
         return Ok(Err(LimitName::Windows));

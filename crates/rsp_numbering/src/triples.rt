@@ -1,12 +1,12 @@
 // Triples with numbers in place of names.
 ghost use Rattle.std.specs.Prelude.{◌≡◌, ◌++◌, ◌∷◌, [], IfOk, OnOk, map};
-ghost use Rattle.rsp_query.specs.Groups.{part_of, triple};
-ghost use Rattle.rsp_query.specs.Paths.{way_of};
+ghost use Rattle.rsp_query.specs.Groups.{triple};
+ghost use Rattle.rsp_query.specs.Meanings.{part_of, way_of};
 ghost use Rattle.rsp_written.specs.Building.{nodes_in};
 ghost use Rattle.rsp_written.specs.Meanings as written;
 ghost use Rattle.rsp_numbering.specs.Naming as naming;
 ghost use Rattle.rsp_numbering.specs.Seeing.{scopes_of};
-ghost use Rattle.rsp_numbering.specs.Triples as numbered;
+ghost use Rattle.rsp_numbering.specs.TripleSteps as numbered;
 
 use crate::Before;
 use crate::paths::path_of;

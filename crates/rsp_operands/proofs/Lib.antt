@@ -2,3 +2,4 @@ pub mod JoinedTexts
 pub mod SameTerms
 pub mod TermOrder
 pub mod TwoTerms
+pub mod NumberTruth

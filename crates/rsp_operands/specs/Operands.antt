@@ -7,6 +7,7 @@ use Rattle.rsp_expr.specs.Numerals.{numeral_literal}
 use Rattle.rsp_expr.specs.Strings.{string_literal}
 use Rattle.rsp_expr.specs.Comparing as comparing
 use Rattle.rsp_expr.specs.Functions as functions
+use Rattle.rsp_functions.specs.declared.function.Function.{Function}
 use Rattle.rsp_operands.specs.declared.comparing.Comparable.{Comparable}
 use Rattle.rsp_operands.specs.declared.comparing.Comparable.TheVariants as comparable
 use Rattle.rsp_operands.specs.declared.operand.Operand.{Operand}
@@ -43,3 +44,13 @@ texts_onto (Some front) (term ∷ terms) = texts_onto (text_onto front (function
 
 abbrev pub tag_for : Term → Option (List ℕ)
 tag_for term = option_and_then (λ (w : functions.Written). w.tag) (functions.written_of term)
+
+-- functions by the number of their arguments
+abbrev pub unary_value : Function → Term → Option Term
+unary_value name term = functions.function_value name (term ∷ [])
+
+abbrev pub binary_value : Function → Term → Term → Option Term
+binary_value name left right = functions.function_value name (left ∷ right ∷ [])
+
+abbrev pub ternary_value : Function → Term → Term → Term → Option Term
+ternary_value name first second third = functions.function_value name (first ∷ second ∷ third ∷ [])

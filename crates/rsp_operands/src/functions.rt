@@ -1,8 +1,8 @@
 // Arithmetic, and the functions of one, two and three arguments (SPARQL 1.1 Query, sections 17.3 and 17.4).
 ghost use Rattle.std.specs.Prelude.{◌≡◌, IfOk};
 ghost use Rattle.rsp_expr.specs.Functions as functions;
-ghost use Rattle.rsp_expr.specs.Functions.{calculation, unary_value, binary_value, ternary_value};
-ghost use Rattle.rsp_operands.specs.Operands.{term_for, value_for};
+ghost use Rattle.rsp_expr.specs.Functions.{calculation};
+ghost use Rattle.rsp_operands.specs.Operands.{unary_value, binary_value, ternary_value, term_for, value_for};
 
 use crate::operand::Operand;
 use crate::same::same_term;

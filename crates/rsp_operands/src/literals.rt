@@ -1,9 +1,9 @@
 // Functions on terms (SPARQL 1.1 Query, section 17.4.2). Of another kind of argument they are errors.
 ghost use Rattle.std.specs.Prelude.{◌≡◌, IfOk};
 ghost use Rattle.rsp_expr.specs.Strings.{string_of as string_of_term};
-ghost use Rattle.rsp_expr.specs.Functions.{lexical_form, language_tag, datatype_iri, iri_of, iri_in, unary_value, binary_value};
+ghost use Rattle.rsp_expr.specs.Functions.{lexical_form, language_tag, datatype_iri, iri_of, iri_in};
 ghost use Rattle.rsp_functions.specs.declared.function.Function.TheVariants as function;
-ghost use Rattle.rsp_operands.specs.Operands.{term_for, value_for};
+ghost use Rattle.rsp_operands.specs.Operands.{unary_value, binary_value, term_for, value_for};
 
 use crate::operand::Operand;
 use rsp_expr::Datatype;

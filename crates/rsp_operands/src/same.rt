@@ -3,9 +3,8 @@ ghost use Rattle.std.specs.Prelude.{◌≡◌};
 ghost use Rattle.rsp_terms.specs.Same.{term_eq};
 ghost use Rattle.rsp_expr.specs.BooleanValues.{boolean_literal};
 ghost use Rattle.rsp_expr.specs.Numerals.{numeral_literal};
-ghost use Rattle.rsp_expr.specs.Functions.{binary_value};
 ghost use Rattle.rsp_functions.specs.declared.function.Function.TheVariants as function;
-ghost use Rattle.rsp_operands.specs.Operands.{term_for, value_for};
+ghost use Rattle.rsp_operands.specs.Operands.{binary_value, term_for, value_for};
 
 use crate::operand::{Operand, read_back};
 use rsp_literals::{is_boolean_term, is_string_term, is_term_of};

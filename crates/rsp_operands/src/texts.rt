@@ -2,10 +2,10 @@
 ghost use Rattle.std.specs.Prelude.{◌≡◌, IfOk, pos};
 ghost use Rattle.std.specs.Option.{option_copied};
 ghost use Rattle.rsp_number.specs.Numbers.{integer_result};
-ghost use Rattle.rsp_expr.specs.Functions.{are_compatible, part_of, integer_of, integer_in, unary_value, binary_value};
-ghost use Rattle.rsp_expr.specs.Functions.{ternary_value, numeral_result};
+ghost use Rattle.rsp_expr.specs.Functions.{are_compatible, part_of, integer_of, integer_in};
+ghost use Rattle.rsp_expr.specs.Functions.{numeral_result};
 ghost use Rattle.rsp_functions.specs.declared.function.Function.TheVariants as function;
-ghost use Rattle.rsp_operands.specs.Operands.{term_for, value_for, written_for};
+ghost use Rattle.rsp_operands.specs.Operands.{unary_value, binary_value, ternary_value, term_for, value_for, written_for};
 
 use crate::operand::{Operand, Written, text_operand};
 use rsp_number::{IntegerNumber, Number};

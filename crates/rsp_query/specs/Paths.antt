@@ -1,10 +1,6 @@
 -- Definitions: property paths as plain trees (SPARQL 1.1 Query, section 18.2.2.3).
 use Rattle.std.specs.Prelude.{ℕ, suc, ◌+◌, ◌-◌, List, [], ◌∷◌}
 use Rattle.rsp_expr.specs.declared.slot.Slot.{Slot}
-use Rattle.rsp_query.specs.declared.path.Path.{Path}
-use Rattle.rsp_query.specs.declared.path.Path.TheOpen.{Path-F}
-use Rattle.rsp_query.specs.declared.path.Path.TheOpen as layer
-use Rattle.rsp_query.specs.declared.path.Path.TheFolds.{fold-Path}
 
 mutual
   pub data Way : Type 0 where
@@ -35,19 +31,8 @@ abbrev mutual
   slashes_following no_way = 0
   slashes_following (way_then way more) = suc (slashes way + slashes_following more)
 
--- ---- the ways of the code's paths
+-- ---- the ways of a list
 
 abbrev pub ways_in : List Way → Ways
 ways_in [] = no_way
 ways_in (way ∷ others) = way_then way (ways_in others)
-
--- a node of the code's tree whose parts are ways already
-abbrev pub way_step : Path-F Way → Way
-way_step (layer.Step slot) = step slot
-way_step (layer.Inverse part) = inverse part.value
-way_step (layer.Sequence parts) = sequence (ways_in parts.items)
-way_step (layer.Choice parts) = choice (ways_in parts.items)
-
--- the way that a path of the code is
-abbrev pub way_of : Path → Way
-way_of = fold-Path Way way_step

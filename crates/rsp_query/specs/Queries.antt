@@ -1,10 +1,9 @@
 -- Definitions: queries as plain data.
 use Rattle.std.specs.Prelude.{ℕ, List}
-use Rattle.rsp_streams_out.specs.declared.operator.Operator.{Operator}
+use Rattle.rsp_report.specs.declared.operator.Operator.{Operator}
 use Rattle.rsp_report.specs.declared.words.PolicyWords.{PolicyWords}
-use Rattle.rsp_query.specs.declared.query.Query.{Query}
 use Rattle.rsp_query.specs.declared.query.WindowClause.{WindowClause}
-use Rattle.rsp_query.specs.Groups.{Selection, selection_of}
+use Rattle.rsp_query.specs.Groups.{Selection}
 
 pub record Registered : Type 0 where
   pub operator : Operator
@@ -13,14 +12,3 @@ pub record Registered : Type 0 where
   pub windows : List WindowClause
   pub selection : Selection
   pub variables : List (List ℕ)
-
--- what a query of the code says
-abbrev pub registered : Query → Registered
-registered q = record {
-  operator = q.operator;
-  output = q.output;
-  policy = q.policy;
-  windows = q.windows.items;
-  selection = selection_of q.select;
-  variables = q.variables.items;
-}

@@ -13,7 +13,6 @@ mod select;
 pub use path::Path;
 pub use query::{Query, WindowClause};
 pub use rsp_expr::{Aggregate, Expression, Function, Kind, Sign, Slot};
-pub use rsp_report::{PolicyWords, Strategy};
-pub use rsp_streams_out::Operator;
+pub use rsp_report::{Operator, PolicyWords, Strategy};
 pub use rsp_windows::Window;
 pub use select::{Element, Select, SelectItem};

@@ -1,6 +1,6 @@
 // Property paths.
 ghost use Rattle.std.specs.Prelude.{◌≡◌, IfOk, map};
-ghost use Rattle.rsp_query.specs.Paths.{way_of};
+ghost use Rattle.rsp_query.specs.Meanings.{way_of};
 
 use rsp_expr::Slot;
 use std::alloc::{AllocError, Global};

@@ -1,7 +1,6 @@
 // Queries.
 use crate::Select;
-use rsp_report::PolicyWords;
-use rsp_streams_out::Operator;
+use rsp_report::{Operator, PolicyWords};
 use rsp_terms::Text;
 use rsp_windows::Window;
 

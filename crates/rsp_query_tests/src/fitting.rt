@@ -1,10 +1,11 @@
 // Whether trees fit a width, which evaluation asks for.
 ghost use Rattle.std.specs.Prelude.{◌≡◌, true, length, ◌++◌};
 ghost use Rattle.std.specs.List.{AllByRecursion};
-ghost use Rattle.rsp_expr.specs.Formulas.{formula_of, maybe_formula, aggregation_of};
-ghost use Rattle.rsp_algebra.specs.Nodes.{node_of, place_variables, slot_variables, formula_variables};
+ghost use Rattle.rsp_expr.specs.Meanings.{formula_of, maybe_formula, aggregation_of};
+ghost use Rattle.rsp_algebra.specs.Nodes.{place_variables, slot_variables, formula_variables};
+ghost use Rattle.rsp_algebra.specs.Meanings.{node_of};
 ghost use Rattle.rsp_algebra.specs.Fitting.{Fits, AreBelow};
-ghost use Rattle.rsp_algebra.specs.Nodes.{aggregations_of};
+ghost use Rattle.rsp_algebra.specs.Meanings.{aggregations_of};
 ghost use Rattle.rsp_algebra.specs.Fitting.{argument_variables, has_form, AggregateFits};
 
 use rsp_algebra::{Place, Tree};

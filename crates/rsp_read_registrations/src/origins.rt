@@ -2,15 +2,14 @@
 ghost use Rattle.std.specs.Prelude.{◌≡◌, ◌-◌, ◌^◌, None, Some, cond, min, nat_le};
 ghost use Rattle.std.specs.Char.{digit_value};
 ghost use Rattle.std.specs.Str.Parse.{digits_value};
+ghost use Rattle.rsp_spec.specs.Limits.{last_instant};
 ghost use Rattle.rsp_written.specs.Gives.{Gives};
 ghost use Rattle.rsp_written.specs.Grammar.{origin_of_kind};
 ghost use Rattle.rsp_written.specs.GroupReadings as readings;
 
+use rsp_spec::limits::LAST_INSTANT;
 use rsp_text::instant;
 use rsp_written::{Halt, Kind, Said};
-
-// the last instant that a text can say: 9999-12-31T23:59:59.999Z, in milliseconds since 1970-01-01T00:00:00Z
-const LAST_INSTANT: u64 = 253_402_300_799_999;
 
 // a digit's value; 36 for what is no digit and no letter
 fn digit_value(byte: u8) -> u64
@@ -34,7 +33,7 @@ fn number(digits: &[u8]) -> u64
 }
 
 fn integer(digits: &[u8]) -> Option<u64>
-    ensures { result ≡ cond (nat_le (digits_value 10 digits.now) 253402300799999) (Some (digits_value 10 digits.now)) None }
+    ensures { result ≡ cond (nat_le (digits_value 10 digits.now) last_instant) (Some (digits_value 10 digits.now)) None }
 {
     let value = number(digits);
     if value <= LAST_INSTANT {

@@ -21,7 +21,7 @@ pub struct Chosen {
 }
 
 /// A strategy is named twice, or the tick is TUPLE beside CLOSE or EVERY.
-#[derive(Clone, Copy, PartialEq, Eq, Drop)]
+#[derive(Clone, Copy, PartialEq, Eq, Debug, Drop)]
 pub struct PolicyMix;
 
 /// What the words ask. Takes no memory. `PolicyMix` exactly where a strategy is named twice, EVERY with two periods

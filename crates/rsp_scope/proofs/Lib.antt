@@ -10,6 +10,7 @@ pub mod Needs
 pub mod Orders
 pub mod Puts
 pub mod Risings
+pub mod InsertCounts
 pub mod ScopeRows
 pub mod StoredLaws
 pub mod Takings

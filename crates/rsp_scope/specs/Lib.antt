@@ -12,4 +12,5 @@ pub mod Moves
 pub mod Lanes
 pub mod Order
 pub mod Pieces
+pub mod Putting
 pub mod Runs

@@ -7,7 +7,8 @@ use Rattle.rsp_scope.specs.declared.pieces.Piece.{Piece}
 
 -- from each of the places they say the same
 abbrev pub AreAlike : List ℕ → List Piece → List Piece → Type 0
-AreAlike places before after = (place : ℕ) → Contains places place → (q : Fact) → pieces_since after place q ≡ pieces_since before place q
+AreAlike places before after =
+    (place : ℕ) → Contains places place → (q : Fact) → pieces_since after place q ≡ pieces_since before place q
 
 -- none ends behind this place
 abbrev pub EndBy : ℕ → List Piece → Type 0

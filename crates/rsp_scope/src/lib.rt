@@ -17,6 +17,7 @@ mod peaks;
 mod pieces;
 mod queue;
 mod removal;
+mod room;
 mod runs;
 mod shared;
 mod store_log;

@@ -1,22 +1,23 @@
 // Stored quads.
 ghost use Rattle.std.specs.Prelude.{◌≡◌, ◌<◌, ◌≤◌, ◌+ℤ◌, ℕ, [], take, drop, length, map, IfOk, IfErr, OnOk, OnErr};
 ghost use Rattle.std.specs.List.{IsDistinct};
+ghost use Rattle.rsp_spec.specs.Limits.{most_quads};
 ghost use Rattle.rsp_multiset.specs.Weights.{times, weight, IsChanged, IsSameMultiset};
 ghost use Rattle.rsp_terms.specs.declared.statement.Fact.{Fact};
 ghost use Rattle.rsp_terms.specs.Same.{fact_eq};
 ghost use Rattle.rsp_scope.specs.Quads.{fact_of, stored_with, stored_without};
 ghost use Rattle.rsp_scope.specs.Faults.{IsStoredFault};
+ghost use Rattle.rsp_scope.specs.Putting.{IsUncounted};
 
 use crate::removal::{stored_among, take_out};
+use crate::room::counted;
 use indexmap::IndexSet;
 use rsp_multiset::Changes;
+use rsp_spec::limits::MOST_QUADS;
 use rsp_terms::{Fact, Quad, Spot};
 use std::alloc::{AllocError, Global};
 use std::marker::Model;
 use thiserror::Error;
-
-/// At most so many quads are stored.
-pub(crate) const MOST_QUADS: u64 = 1_000_000;
 
 /// Why quads weren't stored.
 #[derive(Debug, Drop, Error)]
@@ -59,6 +60,7 @@ impl Model for Stored {
 impl Stored {
     ghost use Rattle.std.specs.Prelude.{◌≡◌, ◌<◌, ◌≤◌, ◌+ℤ◌, ℕ, [], take, drop, length, map, IfOk, OnOk, OnErr, IfErr};
     ghost use Rattle.std.specs.List.{IsDistinct};
+    ghost use Rattle.rsp_spec.specs.Limits.{most_quads};
     ghost use Rattle.rsp_multiset.specs.Weights.{times, weight, IsChanged, IsSameMultiset};
     ghost use Rattle.rsp_terms.specs.declared.statement.Fact.{Fact};
     ghost use Rattle.rsp_terms.specs.Same.{fact_eq};
@@ -83,20 +85,23 @@ impl Stored {
         self.facts.len() as u64
     }
 
-    /// Stores the quads that aren't stored. Gives what came in. A refusal, want of memory too, leaves all as it was.
+    /// Stores the quads that aren't stored. Gives what came in. A refusal, want of memory too, leaves all as it was. Memory is
+    /// wanted only where the quads would fit.
     pub fn insert(&mut self, quads: &[Quad]) -> Result<Changes<Fact>, StoredFault>
         ensures stored { OnOk result (self.new ≡ stored_with self.old quads.now) }
         ensures change { IfOk result (λ change. IsChanged fact_eq self.old change self.new) }
-        ensures within { OnOk result (length self.new ≤ 1000000) }
+        ensures within { OnOk result (length self.new ≤ most_quads) }
         ensures fault { IfErr result (λ fault. IsStoredFault (length (stored_with self.old quads.now)) fault) }
         ensures err { OnErr result (self.new ≡ self.old) }
     {
         let before = self.facts.len();
-        let change = put_within(self.alloc, &mut self.facts, quads);
-        if change.is_err() {
-            self.facts.truncate(before);
+        match put_within(self.alloc, &mut self.facts, quads) {
+            Ok(change) => Ok(change),
+            Err(fault) => {
+                self.facts.truncate(before);
+                Err(counted(fault, self.facts.as_slice(), quads))
+            }
         }
-        change
     }
 
     /// Takes out the named quads that are stored. Gives what went. The order of those that stay is left open. Want of
@@ -126,8 +131,8 @@ fn put_within(
 ) -> Result<Changes<Fact>, StoredFault>
     ensures stored { OnOk result (facts.new.keys ≡ stored_with facts.old.keys quads.now) }
     ensures change { IfOk result (λ change. IsChanged fact_eq facts.old.keys change facts.new.keys) }
-    ensures within { OnOk result (length facts.new.keys ≤ 1000000) }
-    ensures fault { IfErr result (λ fault. IsStoredFault (length (stored_with facts.old.keys quads.now)) fault) }
+    ensures within { OnOk result (length facts.new.keys ≤ most_quads) }
+    ensures fault { IfErr result (IsUncounted (length (stored_with facts.old.keys quads.now))) }
     ensures kept { take (length facts.old.keys) facts.new.keys ≡ facts.old.keys }
 {
     let before = facts.len();

@@ -1,5 +1,5 @@
 -- Worked rows: the first faults of shapes and scopes.
-use Rattle.std.proofs.Common.{◌≡◌, ℕ, Bool, true, false, List, [], ◌∷◌, refl, Option, Some, None, codes}
+use Rattle.std.proofs.Common.{◌≡◌, ℕ, Bool, true, false, List, [], ◌∷◌, map, refl, Option, Some, None, codes}
 use Rattle.rsp_terms.specs.declared.term.Term.TheVariants as term
 use Rattle.rsp_expr.specs.declared.slot.Slot.TheVariants as slot
 use Rattle.rsp_functions.specs.declared.aggregate.Kind.TheVariants as kind
@@ -10,7 +10,9 @@ use Rattle.rsp_query.specs.Groups as query
 use Rattle.rsp_query.specs.Groups.{Item, Part, Parts, Selection, parts_in, groups_in, selection}
 use Rattle.rsp_shapes.specs.declared.unscoped.Unscoped.{Unscoped}
 use Rattle.rsp_shapes.specs.declared.unscoped.Unscoped.TheVariants.{Star, Variable}
-use Rattle.rsp_shapes.specs.Shapes.{graph_fault_in, exists_fault_in}
+use Rattle.rsp_expr.specs.Errors.{first_value}
+use Rattle.rsp_query.specs.Walks.{parts_within}
+use Rattle.rsp_shapes.specs.Shapes.{graph_fault, exists_fault}
 use Rattle.rsp_shapes.specs.Scopes.{scope_fault_of}
 
 tp : ℕ → ℕ → Part
@@ -31,7 +33,7 @@ group parts = parts_in parts
 -- ---- windows and graphs
 
 graphs : List Part → Option ℕ
-graphs parts = graph_fault_in (codes "w" ∷ []) (parts_in parts)
+graphs parts = first_value (map (λ p. graph_fault (codes "w" ∷ []) p.1) (parts_within false (parts_in parts)))
 
 declared_window : graphs (query.window (codes "w") 1 (group (tp 0 1 ∷ [])) ∷ []) ≡ None
 unfolding tp group graphs
@@ -60,7 +62,7 @@ graph_by_name = refl
 -- ---- EXISTS
 
 tests : List Part → Option ℕ
-tests parts = exists_fault_in false (parts_in parts)
+tests parts = first_value (map exists_fault (parts_within false (parts_in parts)))
 
 -- a filter at its top is good, one below isn't
 exists_with_filter : tests (query.exists false 5 (group (tp 0 1 ∷ query.filter (var 0) ∷ [])) ∷ []) ≡ None

@@ -1,2 +1,3 @@
 pub mod FirstIn
+pub mod Walked
 mod FaultRows

@@ -1,6 +1,6 @@
 -- Words of the way: what the code knows.
 use Rattle.std.specs.Prelude.{ℕ, Bool, not, map}
-use Rattle.rsp_query.specs.Groups.{item_of, numbered_aggregation}
+use Rattle.rsp_query.specs.Meanings.{item_of, numbered_aggregation}
 use Rattle.rsp_shapes.specs.declared.known.Known as code_known
 use Rattle.rsp_shapes.specs.Scopes.{is_known}
 

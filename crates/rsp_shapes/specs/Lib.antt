@@ -6,3 +6,4 @@ pub mod Scopes
 pub mod Sound
 pub mod Seeing
 pub mod Groups
+pub mod Walking

@@ -8,7 +8,8 @@ use Rattle.std.specs.formers.vec.Vec.{mapped}
 use Rattle.rsp_expr.specs.Formulas as formula
 use Rattle.rsp_expr.specs.Formulas.{Formula, Formulas, no_formula, formula_then}
 use Rattle.rsp_query.specs.declared.select.Element.{Element}
-use Rattle.rsp_query.specs.Groups.{Part, part_of}
+use Rattle.rsp_query.specs.Groups.{Part}
+use Rattle.rsp_query.specs.Meanings.{part_of}
 
 abbrev pub branches_of : List (Vec Element Global) → List (List Part)
 branches_of branches = map (λ branch. branch.items) (map (mapped part_of) branches)

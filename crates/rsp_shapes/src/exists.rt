@@ -1,16 +1,17 @@
 // EXISTS that are of no shape that can be translated.
 ghost use Rattle.std.specs.Prelude.{◌≡◌, ◌||◌, not, map};
 ghost use Rattle.std.specs.Bool.{then_some};
-ghost use Rattle.rsp_query.specs.Groups.{groups_in, part_of, parts_in, selection_of};
-ghost use Rattle.rsp_query.specs.Queries.{registered};
+ghost use Rattle.rsp_query.specs.Groups.{groups_in, parts_in};
+ghost use Rattle.rsp_query.specs.Meanings.{part_of, selection_of, registered};
 ghost use Rattle.rsp_shapes.specs.Seeing.{branches_of};
 ghost use Rattle.rsp_shapes.specs.Shapes as shapes;
+ghost use Rattle.rsp_shapes.specs.Walking as walking;
 
 use rsp_query::{Element, Query, Select, Slot};
 
 #[cycle(plain)]
 fn is_plain(element: &Element) -> bool
-    ensures { result ≡ shapes.is_plain (part_of element.now) }
+    ensures { result ≡ walking.is_plain (part_of element.now) }
 {
     match element {
         Element::Triple { .. } => true,
@@ -37,7 +38,7 @@ fn is_plain(element: &Element) -> bool
 
 #[cycle(plain)]
 fn are_plain(elements: &[Element]) -> bool
-    ensures { result ≡ shapes.are_plain (parts_in (map part_of elements.now)) }
+    ensures { result ≡ walking.are_plain (parts_in (map part_of elements.now)) }
 {
     for element in elements {
         if !is_plain(element) {
@@ -49,7 +50,7 @@ fn are_plain(elements: &[Element]) -> bool
 
 #[cycle(plain)]
 fn are_plain_groups(branches: &[Vec<Element>]) -> bool
-    ensures { result ≡ shapes.are_plain_groups (groups_in (branches_of branches.now)) }
+    ensures { result ≡ walking.are_plain_groups (groups_in (branches_of branches.now)) }
 {
     for branch in branches {
         if !are_plain(branch) {
@@ -61,7 +62,7 @@ fn are_plain_groups(branches: &[Vec<Element>]) -> bool
 
 // what may stand at the top of an EXISTS' group
 fn is_allowed(element: &Element) -> bool
-    ensures { result ≡ (shapes.is_filter (part_of element.now) || shapes.is_plain (part_of element.now)) }
+    ensures { result ≡ (walking.is_filter (part_of element.now) || walking.is_plain (part_of element.now)) }
 {
     match element {
         Element::Filter(_) => true,
@@ -70,7 +71,7 @@ fn is_allowed(element: &Element) -> bool
 }
 
 fn can_be_tested(elements: &[Element]) -> bool
-    ensures { result ≡ shapes.can_be_tested (parts_in (map part_of elements.now)) }
+    ensures { result ≡ walking.can_be_tested (parts_in (map part_of elements.now)) }
 {
     for element in elements {
         if !is_allowed(element) {
@@ -81,7 +82,7 @@ fn can_be_tested(elements: &[Element]) -> bool
 }
 
 fn fault_of_test(in_optional: bool, at: usize, body: &[Element]) -> Option<usize>
-    ensures { result ≡ then_some (in_optional || not (shapes.can_be_tested (parts_in (map part_of body.now)))) at }
+    ensures { result ≡ then_some (in_optional || not (walking.can_be_tested (parts_in (map part_of body.now)))) at }
 {
     if in_optional {
         return Some(at);
@@ -91,7 +92,7 @@ fn fault_of_test(in_optional: bool, at: usize, body: &[Element]) -> Option<usize
 
 #[cycle(exists)]
 fn fault_at(in_optional: bool, element: &Element) -> Option<usize>
-    ensures { result ≡ shapes.exists_fault in_optional (part_of element.now) }
+    ensures { result ≡ walking.exists_fault in_optional (part_of element.now) }
 {
     match element {
         Element::Triple { .. } => None,
@@ -110,7 +111,7 @@ fn fault_at(in_optional: bool, element: &Element) -> Option<usize>
 
 #[cycle(exists)]
 fn fault_in(in_optional: bool, elements: &[Element]) -> Option<usize>
-    ensures { result ≡ shapes.exists_fault_in in_optional (parts_in (map part_of elements.now)) }
+    ensures { result ≡ walking.exists_fault_in in_optional (parts_in (map part_of elements.now)) }
 {
     for element in elements {
         if let Some(at) = fault_at(in_optional, element) {
@@ -122,7 +123,7 @@ fn fault_in(in_optional: bool, elements: &[Element]) -> Option<usize>
 
 #[cycle(exists)]
 fn fault_among(branches: &[Vec<Element>]) -> Option<usize>
-    ensures { result ≡ shapes.exists_fault_among (groups_in (branches_of branches.now)) }
+    ensures { result ≡ walking.exists_fault_among (groups_in (branches_of branches.now)) }
 {
     for branch in branches {
         if let Some(at) = fault_in(false, branch) {
@@ -135,7 +136,7 @@ fn fault_among(branches: &[Vec<Element>]) -> Option<usize>
 /// The first place of a SELECT where EXISTS is of no shape that can be translated.
 #[cycle(exists)]
 fn fault_of(select: &Select) -> Option<usize>
-    ensures { result ≡ shapes.exists_fault_of (selection_of select.now) }
+    ensures { result ≡ walking.exists_fault_of (selection_of select.now) }
 {
     fault_in(false, &select.body)
 }

@@ -1,10 +1,13 @@
 // Windows and graphs that are of no shape that can be translated.
 ghost use Rattle.std.specs.Prelude.{◌≡◌, not, [], map};
 ghost use Rattle.std.specs.Bool.{then_some};
-ghost use Rattle.rsp_query.specs.Groups.{groups_in, part_of, parts_in, selection_of};
-ghost use Rattle.rsp_query.specs.Queries.{registered};
+ghost use Rattle.rsp_expr.specs.Errors.{first_value};
+ghost use Rattle.rsp_query.specs.Walks.{below};
+ghost use Rattle.rsp_query.specs.Groups.{sub, groups_in, parts_in};
+ghost use Rattle.rsp_query.specs.Meanings.{part_of, selection_of, registered};
 ghost use Rattle.rsp_shapes.specs.Seeing.{branches_of};
 ghost use Rattle.rsp_shapes.specs.Shapes as shapes;
+ghost use Rattle.rsp_shapes.specs.Walking as walking;
 
 use rsp_query::{Element, Query, Select, Slot, WindowClause};
 use rsp_terms::Text;
@@ -44,7 +47,7 @@ fn is_triple(element: &Element) -> bool
 }
 
 fn are_triples(elements: &[Element]) -> bool
-    ensures { result ≡ shapes.are_triples (parts_in (map part_of elements.now)) }
+    ensures { result ≡ walking.are_triples (parts_in (map part_of elements.now)) }
 {
     for element in elements {
         if !is_triple(element) {
@@ -55,7 +58,7 @@ fn are_triples(elements: &[Element]) -> bool
 }
 
 fn has_just_triples(elements: &[Element]) -> bool
-    ensures { result ≡ shapes.has_just_triples (parts_in (map part_of elements.now)) }
+    ensures { result ≡ walking.has_just_triples (parts_in (map part_of elements.now)) }
 {
     match elements {
         [] => false,
@@ -71,7 +74,7 @@ fn has_just_triples(elements: &[Element]) -> bool
 
 #[cycle(graphs)]
 fn fault_at(windows: &[WindowClause], element: &Element) -> Option<usize>
-    ensures { result ≡ shapes.graph_fault (shapes.declared windows.now) (part_of element.now) }
+    ensures { result ≡ walking.graph_fault (shapes.declared windows.now) (part_of element.now) }
 {
     match element {
         Element::Triple { .. } => None,
@@ -111,7 +114,7 @@ fn unless(test: bool, at: usize) -> Option<usize>
 
 #[cycle(graphs)]
 fn fault_in(windows: &[WindowClause], elements: &[Element]) -> Option<usize>
-    ensures { result ≡ shapes.graph_fault_in (shapes.declared windows.now) (parts_in (map part_of elements.now)) }
+    ensures { result ≡ walking.graph_fault_in (shapes.declared windows.now) (parts_in (map part_of elements.now)) }
 {
     for element in elements {
         if let Some(at) = fault_at(windows, element) {
@@ -123,7 +126,7 @@ fn fault_in(windows: &[WindowClause], elements: &[Element]) -> Option<usize>
 
 #[cycle(graphs)]
 fn fault_among(windows: &[WindowClause], branches: &[Vec<Element>]) -> Option<usize>
-    ensures { result ≡ shapes.graph_fault_among (shapes.declared windows.now) (groups_in (branches_of branches.now)) }
+    ensures { result ≡ walking.graph_fault_among (shapes.declared windows.now) (groups_in (branches_of branches.now)) }
 {
     for branch in branches {
         if let Some(at) = fault_in(windows, branch) {
@@ -136,9 +139,15 @@ fn fault_among(windows: &[WindowClause], branches: &[Vec<Element>]) -> Option<us
 /// The first place of a SELECT where WINDOW or GRAPH is of no shape that can be translated.
 #[cycle(graphs)]
 fn fault_of(windows: &[WindowClause], select: &Select) -> Option<usize>
-    ensures { result ≡ shapes.graph_fault_of (shapes.declared windows.now) (selection_of select.now) }
+    ensures { result ≡ walking.graph_fault_of (shapes.declared windows.now) (selection_of select.now) }
 {
     fault_in(windows, &select.body)
+}
+
+fn first_fault(windows: &[WindowClause], select: &Select) -> Option<usize>
+    ensures { result ≡ first_value (map (λ p. shapes.graph_fault (shapes.declared windows.now) p.1) (below (sub (selection_of select.now)))) }
+{
+    fault_of(windows, select)
 }
 
 /// The first place in a query's text where WINDOW, GRAPH or a window's name is of no shape that can be translated, in bytes.
@@ -148,5 +157,5 @@ pub fn graph_shape(query: &Query) -> Option<usize>
     if let Some(at) = repeated_window(&query.windows) {
         return Some(at);
     }
-    fault_of(&query.windows, &query.select)
+    first_fault(&query.windows, &query.select)
 }

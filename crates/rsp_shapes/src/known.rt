@@ -1,8 +1,9 @@
 // What a grouped SELECT may name outside aggregates.
 ghost use Rattle.std.specs.Prelude.{◌≡◌, ◌&&◌, cond, not, is_some, map, nat_eq, None, Some};
 ghost use Rattle.std.specs.List.{find, list_any};
-ghost use Rattle.rsp_expr.specs.Formulas.{formula_of, formulas_in, maybe_formula};
-ghost use Rattle.rsp_query.specs.Groups.{item_of, numbered_aggregation};
+ghost use Rattle.rsp_expr.specs.Formulas.{formulas_in};
+ghost use Rattle.rsp_expr.specs.Meanings.{formula_of, maybe_formula};
+ghost use Rattle.rsp_query.specs.Meanings.{item_of, numbered_aggregation};
 ghost use Rattle.rsp_algebra.specs.Nodes.{formula_variables};
 ghost use Rattle.rsp_shapes.specs.Groups.{stranger};
 ghost use Rattle.rsp_shapes.specs.Scopes as scopes;

@@ -1,9 +1,9 @@
 // Variables that stand where the scope of their names doesn't allow it.
 ghost use Rattle.std.specs.Prelude.{◌≡◌, ◌||◌, ◌&&◌, not, Some, [], map};
 ghost use Rattle.std.specs.Option.{option_or};
-ghost use Rattle.rsp_expr.specs.Formulas.{formula_of, maybe_formula};
-ghost use Rattle.rsp_query.specs.Groups.{groups_in, item_of, numbered_aggregation, part_of, parts_in, selection_of};
-ghost use Rattle.rsp_query.specs.Queries.{registered};
+ghost use Rattle.rsp_expr.specs.Meanings.{formula_of, maybe_formula};
+ghost use Rattle.rsp_query.specs.Groups.{groups_in, parts_in};
+ghost use Rattle.rsp_query.specs.Meanings.{item_of, numbered_aggregation, part_of, selection_of, registered};
 ghost use Rattle.rsp_algebra.specs.Patterns.{among};
 ghost use Rattle.rsp_shapes.specs.Scopes as scopes;
 ghost use Rattle.rsp_shapes.specs.Seeing.{branches_of};

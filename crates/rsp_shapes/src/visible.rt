@@ -1,7 +1,8 @@
 // The variables that are in scope behind an element or a group.
 ghost use Rattle.std.specs.Prelude.{◌≡◌, ◌||◌, ◌&&◌, map};
-ghost use Rattle.rsp_query.specs.Groups.{groups_in, item_of, part_of, parts_in, selection_of};
-ghost use Rattle.rsp_query.specs.Paths.{way_of, ways_in};
+ghost use Rattle.rsp_query.specs.Groups.{groups_in, parts_in};
+ghost use Rattle.rsp_query.specs.Meanings.{item_of, part_of, selection_of, way_of};
+ghost use Rattle.rsp_query.specs.Paths.{ways_in};
 ghost use Rattle.rsp_algebra.specs.Patterns.{among};
 ghost use Rattle.rsp_shapes.specs.Seeing.{branches_of};
 ghost use Rattle.rsp_shapes.specs.Visible as visible;

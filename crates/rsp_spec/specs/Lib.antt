@@ -1,4 +1,5 @@
 -- Definitions: what a reader must believe
+pub mod Limits
 pub mod Windows
 pub mod Faults
 pub mod Written

@@ -2,10 +2,7 @@
 use Rattle.std.specs.Prelude.{ℕ, ◌+◌, ◌*◌, ◌≤◌, Bool, ◌&&◌, ◌==◌, nat_lt, nat_le, Option, false}
 use Rattle.std.specs.List.{find, list_any, range_with_len}
 use Rattle.std.specs.Option.{option_map_or}
-
--- the last instant: 9999-12-31T23:59:59.999Z
-abbrev pub last_instant : ℕ
-last_instant = 253402300799999
+use Rattle.rsp_spec.specs.Limits.{last_instant}
 
 -- how long a window is open, the distance from one opening to the next, and the first opening
 pub record Shape : Type 0 where

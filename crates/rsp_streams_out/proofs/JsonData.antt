@@ -13,8 +13,8 @@ use Rattle.rsp_multiset.specs.Rows.{Cells}
 use Rattle.rsp_terms.specs.declared.term.Term.{Term}
 use Rattle.rsp_terms.specs.declared.term.Term.TheVariants.{Iri, Blank, Literal, Tagged}
 use Rattle.rsp_terms.specs.Terms.{xsd_string}
-use Rattle.rsp_streams_out.specs.Json.{typed, term_data, with_cells, row_data, report_data, report_json}
-use Rattle.rsp_streams_out.specs.JsonParts.{json_head, rows_items}
+use Rattle.rsp_streams_out.specs.Json.{typed, term_data, row_data, report_data, report_json}
+use Rattle.rsp_streams_out.specs.JsonParts.{json_head, rows_items, with_cells}
 
 -- where a variable or a cell is missing, no binding follows
 pub no_more : (names : List (List ℕ)) (row : Cells Term) (before : Members) → (names ≡ []) ⊎ (row ≡ []) → with_cells names row before ≡ before

@@ -1,12 +1,30 @@
 -- How often a value is in what is left of one list without another.
-use Rattle.std.proofs.Common.{◌≡◌, Bool, true, false, List, [], ◌∷◌, ℤ, pos, negsuc, ◌+ℤ◌, neg_ℤ, ◌≤ℤ◌, refl, sym, ap, ◌∙◌, arith, inl, inr, true≢false, Decides}
+use Rattle.std.proofs.Common.{◌≡◌, Bool, true, false, List, [], ◌∷◌, ℤ, pos, negsuc, ◌+ℤ◌, neg_ℤ, ◌≤ℤ◌, ℕ, suc, ◌+◌, cond, not, refl, sym, ap, ◌∙◌, arith, inl, inr, true≢false, Decides}
 use Rattle.std.proofs.lemmas.Bool.{cases_Bool, cond-true, cond-false}
 use Rattle.std.proofs.lemmas.Int.{ints}
 use Rattle.rsp_multiset.specs.Weights.{only, times, above}
 use Rattle.rsp_multiset.proofs.Changing.{times-ge}
 use Rattle.rsp_multiset.proofs.Signs.{above-nonneg}
-use Rattle.rsp_streams_out.specs.Streams.{without_one, less}
+use Rattle.std.specs.List.{position_or_len}
+use Rattle.std.specs.Prelude.{remove}
+use Rattle.rsp_streams_out.specs.Streams.{less}
 use Rattle.rsp_streams_out.specs.Turning.{excess}
+
+-- the list without its first x; the list itself where it has none
+abbrev without_one : {E : Type 0} → (E → E → Bool) → E → List E → List E
+without_one eq x [] = []
+without_one eq x (y ∷ ys) = cond (eq x y) ys (y ∷ without_one eq x ys)
+
+removed : {E : Type 0} (eq : E → E → Bool) (x : E) (ys : List E) → remove ys (position_or_len (eq x) ys) ≡ without_one eq x ys
+removed eq x [] = refl
+removed eq x (y ∷ ys) =
+    let rest = removed eq x ys in
+    elim (eq x y) as (λ b. remove (y ∷ ys) (cond (not b) (1 + position_or_len (eq x) ys) 0) ≡ cond b ys (y ∷ without_one eq x ys)) [
+      | true ↦ refl
+      | false ↦
+          let one : 1 + position_or_len (eq x) ys ≡ suc (position_or_len (eq x) ys) = omega arith in
+          ap (remove (y ∷ ys)) one ∙ ap (λ zs. y ∷ zs) rest
+    ]
 
 above-none : (n : ℤ) → n ≤ℤ pos 0 → above n ≡ pos 0
 above-none (pos n) h = ap pos (omega (arith, ints, h))
@@ -64,6 +82,6 @@ module _ {E : Type 0} (eq : E → E → Bool) (same : (x y : E) → Decides (eq 
   less-times xs (y ∷ ys) q =
       let sum : times eq xs q +ℤ neg_ℤ (only (eq q y) (pos 1)) +ℤ neg_ℤ (times eq ys q)
       ≡ times eq xs q +ℤ neg_ℤ (only (eq q y) (pos 1) +ℤ times eq ys q) = omega (arith, ints) in
-      less-times (without_one eq y xs) ys q
+      ap (λ zs. times eq (less eq zs ys) q) (removed eq y xs) ∙ less-times (without_one eq y xs) ys q
       ∙ ap (λ n. above (n +ℤ neg_ℤ (times eq ys q))) (without_one-times y xs q)
       ∙ above_twice (times eq xs q +ℤ neg_ℤ (only (eq q y) (pos 1))) (times eq ys q) (times-ge eq ys q) ∙ ap above sum

@@ -3,7 +3,7 @@ use Rattle.std.specs.Prelude.{◌≡◌, refl, ℕ, pos, nat_eq, Some, None, Lis
 use Rattle.rsp_multiset.specs.Rows.{Cells}
 use Rattle.rsp_terms.specs.declared.term.Term.{Term}
 use Rattle.rsp_terms.specs.declared.term.Term.TheVariants.{Iri}
-use Rattle.rsp_streams_out.specs.declared.operator.Operator.TheVariants.{Rstream, Istream, Dstream}
+use Rattle.rsp_report.specs.declared.operator.Operator.TheVariants.{Rstream, Istream, Dstream}
 use Rattle.rsp_streams_out.specs.Streams.{less, reported}
 use Rattle.rsp_streams_out.specs.Turning.{times_reported}
 

@@ -1,6 +1,6 @@
 -- Definitions: a report as one line of JSON: the text of an object (after SPARQL 1.1 Query Results JSON Format, section 3). The
 -- members of each object stand in the byte order of their keys; `vars` keeps the order of the columns.
-use Rattle.std.specs.Prelude.{ℕ, if◌then◌else◌, List, [], ◌∷◌, ◌++◌, Option, None, Some, drop, map, bytes_eq, codes}
+use Rattle.std.specs.Prelude.{ℕ, if◌then◌else◌, List, ◌++◌, Option, None, Some, drop, fold, map, zip, bytes_eq, codes}
 use Rattle.serde_json.specs.Data.{Data, number, unsigned, string, array, object, Members, member, no_members, put}
 use Rattle.serde_json.specs.View.{items_of}
 use Rattle.serde_json.specs.Written.{compact_text}
@@ -35,14 +35,9 @@ abbrev pub with_cell : Members → List ℕ → Option Term → Members
 with_cell members name None = members
 with_cell members name (Some term) = put name (term_data term) members
 
--- with the bindings of the variables that have a cell, pair by pair
-abbrev pub with_cells : List (List ℕ) → Cells Term → Members → Members
-with_cells [] row members = members
-with_cells (name ∷ names) [] members = members
-with_cells (name ∷ names) (cell ∷ row) members = with_cells names row (with_cell members name cell)
-
+-- the bindings of the variables that have a cell, pair by pair
 abbrev pub row_data : List (List ℕ) → Cells Term → Data
-row_data variables row = object (with_cells variables row no_members)
+row_data variables row = object (fold (λ members pair. with_cell members pair.0 pair.1) no_members (zip variables row))
 
 -- the whole report: `at`, `head` with `vars`, `query`, `results` with `bindings`
 abbrev pub report_data : List ℕ → ℕ → List (List ℕ) → List (Cells Term) → Data

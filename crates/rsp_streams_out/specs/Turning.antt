@@ -4,8 +4,8 @@ use Rattle.rsp_multiset.specs.Rows.{Cells, row_eq}
 use Rattle.rsp_multiset.specs.Weights.{times, above, Holds, IsChanged}
 use Rattle.rsp_terms.specs.declared.term.Term.{Term}
 use Rattle.rsp_terms.specs.Same.{term_eq}
-use Rattle.rsp_streams_out.specs.declared.operator.Operator.{Operator}
-use Rattle.rsp_streams_out.specs.declared.operator.Operator.TheVariants.{Rstream, Istream, Dstream}
+use Rattle.rsp_report.specs.declared.operator.Operator.{Operator}
+use Rattle.rsp_report.specs.declared.operator.Operator.TheVariants.{Rstream, Istream, Dstream}
 
 -- how often xs holds q beyond how often ys does, and never below 0
 abbrev pub excess : {E : Type 0} → (E → E → Bool) → List E → List E → E → ℤ

@@ -8,8 +8,9 @@ ghost use Rattle.rsp_streams_out.specs.Rows.{AreRows, in_order};
 ghost use Rattle.rsp_streams_out.specs.Streams.{reported};
 ghost use Rattle.rsp_streams_out.specs.Turning.{times_reported, StandsFor};
 
-use crate::{Operator, ordered, rows_of};
+use crate::{ordered, rows_of};
 use rsp_multiset::{Bag, Changes, Row, negative, positive};
+use rsp_report::Operator;
 use rsp_terms::{Listed, Term};
 use std::alloc::{AllocError, Global};
 

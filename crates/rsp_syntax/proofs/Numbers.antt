@@ -5,7 +5,8 @@ use Rattle.std.proofs.Math.Nat.{le_trans}
 use Rattle.std.proofs.lemmas.List.{length-append}
 use Rattle.std.proofs.lemmas.List.Sums.{prefix_len-le-length}
 use Rattle.rsp_numbering.specs.declared.variable.Variable.{Variable}
-use Rattle.rsp_numbering.specs.Naming.{Before, behind, is_same, number, place_of, with_variable}
+use Rattle.rsp_numbering.specs.Naming.{Before, behind, is_same, number, with_variable}
+use Rattle.rsp_numbering.specs.Same.{place_of}
 
 -- how many variables stand before a place
 abbrev pub count : Before → ℕ

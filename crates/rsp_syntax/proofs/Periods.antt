@@ -22,7 +22,8 @@ use Rattle.rsp_written.specs.Trees.{Written}
 use Rattle.rsp_written.specs.Building.{policy_or_none}
 use Rattle.rsp_written.specs.Grammar as grammar
 use Rattle.rsp_query.specs.declared.query.Query.{Query}
-use Rattle.rsp_query.specs.Queries.{Registered, registered}
+use Rattle.rsp_query.specs.Queries.{Registered}
+use Rattle.rsp_query.specs.Meanings.{registered}
 use Rattle.rsp_numbering.specs.Clauses.{milliseconds, policy_of, strategy_by, strategy_of}
 use Rattle.rsp_numbering.specs.Limits.{has_periods, has_spans, is_periodic, is_span, is_within, limit_of}
 use Rattle.rsp_numbering.specs.declared.limit.LimitName.TheVariants as limit

@@ -11,7 +11,8 @@ use Rattle.rsp_written.specs.declared.said.Symbol.TheVariants as symbol
 use Rattle.rsp_written.specs.Trees.{Expr, variable, iri, constant, any_of, all_of, compared, member, sum, product, signed, bound, call, count_rows, aggregate, Exprs, no_expr, expr_then, Operands, no_operand, operand_then}
 use Rattle.rsp_numbering.specs.Naming.{Scope, Before, behind, named}
 use Rattle.rsp_numbering.specs.Naming as naming
-use Rattle.rsp_numbering.specs.Expressions.{behind_expr, behind_exprs, behind_operands, from_left, numbered_expr, numbered_exprs, numbered_operands, signed_formula, with_aggregates, with_aggregates_of_all, with_aggregates_of_row}
+use Rattle.rsp_numbering.specs.Expressions.{signed_formula}
+use Rattle.rsp_numbering.specs.ExpressionSteps.{behind_expr, behind_exprs, behind_operands, from_left, numbered_expr, numbered_exprs, numbered_operands, with_aggregates, with_aggregates_of_all, with_aggregates_of_row}
 use Rattle.rsp_algebra.specs.Nodes.{formula_variables, variables_of_all}
 use Rattle.rsp_algebra.specs.Fitting.{AreBelow, AggregateFits}
 use Rattle.rsp_algebra.proofs.Widths.{all-append}

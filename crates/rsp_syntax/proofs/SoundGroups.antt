@@ -6,10 +6,11 @@ use Rattle.rsp_expr.specs.Formulas.{Aggregation}
 use Rattle.rsp_query.specs.Groups.{Part, optional, minus, union, graph, window, filter, exists, bind, values, sub, parts_in, groups_in}
 use Rattle.rsp_written.specs.Trees as written
 use Rattle.rsp_written.specs.Trees.{Element, Elements, no_element, element_then, Item, shown, computed, Projection, Graph, graph_variable, graph_iri, Selected, selected}
-use Rattle.rsp_numbering.specs.Naming.{Scope, Before, behind, behind_select, number, within}
+use Rattle.rsp_numbering.specs.Naming.{Scope, Before, behind, behind_select, number}
 use Rattle.rsp_numbering.specs.Naming as naming
-use Rattle.rsp_numbering.specs.Expressions.{behind_expr, numbered_expr}
-use Rattle.rsp_numbering.specs.Selections.{behind_element, behind_elements, behind_graph, behind_groups, behind_having, behind_item, behind_items, behind_names, behind_within, graph_of, groups_of, having_of, item_of, items_in, items_of, numbers_of, projection_of, selected_within, with_element, with_elements, with_having_aggregates, with_item_aggregates, with_items_aggregates}
+use Rattle.rsp_numbering.specs.ExpressionSteps.{behind_expr, numbered_expr}
+use Rattle.rsp_numbering.specs.Selections.{items_in}
+use Rattle.rsp_numbering.specs.SelectionSteps.{behind_element, behind_elements, behind_graph, behind_groups, behind_having, behind_item, behind_items, behind_names, behind_within, graph_of, groups_of, having_of, item_of, items_of, numbers_of, projection_of, selected_within, with_element, with_elements, with_having_aggregates, with_item_aggregates, with_items_aggregates, within}
 use Rattle.rsp_algebra.specs.Nodes.{slot_variables}
 use Rattle.rsp_algebra.specs.Fitting.{AggregateFits, AreBelow, argument_variables}
 use Rattle.rsp_algebra.proofs.Widths.{all-append}

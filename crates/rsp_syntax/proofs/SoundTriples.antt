@@ -7,9 +7,11 @@ use Rattle.rsp_query.specs.Paths.{Way, ways_in}
 use Rattle.rsp_query.specs.Groups.{Part, triple}
 use Rattle.rsp_written.specs.Trees as written
 use Rattle.rsp_written.specs.Trees.{Verb, named, along, Node, variable_node, iri_node, constant_node, label_node, blank_node, described, Nodes, no_node, node_then, Properties, no_property, property_then}
-use Rattle.rsp_numbering.specs.Naming.{Scope, Before, behind, bracket, label}
+use Rattle.rsp_numbering.specs.Naming.{Scope, Before, behind, bracket}
+use Rattle.rsp_numbering.specs.Same.{label}
 use Rattle.rsp_numbering.specs.Naming as naming
-use Rattle.rsp_numbering.specs.Triples.{behind_inner, behind_nodes, behind_properties, behind_slot, behind_triples, behind_verb, path_of, paths_of, slot_of, verb_of, with_inner, with_objects, with_properties, with_triples}
+use Rattle.rsp_numbering.specs.Triples.{path_of, paths_of}
+use Rattle.rsp_numbering.specs.TripleSteps.{behind_inner, behind_nodes, behind_properties, behind_slot, behind_triples, behind_verb, slot_of, verb_of, with_inner, with_objects, with_properties, with_triples}
 use Rattle.rsp_algebra.specs.Nodes.{slot_variables}
 use Rattle.rsp_algebra.specs.Fitting.{AreBelow}
 use Rattle.rsp_algebra.proofs.Widths.{all-append}

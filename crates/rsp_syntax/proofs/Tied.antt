@@ -1,6 +1,7 @@
 -- A text is what the function `parse` says of it, by the grammar, and nothing else.
 use Rattle.std.proofs.Common.{◌≡◌, ◌↔◌, ℕ, ◌-◌, ◌≤◌, inl, inr, Bool, true, false, cond, nat_lt, List, [], ◌∷◌, ◌++◌, length, drop, Option, None, Some, Result, Ok, Err, refl, sym, ap, ◌∙◌, subst, arith, append-nil}
 use Rattle.std.proofs.lemmas.Bool.Decides.{nat_tests}
+use Rattle.rsp_spec.specs.Limits.{most_text_bytes}
 use Rattle.rsp_lex.specs.declared.token.Token.{Token}
 use Rattle.rsp_lex.specs.Tokens.{tokens}
 use Rattle.rsp_phrases.specs.Languages.{CannotGoOn}
@@ -139,7 +140,7 @@ module _ (text : List ℕ) where
             unfinished = λ is w. h.unfinished w;
           })
 
-  of_tokens : (r : Result (List Token) ℕ) → length text ≤ 65536 → tokens text ≡ r → IsText text (parse_tokens text r)
+  of_tokens : (r : Result (List Token) ℕ) → length text ≤ most_text_bytes → tokens text ≡ r → IsText text (parse_tokens text r)
   of_tokens (Err at) short is = (short, is)
   of_tokens (Ok ts) short is = by (is_too_deep 0 (all_said text ts)) refl
     where
@@ -150,18 +151,18 @@ module _ (text : List ℕ) where
 
   answers : IsText text (parse text)
   unfolding parse
-  answers = by (nat_lt 65536 (length text)) refl
+  answers = by (nat_lt most_text_bytes (length text)) refl
     where
-      by : (b : Bool) → nat_lt 65536 (length text) ≡ b → IsText text (cond b (Err (Limit limit.Text)) (parse_tokens text (tokens text)))
+      by : (b : Bool) → nat_lt most_text_bytes (length text) ≡ b → IsText text (cond b (Err (Limit limit.Text)) (parse_tokens text (tokens text)))
       by true long = inl (refl, grind (arith, nat_tests, long))
       by false short = of_tokens (tokens text) (grind (arith, nat_tests, short)) refl
 
   -- ---- what the text is, the function says
 
-  short_text : length text ≤ 65536 → parse text ≡ parse_tokens text (tokens text)
+  short_text : length text ≤ most_text_bytes → parse text ≡ parse_tokens text (tokens text)
   unfolding parse
   short_text short =
-      let is : nat_lt 65536 (length text) ≡ false = grind (arith, nat_tests, short) in
+      let is : nat_lt most_text_bytes (length text) ≡ false = grind (arith, nat_tests, short) in
       ap (λ b. cond b (Err (Limit limit.Text)) (parse_tokens text (tokens text))) is
 
   with_tokens : (ts : List Token) → HasTokens text ts → parse text ≡ numbered (registration_of text ts (all_said text ts))
@@ -180,7 +181,7 @@ module _ (text : List ℕ) where
   said_limit : (name : LimitName) → IsPast text name → parse text ≡ Err (Limit name)
   unfolding parse
   said_limit name (inl (is, long)) =
-      let past : nat_lt 65536 (length text) ≡ true = grind (arith, nat_tests, long) in
+      let past : nat_lt most_text_bytes (length text) ≡ true = grind (arith, nat_tests, long) in
       ap (λ b. cond b (Err (Limit limit.Text)) (parse_tokens text (tokens text))) past ∙ sym (ap (λ n. Err (Limit n)) is)
   said_limit name (inr (inl (is, h))) =
       short_text h.short

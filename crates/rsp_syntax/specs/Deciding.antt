@@ -1,6 +1,7 @@
 -- Words of the way: the query that a text is, or why it is none, as a function of the text, in the order of its faults. What a
 -- text is in the grammar's words (Texts) says the same, and the engine's definitions take it.
 use Rattle.std.specs.Prelude.{◌≡◌, ⊤, ℕ, nat_lt, cond, List, [], ◌∷◌, Option, None, Some, Result, Ok, Err, map, length}
+use Rattle.rsp_spec.specs.Limits.{most_text_bytes}
 use Rattle.rsp_lex.specs.declared.token.Token.{Token}
 use Rattle.rsp_lex.specs.Tokens.{tokens}
 use Rattle.rsp_written.specs.declared.said.Said.{Said}
@@ -45,7 +46,7 @@ parse_tokens text (Err at) = Err (BadToken at)
 parse_tokens text (Ok ts) = parse_said text ts (map (said_token text) ts)
 
 unfoldable pub parse : List ℕ → Result Registered SyntaxFault
-parse text = cond (nat_lt 65536 (length text)) (Err (Limit limit.Text)) (parse_tokens text (tokens text))
+parse text = cond (nat_lt most_text_bytes (length text)) (Err (Limit limit.Text)) (parse_tokens text (tokens text))
 
 -- ---- what calls on the way answer; want of memory alone is free
 

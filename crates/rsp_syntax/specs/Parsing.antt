@@ -1,5 +1,6 @@
 -- Definitions: what a text's tokens say, how deep its brackets go, and the fault of its first wrong token.
 use Rattle.std.specs.Prelude.{ℕ, suc, ◌-◌, Bool, false, ◌||◌, nat_lt, cond, List, [], ◌∷◌, length, take, drop}
+use Rattle.rsp_spec.specs.Limits.{most_open}
 use Rattle.rsp_lex.specs.declared.token.Token.{Token}
 use Rattle.rsp_said.specs.Saying.{said_of}
 use Rattle.rsp_written.specs.declared.said.Said.{Said}
@@ -29,10 +30,11 @@ depth_behind depth (said.Symbol symbol.CloseParen) = depth - 1
 depth_behind depth (said.Symbol symbol.CloseBracket) = depth - 1
 depth_behind depth _ = depth
 
--- more than 32 are open at some token
+-- more are open at some token than may be
 abbrev pub is_too_deep : ℕ → List Said → Bool
 is_too_deep depth [] = false
-is_too_deep depth (token ∷ more) = nat_lt 32 (depth_behind depth token.kind) || is_too_deep (depth_behind depth token.kind) more
+is_too_deep depth (token ∷ more) =
+    nat_lt most_open (depth_behind depth token.kind) || is_too_deep (depth_behind depth token.kind) more
 
 -- ---- the first token that can't stand
 

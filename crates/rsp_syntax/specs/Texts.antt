@@ -1,6 +1,7 @@
 -- Definitions: what a text is in the grammar's words: the query that it is, or why it is none. The function `parse` says the
 -- same; whoever believes this file needn't believe that one's way.
 use Rattle.std.specs.Prelude.{◌≡◌, ◌⊎◌, ℕ, ◌≤◌, ◌<◌, true, false, List, [], ◌++◌, length, map, None, Some, Result, Ok, Err}
+use Rattle.rsp_spec.specs.Limits.{most_text_bytes}
 use Rattle.rsp_lex.specs.declared.token.Token.{Token}
 use Rattle.rsp_lex.specs.Tokens.{tokens}
 use Rattle.rsp_phrases.specs.Languages.{CannotGoOn}
@@ -22,7 +23,7 @@ all_said text ts = map (said_token text) ts
 
 -- the text is no longer than it may be, these are its tokens, and their brackets aren't nested too deep
 pub record HasTokens (text : List ℕ) (ts : List Token) : Type 0 where
-  pub short : length text ≤ 65536
+  pub short : length text ≤ most_text_bytes
   pub cut : tokens text ≡ Ok ts
   pub flat : is_too_deep 0 (all_said text ts) ≡ false
 
@@ -58,7 +59,7 @@ pub record IsNoQuery (text : List ℕ) (fault : SyntaxFault) : Type 0 where
 -- brackets are nested too deep
 pub record IsTooDeep (text : List ℕ) : Type 0 where
   pub ts : List Token
-  pub short : length text ≤ 65536
+  pub short : length text ≤ most_text_bytes
   pub cut : tokens text ≡ Ok ts
   pub deep : is_too_deep 0 (all_said text ts) ≡ true
 
@@ -73,12 +74,12 @@ pub record PassesLimit (text : List ℕ) (name : LimitName) : Type 0 where
 -- the text, its nesting, or the tree is past its limit
 abbrev pub IsPast : List ℕ → LimitName → Type 0
 IsPast text name =
-    ((name ≡ limit.Text) × (65536 < length text)) ⊎ (((name ≡ limit.Nesting) × IsTooDeep text) ⊎ PassesLimit text name)
+    ((name ≡ limit.Text) × (most_text_bytes < length text)) ⊎ (((name ≡ limit.Nesting) × IsTooDeep text) ⊎ PassesLimit text name)
 
 -- the text is this: a query, or none for this fault
 abbrev pub IsText : List ℕ → Result Registered SyntaxFault → Type 0
 IsText text (Ok query) = IsQuery text query
-IsText text (Err (BadToken at)) = (length text ≤ 65536) × (tokens text ≡ Err at)
+IsText text (Err (BadToken at)) = (length text ≤ most_text_bytes) × (tokens text ≡ Err at)
 IsText text (Err (Syntax at)) = IsNoQuery text (Syntax at)
 IsText text (Err (LeftOut at what)) = IsNoQuery text (LeftOut at what)
 IsText text (Err (Limit name)) = IsPast text name

@@ -4,7 +4,8 @@ ghost use Rattle.rsp_written.specs.GroupMeanings.{written_of};
 ghost use Rattle.rsp_syntax.specs.Deciding as deciding;
 ghost use Rattle.rsp_syntax.specs.Deciding.{IsFault, IsRegistered};
 ghost use Rattle.rsp_syntax.specs.Parsing as parsing;
-ghost use Rattle.rsp_query.specs.Queries.{Registered, registered};
+ghost use Rattle.rsp_query.specs.Queries.{Registered};
+ghost use Rattle.rsp_query.specs.Meanings.{registered};
 ghost use Rattle.rsp_shapes.specs.Sound.{IsSound};
 ghost use Rattle.rsp_syntax.specs.Answers.{IsParsed};
 ghost use Rattle.rsp_syntax.specs.Texts.{IsText};
@@ -19,12 +20,10 @@ use rsp_lex::{LexFault, Token, tokens};
 use rsp_numbering::{LimitName, query_of};
 use rsp_query::Query;
 use rsp_read_queries::read_query;
+use rsp_spec::limits::MOST_TEXT_BYTES;
 use rsp_terms::Text;
 use rsp_written::{Halt, Registration, Said};
 use std::alloc::Global;
-
-// The most bytes of a query's text.
-const MOST_BYTES: usize = 65_536;
 
 /// The query that a text is (SPARQL 1.1 Query, section 19, with the windows and policies of RSP-QL). A text is refused by
 /// the first of these that holds: it is longer than 65,536 bytes; no token begins at a place; its brackets are nested more
@@ -47,7 +46,7 @@ pub fn parse(alloc: Global, text: &str) -> Result<Query, SyntaxFault>
 fn parsed(alloc: Global, text: &str) -> Result<Query, SyntaxFault>
     ensures { IsParsed result (deciding.parse text.now) }
 {
-    if MOST_BYTES < text.len() {
+    if MOST_TEXT_BYTES < text.len() {
         let what = LimitName::Text;
         return Err(SyntaxFault::Limit { what });
     }

@@ -1,15 +1,14 @@
 // What the tokens of a text say.
 ghost use Rattle.std.specs.Prelude.{◌≡◌, ◌≤◌, IfOk, map};
+ghost use Rattle.rsp_spec.specs.Limits.{most_open};
 ghost use Rattle.rsp_syntax.specs.Parsing as parsing;
 
 use rsp_lex::Token;
 use rsp_said::said;
+use rsp_spec::limits::MOST_OPEN;
 use rsp_written::{Kind, Said, Symbol};
 use std::alloc::{AllocError, Global};
 use std::str;
-
-// The most opening signs that aren't closed.
-const MOST_OPEN: usize = 32;
 
 /// The text of a token. A token that lies outside the text or within a character, which no text has, is answered as want
 /// of memory.
@@ -58,7 +57,7 @@ pub(crate) fn is_too_deep(said: &[Said]) -> bool
 }
 
 fn depth_behind(depth: usize, kind: Kind) -> usize
-    requires { depth ≤ 32 }
+    requires { depth ≤ most_open }
     ensures { result ≡ parsing.depth_behind depth kind }
 {
     match kind {

@@ -1,3 +1,4 @@
 pub mod DigitLaws
 pub mod InstantLaws
 pub mod TextRows
+pub mod SpanLaws

@@ -1,5 +1,6 @@
 // Instants, in milliseconds since 1970.
-ghost use Rattle.std.specs.Prelude.{◌≡◌, ◌+◌, ◌<◌, ◌≤◌, ◌*◌, ◌&&◌, ◌||◌, Some, None, if◌then◌else◌, length, drop, pos, neg_ℤ, ◌+ℤ◌, ◌-ℤ◌, ◌*ℤ◌, IfSome, IsTrue, codes};
+ghost use Rattle.std.specs.Prelude.{◌≡◌, ◌+◌, ◌<◌, ◌≤◌, ◌*◌, ◌&&◌, ◌||◌, nat_le, Some, None, if◌then◌else◌, length, drop, pos, neg_ℤ, ◌+ℤ◌, ◌-ℤ◌, ◌*ℤ◌, IfSome, IsTrue, codes};
+ghost use Rattle.std.specs.Bool.{then_some};
 ghost use Rattle.std.specs.Char.{is_ascii_digit};
 ghost use Rattle.std.specs.List.{list_all};
 ghost use Rattle.jiff_core.specs.Calendar.{days_from_civil, IsWithin};
@@ -8,7 +9,7 @@ ghost use Rattle.rsp_text.specs.Instants as words;
 
 use crate::digits::{fraction, has_form, number, thousandths};
 use jiff::civil::Date;
-use rsp_spec::LAST_INSTANT;
+use rsp_spec::limits::LAST_INSTANT;
 
 /// An instant as XML Schema's dateTime writes it, in ms since 1970; None exactly where the text isn't of the form
 /// `YYYY-MM-DDThh:mm:ss`, then optionally `.` and 1 to 9 digits, then `Z`, `+hh:mm` or `-hh:mm`, where the calendar
@@ -23,22 +24,20 @@ pub fn instant(text: &[u8]) -> Option<u64>
     if text.len() < 19 {
         return None;
     }
-    let (date, rest) = text.split_at(10);
-    let (time, behind) = rest.split_at(9);
+    let (front, behind) = text.split_at(19);
     let part = fraction(behind);
-    instant_of(date, time, part, &behind[part.len()..])
+    instant_of(front, part, &behind[part.len()..])
 }
 
-fn instant_of(date: &[u8], time: &[u8], part: &[u8], zone: &[u8]) -> Option<u64>
+fn instant_of(front: &[u8], part: &[u8], zone: &[u8]) -> Option<u64>
     requires { IsTrue (list_all is_ascii_digit (drop 1 part.now)) }
-    ensures { result ≡ words.instant_of date.now time.now part.now zone.now }
+    ensures { result ≡ words.instant_of front.now part.now zone.now }
 {
-    let day = day_number(date)?;
-    let seconds = seconds_of_day(time)?;
+    let ahead = minutes_ahead(zone)?;
+    let (day, seconds) = date_time(front)?;
     if !is_fraction(part) {
         return None;
     }
-    let ahead = minutes_ahead(zone)?;
     since_1970(milliseconds(day, seconds * 1_000 + thousandths(part), ahead))
 }
 
@@ -60,16 +59,46 @@ fn since_1970(time: i64) -> Option<u64>
     Some(time)
 }
 
-// the day number of `YYYY-MM-DD`
-#[tactic(auto, unfolding(crate::specs::Instants::is_date))]
-fn day_number(text: &[u8]) -> Option<i32>
-    ensures value { result ≡ (if words.is_date text.now then Some (words.day_number text.now) else None) }
-    ensures bound { IfSome result (IsWithin 5000000) }
+// the day number and the seconds of the day of `YYYY-MM-DDThh:mm:ss`
+fn date_time(text: &[u8]) -> Option<(i32, u32)>
+    ensures value { result ≡ then_some (words.is_date_time text.now) (words.day_number text.now, words.seconds_of_day text.now) }
+    ensures bound { IfSome result (λ x. IsWithin 5000000 x.0 × (x.1 < 86400)) }
 {
-    if !has_form(text, b"0000-00-00") {
+    if !has_form(text, b"0000-00-00T00:00:00") {
         return None;
     }
-    day_of(number(text, 0, 4), number(text, 5, 2), number(text, 8, 2))
+    date_time_of(
+        number(text, 0, 4),
+        number(text, 5, 2),
+        number(text, 8, 2),
+        number(text, 11, 2),
+        number(text, 14, 2),
+        number(text, 17, 2),
+    )
+}
+
+fn date_time_of(
+    year: u32,
+    month: u32,
+    day: u32,
+    hour: u32,
+    minute: u32,
+    second: u32,
+) -> Option<(i32, u32)>
+    requires year { year < 10000 }
+    requires month { month < 100 }
+    requires day { day < 100 }
+    requires hour { hour < 100 }
+    requires minute { minute < 100 }
+    requires second { second < 100 }
+    ensures value { result ≡ then_some
+        (words.exists_day year month day && (nat_le hour 23 && (nat_le minute 59 && nat_le second 59)))
+        (days_from_civil (pos year) month day, (hour * 60 + minute) * 60 + second) }
+    ensures bound { IfSome result (λ x. IsWithin 5000000 x.0 × (x.1 < 86400)) }
+{
+    let number = day_of(year, month, day)?;
+    let seconds = seconds_of_day(hour, minute, second)?;
+    Some((number, seconds))
 }
 
 fn day_of(year: u32, month: u32, day: u32) -> Option<i32>
@@ -85,18 +114,13 @@ fn day_of(year: u32, month: u32, day: u32) -> Option<i32>
     }
 }
 
-// the seconds of `Thh:mm:ss`
-#[tactic(auto, unfolding(crate::specs::Instants::is_time))]
-fn seconds_of_day(text: &[u8]) -> Option<u32>
-    ensures value { result ≡ (if words.is_time text.now then Some (words.seconds_of_day text.now) else None) }
+fn seconds_of_day(hour: u32, minute: u32, second: u32) -> Option<u32>
+    requires hour { hour < 100 }
+    requires minute { minute < 100 }
+    requires second { second < 100 }
+    ensures value { result ≡ then_some (nat_le hour 23 && (nat_le minute 59 && nat_le second 59)) ((hour * 60 + minute) * 60 + second) }
     ensures bound { IfSome result (λ n. n < 86400) }
 {
-    if !has_form(text, b"T00:00:00") {
-        return None;
-    }
-    let hour = number(text, 1, 2);
-    let minute = number(text, 4, 2);
-    let second = number(text, 7, 2);
     if 23 < hour || 59 < minute || 59 < second {
         return None;
     }
@@ -111,7 +135,7 @@ fn is_fraction(part: &[u8]) -> bool
 
 // how many minutes local time is ahead of UTC
 fn minutes_ahead(zone: &[u8]) -> Option<i32>
-    ensures value { result ≡ (if words.is_utc zone.now || words.is_offset zone.now then Some (words.minutes_ahead zone.now) else None) }
+    ensures value { result ≡ words.minutes_ahead zone.now }
     ensures bound { IfSome result (IsWithin 1000) }
 {
     if zone == b"Z".as_slice() {
@@ -134,9 +158,11 @@ fn signed(is_behind: bool, minutes: u32) -> i32
 }
 
 // the minutes of `+hh:mm` or `-hh:mm`
-#[tactic(auto, unfolding(crate::specs::Instants::is_offset))]
 fn offset(zone: &[u8]) -> Option<u32>
-    ensures value { result ≡ (if words.is_offset zone.now then Some (words.minutes zone.now) else None) }
+    ensures value { result ≡ then_some
+        ((form.has_form (codes "+00:00") zone.now || form.has_form (codes "-00:00") zone.now)
+        && (nat_le (form.number 2 4 zone.now) 59 && nat_le (form.number 2 1 zone.now * 60 + form.number 2 4 zone.now) (14 * 60)))
+        (form.number 2 1 zone.now * 60 + form.number 2 4 zone.now) }
     ensures bound { IfSome result (λ n. n ≤ 840) }
     ensures some { IfSome result (λ n. length zone.now ≡ 6) }
 {

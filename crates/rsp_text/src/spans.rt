@@ -1,5 +1,6 @@
 // Spans, in milliseconds.
-ghost use Rattle.std.specs.Prelude.{◌≡◌, ◌+◌, ◌-◌, ◌^◌, ◌<◌, ◌*◌, ◌&&◌, ◌||◌, ◌==◌, min, Some, None, if◌then◌else◌, length, IsTrue};
+ghost use Rattle.std.specs.Prelude.{◌≡◌, ◌+◌, ◌-◌, ◌^◌, ◌<◌, ◌*◌, min, not, length, IsTrue};
+ghost use Rattle.std.specs.Option.{option_map};
 ghost use Rattle.std.specs.Char.{is_ascii_digit};
 ghost use Rattle.std.specs.List.{list_all};
 ghost use Rattle.std.specs.Str.Parse.{digits_value};
@@ -8,9 +9,7 @@ ghost use Rattle.rsp_text.specs.Spans as length_of;
 
 use crate::digits::{fraction, thousandths, value_of};
 use crate::fronts::leading_digits;
-
-// as many milliseconds as to the end of the year 9999
-const LONGEST: u64 = 253_402_300_799_999;
+use rsp_spec::limits::LAST_INSTANT;
 
 /// A span as ISO 8601 writes it in days, hours, minutes and seconds, in ms; None exactly where the text isn't of the
 /// form `P`, then optionally `nD`, then optionally `T` with at least one of `nH`, `nM` and `nS` in this order, with at
@@ -28,14 +27,14 @@ pub fn span(text: &[u8]) -> Option<u64>
     let (days, behind) = count(behind, b'D');
     let ms = ms_behind_days(days.is_empty(), behind)?;
     let all = plus_times(ms, units(days), 86_400_000);
-    if LONGEST < all { None } else { Some(all) }
+    if LAST_INSTANT < all { None } else { Some(all) }
 }
 
 // The calls below count up to the type's end and stay there, which is past the longest span.
 
 // what stands behind the days
 fn ms_behind_days(no_days: bool, text: &[u8]) -> Option<u64>
-    ensures { result ≡ (if length_of.is_behind_days no_days text.now then Some (min (length_of.ms_behind_days text.now) (2 ^ 64 - 1)) else None) }
+    ensures { result ≡ option_map (λ ms. min ms (2 ^ 64 - 1)) (length_of.behind_days (not no_days) text.now) }
 {
     match text {
         [] => if no_days { None } else { Some(0) },
@@ -45,16 +44,16 @@ fn ms_behind_days(no_days: bool, text: &[u8]) -> Option<u64>
 }
 
 // hours, minutes and seconds
-#[tactic(auto, unfolding(crate::specs::Spans::is_clock, crate::specs::Spans::clock_ms))]
+#[tactic(auto, unfolding(crate::specs::Spans::clock))]
 fn clock_ms(text: &[u8]) -> Option<u64>
-    ensures { result ≡ (if length_of.is_clock text.now then Some (min (length_of.clock_ms text.now) (2 ^ 64 - 1)) else None) }
+    ensures { result ≡ option_map (λ ms. min ms (2 ^ 64 - 1)) (length_of.clock text.now) }
 {
     if text.is_empty() {
         return None;
     }
     let (hours, behind) = count(text, b'H');
     let (minutes, behind) = count(behind, b'M');
-    let seconds = seconds_if_any(behind)?;
+    let seconds = seconds_ms(behind)?;
     Some(plus_times(
         plus_times(seconds, units(minutes), 60_000),
         units(hours),
@@ -62,22 +61,14 @@ fn clock_ms(text: &[u8]) -> Option<u64>
     ))
 }
 
-fn seconds_if_any(text: &[u8]) -> Option<u64>
-    ensures { result ≡ (if (length text.now == 0) || length_of.is_seconds text.now
-        then Some (min (if length text.now == 0 then 0 else length_of.seconds_ms text.now) (2 ^ 64 - 1)) else None) }
+// seconds with a fraction, and nothing behind; or nothing
+#[tactic(auto, unfolding(crate::specs::Spans::seconds))]
+fn seconds_ms(text: &[u8]) -> Option<u64>
+    ensures { result ≡ option_map (λ ms. min ms (2 ^ 64 - 1)) (length_of.seconds text.now) }
 {
     if text.is_empty() {
-        Some(0)
-    } else {
-        seconds_ms(text)
+        return Some(0);
     }
-}
-
-// seconds with a fraction, and nothing behind
-#[tactic(auto, unfolding(crate::specs::Spans::is_seconds))]
-fn seconds_ms(text: &[u8]) -> Option<u64>
-    ensures { result ≡ (if length_of.is_seconds text.now then Some (min (length_of.seconds_ms text.now) (2 ^ 64 - 1)) else None) }
-{
     let whole = leading_digits(text);
     let part = fraction(&text[whole.len()..]);
     if whole.is_empty() || part.len() == 1 {
@@ -91,8 +82,8 @@ fn seconds_ms(text: &[u8]) -> Option<u64>
 
 // the digits of a count with this unit at the front, or nothing, and what stands behind it
 fn count(text: &[u8], unit: u8) -> (&[u8], &[u8])
-    ensures digits { result.0.now ≡ length_of.count unit text.now }
-    ensures behind { result.1.now ≡ length_of.behind_count unit text.now }
+    ensures digits { result.0.now ≡ (length_of.count unit text.now).0 }
+    ensures behind { result.1.now ≡ (length_of.count unit text.now).1 }
     ensures are_digits { IsTrue (list_all is_ascii_digit result.0.now) }
 {
     let digits = leading_digits(text);

@@ -24,8 +24,9 @@ use Rattle.rsp_query.specs.Queries.{Registered}
 use Rattle.rsp_algebra.specs.declared.tree.Translated.{Translated}
 use Rattle.rsp_shapes.specs.Sound.{IsSound}
 use Rattle.rsp_translation.specs.Translation.{IsTranslated, setting_of, width_of}
-use Rattle.rsp_translation.specs.Trees.{Begun, Setting, Test, closed, condition_of, filter_of, filtered, filters, finished, graph_place, group_node, group_nodes, joined, longer, nothing, select_node, slashes_among, slashes_in, slashes_of, slashes_within, tested, value_for, values_row, window_place, with_part, with_parts, with_run, with_test, with_tree, with_triple}
+use Rattle.rsp_translation.specs.Begun.{Begun, Setting, Test, closed, condition_of, filter_of, filtered, filters, finished, graph_place, group_node, group_nodes, joined, longer, nothing, select_node, slashes_among, slashes_in, slashes_of, slashes_within, tested, value_for, values_row, window_place, with_part, with_parts, with_run, with_test, with_tree, with_triple}
 use Rattle.rsp_shapes.specs.Visible.{is_given, is_visible_in, name_of, variables_of}
+use Rattle.rsp_translation.proofs.Clauses.{alone_is, select_is}
 
 -- ---- lists of variables
 
@@ -55,19 +56,19 @@ pattern_fits w at s p o a b c d =
     (both (λ v. v < w) (slot_variables s) (slot_variables p ++ slot_variables o) b
     (both (λ v. v < w) (slot_variables p) (slot_variables o) c d))
 
-joins_fit : (w : ℕ) (first : Node) (others : List Node) → Fits w first → AllByRecursion (Fits w) others → Fits w (fold node.join first others)
+joins_fit : (w : ℕ) (first : Node) (others : List Node) → Fits w first → AllByRecursion (Fits w) others → Fits w (fold (node.of_two node.join) first others)
 joins_fit w first [] fits all = fits
-joins_fit w first (next ∷ others) fits all = joins_fit w (node.join first next) others (fits, all.0) all.1
+joins_fit w first (next ∷ others) fits all = joins_fit w (node.of_two node.join first next) others (fits, all.0) all.1
 
-unions_fit : (w : ℕ) (first : Node) (others : List Node) → Fits w first → AllByRecursion (Fits w) others → Fits w (fold node.union first others)
+unions_fit : (w : ℕ) (first : Node) (others : List Node) → Fits w first → AllByRecursion (Fits w) others → Fits w (fold (node.of_two node.union) first others)
 unions_fit w first [] fits all = fits
-unions_fit w first (next ∷ others) fits all = unions_fit w (node.union first next) others (fits, all.0) all.1
+unions_fit w first (next ∷ others) fits all = unions_fit w (node.of_two node.union first next) others (fits, all.0) all.1
 
-joined_fit : (w : ℕ) (nodes : List Node) → AllByRecursion (Fits w) nodes → Fits w (from_left node.join nodes)
+joined_fit : (w : ℕ) (nodes : List Node) → AllByRecursion (Fits w) nodes → Fits w (from_left (node.of_two node.join) nodes)
 joined_fit w [] all = tt
 joined_fit w (first ∷ others) all = joins_fit w first others all.0 all.1
 
-united_fit : (w : ℕ) (nodes : List Node) → AllByRecursion (Fits w) nodes → Fits w (from_left node.union nodes)
+united_fit : (w : ℕ) (nodes : List Node) → AllByRecursion (Fits w) nodes → Fits w (from_left (node.of_two node.union) nodes)
 united_fit w [] all = tt
 united_fit w (first ∷ others) all = unions_fit w first others all.0 all.1
 
@@ -154,18 +155,18 @@ BegunFits w group = Fits w group.tree × (RunFits w group.run × AllByRecursion 
 join_fits : (w : ℕ) (left right : Node) → Fits w left → Fits w right → Fits w (joined left right)
 join_fits w node.unit right a b = b
 join_fits w (node.pattern at t) right a b = (a, b)
-join_fits w (node.join x y) right a b = (a, b)
-join_fits w (node.left_join x y c) right a b = (a, b)
-join_fits w (node.union x y) right a b = (a, b)
-join_fits w (node.minus x y) right a b = (a, b)
-join_fits w (node.exists x y c) right a b = (a, b)
-join_fits w (node.not_exists x y c) right a b = (a, b)
-join_fits w (node.filter x c) right a b = (a, b)
-join_fits w (node.extend x v f) right a b = (a, b)
+join_fits w (node.of_two node.join x y) right a b = (a, b)
+join_fits w (node.of_two (node.left_join c) x y) right a b = (a, b)
+join_fits w (node.of_two node.union x y) right a b = (a, b)
+join_fits w (node.of_two node.minus x y) right a b = (a, b)
+join_fits w (node.of_two (node.exists c) x y) right a b = (a, b)
+join_fits w (node.of_two (node.not_exists c) x y) right a b = (a, b)
+join_fits w (node.over (node.filter c) x) right a b = (a, b)
+join_fits w (node.over (node.extend v f) x) right a b = (a, b)
 join_fits w (node.values rows) right a b = (a, b)
-join_fits w (node.project x vs) right a b = (a, b)
-join_fits w (node.distinct x) right a b = (a, b)
-join_fits w (node.group x keys aggregates) right a b = (a, b)
+join_fits w (node.over (node.project vs) x) right a b = (a, b)
+join_fits w (node.over node.distinct x) right a b = (a, b)
+join_fits w (node.over (node.group keys aggregates) x) right a b = (a, b)
 
 run_fits : (w : ℕ) (tree : Node) (run : Option Node) → Fits w tree → RunFits w run → Fits w (with_run tree run)
 run_fits w tree None a b = a
@@ -302,15 +303,15 @@ mutual
   part_fits n w wide s width count at a fresh group (optional body) sound room fits =
       let inner = parts_fit n w wide s width count at a fresh nothing body sound room (nothing_fits w) in
       tree_fits w group
-      (node.left_join (closed group) (closed (with_parts s at fresh nothing body)) (condition_of body)) fits
+      (node.of_two (node.left_join (condition_of body)) (closed group) (closed (with_parts s at fresh nothing body))) fits
       (condition_below n w wide body sound, (closed_fits w group fits, closed_fits w (with_parts s at fresh nothing body) inner))
   part_fits n w wide s width count at a fresh group (minus body) sound room fits =
       let inner = parts_fit n w wide s width count at a fresh nothing body sound room (nothing_fits w) in
-      tree_fits w group (node.minus (closed group) (finished body (with_parts s at fresh nothing body))) fits
+      tree_fits w group (node.of_two node.minus (closed group) (finished body (with_parts s at fresh nothing body))) fits
       (closed_fits w group fits, finished_fits n w wide body sound (with_parts s at fresh nothing body) inner)
   part_fits n w wide s width count at a fresh group (union groups) sound room fits =
-      tree_fits w group (joined (closed group) (from_left node.union (group_nodes s at fresh groups))) fits
-      (join_fits w (closed group) (from_left node.union (group_nodes s at fresh groups)) (closed_fits w group fits)
+      tree_fits w group (joined (closed group) (from_left (node.of_two node.union) (group_nodes s at fresh groups))) fits
+      (join_fits w (closed group) (from_left (node.of_two node.union) (group_nodes s at fresh groups)) (closed_fits w group fits)
       (united_fit w (group_nodes s at fresh groups) (branches_fit n w wide s width count at a fresh groups sound room)))
   part_fits n w wide s width count at a fresh group (graph name word body) sound room fits =
       let inner =
@@ -324,7 +325,7 @@ mutual
       (join_fits w (closed group) (finished body (with_parts s (window_place s.windows name) fresh nothing body)) (closed_fits w group fits)
       (finished_fits n w wide body sound (with_parts s (window_place s.windows name) fresh nothing body) inner))
   part_fits n w wide s width count at a fresh group (bind v formula) sound room fits =
-      tree_fits w group (node.extend (closed group) v formula) fits
+      tree_fits w group (node.over (node.extend v formula) (closed group)) fits
       (one n w wide v sound.0, (below n w wide (formula_variables formula) sound.1, closed_fits w group fits))
   part_fits n w wide s width count at a fresh group (values variables rows) sound room fits =
       tree_fits w group (joined (closed group) (node.values (map (values_row s.width variables) rows))) fits
@@ -358,8 +359,10 @@ mutual
       (parts_fit n w wide s width count at a fresh nothing body sound.1.0 room (nothing_fits w)))
 
 pub placed : (q : Registered) (made : Translated) → IsSound q → IsTranslated q made → IsPlaced made
-placed q made sound is = record {
-  tree = rw (is.width, is.tree)
-      (select_fits (length q.variables) (width_of q) (omega arith) (setting_of q) refl refl place.Default tt (length q.variables) q.selection sound (omega arith));
-  shown = rw (is.width, is.shown) (projected_below (length q.variables) (width_of q) (omega arith) q.variables refl q.selection sound);
-}
+placed q made sound is =
+    let counted = alone_is (sub q.selection) in
+    record {
+      tree = rw (is.width, is.tree, select_is (setting_of q) place.Default (length q.variables) q.selection)
+          (select_fits (length q.variables) (width_of q) (omega arith) (setting_of q) refl refl place.Default tt (length q.variables) q.selection sound (omega (arith, counted)));
+      shown = rw (is.width, is.shown) (projected_below (length q.variables) (width_of q) (omega arith) q.variables refl q.selection sound);
+    }

@@ -4,11 +4,11 @@ use Rattle.std.specs.Prelude.{ℕ, ◌+◌, List, [], ◌∷◌, ◌++◌}
 use Rattle.std.specs.Option.{option_map}
 use Rattle.rsp_query.specs.Groups.{Part, Parts, exists, no_part, part_then}
 use Rattle.rsp_algebra.specs.declared.tree.Place.{Place}
-use Rattle.rsp_algebra.specs.Nodes.{node_of}
+use Rattle.rsp_algebra.specs.Meanings.{node_of}
 use Rattle.rsp_shapes.specs.Shapes.{declared}
 use Rattle.rsp_translation.specs.declared.setting.Setting as code_setting
 use Rattle.rsp_translation.specs.declared.begun.Begun as code_begun
-use Rattle.rsp_translation.specs.Trees.{Setting, Test, Begun, elements_node, condition_of, slashes_of}
+use Rattle.rsp_translation.specs.Begun.{Setting, Test, Begun, elements_node, condition_of, slashes_of}
 
 abbrev pub fixed_by : code_setting.Setting → Setting
 fixed_by setting = record {

@@ -4,4 +4,5 @@ pub mod Selects
 pub mod Trees
 pub mod Translation
 -- Words of the way
+pub mod Begun
 pub mod Building

@@ -29,8 +29,8 @@ abbrev mutual
   pub path_node : Place → ℕ → Slot → Way → Slot → Node
   path_node place fresh subject (step predicate) object = triple_node place subject predicate object
   path_node place fresh subject (inverse way) object = path_node place fresh object way subject
-  path_node place fresh subject (sequence ways) object = from_left node.join (steps place fresh subject ways object)
-  path_node place fresh subject (choice ways) object = from_left node.union (choices place fresh subject ways object)
+  path_node place fresh subject (sequence ways) object = from_left (node.of_two node.join) (steps place fresh subject ways object)
+  path_node place fresh subject (choice ways) object = from_left (node.of_two node.union) (choices place fresh subject ways object)
 
   -- one behind the other
   pub steps : Place → ℕ → Slot → Ways → Slot → List Node

@@ -19,27 +19,26 @@ projected names (selection distinct star items body grouped keys having aggregat
 -- with what one item computes
 abbrev pub with_item : Node → ℕ → Option Formula → Node
 with_item tree v None = tree
-with_item tree v (Some formula) = node.extend tree v formula
+with_item tree v (Some formula) = node.over (node.extend v formula) tree
 
 abbrev pub with_items : Node → List Item → Node
 with_items tree [] = tree
 with_items tree (item ∷ more) = with_items (with_item tree item.variable item.formula) more
 
 abbrev pub with_groups : Bool → List Item → List (ℕ × Aggregation) → Node → Node
-with_groups grouped keys aggregates tree = cond grouped (node.group tree (variables_of keys) aggregates) tree
+with_groups grouped keys aggregates tree = cond grouped (node.over (node.group (variables_of keys) aggregates) tree) tree
 
 abbrev pub with_having : Option Formula → Node → Node
 with_having None tree = tree
-with_having (Some condition) tree = node.filter tree condition
+with_having (Some condition) tree = node.over (node.filter condition) tree
 
 abbrev pub with_distinct : Bool → Node → Node
-with_distinct distinct tree = cond distinct (node.distinct tree) tree
+with_distinct distinct tree = cond distinct (node.over node.distinct tree) tree
 
 -- what a SELECT makes of its group's tree: keys are computed, then groups made and tested by HAVING; items are computed in their
 -- order, then projected
 abbrev pub selected : List (List ℕ) → Selection → Node → Node
 selected names (selection distinct star items body grouped keys having aggregates) tree =
     with_distinct distinct
-    (node.project
-    (with_items (with_having having (with_groups grouped keys aggregates (with_items tree keys))) items)
-    (projected names (selection distinct star items body grouped keys having aggregates)))
+    (node.over (node.project (projected names (selection distinct star items body grouped keys having aggregates)))
+    (with_items (with_having having (with_groups grouped keys aggregates (with_items tree keys))) items))

@@ -1,10 +1,13 @@
 -- Definitions: the translation of a query (SPARQL 1.1 Query, section 18.2), or the first reason why it has none.
 use Rattle.std.specs.Prelude.{◌≡◌, ⊤, ℕ, ◌+◌, List, Option, None, Some, Result, Ok, Err, codes, length}
 use Rattle.std.specs.Option.{option_map, option_or}
+use Rattle.rsp_query.specs.Groups.{sub, no_part, part_then}
 use Rattle.rsp_query.specs.Queries.{Registered}
+use Rattle.rsp_query.specs.Walks.{slashes_in}
 use Rattle.rsp_algebra.specs.declared.tree.Place.TheVariants as place
 use Rattle.rsp_algebra.specs.declared.tree.Translated.{Translated}
-use Rattle.rsp_algebra.specs.Nodes.{Node, node_of}
+use Rattle.rsp_algebra.specs.Nodes.{Node}
+use Rattle.rsp_algebra.specs.Meanings.{node_of}
 use Rattle.rsp_translation.specs.declared.shape.Shape.{Shape}
 use Rattle.rsp_translation.specs.declared.shape.Shape.TheVariants.{GraphShape, ExistsShape, Scope, OutOfMemory}
 use Rattle.rsp_shapes.specs.declared.unscoped.Unscoped.{Unscoped}
@@ -13,7 +16,7 @@ use Rattle.rsp_shapes.specs.Visible.{name_of}
 use Rattle.rsp_shapes.specs.Shapes.{declared, graph_shape, exists_shape}
 use Rattle.rsp_shapes.specs.Scopes.{scope}
 use Rattle.rsp_translation.specs.Selects.{projected}
-use Rattle.rsp_translation.specs.Trees.{Setting, select_node, slashes_within}
+use Rattle.rsp_translation.specs.Trees.{Setting, select_node}
 
 abbrev pub name_of_unscoped : List (List ℕ) → Unscoped → List ℕ
 name_of_unscoped names Star = codes "*"
@@ -30,7 +33,7 @@ first_fault q =
 
 -- a place for each variable, and behind them one for each `/`
 abbrev pub width_of : Registered → ℕ
-width_of q = length q.variables + slashes_within q.selection
+width_of q = length q.variables + slashes_in (part_then (sub q.selection) no_part)
 
 abbrev pub setting_of : Registered → Setting
 setting_of q = record { names = q.variables; windows = declared q.windows; width = width_of q }

@@ -1,6 +1,6 @@
 -- Definitions: the trees of groups and SELECTs (SPARQL 1.1 Query, section 18.2.2).
-use Rattle.std.specs.Prelude.{ℕ, ◌+◌, Bool, cond, nat_eq, List, [], ◌∷◌, ◌++◌, Option, None, Some, map}
-use Rattle.std.specs.List.{fold, position_or_len}
+use Rattle.std.specs.Prelude.{ℕ, ◌+◌, cond, nat_eq, List, [], ◌∷◌, ◌++◌, Option, None, Some, map}
+use Rattle.std.specs.List.{filter_map, fold, position_or_len}
 use Rattle.std.specs.Str.{bytes_eq}
 use Rattle.rsp_multiset.specs.Rows.{Cells}
 use Rattle.rsp_terms.specs.declared.term.Term.{Term}
@@ -8,12 +8,12 @@ use Rattle.rsp_expr.specs.declared.slot.Slot.{Slot}
 use Rattle.rsp_expr.specs.declared.slot.Slot.TheVariants as slot
 use Rattle.rsp_expr.specs.Formulas.{Formula, formulas_in, conjunction}
 use Rattle.rsp_query.specs.Groups.{Part, Parts, Groups, Selection, triple, optional, minus, union, graph, window, filter, exists, bind, values, sub, no_part, part_then, no_group, group_then, selection}
+use Rattle.rsp_query.specs.Walks.{slashes_in}
 use Rattle.rsp_algebra.specs.declared.tree.Place.{Place}
 use Rattle.rsp_algebra.specs.declared.tree.Place.TheVariants as place
 use Rattle.rsp_algebra.specs.Nodes as node
 use Rattle.rsp_algebra.specs.Nodes.{Node}
 use Rattle.rsp_algebra.specs.Patterns.{row_by}
-use Rattle.rsp_query.specs.Paths.{slashes}
 use Rattle.rsp_translation.specs.Paths.{from_left, path_node}
 use Rattle.rsp_translation.specs.Selects.{selected}
 
@@ -45,148 +45,90 @@ value_for (variable ∷ more) (cell ∷ cells) v = cond (nat_eq v variable) cell
 abbrev pub values_row : ℕ → List ℕ → List (Option Term) → Cells Term
 values_row width variables cells = row_by width (value_for variables cells)
 
--- ---- filters
+-- ---- the elements of a group
 
--- the conditions of a group's own filters
-abbrev pub filter_of : Part → List Formula
-filter_of (filter condition) = condition ∷ []
-filter_of _ = []
-
-abbrev pub filters : Parts → List Formula
-filters no_part = []
-filters (part_then part more) = filter_of part ++ filters more
-
--- all of them; true where there are none
-abbrev pub condition_of : Parts → Formula
-condition_of body = conjunction (formulas_in (filters body))
-
-abbrev pub filtered : List Formula → Node → Node
-filtered [] tree = tree
-filtered (first ∷ others) tree = node.filter tree (conjunction (formulas_in (first ∷ others)))
-
--- ---- the `/` in a group
-
-abbrev mutual
-  pub slashes_of : Part → ℕ
-  slashes_of (triple subject verb object) = slashes verb
-  slashes_of (optional body) = slashes_in body
-  slashes_of (minus body) = slashes_in body
-  slashes_of (union groups) = slashes_among groups
-  slashes_of (graph name at body) = slashes_in body
-  slashes_of (window name at body) = slashes_in body
-  slashes_of (filter condition) = 0
-  slashes_of (exists negated at body) = slashes_in body
-  slashes_of (bind v formula) = 0
-  slashes_of (values variables rows) = 0
-  slashes_of (sub inner) = slashes_within inner
-
-  pub slashes_in : Parts → ℕ
-  slashes_in no_part = 0
-  slashes_in (part_then part more) = slashes_of part + slashes_in more
-
-  pub slashes_among : Groups → ℕ
-  slashes_among no_group = 0
-  slashes_among (group_then group more) = slashes_in group + slashes_among more
-
-  pub slashes_within : Selection → ℕ
-  slashes_within (selection distinct star items body grouped keys having aggregates) = slashes_in body
-
--- ---- groups
+-- what an element is for its group: triples, which are joined with those beside them first; what it makes of the tree of the
+-- elements before it; a filter; or the test of an EXISTS, for the tree of the whole group
+pub data Clause : Type 0 where
+  triples : Node → Clause
+  behind : (Node → Node) → Clause
+  filtering : Formula → Clause
+  testing : (Node → Node) → Clause
 
 -- the unit vanishes on the left of a join
 abbrev pub joined : Node → Node → Node
 joined node.unit right = right
-joined left right = node.join left right
+joined left right = node.of_two node.join left right
 
--- EXISTS, or NOT EXISTS where negated: the tree of its group without its own filters, and their conjunction
-pub record Test : Type 0 where
-  pub negated : Bool
-  pub tree : Node
-  pub condition : Formula
+-- behind a run of triples
+abbrev pub with_run : Node → List Node → Node
+with_run tree [] = tree
+with_run tree (first ∷ others) = joined tree (fold (node.of_two node.join) first others)
 
-abbrev pub tested : Node → Test → Node
-tested left test =
-    cond test.negated (node.not_exists left test.tree test.condition) (node.exists left test.tree test.condition)
+-- with the clauses from left to right, behind a tree and a run of triples; neither a filter nor an EXISTS ends a run
+abbrev pub built : Node → List Node → List Clause → Node
+built tree run [] = with_run tree run
+built tree run (triples next ∷ more) = built tree (run ++ (next ∷ [])) more
+built tree run (behind f ∷ more) = built (f (with_run tree run)) [] more
+built tree run (_ ∷ more) = built tree run more
 
--- A group so far: the tree of the elements before the run of triples at its end; the join of this run, if one stands there;
--- and the EXISTS of the group, which are tested at the end.
-pub record Begun : Type 0 where
-  pub tree : Node
-  pub run : Option Node
-  pub tests : List Test
+-- without filters and tests
+abbrev pub elements : List Clause → Node
+elements clauses = built node.unit [] clauses
 
-abbrev pub nothing : Begun
-nothing = record { tree = node.unit; run = None; tests = [] }
+abbrev pub filter_in : Clause → Option Formula
+filter_in (filtering condition) = Some condition
+filter_in _ = None
 
--- at the end of the run
-abbrev pub with_run : Node → Option Node → Node
-with_run tree None = tree
-with_run tree (Some run) = joined tree run
+abbrev pub filters_in : List Clause → List Formula
+filters_in clauses = filter_map filter_in clauses
 
-abbrev pub closed : Begun → Node
-closed group = with_run group.tree group.run
+-- all filters of a group; true where there are none
+abbrev pub condition : List Clause → Formula
+condition clauses = conjunction (formulas_in (filters_in clauses))
 
--- behind an element that ends the run
-abbrev pub with_tree : Begun → Node → Begun
-with_tree group tree = record { tree = tree; run = None; tests = group.tests }
+abbrev pub filtered : List Formula → Node → Node
+filtered [] tree = tree
+filtered (first ∷ others) tree = node.over (node.filter (conjunction (formulas_in (first ∷ others)))) tree
 
-abbrev pub longer : Option Node → Node → Node
-longer None part = part
-longer (Some run) part = node.join run part
+abbrev pub tested_by : Node → Clause → Node
+tested_by tree (testing test) = test tree
+tested_by tree _ = tree
 
-abbrev pub with_triple : Begun → Node → Begun
-with_triple group part = record { tree = group.tree; run = Some (longer group.run part); tests = group.tests }
+-- a whole group: its filters hold of the tree of its elements, and its tests of that
+abbrev pub group : List Clause → Node
+group clauses = fold tested_by (filtered (filters_in clauses) (elements clauses)) clauses
 
-abbrev pub with_test : Begun → Test → Begun
-with_test group test = record { tree = group.tree; run = group.run; tests = group.tests ++ (test ∷ []) }
-
--- a group of these parts, at its end
-abbrev pub finished : Parts → Begun → Node
-finished body group = fold tested (filtered (filters body) (closed group)) group.tests
-
--- At a place, where the `/` of what is translated have the variables from `fresh` on, in the order of the text. The elements are
--- taken in order, the filters apart: these don't end a run of triples, and each other element does.
+-- At a place, where the `/` of what is translated have the variables from `fresh` on, in the order of the text.
 abbrev mutual
-  -- the group with one more part
-  pub with_part : Setting → Place → ℕ → Begun → Part → Begun
-  with_part s at fresh group (triple subject verb object) = with_triple group (path_node at fresh subject verb object)
-  with_part s at fresh group (filter condition) = group
-  with_part s at fresh group (exists negated word body) =
-      with_test group
-      (record { negated = negated; tree = closed (with_parts s at fresh nothing body); condition = condition_of body })
-  with_part s at fresh group (optional body) =
-      with_tree group (node.left_join (closed group) (closed (with_parts s at fresh nothing body)) (condition_of body))
-  with_part s at fresh group (minus body) =
-      with_tree group (node.minus (closed group) (finished body (with_parts s at fresh nothing body)))
-  with_part s at fresh group (union groups) =
-      with_tree group (joined (closed group) (from_left node.union (group_nodes s at fresh groups)))
-  with_part s at fresh group (graph name word body) =
-      with_tree group (joined (closed group) (finished body (with_parts s (graph_place name) fresh nothing body)))
-  with_part s at fresh group (window name word body) =
-      with_tree group (joined (closed group) (finished body (with_parts s (window_place s.windows name) fresh nothing body)))
-  with_part s at fresh group (bind v formula) = with_tree group (node.extend (closed group) v formula)
-  with_part s at fresh group (values variables rows) =
-      with_tree group (joined (closed group) (node.values (map (values_row s.width variables) rows)))
-  with_part s at fresh group (sub inner) = with_tree group (joined (closed group) (select_node s at fresh inner))
+  pub clause : Setting → Place → ℕ → Part → Clause
+  clause s at fresh (triple subject verb object) = triples (path_node at fresh subject verb object)
+  clause s at fresh (filter formula) = filtering formula
+  clause s at fresh (exists negated word body) = testing (λ left.
+      node.of_two (cond negated node.not_exists node.exists (condition (clauses s at fresh body))) left
+      (elements (clauses s at fresh body)))
+  clause s at fresh (optional body) = behind (λ left.
+      node.of_two (node.left_join (condition (clauses s at fresh body))) left (elements (clauses s at fresh body)))
+  clause s at fresh (minus body) = behind (λ left. node.of_two node.minus left (group (clauses s at fresh body)))
+  clause s at fresh (union groups) = behind (λ left. joined left (from_left (node.of_two node.union) (group_nodes s at fresh groups)))
+  clause s at fresh (graph name word body) = behind (λ left. joined left (group (clauses s (graph_place name) fresh body)))
+  clause s at fresh (window name word body) =
+      behind (λ left. joined left (group (clauses s (window_place s.windows name) fresh body)))
+  clause s at fresh (bind v formula) = behind (λ left. node.over (node.extend v formula) left)
+  clause s at fresh (values variables rows) =
+      behind (λ left. joined left (node.values (map (values_row s.width variables) rows)))
+  clause s at fresh (sub inner) = behind (λ left. joined left (select_node s at fresh inner))
 
-  pub with_parts : Setting → Place → ℕ → Begun → Parts → Begun
-  with_parts s at fresh group no_part = group
-  with_parts s at fresh group (part_then part more) =
-      with_parts s at (fresh + slashes_of part) (with_part s at fresh group part) more
+  pub clauses : Setting → Place → ℕ → Parts → List Clause
+  clauses s at fresh no_part = []
+  clauses s at fresh (part_then part more) =
+      clause s at fresh part ∷ clauses s at (fresh + slashes_in (part_then part no_part)) more
 
   pub group_nodes : Setting → Place → ℕ → Groups → List Node
   group_nodes s at fresh no_group = []
   group_nodes s at fresh (group_then body more) =
-      finished body (with_parts s at fresh nothing body) ∷ group_nodes s at (fresh + slashes_in body) more
+      group (clauses s at fresh body) ∷ group_nodes s at (fresh + slashes_in body) more
 
   pub select_node : Setting → Place → ℕ → Selection → Node
   select_node s at fresh (selection distinct star items body grouped keys having aggregates) =
-      selected s.names (selection distinct star items body grouped keys having aggregates)
-      (finished body (with_parts s at fresh nothing body))
-
--- a group without its filters, and a whole group
-abbrev pub elements_node : Setting → Place → ℕ → Parts → Node
-elements_node s at fresh body = closed (with_parts s at fresh nothing body)
-
-abbrev pub group_node : Setting → Place → ℕ → Parts → Node
-group_node s at fresh body = finished body (with_parts s at fresh nothing body)
+      selected s.names (selection distinct star items body grouped keys having aggregates) (group (clauses s at fresh body))

@@ -1,12 +1,14 @@
 // The tree of a group while its elements are taken.
 ghost use Rattle.std.specs.Prelude.{◌≡◌, IfOk, None, cond, map, []};
 ghost use Rattle.std.specs.Option.{option_map};
-ghost use Rattle.rsp_expr.specs.Formulas.{formula_of};
-ghost use Rattle.rsp_query.specs.Groups.{part_of, parts_in};
+ghost use Rattle.rsp_expr.specs.Meanings.{formula_of};
+ghost use Rattle.rsp_query.specs.Groups.{parts_in};
+ghost use Rattle.rsp_query.specs.Meanings.{part_of};
 ghost use Rattle.rsp_algebra.specs.Nodes as node;
-ghost use Rattle.rsp_algebra.specs.Nodes.{Node, node_of};
+ghost use Rattle.rsp_algebra.specs.Nodes.{Node};
+ghost use Rattle.rsp_algebra.specs.Meanings.{node_of};
 ghost use Rattle.rsp_translation.specs.Building.{begun_of};
-ghost use Rattle.rsp_translation.specs.Trees as trees;
+ghost use Rattle.rsp_translation.specs.Begun as trees;
 
 use crate::filters::condition;
 use rsp_algebra::{Tree, nodes};
@@ -38,7 +40,7 @@ fn ended(tree: Tree) -> Begun
 }
 
 fn is_unit(tree: &Tree) -> bool
-    ensures { (right : Node) → trees.joined (node_of tree.now) right ≡ cond result right (node.join (node_of tree.now) right) }
+    ensures { (right : Node) → trees.joined (node_of tree.now) right ≡ cond result right (node.of_two node.join (node_of tree.now) right) }
 {
     match tree {
         Tree::Unit => true,
@@ -113,16 +115,16 @@ pub(crate) fn with_optional(
     body: &[Element],
 ) -> Result<Begun, AllocError>
     ensures { IfOk result (λ next. begun_of next
-        ≡ trees.with_tree (begun_of group) (node.left_join (trees.closed (begun_of group)) (node_of right)
-        (trees.condition_of (parts_in (map part_of body.now))))) }
+        ≡ trees.with_tree (begun_of group) (node.of_two (node.left_join (trees.condition_of (parts_in (map part_of body.now))))
+        (trees.closed (begun_of group)) (node_of right))) }
 {
     let left = closed(alloc, group)?;
     Ok(ended(left_joined(alloc, left, right, body)?))
 }
 
 fn left_joined(alloc: Global, left: Tree, right: Tree, body: &[Element]) -> Result<Tree, AllocError>
-    ensures { IfOk result (λ tree. node_of tree ≡ node.left_join (node_of left) (node_of right)
-        (trees.condition_of (parts_in (map part_of body.now)))) }
+    ensures { IfOk result (λ tree. node_of tree
+        ≡ node.of_two (node.left_join (trees.condition_of (parts_in (map part_of body.now)))) (node_of left) (node_of right)) }
 {
     nodes::left_join(alloc, left, right, &condition(alloc, body)?)
 }
@@ -130,7 +132,7 @@ fn left_joined(alloc: Global, left: Tree, right: Tree, body: &[Element]) -> Resu
 /// The group without what the tree behind it is compatible with. Fails only where memory is refused.
 pub(crate) fn with_minus(alloc: Global, group: Begun, right: Tree) -> Result<Begun, AllocError>
     ensures { IfOk result (λ next. begun_of next
-        ≡ trees.with_tree (begun_of group) (node.minus (trees.closed (begun_of group)) (node_of right))) }
+        ≡ trees.with_tree (begun_of group) (node.of_two node.minus (trees.closed (begun_of group)) (node_of right))) }
 {
     let left = closed(alloc, group)?;
     Ok(ended(nodes::minus(alloc, left, right)?))
@@ -144,7 +146,7 @@ pub(crate) fn with_bind(
     expression: &Expression,
 ) -> Result<Begun, AllocError>
     ensures { IfOk result (λ next. begun_of next
-        ≡ trees.with_tree (begun_of group) (node.extend (trees.closed (begun_of group)) variable (formula_of expression.now))) }
+        ≡ trees.with_tree (begun_of group) (node.over (node.extend variable (formula_of expression.now)) (trees.closed (begun_of group)))) }
 {
     let child = closed(alloc, group)?;
     Ok(ended(nodes::extend(alloc, child, variable, expression)?))

@@ -1,6 +1,6 @@
 // The first reason why a query has no translation.
 ghost use Rattle.std.specs.Prelude.{◌≡◌, IfOk};
-ghost use Rattle.rsp_query.specs.Queries.{registered};
+ghost use Rattle.rsp_query.specs.Meanings.{registered};
 ghost use Rattle.rsp_shapes.specs.Visible.{name_of};
 ghost use Rattle.rsp_translation.specs.Translation as translation;
 

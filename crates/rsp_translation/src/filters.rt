@@ -1,9 +1,10 @@
 // A group's own filters.
 ghost use Rattle.std.specs.Prelude.{◌≡◌, ◌++◌, IfOk, map};
-ghost use Rattle.rsp_expr.specs.Formulas.{formula_of};
-ghost use Rattle.rsp_query.specs.Groups.{part_of, parts_in};
-ghost use Rattle.rsp_algebra.specs.Nodes.{node_of};
-ghost use Rattle.rsp_translation.specs.Trees as trees;
+ghost use Rattle.rsp_expr.specs.Meanings.{formula_of};
+ghost use Rattle.rsp_query.specs.Groups.{parts_in};
+ghost use Rattle.rsp_query.specs.Meanings.{part_of};
+ghost use Rattle.rsp_algebra.specs.Meanings.{node_of};
+ghost use Rattle.rsp_translation.specs.Begun as trees;
 
 use rsp_algebra::{Tree, nodes};
 use rsp_query::{Element, Expression};

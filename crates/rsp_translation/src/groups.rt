@@ -1,11 +1,12 @@
 // The trees of groups and SELECTs.
 ghost use Rattle.std.specs.Prelude.{◌≡◌, IfOk, map};
 ghost use Rattle.std.specs.List.{fold};
-ghost use Rattle.rsp_query.specs.Groups.{groups_in, part_of, parts_in, selection_of};
-ghost use Rattle.rsp_algebra.specs.Nodes.{node_of};
+ghost use Rattle.rsp_query.specs.Groups.{groups_in, parts_in};
+ghost use Rattle.rsp_query.specs.Meanings.{part_of, selection_of};
+ghost use Rattle.rsp_algebra.specs.Meanings.{node_of};
 ghost use Rattle.rsp_shapes.specs.Seeing.{branches_of};
 ghost use Rattle.rsp_translation.specs.Building.{bare, begun_of, fixed_by, tests_in, tests_of};
-ghost use Rattle.rsp_translation.specs.Trees as trees;
+ghost use Rattle.rsp_translation.specs.Begun as trees;
 
 use crate::begun::{
     Begun, closed, nothing, tested, with_bind, with_joined, with_minus, with_optional, with_triple,

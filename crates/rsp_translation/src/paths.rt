@@ -1,8 +1,9 @@
 // The trees of property paths.
 ghost use Rattle.std.specs.Prelude.{◌≡◌, ◌+◌, IfOk, map};
-ghost use Rattle.rsp_query.specs.Paths.{way_of, ways_in};
+ghost use Rattle.rsp_query.specs.Paths.{ways_in};
+ghost use Rattle.rsp_query.specs.Meanings.{way_of};
 ghost use Rattle.rsp_algebra.specs.Nodes as node;
-ghost use Rattle.rsp_algebra.specs.Nodes.{node_of};
+ghost use Rattle.rsp_algebra.specs.Meanings.{node_of};
 ghost use Rattle.rsp_translation.specs.Paths as paths;
 
 use crate::folding::{join_all, unite_all};

@@ -1,8 +1,9 @@
 // What the clauses of a SELECT make of the tree of its group.
 ghost use Rattle.std.specs.Prelude.{◌≡◌, ◌&&◌, if◌then◌else◌, [], ◌∷◌, ◌++◌, IfOk, OnOk, map};
-ghost use Rattle.rsp_expr.specs.Formulas.{maybe_formula};
-ghost use Rattle.rsp_query.specs.Groups.{item_of, numbered_aggregation, part_of, parts_in, selection_of};
-ghost use Rattle.rsp_algebra.specs.Nodes.{node_of};
+ghost use Rattle.rsp_expr.specs.Meanings.{maybe_formula};
+ghost use Rattle.rsp_query.specs.Groups.{parts_in};
+ghost use Rattle.rsp_query.specs.Meanings.{item_of, numbered_aggregation, part_of, selection_of};
+ghost use Rattle.rsp_algebra.specs.Meanings.{node_of};
 ghost use Rattle.rsp_shapes.specs.Visible as visible;
 ghost use Rattle.rsp_translation.specs.Selects as selects;
 

@@ -1,10 +1,11 @@
 // The number of `/` in a path, and in what stands in a group.
 ghost use Rattle.std.specs.Prelude.{◌≡◌, IfOk, map};
-ghost use Rattle.rsp_query.specs.Groups.{groups_in, part_of, parts_in, selection_of};
-ghost use Rattle.rsp_query.specs.Paths.{way_of, ways_in};
+ghost use Rattle.rsp_query.specs.Groups.{groups_in, parts_in};
+ghost use Rattle.rsp_query.specs.Meanings.{part_of, selection_of, way_of};
+ghost use Rattle.rsp_query.specs.Paths.{ways_in};
 ghost use Rattle.rsp_shapes.specs.Seeing.{branches_of};
 ghost use Rattle.rsp_query.specs.Paths as paths;
-ghost use Rattle.rsp_translation.specs.Trees as trees;
+ghost use Rattle.rsp_translation.specs.Begun as trees;
 
 use crate::sums::sum;
 use rsp_query::{Element, Path, Select};

@@ -1,7 +1,7 @@
 // The rows of VALUES.
 ghost use Rattle.std.specs.Prelude.{◌≡◌, IfOk, map};
 ghost use Rattle.rsp_algebra.specs.Nodes as node;
-ghost use Rattle.rsp_algebra.specs.Nodes.{node_of};
+ghost use Rattle.rsp_algebra.specs.Meanings.{node_of};
 ghost use Rattle.rsp_translation.specs.Trees as trees;
 
 use rsp_algebra::Tree;

@@ -1,3 +1,4 @@
 pub mod Arguments
 pub mod Once
 pub mod OtherLengths
+pub mod Connectives

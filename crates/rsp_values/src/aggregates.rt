@@ -6,7 +6,7 @@ ghost use Rattle.rsp_multiset.specs.RowLists.{each_once};
 ghost use Rattle.rsp_terms.specs.Same.{term_eq};
 ghost use Rattle.rsp_expr.specs.Aggregates as aggregates;
 ghost use Rattle.rsp_expr.specs.Errors.{all_values};
-ghost use Rattle.rsp_expr.specs.Formulas.{formula_of, aggregation_of};
+ghost use Rattle.rsp_expr.specs.Meanings.{formula_of, aggregation_of};
 ghost use Rattle.rsp_expr.specs.Functions.{numeral_result};
 ghost use Rattle.rsp_expr.specs.Values as values;
 ghost use Rattle.rsp_values.specs.Extremes.{better};

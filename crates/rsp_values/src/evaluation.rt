@@ -4,11 +4,11 @@ ghost use Rattle.std.specs.Option.{option_and_then};
 ghost use Rattle.rsp_expr.specs.Booleans.{truth_of, boolean_result};
 ghost use Rattle.rsp_expr.specs.Comparing as comparing;
 ghost use Rattle.rsp_expr.specs.Errors.{value_of_both, all_values, first_value};
-ghost use Rattle.rsp_expr.specs.Formulas.{formula_of};
+ghost use Rattle.rsp_expr.specs.Meanings.{formula_of};
 ghost use Rattle.rsp_expr.specs.Functions as functions;
 ghost use Rattle.rsp_expr.specs.Values.{value, truth as passes};
 ghost use Rattle.rsp_operands.specs.Operands.{term_for, value_for};
-ghost use Rattle.rsp_values.specs.Parts.{argument_values, both_values, terms_for, connective};
+ghost use Rattle.rsp_values.specs.Parts.{argument_values, both_values, terms_for, connective, if_value};
 
 use crate::nodes;
 use crate::nodes::{
@@ -196,7 +196,7 @@ fn chosen(
     arguments: &[Expression],
     row: &[Option<Term>],
 ) -> Result<Option<Operand>, AllocError>
-    ensures { IfOk result (λ operand. value_for operand ≡ functions.if_value (argument_values arguments.now row.now)) }
+    ensures { IfOk result (λ operand. value_for operand ≡ if_value (argument_values arguments.now row.now)) }
 {
     match arguments {
         [condition, first, second] => match truth_of(evaluate(alloc, condition, row)?) {
@@ -257,7 +257,7 @@ fn applied(
     row: &[Option<Term>],
 ) -> Result<Option<Operand>, AllocError>
     ensures { IfOk result (λ operand. value_for operand
-        ≡ option_and_then (functions.value_by_number function) (all_values (argument_values arguments.now row.now))) }
+        ≡ option_and_then (functions.function_value function) (all_values (argument_values arguments.now row.now))) }
 {
     match arguments {
         [first] => nodes::unary(alloc, function, evaluate(alloc, first, row)?),

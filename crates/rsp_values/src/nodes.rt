@@ -7,6 +7,7 @@ ghost use Rattle.rsp_expr.specs.Comparing as comparing;
 ghost use Rattle.rsp_expr.specs.Errors.{value_of_both};
 ghost use Rattle.rsp_expr.specs.Functions as functions;
 ghost use Rattle.rsp_expr.specs.Values.{cell};
+ghost use Rattle.rsp_operands.specs.Operands as operands;
 ghost use Rattle.rsp_operands.specs.Operands.{term_for, value_for};
 ghost use Rattle.rsp_values.specs.Parts.{terms_for, of_two, of_third, undecided, argument_values};
 ghost use Rattle.rsp_multiset.specs.Rows.{Cells};
@@ -165,7 +166,7 @@ pub(crate) fn unary(
     function: Function,
     argument: Option<Operand>,
 ) -> Result<Option<Operand>, AllocError>
-    ensures { IfOk result (λ operand. value_for operand ≡ option_and_then (functions.unary_value function) (value_for argument)) }
+    ensures { IfOk result (λ operand. value_for operand ≡ option_and_then (operands.unary_value function) (value_for argument)) }
 {
     match argument {
         None => Ok(None),
@@ -179,7 +180,7 @@ pub(crate) fn binary(
     function: Function,
     both: Option<(Operand, Operand)>,
 ) -> Result<Option<Operand>, AllocError>
-    ensures { IfOk result (λ operand. value_for operand ≡ of_two (functions.binary_value function) (terms_for both)) }
+    ensures { IfOk result (λ operand. value_for operand ≡ of_two (operands.binary_value function) (terms_for both)) }
 {
     match both {
         None => Ok(None),
@@ -195,7 +196,7 @@ pub(crate) fn ternary(
     third: Option<Operand>,
 ) -> Result<Option<Operand>, AllocError>
     ensures { IfOk result (λ operand. value_for operand
-        ≡ of_third (functions.ternary_value function) (terms_for (Some two)) (value_for third)) }
+        ≡ of_third (operands.ternary_value function) (terms_for (Some two)) (value_for third)) }
 {
     let (first, second) = two;
     match third {

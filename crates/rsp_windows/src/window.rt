@@ -7,7 +7,7 @@ ghost use Rattle.rsp_spec.specs.Windows.{IsShape, Shape, active_window, closes_a
 ghost use Rattle.rsp_spec.specs.Relations.{IsActive, IsAtMost, IsLastNeeded, IsNeeded, IsNextClosing};
 
 use crate::congruence::next_shared;
-use rsp_spec::LAST_INSTANT;
+use rsp_spec::limits::LAST_INSTANT;
 use std::marker::Model;
 
 /// Windows of one width that open at equal distances, numbered from 0. Window k is open after its opening,

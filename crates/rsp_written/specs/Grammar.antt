@@ -10,7 +10,7 @@ use Rattle.std.specs.Prelude.{Bool, ℕ, zero, suc, List, [], ◌∷◌, ◌++�
 use Rattle.std.specs.List.{flat_map}
 use Rattle.std.specs.Str.{bytes_eq}
 use Rattle.std.specs.Str.Parse.{digits_value}
-use Rattle.rsp_spec.specs.Windows.{last_instant}
+use Rattle.rsp_spec.specs.Limits.{last_instant}
 use Rattle.rsp_text.specs.Instants.{instant}
 use Rattle.rsp_terms.specs.declared.term.Term.TheVariants as term
 use Rattle.rsp_terms.specs.declared.term.Term.{Term}

@@ -1,5 +1,5 @@
 use Rattle.std.proofs.Common.{◌≡◌, ◌++◌, drop}
-use Rattle.rsp_algebra.specs.Nodes.{aggregations_of}
+use Rattle.rsp_algebra.specs.Meanings.{aggregations_of}
 use Rattle.rsp_algebra.proofs.nodes.share_aggregates.Given as goal
 
 abbrev pub invariant-loop-entry : goal.invariant-loop-entry

@@ -1,8 +1,8 @@
 use Rattle.std.proofs.Common.{◌≡◌, Some, length, rules}
 use Rattle.std.specs.List.{slice_get}
+use Rattle.rsp_spec.specs.Limits.{most_file_bytes}
 use Rattle.rsp_call.specs.Playing.{replay_for}
 use Rattle.rsp_call.specs.Readings.{Ends}
-use Rattle.rsp_call.specs.Answers.{most_file_bytes}
 use Rattle.rsp_call.specs.Shelves.{LacksMemory}
 use Rattle.rsp_call.specs.Words.{names_of}
 use Rattle.rsp_call.proofs.Filed.{read_all, read_lacks, read_on, read_stopped}

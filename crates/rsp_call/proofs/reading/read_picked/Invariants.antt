@@ -1,5 +1,5 @@
 use Rattle.std.proofs.Common.{◌-◌, ◌+◌, length}
-use Rattle.rsp_call.specs.Answers.{most_file_bytes}
+use Rattle.rsp_spec.specs.Limits.{most_file_bytes}
 use Rattle.rsp_call.specs.Shelves.{shelf_seen}
 use Rattle.rsp_call.specs.Readings.{Takes}
 use Rattle.rsp_call.proofs.reading.read_picked.Given as goal

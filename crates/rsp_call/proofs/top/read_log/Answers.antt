@@ -1,5 +1,5 @@
 use Rattle.std.proofs.Common.{◌+◌, ◌≤◌, length, rules, sym, take, true≢false}
-use Rattle.rsp_call.specs.Answers.{most_bytes}
+use Rattle.rsp_spec.specs.Limits.{most_log_bytes}
 use Rattle.rsp_call.proofs.Consuming.{first_many, first_none}
 use Rattle.rsp_call.proofs.Going.{going_nothing, going_on, log_ended, read_failed, too_long, work_stopped}
 use Rattle.rsp_call.proofs.top.read_log.Goals as goal
@@ -9,7 +9,7 @@ reads-init g c = going_nothing _ _ _ _ _ _ c.requires.at c.requires.idle
 
 pub reads-preserved : goal.reads-preserved
 reads-preserved g c =
-    let within : c.reads.taken + c.in-Ok.read ≤ most_bytes = c.if-taken-gt-MOST_BYTES.false in
+    let within : c.reads.taken + c.in-Ok.read ≤ most_log_bytes = c.if-taken-gt-MOST_LOG_BYTES.false in
     let took = rw (← c.split_at.ensures.front) at c.in-Ok.ensures.bytes.0 in
     let low : c.in-Ok.read ≤ length c.read.new.buf = search rules in
     let many = rw (← c.split_at.ensures.front) at (first_many c.read.new.buf c.in-Ok.read low) in
@@ -41,8 +41,8 @@ returns-in-Ok-eq0 g c =
           c.finish.ensures.closes);
     }
 
-pub returns-then-taken-gt-MOST_BYTES : goal.returns-then-taken-gt-MOST_BYTES
-returns-then-taken-gt-MOST_BYTES g c =
+pub returns-then-taken-gt-MOST_LOG_BYTES : goal.returns-then-taken-gt-MOST_LOG_BYTES
+returns-then-taken-gt-MOST_LOG_BYTES g c =
     let low : c.in-Ok.read ≤ length c.read.new.buf = search rules in
     record {
       log = too_long _ c.requires.prefix _ _ _ _ _ _ _ _ _ c.in-Ok.read (take c.in-Ok.read c.read.new.buf) c.reads.invariant
@@ -50,12 +50,12 @@ returns-then-taken-gt-MOST_BYTES g c =
           c.in-Ok.ensures.bytes.0
           c.in-Ok.ensures.given
           c.in-Ok.ensures.cause.1
-          c.if-taken-gt-MOST_BYTES.true;
+          c.if-taken-gt-MOST_LOG_BYTES.true;
     }
 
 pub returns-in-Err-work : goal.returns-in-Err-work
 returns-in-Err-work g c =
-    let within : c.reads.taken + c.in-Ok.read ≤ most_bytes = c.if-taken-gt-MOST_BYTES.false in
+    let within : c.reads.taken + c.in-Ok.read ≤ most_log_bytes = c.if-taken-gt-MOST_LOG_BYTES.false in
     let took = rw (← c.split_at.ensures.front) at c.in-Ok.ensures.bytes.0 in
     let low : c.in-Ok.read ≤ length c.read.new.buf = search rules in
     let many = rw (← c.split_at.ensures.front) at (first_many c.read.new.buf c.in-Ok.read low) in

@@ -1,5 +1,5 @@
 use Rattle.std.proofs.Common.{◌-◌, ◌+◌}
-use Rattle.rsp_call.specs.Answers.{most_bytes}
+use Rattle.rsp_spec.specs.Limits.{most_log_bytes}
 use Rattle.rsp_call.proofs.Going.{Going}
 use Rattle.rsp_call.proofs.top.read_log.Given as goal
 
@@ -17,4 +17,4 @@ invariant-reads g l =
     l.taken
 
 abbrev pub decreases-reads : goal.decreases-reads
-decreases-reads g l = most_bytes + 1 - l.taken
+decreases-reads g l = most_log_bytes + 1 - l.taken

@@ -1,5 +1,5 @@
 use Rattle.std.proofs.Common.{◌≡◌, ◌++◌, map, drop}
-use Rattle.rsp_expr.specs.Formulas.{formula_of}
+use Rattle.rsp_expr.specs.Meanings.{formula_of}
 use Rattle.rsp_algebra.specs.Solutions.{extended_by}
 use Rattle.rsp_eval.proofs.extending.extend_rows.Given as goal
 

@@ -1,6 +1,6 @@
 use Rattle.std.proofs.Common.{◌≡◌, ◌++◌, filter}
 use Rattle.std.specs.Vec.Iter.{into_iter_items}
-use Rattle.rsp_expr.specs.Formulas.{formula_of}
+use Rattle.rsp_expr.specs.Meanings.{formula_of}
 use Rattle.rsp_expr.specs.Values.{truth}
 use Rattle.rsp_eval.proofs.filtering.filter_rows.Given as goal
 

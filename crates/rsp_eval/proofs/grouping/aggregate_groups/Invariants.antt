@@ -1,6 +1,6 @@
 use Rattle.std.proofs.Common.{◌≡◌, ◌++◌, map}
 use Rattle.std.specs.Vec.Iter.{into_iter_items}
-use Rattle.rsp_algebra.specs.Nodes.{aggregations_of}
+use Rattle.rsp_algebra.specs.Meanings.{aggregations_of}
 use Rattle.rsp_algebra.specs.Solutions.{with_aggregates}
 use Rattle.rsp_eval.specs.Keys.{bucket_of}
 use Rattle.rsp_eval.proofs.grouping.aggregate_groups.Given as goal

@@ -1,5 +1,5 @@
 use Rattle.std.proofs.Common.{◌≡◌, drop}
-use Rattle.rsp_algebra.specs.Nodes.{aggregations_of}
+use Rattle.rsp_algebra.specs.Meanings.{aggregations_of}
 use Rattle.rsp_algebra.specs.Solutions.{with_aggregates}
 use Rattle.rsp_eval.proofs.grouping.aggregate_row.Given as goal
 

@@ -1,6 +1,6 @@
 use Rattle.std.proofs.Common.{map, ap, ◌∙◌}
 use Rattle.std.proofs.lemmas.Result.{IfOk-weaker}
-use Rattle.rsp_algebra.specs.Nodes.{aggregations_of}
+use Rattle.rsp_algebra.specs.Meanings.{aggregations_of}
 use Rattle.rsp_algebra.specs.Solutions.{group_of, with_aggregates}
 use Rattle.rsp_eval.specs.Keys.{bucket_of}
 use Rattle.rsp_eval.proofs.Groups.{same_groups}

@@ -1,5 +1,5 @@
 use Rattle.std.proofs.Common.{◌≡◌, ◌++◌, map, drop}
-use Rattle.rsp_expr.specs.Formulas.{formula_of}
+use Rattle.rsp_expr.specs.Meanings.{formula_of}
 use Rattle.rsp_expr.proofs.expression.+sharing.Given as goal
 
 abbrev pub invariant-share_all-loop-part : goal.invariant-share_all-loop-part

@@ -1,7 +1,5 @@
-use Rattle.std.proofs.Common.{rules, ◌≡◌, true, false, true≢false, sym}
-use Rattle.rsp_spec.specs.Windows.{IsShape}
+use Rattle.std.proofs.Common.{rules, ◌≡◌, true, true≢false, sym}
 use Rattle.rsp_written.specs.GroupMeanings as written
-use Rattle.rsp_numbering.specs.Clauses as numbered
 use Rattle.rsp_numbering.specs.Limits as limits
 use Rattle.rsp_numbering.proofs.Shapes.{shape}
 use Rattle.rsp_numbering.proofs.clauses.shape_of.Goals as goal

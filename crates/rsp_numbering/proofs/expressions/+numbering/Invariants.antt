@@ -1,8 +1,8 @@
 use Rattle.std.proofs.Common.{◌≡◌, ◌++◌, map, drop}
-use Rattle.rsp_expr.specs.Formulas.{formula_of}
+use Rattle.rsp_expr.specs.Meanings.{formula_of}
 use Rattle.rsp_written.specs.Building.{exprs_in, operands_in}
 use Rattle.rsp_written.specs.Meanings.{expr_of, operand_of}
-use Rattle.rsp_numbering.specs.Expressions.{behind_exprs, behind_operands, numbered_exprs, numbered_operands, with_aggregates_of_all, with_aggregates_of_row}
+use Rattle.rsp_numbering.specs.ExpressionSteps.{behind_exprs, behind_operands, numbered_exprs, numbered_operands, with_aggregates_of_all, with_aggregates_of_row}
 use Rattle.rsp_numbering.specs.Seeing.{aggregations_of, scopes_of, signed_formulas}
 use Rattle.rsp_numbering.proofs.expressions.+numbering.Given as goal
 

@@ -1,6 +1,6 @@
 use Rattle.std.proofs.Common.{◌≡◌}
-use Rattle.rsp_expr.specs.Formulas.{formula_of}
-use Rattle.rsp_numbering.specs.Expressions.{from_left}
+use Rattle.rsp_expr.specs.Meanings.{formula_of}
+use Rattle.rsp_numbering.specs.ExpressionSteps.{from_left}
 use Rattle.rsp_numbering.specs.Seeing.{signed_formulas}
 use Rattle.rsp_numbering.proofs.expressions.from_left.Given as goal
 

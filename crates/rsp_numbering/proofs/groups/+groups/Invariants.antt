@@ -1,9 +1,9 @@
 use Rattle.std.proofs.Common.{◌≡◌, ◌+◌, ◌*◌, ◌++◌, map, drop}
-use Rattle.rsp_query.specs.Groups as query
+use Rattle.rsp_query.specs.Meanings as query
 use Rattle.rsp_written.specs.Building.{elements_in, groups_in}
 use Rattle.rsp_written.specs.GroupMeanings as written
 use Rattle.rsp_numbering.specs.Seeing.{branches_of, scopes_of, written_branches_of}
-use Rattle.rsp_numbering.specs.Selections.{behind_elements, behind_groups, groups_of, with_elements}
+use Rattle.rsp_numbering.specs.SelectionSteps.{behind_elements, behind_groups, groups_of, with_elements}
 use Rattle.rsp_numbering.proofs.groups.+groups.Given as goal
 
 abbrev pub invariant-put_elements-loop-element : goal.invariant-put_elements-loop-element

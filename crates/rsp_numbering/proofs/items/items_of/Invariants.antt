@@ -1,8 +1,8 @@
 use Rattle.std.proofs.Common.{◌≡◌, ◌++◌, map, drop}
-use Rattle.rsp_query.specs.Groups as query
+use Rattle.rsp_query.specs.Meanings as query
 use Rattle.rsp_written.specs.GroupMeanings as written
 use Rattle.rsp_numbering.specs.Seeing.{aggregations_of, scopes_of}
-use Rattle.rsp_numbering.specs.Selections.{behind_items, items_of, with_items_aggregates}
+use Rattle.rsp_numbering.specs.SelectionSteps.{behind_items, items_of, with_items_aggregates}
 use Rattle.rsp_numbering.proofs.items.items_of.Given as goal
 
 abbrev pub invariant-loop-item : goal.invariant-loop-item

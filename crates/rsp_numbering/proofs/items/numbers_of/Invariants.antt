@@ -1,6 +1,6 @@
 use Rattle.std.proofs.Common.{◌≡◌, ◌++◌, drop}
 use Rattle.rsp_numbering.specs.Seeing.{scopes_of}
-use Rattle.rsp_numbering.specs.Selections.{behind_names, numbers_of}
+use Rattle.rsp_numbering.specs.SelectionSteps.{behind_names, numbers_of}
 use Rattle.rsp_numbering.proofs.items.numbers_of.Given as goal
 
 abbrev pub invariant-loop-name : goal.invariant-loop-name

@@ -2,7 +2,7 @@ use Rattle.std.proofs.Common.{◌≡◌, ◌+◌, ◌*◌, map, drop}
 use Rattle.rsp_written.specs.Building.{elements_in, groups_in}
 use Rattle.rsp_written.specs.GroupMeanings as written
 use Rattle.rsp_numbering.specs.Seeing.{scopes_of, written_branches_of}
-use Rattle.rsp_numbering.specs.Selections.{behind_elements, behind_groups}
+use Rattle.rsp_numbering.specs.SelectionSteps.{behind_elements, behind_groups}
 use Rattle.rsp_numbering.proofs.names.+group_names.Given as goal
 
 abbrev pub invariant-of_group-loop-element : goal.invariant-of_group-loop-element

@@ -1,7 +1,7 @@
 use Rattle.std.proofs.Common.{◌≡◌, map, drop}
 use Rattle.rsp_written.specs.Building.{exprs_in, operands_in}
 use Rattle.rsp_written.specs.Meanings.{expr_of, operand_of}
-use Rattle.rsp_numbering.specs.Expressions.{behind_exprs, behind_operands}
+use Rattle.rsp_numbering.specs.ExpressionSteps.{behind_exprs, behind_operands}
 use Rattle.rsp_numbering.specs.Seeing.{scopes_of}
 use Rattle.rsp_numbering.proofs.names.+names.Given as goal
 

@@ -2,7 +2,7 @@ use Rattle.std.proofs.Common.{◌≡◌, map, drop}
 use Rattle.rsp_written.specs.Building.{nodes_in}
 use Rattle.rsp_written.specs.Meanings.{node_of, properties_of}
 use Rattle.rsp_numbering.specs.Seeing.{scopes_of}
-use Rattle.rsp_numbering.specs.Triples.{behind_nodes, behind_properties}
+use Rattle.rsp_numbering.specs.TripleSteps.{behind_nodes, behind_properties}
 use Rattle.rsp_numbering.proofs.names.+node_names.Given as goal
 
 abbrev pub invariant-of_nodes-loop-node : goal.invariant-of_nodes-loop-node

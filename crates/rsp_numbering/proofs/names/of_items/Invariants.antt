@@ -1,7 +1,7 @@
 use Rattle.std.proofs.Common.{◌≡◌, map, drop}
 use Rattle.rsp_written.specs.GroupMeanings.{item_of}
 use Rattle.rsp_numbering.specs.Seeing.{scopes_of}
-use Rattle.rsp_numbering.specs.Selections.{behind_items}
+use Rattle.rsp_numbering.specs.SelectionSteps.{behind_items}
 use Rattle.rsp_numbering.proofs.names.of_items.Given as goal
 
 abbrev pub invariant-loop-item : goal.invariant-loop-item

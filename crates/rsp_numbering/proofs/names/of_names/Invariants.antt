@@ -1,6 +1,6 @@
 use Rattle.std.proofs.Common.{◌≡◌, drop}
 use Rattle.rsp_numbering.specs.Seeing.{scopes_of}
-use Rattle.rsp_numbering.specs.Selections.{behind_names}
+use Rattle.rsp_numbering.specs.SelectionSteps.{behind_names}
 use Rattle.rsp_numbering.proofs.names.of_names.Given as goal
 
 abbrev pub invariant-loop-each : goal.invariant-loop-each

@@ -1,18 +1,13 @@
 use Rattle.std.proofs.Common.{◌≡◌, ◌+◌, map, drop}
 use Rattle.rsp_written.specs.Building.{exprs_in, operands_in}
 use Rattle.rsp_written.specs.Meanings.{expr_of, operand_of}
-use Rattle.rsp_numbering.specs.Limits.{operators_among, operators_behind, operators_following}
+use Rattle.rsp_numbering.specs.Limits.{operators_among, operators_behind}
 use Rattle.rsp_numbering.proofs.operators.+operators.Given as goal
 
 abbrev pub invariant-operators_among-loop-expression : goal.invariant-operators_among-loop-expression
 invariant-operators_among-loop-expression l =
-    l.count + operators_among (exprs_in (map expr_of (drop l.expression-index l.expressions)))
-    ≡ operators_among (exprs_in (map expr_of l.expressions))
-
-abbrev pub invariant-operators_following-loop-expression : goal.invariant-operators_following-loop-expression
-invariant-operators_following-loop-expression l =
-    l.count + operators_following (exprs_in (map expr_of (drop l.expression-index l.expressions)))
-    ≡ operators_following (exprs_in (map expr_of l.expressions))
+    l.count + operators_among l.signs (exprs_in (map expr_of (drop l.expression-index l.expressions)))
+    ≡ operators_among l.signs (exprs_in (map expr_of l.expressions))
 
 abbrev pub invariant-operators_behind-loop-operand : goal.invariant-operators_behind-loop-operand
 invariant-operators_behind-loop-operand l =

@@ -1,5 +1,5 @@
 use Rattle.std.proofs.Common.{◌≡◌, ◌++◌, map, drop}
-use Rattle.rsp_query.specs.Paths.{way_of}
+use Rattle.rsp_query.specs.Meanings.{way_of}
 use Rattle.rsp_written.specs.Building.{ways_in}
 use Rattle.rsp_written.specs.Meanings as written
 use Rattle.rsp_numbering.specs.Triples.{paths_of}

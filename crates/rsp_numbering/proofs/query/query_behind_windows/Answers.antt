@@ -1,4 +1,4 @@
-use Rattle.std.proofs.Common.{◌≡◌, ◌∙◌}
+use Rattle.std.proofs.Common.{◌∙◌}
 use Rattle.rsp_written.specs.GroupMeanings as written
 use Rattle.rsp_numbering.proofs.Assembling.{limit_is}
 use Rattle.rsp_numbering.proofs.query.query_behind_windows.Goals as goal

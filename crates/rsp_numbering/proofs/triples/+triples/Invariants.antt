@@ -1,10 +1,9 @@
 use Rattle.std.proofs.Common.{◌≡◌, map, drop}
-use Rattle.rsp_query.specs.Groups.{part_of}
-use Rattle.rsp_query.specs.Paths.{way_of}
+use Rattle.rsp_query.specs.Meanings.{part_of, way_of}
 use Rattle.rsp_written.specs.Building.{nodes_in}
 use Rattle.rsp_written.specs.Meanings as written
 use Rattle.rsp_numbering.specs.Seeing.{scopes_of}
-use Rattle.rsp_numbering.specs.Triples.{behind_nodes, behind_properties, with_objects, with_properties}
+use Rattle.rsp_numbering.specs.TripleSteps.{behind_nodes, behind_properties, with_objects, with_properties}
 use Rattle.rsp_numbering.proofs.triples.+triples.Given as goal
 
 abbrev pub invariant-put_objects-loop-node : goal.invariant-put_objects-loop-node

@@ -1,5 +1,5 @@
 use Rattle.std.proofs.Common.{◌≡◌, map, ◌++◌, drop}
-use Rattle.rsp_query.specs.Paths.{way_of}
+use Rattle.rsp_query.specs.Meanings.{way_of}
 use Rattle.rsp_query.proofs.path.+sharing.Given as goal
 
 abbrev pub invariant-share_all-loop-part : goal.invariant-share_all-loop-part

@@ -1,6 +1,6 @@
 use Rattle.std.proofs.Common.{drop}
 use Rattle.std.specs.List.{AllByRecursion}
-use Rattle.rsp_algebra.specs.Nodes.{aggregations_of}
+use Rattle.rsp_algebra.specs.Meanings.{aggregations_of}
 use Rattle.rsp_algebra.specs.Fitting.{AggregateFits}
 use Rattle.rsp_query_tests.proofs.fitting.aggregates_fit.Given as goal
 

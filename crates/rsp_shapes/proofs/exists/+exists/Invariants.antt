@@ -1,7 +1,8 @@
 use Rattle.std.proofs.Common.{◌≡◌, ◌+◌, ◌*◌, map, drop}
-use Rattle.rsp_query.specs.Groups.{groups_in, part_of, parts_in}
+use Rattle.rsp_query.specs.Groups.{groups_in, parts_in}
+use Rattle.rsp_query.specs.Meanings.{part_of}
 use Rattle.rsp_shapes.specs.Seeing.{branches_of}
-use Rattle.rsp_shapes.specs.Shapes.{exists_fault_in, exists_fault_among}
+use Rattle.rsp_shapes.specs.Walking.{exists_fault_in, exists_fault_among}
 use Rattle.rsp_shapes.proofs.exists.+exists.Given as goal
 
 abbrev pub invariant-fault_in-loop-element : goal.invariant-fault_in-loop-element

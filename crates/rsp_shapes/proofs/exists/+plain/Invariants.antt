@@ -1,7 +1,8 @@
 use Rattle.std.proofs.Common.{◌≡◌, ◌+◌, ◌*◌, map, drop}
-use Rattle.rsp_query.specs.Groups.{groups_in, part_of, parts_in}
+use Rattle.rsp_query.specs.Groups.{groups_in, parts_in}
+use Rattle.rsp_query.specs.Meanings.{part_of}
 use Rattle.rsp_shapes.specs.Seeing.{branches_of}
-use Rattle.rsp_shapes.specs.Shapes as shapes
+use Rattle.rsp_shapes.specs.Walking as shapes
 use Rattle.rsp_shapes.proofs.exists.+plain.Given as goal
 
 abbrev pub invariant-are_plain-loop-element : goal.invariant-are_plain-loop-element

@@ -1,7 +1,9 @@
 use Rattle.std.proofs.Common.{◌≡◌, ◌+◌, ◌*◌, map, drop}
-use Rattle.rsp_query.specs.Groups.{groups_in, part_of, parts_in}
+use Rattle.rsp_query.specs.Groups.{groups_in, parts_in}
+use Rattle.rsp_query.specs.Meanings.{part_of}
 use Rattle.rsp_shapes.specs.Seeing.{branches_of}
-use Rattle.rsp_shapes.specs.Shapes.{declared, graph_fault_in, graph_fault_among}
+use Rattle.rsp_shapes.specs.Shapes.{declared}
+use Rattle.rsp_shapes.specs.Walking.{graph_fault_in, graph_fault_among}
 use Rattle.rsp_shapes.proofs.graphs.+graphs.Given as goal
 
 abbrev pub invariant-fault_in-loop-element : goal.invariant-fault_in-loop-element

@@ -1,5 +1,6 @@
 use Rattle.std.proofs.Common.{◌≡◌, ◌+◌, ◌*◌, map, drop}
-use Rattle.rsp_expr.specs.Formulas.{formula_of, formulas_in}
+use Rattle.rsp_expr.specs.Formulas.{formulas_in}
+use Rattle.rsp_expr.specs.Meanings.{formula_of}
 use Rattle.rsp_shapes.specs.Groups.{stranger}
 use Rattle.rsp_shapes.specs.Seeing.{first_among}
 use Rattle.rsp_shapes.proofs.known.+unknown.Given as goal

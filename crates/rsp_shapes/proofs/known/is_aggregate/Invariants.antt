@@ -1,6 +1,6 @@
 use Rattle.std.proofs.Common.{◌≡◌, map, drop, nat_eq}
 use Rattle.std.specs.List.{list_any}
-use Rattle.rsp_query.specs.Groups.{numbered_aggregation}
+use Rattle.rsp_query.specs.Meanings.{numbered_aggregation}
 use Rattle.rsp_shapes.proofs.known.is_aggregate.Given as goal
 
 abbrev pub invariant-loop-aggregate : goal.invariant-loop-aggregate

@@ -1,5 +1,5 @@
 use Rattle.std.proofs.Common.{◌≡◌, map, drop}
-use Rattle.rsp_query.specs.Groups.{item_of}
+use Rattle.rsp_query.specs.Meanings.{item_of}
 use Rattle.rsp_shapes.specs.Scopes as scopes
 use Rattle.rsp_shapes.proofs.known.is_computed.Given as goal
 

@@ -1,5 +1,5 @@
 use Rattle.std.proofs.Common.{◌∙◌}
-use Rattle.rsp_expr.specs.Formulas.{formula_of}
+use Rattle.rsp_expr.specs.Meanings.{formula_of}
 use Rattle.rsp_shapes.specs.Groups.{stranger}
 use Rattle.rsp_shapes.proofs.FirstIn.{first_in_is}
 use Rattle.rsp_shapes.proofs.known.unknown.Goals as goal

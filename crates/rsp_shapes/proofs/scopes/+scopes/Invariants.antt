@@ -1,5 +1,6 @@
 use Rattle.std.proofs.Common.{◌≡◌, ◌+◌, ◌*◌, [], map, take, drop}
-use Rattle.rsp_query.specs.Groups.{groups_in, part_of, parts_in}
+use Rattle.rsp_query.specs.Groups.{groups_in, parts_in}
+use Rattle.rsp_query.specs.Meanings.{part_of}
 use Rattle.rsp_shapes.specs.Seeing.{branches_of}
 use Rattle.rsp_shapes.specs.Scopes.{scope_fault_in, scope_fault_among}
 use Rattle.rsp_shapes.proofs.scopes.+scopes.Given as goal

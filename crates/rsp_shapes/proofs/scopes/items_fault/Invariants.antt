@@ -1,5 +1,6 @@
 use Rattle.std.proofs.Common.{◌≡◌, [], map, take, drop}
-use Rattle.rsp_query.specs.Groups.{item_of, numbered_aggregation, part_of, parts_in}
+use Rattle.rsp_query.specs.Groups.{parts_in}
+use Rattle.rsp_query.specs.Meanings.{item_of, numbered_aggregation, part_of}
 use Rattle.rsp_shapes.specs.Scopes as scopes
 use Rattle.rsp_shapes.proofs.scopes.items_fault.Given as goal
 

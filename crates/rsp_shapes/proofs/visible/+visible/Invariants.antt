@@ -1,5 +1,6 @@
 use Rattle.std.proofs.Common.{◌≡◌, ◌+◌, ◌*◌, map, drop}
-use Rattle.rsp_query.specs.Groups.{groups_in, part_of, parts_in}
+use Rattle.rsp_query.specs.Groups.{groups_in, parts_in}
+use Rattle.rsp_query.specs.Meanings.{part_of}
 use Rattle.rsp_shapes.specs.Seeing.{branches_of}
 use Rattle.rsp_shapes.specs.Visible.{is_visible_in as visible_in, is_visible_among as visible_among}
 use Rattle.rsp_shapes.proofs.visible.+visible.Given as goal

@@ -1,5 +1,6 @@
 use Rattle.std.proofs.Common.{◌≡◌, map, drop}
-use Rattle.rsp_query.specs.Paths.{way_of, ways_in}
+use Rattle.rsp_query.specs.Paths.{ways_in}
+use Rattle.rsp_query.specs.Meanings.{way_of}
 use Rattle.rsp_shapes.specs.Visible.{is_in_ways}
 use Rattle.rsp_shapes.proofs.visible.+ways.Given as goal
 

@@ -1,5 +1,5 @@
 use Rattle.std.proofs.Common.{◌≡◌, map, drop}
-use Rattle.rsp_query.specs.Groups.{item_of}
+use Rattle.rsp_query.specs.Meanings.{item_of}
 use Rattle.rsp_algebra.specs.Patterns.{among}
 use Rattle.rsp_shapes.specs.Visible.{variables_of}
 use Rattle.rsp_shapes.proofs.visible.is_listed.Given as goal

@@ -5,7 +5,7 @@ use Rattle.std.specs.Slice.Iter.{iter_rest}
 use Rattle.serde_json.specs.Data.{object}
 use Rattle.serde_json.specs.View.{members_view}
 use Rattle.serde_json.proofs.Views.{view-Object}
-use Rattle.rsp_streams_out.specs.Json.{with_cells}
+use Rattle.rsp_streams_out.specs.JsonParts.{with_cells}
 use Rattle.rsp_streams_out.proofs.JsonData.{no_more}
 use Rattle.rsp_streams_out.proofs.json_text.row_value.Goals as goal
 

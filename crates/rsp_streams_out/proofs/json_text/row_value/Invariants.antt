@@ -3,7 +3,7 @@ use Rattle.std.specs.Iterator.Adapters.{zip_first, zip_second}
 use Rattle.std.specs.Slice.Iter.{iter_rest}
 use Rattle.serde_json.specs.Data.{no_members}
 use Rattle.serde_json.specs.View.{members_view}
-use Rattle.rsp_streams_out.specs.Json.{with_cells}
+use Rattle.rsp_streams_out.specs.JsonParts.{with_cells}
 use Rattle.rsp_streams_out.proofs.json_text.row_value.Given as goal
 
 abbrev pub invariant-loop-name : goal.invariant-loop-name

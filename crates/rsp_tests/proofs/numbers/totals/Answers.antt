@@ -2,7 +2,8 @@ use Rattle.std.specs.Prelude.{◌≡◌, ◌+◌, ◌-◌, ◌*◌, ◌^◌, ◌
 use Rattle.std.proofs.Common.{arith}
 use Rattle.std.proofs.lemmas.Int.{ints}
 use Rattle.rsp_number.specs.Decimals.{largest, Scaled}
-use Rattle.rsp_number.specs.Tallies.{Tally, IsWithin}
+use Rattle.rsp_number.specs.Tallies.{Tally}
+use Rattle.rsp_number.specs.TallyBounds.{IsWithin}
 use Rattle.rsp_number.specs.Totals.{units, empty_tally, after_taking, after_giving}
 use Rattle.rsp_number.specs.declared.number.Number.TheVariants.{Decimal}
 use Rattle.rsp_tests.proofs.numbers.totals.Goals as goal

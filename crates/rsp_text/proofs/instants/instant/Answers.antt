@@ -7,5 +7,4 @@ returns-then-text-lt19 c = sym (too_short c.args.text.now c.if-text-lt19.true)
 
 pub returns : goal.returns
 returns c =
-    instant_by c.args.text.now _ _ _ _ _ _ c.split_at.ensures.front c.split_at.ensures.back c.split_at-2.ensures.front
-    c.split_at-2.ensures.back c.fraction-part.ensures.value c.instant_of.ensures
+    instant_by c.args.text.now _ _ _ _ c.split_at.ensures.front c.split_at.ensures.back c.fraction-part.ensures.value c.instant_of.ensures

@@ -1,7 +1,8 @@
 use Rattle.std.proofs.Common.{◌≡◌, ◌++◌, map, drop}
-use Rattle.rsp_expr.specs.Formulas.{formula_of}
-use Rattle.rsp_query.specs.Groups.{part_of, parts_in}
-use Rattle.rsp_translation.specs.Trees as trees
+use Rattle.rsp_expr.specs.Meanings.{formula_of}
+use Rattle.rsp_query.specs.Groups.{parts_in}
+use Rattle.rsp_query.specs.Meanings.{part_of}
+use Rattle.rsp_translation.specs.Begun as trees
 use Rattle.rsp_translation.proofs.filters.filters.Given as goal
 
 abbrev pub invariant-loop-element : goal.invariant-loop-element

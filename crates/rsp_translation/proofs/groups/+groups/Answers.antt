@@ -1,7 +1,8 @@
 use Rattle.std.proofs.Common.{◌∙◌, map}
 use Rattle.std.proofs.lemmas.Result.{IfOk-weaker}
-use Rattle.rsp_query.specs.Groups.{part_of, parts_in}
-use Rattle.rsp_algebra.specs.Nodes.{node_of}
+use Rattle.rsp_query.specs.Groups.{parts_in}
+use Rattle.rsp_query.specs.Meanings.{part_of}
+use Rattle.rsp_algebra.specs.Meanings.{node_of}
 use Rattle.rsp_translation.specs.Building.{begun_of, fixed_by}
 use Rattle.rsp_translation.proofs.Building.{elements_step, whole_group}
 use Rattle.rsp_translation.proofs.groups.+groups.Goals as goal

@@ -1,10 +1,11 @@
 use Rattle.std.proofs.Common.{◌≡◌, ◌+◌, ◌*◌, ◌++◌, map, drop}
 use Rattle.std.specs.List.{fold}
-use Rattle.rsp_query.specs.Groups.{groups_in, part_of, parts_in}
-use Rattle.rsp_algebra.specs.Nodes.{node_of}
+use Rattle.rsp_query.specs.Groups.{groups_in, parts_in}
+use Rattle.rsp_query.specs.Meanings.{part_of}
+use Rattle.rsp_algebra.specs.Meanings.{node_of}
 use Rattle.rsp_shapes.specs.Seeing.{branches_of}
 use Rattle.rsp_translation.specs.Building.{bare, begun_of, fixed_by, tests_in}
-use Rattle.rsp_translation.specs.Trees as trees
+use Rattle.rsp_translation.specs.Begun as trees
 use Rattle.rsp_translation.proofs.groups.+groups.Given as goal
 
 abbrev pub invariant-with_elements-loop-element : goal.invariant-with_elements-loop-element

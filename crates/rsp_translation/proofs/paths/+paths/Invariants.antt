@@ -1,6 +1,7 @@
 use Rattle.std.proofs.Common.{◌≡◌, ◌++◌, map, drop}
-use Rattle.rsp_query.specs.Paths.{way_of, ways_in}
-use Rattle.rsp_algebra.specs.Nodes.{node_of}
+use Rattle.rsp_query.specs.Paths.{ways_in}
+use Rattle.rsp_query.specs.Meanings.{way_of}
+use Rattle.rsp_algebra.specs.Meanings.{node_of}
 use Rattle.rsp_translation.specs.Paths as paths
 use Rattle.rsp_translation.proofs.paths.+paths.Given as goal
 

@@ -2,7 +2,8 @@ use Rattle.std.proofs.Common.{◌≡◌, ℕ, ◌≤◌, List, [], ◌∷◌, le
 use Rattle.rsp_expr.specs.declared.slot.Slot.{Slot}
 use Rattle.rsp_expr.specs.declared.slot.Slot.TheVariants.{Variable}
 use Rattle.rsp_query.specs.declared.path.Path.{Path}
-use Rattle.rsp_query.specs.Paths.{way_of, ways_in}
+use Rattle.rsp_query.specs.Paths.{ways_in}
+use Rattle.rsp_query.specs.Meanings.{way_of}
 use Rattle.rsp_translation.specs.Paths as paths
 use Rattle.rsp_translation.proofs.paths.end_of.Goals as goal
 

@@ -1,6 +1,7 @@
 use Rattle.std.proofs.Common.{◌≡◌, ◌&&◌, map, filter}
 use Rattle.std.specs.List.{range_with_len}
-use Rattle.rsp_query.specs.Groups.{part_of, parts_in}
+use Rattle.rsp_query.specs.Groups.{parts_in}
+use Rattle.rsp_query.specs.Meanings.{part_of}
 use Rattle.rsp_shapes.specs.Visible.{is_given, is_visible_in, name_of}
 use Rattle.rsp_translation.proofs.selects.every_variable.Given as goal
 

@@ -1,5 +1,5 @@
 use Rattle.std.proofs.Common.{◌≡◌, ◌++◌, map, drop}
-use Rattle.rsp_query.specs.Groups.{item_of}
+use Rattle.rsp_query.specs.Meanings.{item_of}
 use Rattle.rsp_shapes.specs.Visible as visible
 use Rattle.rsp_translation.proofs.selects.variables_of.Given as goal
 

@@ -1,6 +1,6 @@
 use Rattle.std.proofs.Common.{◌≡◌, map, drop}
-use Rattle.rsp_query.specs.Groups.{item_of}
-use Rattle.rsp_algebra.specs.Nodes.{node_of}
+use Rattle.rsp_query.specs.Meanings.{item_of}
+use Rattle.rsp_algebra.specs.Meanings.{node_of}
 use Rattle.rsp_translation.specs.Selects as selects
 use Rattle.rsp_translation.proofs.selects.with_items.Given as goal
 

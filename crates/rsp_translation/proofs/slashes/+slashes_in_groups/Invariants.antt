@@ -1,7 +1,8 @@
 use Rattle.std.proofs.Common.{◌≡◌, ◌+◌, ◌*◌, map, drop}
-use Rattle.rsp_query.specs.Groups.{groups_in, part_of, parts_in}
+use Rattle.rsp_query.specs.Groups.{groups_in, parts_in}
+use Rattle.rsp_query.specs.Meanings.{part_of}
 use Rattle.rsp_shapes.specs.Seeing.{branches_of}
-use Rattle.rsp_translation.specs.Trees as trees
+use Rattle.rsp_translation.specs.Begun as trees
 use Rattle.rsp_translation.proofs.slashes.+slashes_in_groups.Given as goal
 
 abbrev pub invariant-slashes_in-loop-element : goal.invariant-slashes_in-loop-element

@@ -1,5 +1,5 @@
 use Rattle.std.proofs.Common.{◌∙◌, sym}
-use Rattle.rsp_query.specs.Queries.{registered}
+use Rattle.rsp_query.specs.Meanings.{registered}
 use Rattle.rsp_translation.proofs.Fitting.{placed}
 use Rattle.rsp_translation.proofs.Causes.{never_memory}
 use Rattle.rsp_translation.proofs.translation.translate.Goals as goal

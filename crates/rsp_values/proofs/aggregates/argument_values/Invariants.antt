@@ -1,5 +1,5 @@
 use Rattle.std.proofs.Common.{◌≡◌, ◌++◌, map, drop}
-use Rattle.rsp_expr.specs.Formulas.{formula_of}
+use Rattle.rsp_expr.specs.Meanings.{formula_of}
 use Rattle.rsp_expr.specs.Values.{value}
 use Rattle.rsp_values.proofs.aggregates.argument_values.Given as goal
 

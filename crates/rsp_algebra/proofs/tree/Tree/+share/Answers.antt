@@ -1,6 +1,6 @@
 use Rattle.std.proofs.Common.{◌≡◌, Some, sym, ap, ◌∙◌, arith}
 use Rattle.rsp_algebra.specs.declared.tree.Tree.{size-Tree}
-use Rattle.rsp_algebra.specs.Nodes.{node_of}
+use Rattle.rsp_algebra.specs.Meanings.{node_of}
 use Rattle.rsp_algebra.proofs.Spines.{leads_on, popped_no_deeper, node_over, node_taken}
 use Rattle.rsp_algebra.proofs.tree.Tree.+share.Goals as goal
 

@@ -1,6 +1,6 @@
 use Rattle.std.proofs.Common.{◌≡◌, ◌+◌, ◌*◌, Some, length}
 use Rattle.rsp_algebra.specs.declared.tree.Tree.{size-Tree}
-use Rattle.rsp_algebra.specs.Nodes.{node_of}
+use Rattle.rsp_algebra.specs.Meanings.{node_of}
 use Rattle.rsp_algebra.specs.Spines.{Leads, AreNoDeeper}
 use Rattle.rsp_algebra.proofs.tree.Tree.+share.Given as goal
 

@@ -1,5 +1,5 @@
 use Rattle.std.proofs.Common.{◌≡◌, ◌∙◌, ap}
-use Rattle.rsp_query.specs.Queries.{registered}
+use Rattle.rsp_query.specs.Meanings.{registered}
 use Rattle.rsp_engine.specs.Accept.{new_query}
 use Rattle.rsp_engine.specs.Inside.{asked, live_of}
 use Rattle.rsp_engine.specs.Passing.{Begins}

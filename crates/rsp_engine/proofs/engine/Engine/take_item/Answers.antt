@@ -1,5 +1,5 @@
 use Rattle.std.proofs.Common.{◌≤◌, length, sym}
-use Rattle.rsp_engine.specs.Accept.{most_triples}
+use Rattle.rsp_spec.specs.Limits.{most_triples}
 use Rattle.rsp_engine.proofs.Offering.{full_held_refuses, item_offers}
 use Rattle.rsp_engine.proofs.Readiness.{idle_first}
 use Rattle.rsp_engine.proofs.engine.Engine.take_item.Goals as goal

@@ -1,7 +1,7 @@
 use Rattle.std.proofs.Common.{◌≡◌, ◌∙◌, ap}
 use Rattle.std.specs.Prelude.{◌+ℤ◌, ◌*ℤ◌, ◌^◌, pos}
 use Rattle.rsp_number.specs.Totals.{units}
-use Rattle.rsp_number.specs.Tallies.{IsWhole}
+use Rattle.rsp_number.specs.TallyBounds.{IsWhole}
 use Rattle.rsp_number.proofs.Tallying.{integers-in, decimals-in, integer-whole}
 use Rattle.rsp_number.proofs.total.Total.take.Goals as goal
 

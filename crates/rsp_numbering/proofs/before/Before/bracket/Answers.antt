@@ -1,6 +1,6 @@
 use Rattle.std.proofs.Common.{◌≡◌, ℕ, IfOk, length, rules, subst}
 use Rattle.rsp_numbering.specs.declared.variable.Variable.TheVariants.{Bracket}
-use Rattle.rsp_numbering.specs.Naming.{place_of}
+use Rattle.rsp_numbering.specs.Same.{place_of}
 use Rattle.rsp_numbering.proofs.Newness.{bracket_is_new}
 use Rattle.rsp_numbering.proofs.before.Before.bracket.Goals as goal
 
