@@ -382,6 +382,16 @@ def readings_in_files(count):
     return load
 
 
+REFUSED_LINE = b"<a:1> <p:v> a line of 32 bytes.\n"
+MOST_REFUSED = 2_000_000
+
+
+def refused_lines(size):
+    """A recorded stream of so many lines, 64 MB at most, of which each is refused."""
+    query = registration("query", NEVER, ELSEWHERE, PATTERN).split(b"\n")[1]
+    return Run(["run", "query.rq", "s:a=a.nq"], {"query.rq": query, "a.nq": REFUSED_LINE * size})
+
+
 def generated(size):
     """So many items of the generator."""
     return Run(["gen", str(size)], {})

@@ -1,18 +1,19 @@
 -- What the generator is asked for, and what is answered.
-use Rattle.std.proofs.Common.{◌≡◌, ℕ, ◌≤◌, ◌&&◌, Bool, true, false, true≢false, nat_le, List, [], ◌∷◌, Option, None, Some, Result, Ok, Err, refl, codes, bytes_eq, option_map, inr}
+use Rattle.std.proofs.Common.{◌≡◌, ℕ, ◌≤◌, ◌&&◌, Bool, true, false, nat_le, List, [], ◌∷◌, Option, None, Some, Result, Ok, Err, refl, codes, bytes_eq, option_map, sym, ◌∙◌}
 use Rattle.std.specs.Prelude.{IfOk, if◌then◌else◌}
 use Rattle.std.specs.List.{list_any}
 use Rattle.std.proofs.lemmas.Bool.{leb-true}
 use Rattle.rsp_text.specs.Digits.{read_u64}
+use Rattle.rsp_io.specs.Seen.{SinkSeen}
+use Rattle.rsp_spec.specs.Limits.{most_file_bytes}
 use Rattle.rsp_call.specs.declared.form.Form.{Form}
 use Rattle.rsp_call.specs.declared.stop.Stop.{Stop}
-use Rattle.rsp_call.specs.declared.stop.Stop.TheVariants.{Memory, Write}
 use Rattle.rsp_call.specs.FileAnswers.{AnswersFiles, SayingOf}
 use Rattle.rsp_call.specs.Output.{is_refusal, text_of}
 use Rattle.rsp_call.specs.Shelves.{ShelfSeen}
-use Rattle.rsp_call.specs.Sinks.{SinkSeen}
 use Rattle.rsp_call.specs.Stops.{Ends, status_of}
 use Rattle.rsp_call.specs.Words.{Mode, Replay, check, check_of, events_of, form_of, generate, generate_of, generate_so_many, is_count, is_file, mode_of, run, values, without_json}
+use Rattle.rsp_call.proofs.Answering.{told}
 
 -- ---- at most a million items
 
@@ -76,8 +77,6 @@ few_asked (word ∷ more) count is =
 -- ---- the answer, where no file is read and nothing is refused
 
 pub none_read : (form : Form) (said : SayingOf) (shelf : ShelfSeen) (sink sink' : SinkSeen) (result : Result Bool Stop) → Ends sink sink' (text_of form (said [])) result
-    → IfOk result (λ refused. refused ≡ false) → list_any is_refusal (said []) ≡ false → AnswersFiles form [] said shelf shelf sink sink' (status_of result)
-none_read form said shelf sink sink' (Ok false) ends refused none = record { files = []; read = refl; written = ends; refused = none }
-none_read form said shelf sink sink' (Ok true) ends refused none = absurd (true≢false refused)
-none_read form said shelf sink sink' (Err Memory) ends refused none = inr (record { files = []; read = refl; part = ends })
-none_read form said shelf sink sink' (Err Write) ends refused none = record { files = []; read = refl; failed = ends }
+    → IfOk result (λ refused. refused ≡ false) → list_any is_refusal (said []) ≡ false → AnswersFiles most_file_bytes form [] said shelf shelf sink sink' (status_of result)
+none_read form said shelf sink sink' (Ok refused) ends is none = told form [] said shelf shelf sink sink' [] (Ok refused) refl ends (is ∙ sym none)
+none_read form said shelf sink sink' (Err why) ends is none = told form [] said shelf shelf sink sink' [] (Err why) refl ends tt
