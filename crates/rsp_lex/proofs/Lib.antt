@@ -1,4 +1,5 @@
 pub mod KindLaws
+mod GapForms
 pub mod GapLaws
 pub mod TokenLaws
 pub mod ReachLaws

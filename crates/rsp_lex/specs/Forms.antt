@@ -12,6 +12,14 @@ use Rattle.rsp_lex.specs.declared.token.TokenKind.{TokenKind}
 use Rattle.rsp_lex.specs.declared.token.TokenKind.TheVariants as kind
 use Rattle.rsp_lex.specs.Patterns.{Form, one, ◌before◌, ◌or◌, text, maybe, many, some, escape_of, ended}
 
+-- ---- white space and comments: a comment is `#` to the end of the line
+
+abbrev pub is_white : ℕ → Bool
+is_white c = c == byte " " || (c == byte "\t" || (c == byte "\n" || c == byte "\r"))
+
+abbrev pub gap : Form
+gap = many (one is_white or (text (codes "#") before many (one (λ c. not (c == byte "\n")))))
+
 -- ---- names
 
 -- PN_CHARS_U and PN_CHARS, which have no `:` here

@@ -4,6 +4,7 @@ pub mod Forms
 pub mod Tokens
 pub mod Results
 -- Words of the way
+pub mod Gaps
 pub mod Quoted
 pub mod Names
 pub mod Numbers

@@ -8,24 +8,14 @@ use Rattle.rsp_lex.specs.declared.token.Token.{Token}
 use Rattle.rsp_lex.specs.declared.token.TokenKind.{TokenKind}
 use Rattle.rsp_lex.specs.declared.token.TokenKind.TheVariants as kind
 use Rattle.rsp_lex.specs.declared.lexing.Front.{Front}
-use Rattle.rsp_lex.specs.Forms.{front_bytes}
+use Rattle.rsp_scan.specs.Fronts.{longest_front}
+use Rattle.rsp_lex.specs.Patterns.{ended}
+use Rattle.rsp_lex.specs.Forms.{front_bytes, gap}
 
--- ---- white space and comments: a comment is `#` to the end of the line
-
-abbrev pub is_white : ℕ → Bool
-is_white c = c == byte " " || (c == byte "\t" || (c == byte "\n" || c == byte "\r"))
-
--- whether a comment goes on behind the character; nothing where the gap ends before it
-abbrev pub gap_step : Bool → ℕ → Option Bool
-gap_step true c = Some (not (c == byte "\n"))
-gap_step false c = if is_white c then Some false else (if c == byte "#" then Some true else None)
-
-abbrev pub gap_count : Bool → List ℕ → ℕ
-gap_count comment [] = 0
-gap_count comment (c ∷ cs) = option_map_or (λ next. suc (gap_count next cs)) (gap_step comment c) 0
+-- ---- white space and comments
 
 unfoldable pub gap_bytes : List ℕ → ℕ
-gap_bytes text = length (encode_utf8_all (take (gap_count false (chars text)) (chars text)))
+gap_bytes text = length (encode_utf8_all (longest_front (gap ended) (chars text)))
 
 -- ---- the longest token at the front of a text
 

@@ -4,6 +4,8 @@ ghost use Rattle.rsp_lex.specs.declared.token.TokenKind.TheVariants.{Prefixed};
 ghost use Rattle.rsp_lex.specs.Forms.{front_bytes, is_token};
 ghost use Rattle.rsp_lex.specs.Kinds.{accepted};
 ghost use Rattle.rsp_lex.specs.Reach.{NoPrefixed};
+ghost use Rattle.rsp_lex.specs.Forms as forms;
+ghost use Rattle.rsp_lex.specs.Gaps as gaps;
 ghost use Rattle.rsp_lex.specs.Tokens as words;
 ghost use Rattle.rsp_lex.specs.Results.{IsLexed};
 
@@ -114,7 +116,7 @@ fn gap_len(text: &str) -> usize
 }
 
 fn gap_step(is_comment: bool, c: char) -> Option<bool>
-    ensures { result ≡ words.gap_step is_comment c }
+    ensures { result ≡ gaps.gap_step is_comment c }
 {
     if is_comment {
         return Some(c != '\n');
@@ -126,7 +128,7 @@ fn gap_step(is_comment: bool, c: char) -> Option<bool>
 }
 
 fn is_white(c: char) -> bool
-    ensures { result ≡ words.is_white c }
+    ensures { result ≡ forms.is_white c }
 {
     matches!(c, ' ' | '\t' | '\n' | '\r')
 }
