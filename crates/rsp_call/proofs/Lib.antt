@@ -1,6 +1,6 @@
 pub mod Writings
 pub mod Tabless
-pub mod Refusing
+pub mod Naming
 pub mod Tellings
 pub mod Folding
 pub mod Takings

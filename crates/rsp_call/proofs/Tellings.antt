@@ -34,7 +34,7 @@ use Rattle.rsp_call.specs.Refusals.{Reason, place_text, refusal_line}
 use Rattle.rsp_call.specs.Runs.{event_refused, event_text, event_world, reports_text}
 use Rattle.rsp_call.specs.Sinks.{Wrote, WrotePart}
 use Rattle.rsp_call.specs.Stops.{IsLineOf, Stops}
-use Rattle.rsp_call.proofs.Refusing.{refuses_as}
+use Rattle.rsp_call.proofs.Naming.{refuses_as}
 use Rattle.rsp_call.proofs.Tabless.{same_json}
 use Rattle.rsp_call.proofs.Writings.{wrote_more, wrote_part, stops_behind, stops_before_more}
 

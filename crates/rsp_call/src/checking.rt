@@ -43,8 +43,8 @@ fn tell_verdict<K: Sink>(alloc: Global, bytes: &[u8], out: &mut K) -> Result<boo
     ensures refused { IfOk result (λ refused. refused ≡ list_any is_refusal (checked (bytes.now ∷ []))) }
 {
     match file_fault(alloc, bytes) {
-        Ok(Some(why)) => {
-            let why = Refused::Text(why);
+        Ok(Some(fault)) => {
+            let why = Refused::Text(fault);
             refuse(alloc, Place::Query, Answered::Event(why), out)
         }
         Ok(None) => {

@@ -143,7 +143,7 @@ fn details(alloc: Global, answered: &Answered) -> Result<String, AllocError>
         Answered::Line(RefusedAs::BadStatement { column }) => format!(in alloc; " column={column}"),
         Answered::Line(RefusedAs::RelativeIri { column }) => format!(in alloc; " column={column}"),
         Answered::Fault(BlockFault::BadBody { line }) => format!(in alloc; " line={line}"),
-        Answered::Event(Refused::Text(fault)) => text_details(alloc, fault),
+        Answered::Event(Refused::Text(fault)) => Ok(text_details(alloc, fault)?),
         Answered::Event(Refused::Late { time, next }) => {
             format!(in alloc; " time={time} next={next}")
         }

@@ -391,8 +391,8 @@ fn take_query<K: Sink, L: Ledger>(
             Ok(event) => take_event(alloc, engine, Place::Block(number), event, form, out, steps),
             Err(AllocError) => Err(Stop::Memory),
         },
-        Err(why) => {
-            let why = Refused::Text(why);
+        Err(fault) => {
+            let why = Refused::Text(fault);
             refuse(alloc, Place::Block(number), Answered::Event(why), out)
         }
     }
