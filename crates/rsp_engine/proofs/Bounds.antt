@@ -25,11 +25,13 @@ use Rattle.rsp_query.specs.Queries.{Registered}
 use Rattle.rsp_syntax.specs.Deciding.{parse}
 use Rattle.rsp_syntax.specs.declared.fault.SyntaxFault.{SyntaxFault}
 use Rattle.rsp_engine.specs.declared.live_query.StreamWindow.{StreamWindow}
-use Rattle.rsp_engine.specs.Refusals.{Refusal, held_full, item_too_large, late, name_taken, no_query, queries_full, start_overfull, store_full, text_fault}
+use Rattle.rsp_engine.specs.declared.refused.Refused.TheVariants.{HeldFull, ItemTooLarge, Late, NameTaken, NoQuery, QueriesFull, StartOverfull, StoreFull}
+use Rattle.rsp_engine.specs.declared.refused.TextFault.{TextFault}
+use Rattle.rsp_engine.specs.Refusals.{read}
 use Rattle.rsp_engine.specs.World.{Query, Reading, Registration, World, empty_world, next_of, registrations}
 use Rattle.rsp_engine.specs.Readings.{reading_of}
 use Rattle.rsp_spec.specs.Limits.{most_held, most_quads, most_queries, most_triples}
-use Rattle.rsp_engine.specs.Accept.{accept, accept_held, accept_item, accept_parsed, accept_query, accept_reading, accept_register, accept_stored, accept_text, has_name, is_live, new_query, starts_overfull, with_item, without}
+use Rattle.rsp_engine.specs.Accept.{accept, accept_item, accept_stored, accept_text, has_name, is_live, new_query, starts_overfull, with_item, without}
 use Rattle.rsp_engine.specs.Bounds.{IsWorld}
 use Rattle.rsp_engine.specs.Contents.{watches, watches_from}
 use Rattle.rsp_engine.specs.Kept.{held, watches_of}
@@ -300,13 +302,13 @@ empty_keeps = record {
 -- ---- the two laws
 
 module _ (world after : World) (within : IsWorld world) where
-  by_parsed : (name : List ℕ) (parsed : Result Registered SyntaxFault) → is_live world name ≡ false → accept_parsed world name parsed ≡ Ok after
+  by_text : (name : List ℕ) (asked : Result Registered TextFault) → is_live world name ≡ false → accept_text world name asked ≡ Ok after
       → IsWorld after
-  by_parsed name (Err fault) free is = let same : world ≡ after = cc in subst IsWorld same within
-  by_parsed name (Ok q) free is = by (nat_le most_queries (length world.queries)) refl (starts_overfull (reading_of q)) is
+  by_text name (Err fault) free is = cc
+  by_text name (Ok q) free is = by (nat_le most_queries (length world.queries)) refl (starts_overfull (reading_of q)) is
     where
       by : (full : Bool) → nat_le most_queries (length world.queries) ≡ full → (starts : Bool)
-          → (if full then Err queries_full else (if starts then Err start_overfull
+          → (if full then Err QueriesFull else (if starts then Err StartOverfull
           else Ok (record world { queries = world.queries ++ new_query name (reading_of q) (length world.items) ∷ [] }))) ≡ Ok after
           → IsWorld after
       by true test starts is = cc
@@ -316,19 +318,18 @@ module _ (world after : World) (within : IsWorld world) where
           let room : length world.queries < most_queries = grind (arith, nat_tests, test) in
           subst IsWorld same (register_keeps world within name (reading_of q) free room)
 
-  by_register : (name text : List ℕ) → accept_register world name text ≡ Ok after → IsWorld after
-  by_register name text is = by (is_live world name) refl (text_fault (parse text)) is
+  by_register : (name text : List ℕ) → accept world (Register name text) ≡ Ok after → IsWorld after
+  by_register name text is = by (is_live world name) refl is
     where
-      by : (live : Bool) → is_live world name ≡ live → (fault : Option Refusal)
-          → (if live then Err name_taken else option_map_or Err fault (accept_parsed world name (parse text))) ≡ Ok after → IsWorld after
-      by true free fault is = cc
-      by false free (Some why) is = cc
-      by false free None is = by_parsed name (parse text) free is
+      by : (live : Bool) → is_live world name ≡ live → (if live then Err NameTaken else accept_text world name (read text)) ≡ Ok after
+          → IsWorld after
+      by true free is = cc
+      by false free is = by_text name (read text) free is
 
   by_cancel : (name : List ℕ) → accept world (Cancel name) ≡ Ok after → IsWorld after
   by_cancel name is = by (is_live world name) is
     where
-      by : (live : Bool) → (if live then Ok (record world { queries = without name world.queries }) else Err no_query) ≡ Ok after
+      by : (live : Bool) → (if not live then Err NoQuery else Ok (record world { queries = without name world.queries })) ≡ Ok after
           → IsWorld after
       by false is = cc
       by true is =
@@ -339,8 +340,8 @@ module _ (world after : World) (within : IsWorld world) where
       by (nat_lt item.time (next_of world)) refl (nat_lt most_triples (length item.graph)) (nat_lt most_held (held (with_item world item))) refl is
     where
       by : (early : Bool) → nat_lt item.time (next_of world) ≡ early → (large full : Bool) → nat_lt most_held (held (with_item world item)) ≡ full
-          → (if early then Err (late item.time (next_of world)) else (if large then Err (item_too_large (length item.graph))
-          else (if full then Err (held_full (held (with_item world item))) else Ok (with_item world item)))) ≡ Ok after → IsWorld after
+          → (if early then Err (Late item.time (next_of world)) else (if large then Err (ItemTooLarge (length item.graph))
+          else (if full then Err (HeldFull (held (with_item world item))) else Ok (with_item world item)))) ≡ Ok after → IsWorld after
       by true test large full few is = cc
       by false test true full few is = cc
       by false test false true few is = cc
@@ -353,7 +354,7 @@ module _ (world after : World) (within : IsWorld world) where
   by_tick time is = by (nat_lt (time + 1) (next_of world)) refl is
     where
       by : (early : Bool) → nat_lt (time + 1) (next_of world) ≡ early
-          → (if early then Err (late time (next_of world)) else Ok (record world { next = Some (time + 1) })) ≡ Ok after → IsWorld after
+          → (if early then Err (Late time (next_of world)) else Ok (record world { next = Some (time + 1) })) ≡ Ok after → IsWorld after
       by true test is = cc
       by false test is =
           let same : record world { next = Some (time + 1) } ≡ after = cc in
@@ -363,7 +364,7 @@ module _ (world after : World) (within : IsWorld world) where
   by_stored stored is = by (nat_lt most_quads (length stored)) refl is
     where
       by : (full : Bool) → nat_lt most_quads (length stored) ≡ full
-          → (if full then Err (store_full (length stored)) else Ok (record world { stored = stored })) ≡ Ok after → IsWorld after
+          → (if full then Err (StoreFull (length stored)) else Ok (record world { stored = stored })) ≡ Ok after → IsWorld after
       by true test is = cc
       by false test is =
           let same : record world { stored = stored } ≡ after = cc in

@@ -7,9 +7,10 @@ use Rattle.std.proofs.lemmas.List.Elements.{All-append, All-cons, All-weaker}
 use Rattle.std.proofs.lemmas.List.Sums.{sum_by-cons}
 use Rattle.std.proofs.lemmas.Bool.{le-leb, le-ltb, lt-leb, lt-ltb, ltb-false}
 use Rattle.std.proofs.lemmas.Option.{same_Some}
-use Rattle.std.specs.Prelude.{IfErr, OnOk, if◌then◌else◌, slice_index_or}
+use Rattle.std.specs.Prelude.{IfErr, IsOk, OnOk, if◌then◌else◌, slice_index_or}
 use Rattle.std.specs.List.{All, IsDistinct, flat_map, list_any, range_with_len, sum_by}
-use Rattle.std.specs.Option.{is_some, option_map_or}
+use Rattle.std.specs.Option.{option_map_or}
+use Rattle.std.specs.Result.{result_err}
 use Rattle.std.specs.Cmp.Lexicographic.{bytes_decides}
 use Rattle.rsp_terms.specs.Same.{fact_eq}
 use Rattle.rsp_multiset.specs.Weights.{IsSameMultiset, times}
@@ -38,8 +39,9 @@ use Rattle.rsp_translation.specs.Translation.{first_fault}
 use Rattle.rsp_engine.specs.declared.live_query.StreamWindow.{StreamWindow}
 use Rattle.rsp_engine.specs.declared.refused.Refused.TheVariants as answer
 use Rattle.rsp_engine.specs.declared.refused.Refused.{Refused}
-use Rattle.rsp_engine.specs.Offers.{Answers, Offers, Refuses}
-use Rattle.rsp_engine.specs.Refusals.{Refusal, refusal_of, shape_fault, text_fault}
+use Rattle.rsp_engine.specs.Offers.{Offers, Refuses}
+use Rattle.rsp_engine.specs.declared.refused.TextFault.{TextFault}
+use Rattle.rsp_engine.specs.Refusals.{query_fault, read, text_fault}
 use Rattle.rsp_engine.specs.World.{Query, Registration, World, empty_world, next_of, registrations}
 use Rattle.rsp_engine.specs.Readings.{reading_of}
 use Rattle.rsp_spec.specs.Limits.{most_held, most_quads, most_queries, most_triples}
@@ -506,6 +508,14 @@ insert_leads old quads log world idle few logged stands =
           (stored_keeps world stands.bounds (stored_with world.stored quads) (subst (λ n. n ≤ most_quads) many few)),
     )
 
+-- quads that fit are accepted
+pub insert_fits : (old : State) (quads : List Quad) (world : World) → length (stored_with old.stored quads) ≤ most_quads → Stands old world []
+    → IsOk (accept world (Insert quads))
+insert_fits old quads world few stands =
+    let many : length (stored_with old.stored quads) ≡ length (stored_with world.stored quads) = as-many-stored_with old.stored world.stored quads stands.stored in
+    let within : nat_lt most_quads (length (stored_with world.stored quads)) ≡ false = le-ltb _ _ (rw many at few) in
+    rw within refl
+
 -- the named quads are no longer stored
 pub delete_leads : (old : State) (quads : List Quad) (stored : List Fact) (log : Log) (world : World) → old.first ≡ None → IsSameMultiset fact_eq stored (stored_without old.stored quads)
     → All (IsLoggedFor old.stored old.log stored log) old.queries → Stands old world []
@@ -545,27 +555,23 @@ breaks old name text why new ready free is broken =
     rw is (record { was_ready = ready; broken = broken; may_take = λ world stands. same_live old world name stands.queries ∙ free })
 
 -- a text with a fault is refused for it
-pub faulty_refuses : (old : State) (name text : List ℕ) (why : Refused) → old.broken ≡ false → list_any (has_name name) (registrations_in old) ≡ false → text_fault (parse text) ≡ refusal_of why → is_some (refusal_of why) ≡ true → Refuses old (Register name text) why old
-faulty_refuses old name text why ready free is some = by (refusal_of why) is some
-  where
-    by : (o : Option Refusal) → text_fault (parse text) ≡ o → is_some o ≡ true → Answers old (Register name text) why o old
-    by None is some = cc
-    by (Some refusal) is some = record { was_ready = ready; unchanged = refl; refused = λ world stands. let live : is_live world name ≡ false = same_live old world name stands.queries ∙ free in rw (live, is) refl }
+fault_of : {A E : Type 0} (r : Result A E) (why : E) → result_err r ≡ Some why → r ≡ Err why
+fault_of (Ok a) why is = cc
+fault_of (Err e) why is = cc
 
--- a fault of the query's shape is one of the text
-pub shape_is : (q : Registered) (why : Refused) → shape_fault (first_fault q) ≡ refusal_of why → is_some (refusal_of why) ≡ true → text_fault (Ok q) ≡ refusal_of why
-shape_is q why is some = by (refusal_of why) is some
-  where
-    by : (o : Option Refusal) → shape_fault (first_fault q) ≡ o → is_some o ≡ true → text_fault (Ok q) ≡ o
-    by None is some = cc
-    by (Some refusal) is some = rw is refl
+pub faulty_refuses : (old : State) (name text : List ℕ) (why : TextFault) → old.broken ≡ false → list_any (has_name name) (registrations_in old) ≡ false → text_fault text ≡ Some why → Refuses old (Register name text) (answer.Text why) old
+faulty_refuses old name text why ready free is = record {
+  was_ready = ready;
+  unchanged = refl;
+  refused = λ world stands.
+      let live : is_live world name ≡ false = same_live old world name stands.queries ∙ free in
+      let fault : read text ≡ Err why = fault_of (read text) why is in
+      rw (live, fault) refl;
+}
 
 module _ (old : State) (name text : List ℕ) (q : Registered) (ready : old.broken ≡ false) (free : list_any (has_name name) (registrations_in old) ≡ false) (is : parse text ≡ Ok q) (good : first_fault q ≡ None) where
   none_live : (world : World) → Stands old world [] → is_live world name ≡ false
   none_live world stands = same_live old world name stands.queries ∙ free
-
-  pub mixed_refuses : is_mixed q.policy ≡ true → Refuses old (Register name text) answer.PolicyMix old
-  mixed_refuses mixed = record { was_ready = ready; unchanged = refl; refused = λ world stands. rw (none_live world stands, is, good, mixed) refl }
 
   module _ (unmixed : is_mixed q.policy ≡ false) where
     count : (world : World) → Stands old world [] → length world.queries ≡ length old.queries

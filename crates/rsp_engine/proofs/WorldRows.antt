@@ -33,10 +33,13 @@ use Rattle.rsp_scope.specs.Contents.{Accepted, Numbered, content, numbered}
 use Rattle.rsp_engine.specs.declared.live_query.StreamWindow.{StreamWindow}
 use Rattle.rsp_engine.specs.declared.report.Report.{Report}
 use Rattle.rsp_engine.specs.declared.report.Outcome.TheVariants.{Rows, Overfull}
-use Rattle.rsp_engine.specs.Refusals.{Refusal, left_out, late, scope, policy_mix, name_taken, no_query, queries_full, start_overfull, text_fault}
+use Rattle.rsp_engine.specs.declared.refused.Refused.TheVariants.{Late, NameTaken, NoQuery, QueriesFull, StartOverfull, Text}
+use Rattle.rsp_engine.specs.declared.refused.TextFault.{TextFault}
+use Rattle.rsp_engine.specs.declared.refused.TextFault.TheVariants as text_fault
+use Rattle.rsp_engine.specs.Refusals.{query_fault, read, sound}
 use Rattle.rsp_engine.specs.World.{World, Query, Reading, Registration}
 use Rattle.rsp_engine.specs.Readings.{reading_of}
-use Rattle.rsp_engine.specs.Accept.{accept, accept_reading, is_live, new_query, starts_overfull}
+use Rattle.rsp_engine.specs.Accept.{accept, accept_text, is_live, new_query, starts_overfull}
 use Rattle.rsp_engine.specs.Moments.{Moment, moments}
 use Rattle.rsp_engine.specs.Reports.{facts, reports, world_behind, is_overfull, after_report, moments_behind}
 use Rattle.rsp_engine.specs.Kept.{held, kept_items}
@@ -162,51 +165,50 @@ so_many n = world (Some 4) [] (map (λ byte. at_tens (byte ∷ [])) (range_with_
 
 -- whatever the text is, and however many are live
 name_is_looked_up_first : (text : List ℕ)
-    → map (λ w. accept w (Register (codes "q") text)) (ticked ∷ so_many 256 ∷ []) ≡ Err name_taken ∷ Err name_taken ∷ []
+    → map (λ w. accept w (Register (codes "q") text)) (ticked ∷ so_many 256 ∷ []) ≡ Err NameTaken ∷ Err NameTaken ∷ []
 name_is_looked_up_first text = refl
 
-faulty_text_is_refused_for_it : (text : List ℕ) (why : Refusal) → text_fault (parse text) ≡ Some why
-    → accept (so_many 256) (Register (codes "r2") text) ≡ Err why
+faulty_text_is_refused_for_it : (text : List ℕ) (why : TextFault) → read text ≡ Err why
+    → accept (so_many 256) (Register (codes "r2") text) ≡ Err (Text why)
 faulty_text_is_refused_for_it text why is = rw is refl
 
-fault_keeps_its_details : text_fault (Err (fault.LeftOut 113 (codes "*"))) ≡ Some (left_out 113 (codes "*"))
+fault_keeps_its_details : sound (Err (fault.LeftOut 113 (codes "*"))) ≡ Err (text_fault.Syntax (fault.LeftOut 113 (codes "*")))
 fault_keeps_its_details = refl
 
 shape_is_looked_at_before_the_policy : (q : Registered) → first_fault q ≡ Some (shape.Scope (codes "x"))
-    → is_mixed q.policy ≡ true → text_fault (Ok q) ≡ Some (scope (codes "x"))
+    → is_mixed q.policy ≡ true → sound (Ok q) ≡ Err (text_fault.Shape (shape.Scope (codes "x")))
 shape_is_looked_at_before_the_policy q is mixed = rw is refl
 
 policy_is_looked_at_before_the_number : (text : List ℕ) (q : Registered) → parse text ≡ Ok q
     → first_fault q ≡ None → is_mixed q.policy ≡ true
-    → accept (so_many 256) (Register (codes "r2") text) ≡ Err policy_mix
-policy_is_looked_at_before_the_number text q is sound mixed = rw (is, sound, mixed) refl
+    → accept (so_many 256) (Register (codes "r2") text) ≡ Err (Text (text_fault.Policy (record {})))
+policy_is_looked_at_before_the_number text q is good mixed = rw (is, good, mixed) refl
 
-overfull_start_is_refused : (w : World) (reading : Reading) → starts_overfull reading ≡ true
-    → accept_reading w (codes "q") reading ≡ Err start_overfull
-overfull_start_is_refused w reading starts = rw starts refl
+overfull_start_is_refused : (q : Registered) → starts_overfull (reading_of q) ≡ true
+    → accept_text ticked (codes "r") (Ok q) ≡ Err StartOverfull
+overfull_start_is_refused q starts = rw starts refl
 
 -- a text without fault
-module _ (text : List ℕ) (q : Registered) (is : parse text ≡ Ok q) (sound : first_fault q ≡ None)
+module _ (text : List ℕ) (q : Registered) (is : parse text ≡ Ok q) (good : first_fault q ≡ None)
     (unmixed : is_mixed q.policy ≡ false) where
   number_is_looked_at_before_the_start : starts_overfull (reading_of q) ≡ true
-      → accept (so_many 256) (Register (codes "r2") text) ≡ Err queries_full
-  number_is_looked_at_before_the_start starts = rw (is, sound, unmixed) refl
+      → accept (so_many 256) (Register (codes "r2") text) ≡ Err QueriesFull
+  number_is_looked_at_before_the_start starts = rw (is, good, unmixed) refl
 
-  last_place_is_given : accept (so_many 255) (Register (codes "r2") text)
-      ≡ accept_reading (so_many 255) (codes "r2") (reading_of q)
-  last_place_is_given = rw (is, sound, unmixed) refl
+  last_place_is_given : accept (so_many 255) (Register (codes "r2") text) ≡ accept_text (so_many 255) (codes "r2") (Ok q)
+  last_place_is_given = rw (is, good, unmixed) refl
 
   -- last in order, beside one that is live; it sees the items from the third on
   query_is_registered : starts_overfull (reading_of q) ≡ false
       → accept ticked (Register (codes "r") text)
       ≡ Ok (world (Some 11) two_items (at_tens (codes "q") ∷ new_query (codes "r") (reading_of q) 2 ∷ []))
-  query_is_registered starts = rw (is, sound, unmixed, starts) refl
+  query_is_registered starts = rw (is, good, unmixed, starts) refl
 
 -- ---- which other events are accepted
 
 -- the last tick's instant is complete already
 refusals : map (accept ticked) (Cancel (codes "r") ∷ arrives 10 5 ∷ Tick 9 ∷ Tick 10 ∷ [])
-    ≡ Err no_query ∷ Err (late 10 11) ∷ Err (late 9 11) ∷ Ok ticked ∷ []
+    ≡ Err NoQuery ∷ Err (Late 10 11) ∷ Err (Late 9 11) ∷ Ok ticked ∷ []
 refusals = refl
 
 cancelled_query_is_gone : accept (world (Some 4) [] (at_tens (codes "q") ∷ at_tens (codes "r") ∷ [])) (Cancel (codes "q"))
@@ -219,7 +221,7 @@ item_leaves_its_instant_open : accept (world (Some 10) two_items []) (arrives 10
 item_leaves_its_instant_open = refl
 
 -- of two refusals that hold, the first is given: an item that is late is so however many triples it has
-late_items_may_be_large : (graph : List Triple) → accept waiting (Item (codes "s:a") 3 graph) ≡ Err (late 3 4)
+late_items_may_be_large : (graph : List Triple) → accept waiting (Item (codes "s:a") 3 graph) ≡ Err (Late 3 4)
 late_items_may_be_large graph = refl
 
 -- ---- stored quads

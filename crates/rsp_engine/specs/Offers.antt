@@ -1,7 +1,7 @@
 -- Definitions: what the engine's calls do, for every world and moments that the engine stands for.
-use Rattle.std.specs.Prelude.{◌≡◌, ◌<◌, true, false, Option, None, Some, Result, Ok, Err, IsOk, MatchResult, List, [], ⊤}
+use Rattle.std.specs.Prelude.{◌≡◌, ◌<◌, true, false, Option, None, Some, Result, Ok, Err, IsOk, MatchResult, List, []}
 use Rattle.rsp_events.specs.declared.event.Event.{Event}
-use Rattle.rsp_events.specs.declared.event.Event.TheVariants.{Register, Cancel, Item, Tick}
+use Rattle.rsp_events.specs.declared.event.Event.TheVariants.{Register, Cancel, Tick}
 use Rattle.rsp_engine.specs.declared.refused.Refused.{Refused}
 use Rattle.rsp_engine.specs.declared.refused.Refused.TheVariants.{Broken, OutOfMemory}
 use Rattle.rsp_engine.specs.declared.refused.EngineFault.{EngineFault}
@@ -31,14 +31,13 @@ pub record WasBroken (old new : State) : Type 0 where
   pub was_broken : old.broken ≡ true
   pub unchanged : new ≡ old
 
--- want of memory comes for no tick and no cancellation, for no item that is refused, and for no registration under the name of
--- a live query
+-- want of memory comes for no tick and no cancellation, for no registration under the name of a live query, and else for no
+-- event that is refused
 abbrev pub MayTakeMemory : World → Event → Type 0
 MayTakeMemory world (Register name text) = is_live world name ≡ false
-MayTakeMemory world (Item stream time graph) = IsOk (accept world (Item stream time graph))
 MayTakeMemory world (Cancel name) = ⊥
 MayTakeMemory world (Tick time) = ⊥
-MayTakeMemory world _ = ⊤
+MayTakeMemory world event = IsOk (accept world event)
 
 -- memory was refused; the engine is broken
 pub record Breaks (old : State) (event : Event) (new : State) : Type 0 where

@@ -142,8 +142,8 @@ impl<A: Answer> Engine<A> {
     ///
     /// Refused as `Broken` exactly where memory was refused before; with the definition's refusal, which changes nothing,
     /// only where the definition refuses the event so; as `OutOfMemory` where memory is refused, which breaks the engine:
-    /// never for a tick or a cancellation, never for an item that the definition refuses, never for a registration under
-    /// a name that is taken. Any other registration, and any insert, that the definition refuses may be answered so.
+    /// never for a tick or a cancellation, never for a registration under a name that is taken, never for an item or an
+    /// insert that the definition refuses. Any other registration that the definition refuses may be answered so.
     pub fn offer(&mut self, event: Event) -> Result<(), Refused>
         requires idle { IsTrue (is_idle self.old) }
         requires instant { IsInstant event }

@@ -30,7 +30,7 @@ go_live-requires-clause-prompt g c =
 pub returns-in-Ok-Some : goal.returns-in-Ok-Some
 returns-in-Ok-Some g c = λ text is.
     let old = c.args.self.now in
-    let q = registered c.args.query.now in
+    let q = registered c.args.asked.query.value in
     let begun = rw c.in-Ok-Some.field-0-is at c.in-Ok-Some.ensures.query in
     let watched = rw c.in-Ok-Some.field-0-is at c.in-Ok-Some.ensures.watched in
     let made : registration_of (live_of g.A.Answer.facts c.in-Ok-Some.query) ≡ (new_query c.args.name (reading_of q) old.kept.accepted).registration = rw (← c.self.view_is) (begun.1 ∙ ap (λ n. (new_query c.args.name (reading_of q) n).registration) c.accepted.ensures) in
@@ -42,12 +42,12 @@ returns-in-Ok-Some g c = λ text is.
       unseen = rw c.in-Ok-Some.field-0-is at c.in-Ok-Some.ensures.seen;
       unmoved = rw c.in-Ok-Some.field-0-is at c.in-Ok-Some.ensures.unmoved;
     } in
-    begun_offers old c.go_live.new.self c.args.name text q (live_of g.A.Answer.facts c.in-Ok-Some.query) c.go_live.result c.requires.ready made begins idle c.requires.free is c.requires.translated.sound c.requires.unmixed c.requires.few begun.0 c.go_live.ensures.ok c.go_live.ensures.err
+    begun_offers old c.go_live.new.self c.args.name text q (live_of g.A.Answer.facts c.in-Ok-Some.query) c.go_live.result c.requires.ready made begins idle c.requires.free is c.requires.asked.translated.sound c.requires.asked.unmixed c.requires.few begun.0 c.go_live.ensures.ok c.go_live.ensures.err
 
 pub returns-in-Ok-None : goal.returns-in-Ok-None
 returns-in-Ok-None g c = λ text is.
     let starts = rw c.in-Ok-None.field-0-is at c.in-Ok-None.ensures.query in
-    overfull_refuses c.args.self.now c.args.name text (registered c.args.query.now) c.requires.ready c.requires.free is c.requires.translated.sound c.requires.unmixed c.requires.few starts
+    overfull_refuses c.args.self.now c.args.name text (registered c.args.asked.query.value) c.requires.ready c.requires.free is c.requires.asked.translated.sound c.requires.asked.unmixed c.requires.few starts
 
 pub returns-in-Err : goal.returns-in-Err
 returns-in-Err g c = λ text is.

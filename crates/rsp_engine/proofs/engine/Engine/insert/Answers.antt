@@ -1,11 +1,12 @@
 use Rattle.std.proofs.Common.{◌≤◌, Err, ap, length, map, refl, subst, sym}
 use Rattle.std.specs.List.{All}
+use Rattle.rsp_spec.specs.Limits.{most_quads}
 use Rattle.rsp_events.specs.declared.event.Event.TheVariants.{Insert}
 use Rattle.rsp_scope.specs.Faults.{IsStoredFault}
 use Rattle.rsp_scope.specs.Quads.{stored_with}
 use Rattle.rsp_scope.specs.declared.stored.StoredFault.TheVariants.{StoreFull}
 use Rattle.rsp_engine.specs.Offers.{RefusesAs}
-use Rattle.rsp_engine.specs.Refusals.{store_full}
+use Rattle.rsp_engine.specs.declared.refused.Refused.TheVariants as answer
 use Rattle.rsp_engine.specs.Inside.{IsReady, live_of, state_of}
 use Rattle.rsp_engine.specs.Stands.{IsStore}
 use Rattle.rsp_engine.proofs.FactSets.{store_more}
@@ -30,7 +31,7 @@ returns-in-Ok g c =
       ready = rw (← c.self.view_is) at c.requires.ready;
       stands = λ world stands.
           subst (λ fs. Leads world (Insert c.args.quads.now) (record (state_of g.A.Answer.facts c.self.inside) { stored = fs; log = c.insert.new.log })) (sym c.in-Ok.ensures.stored)
-          (insert_leads (state_of g.A.Answer.facts c.self.inside) c.args.quads.now c.insert.new.log world (rw (← c.self.view_is) at idle) (subst (λ fs. length fs ≤ 1000000) c.in-Ok.ensures.stored c.in-Ok.ensures.within)
+          (insert_leads (state_of g.A.Answer.facts c.self.inside) c.args.quads.now c.insert.new.log world (rw (← c.self.view_is) at idle) (subst (λ fs. length fs ≤ most_quads) c.in-Ok.ensures.stored c.in-Ok.ensures.within)
           (subst (λ fs. All (IsLoggedFor c.self.inside.stored c.self.inside.log fs c.insert.new.log) (map (live_of g.A.Answer.facts) c.self.inside.queries.items)) c.in-Ok.ensures.stored
           (mapped (IsLoggedFor c.self.inside.stored c.self.inside.log c.insert.new.stored c.insert.new.log) (live_of g.A.Answer.facts) c.self.inside.queries.items logged)) stands);
     })
@@ -43,5 +44,5 @@ returns-in-Err-StoreFull g c =
     let refused = full_store_refuses old c.args.quads.now many (rw (← c.self.view_is) at c.requires.ready) fault in
     let same = c.in-Err-StoreFull.ensures.full many (ap Err c.in-Err-StoreFull.field-0-is) in
     rw (← c.self.view_is)
-    (subst (λ fs. RefusesAs old (Insert c.args.quads.now) (store_full many) (record old { stored = fs; log = c.insert.new.log })) (sym same.0)
-    (subst (λ log. RefusesAs old (Insert c.args.quads.now) (store_full many) (record old { log = log })) (sym same.1) refused))
+    (subst (λ fs. RefusesAs old (Insert c.args.quads.now) (answer.StoreFull many) (record old { stored = fs; log = c.insert.new.log })) (sym same.0)
+    (subst (λ log. RefusesAs old (Insert c.args.quads.now) (answer.StoreFull many) (record old { log = log })) (sym same.1) refused))
