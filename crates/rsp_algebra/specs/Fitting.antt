@@ -47,7 +47,8 @@ Fits width (node.of_two (node.exists condition) left right) =
 Fits width (node.of_two (node.not_exists condition) left right) =
     AreBelow width (formula_variables condition) × (Fits width left × Fits width right)
 Fits width (node.over (node.filter condition) child) = AreBelow width (formula_variables condition) × Fits width child
-Fits width (node.over (node.extend v expression) child) = (v < width) × (AreBelow width (formula_variables expression) × Fits width child)
+Fits width (node.over (node.extend v expression) child) =
+    (v < width) × (AreBelow width (formula_variables expression) × Fits width child)
 Fits width (node.values rows) = AllByRecursion (λ row. length row ≡ width) rows
 Fits width (node.over (node.project variables) child) = AreBelow width variables × Fits width child
 Fits width (node.over node.distinct child) = Fits width child

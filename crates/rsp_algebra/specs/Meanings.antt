@@ -23,7 +23,8 @@ node_of (LeftJoin' _ left _ right condition) = node.of_two (node.left_join (form
 node_of (Union' _ left _ right) = node.of_two node.union (node_of left) (node_of right)
 node_of (Minus' _ left _ right) = node.of_two node.minus (node_of left) (node_of right)
 node_of (Exists' _ left _ right condition) = node.of_two (node.exists (formula_of condition)) (node_of left) (node_of right)
-node_of (NotExists' _ left _ right condition) = node.of_two (node.not_exists (formula_of condition)) (node_of left) (node_of right)
+node_of (NotExists' _ left _ right condition) =
+    node.of_two (node.not_exists (formula_of condition)) (node_of left) (node_of right)
 node_of (Filter' _ child condition) = node.over (node.filter (formula_of condition)) (node_of child)
 node_of (Extend' _ child variable expression) = node.over (node.extend variable (formula_of expression)) (node_of child)
 node_of (Values rows) = node.values rows.items

@@ -191,8 +191,10 @@ function_value function.StrLang (text ∷ tag ∷ []) = value_of_both language_l
 function_value function.StrStarts (text ∷ part ∷ []) = test_of_texts texts.begins_with text part  -- 17.4.3.6
 function_value function.StrEnds (text ∷ part ∷ []) = test_of_texts texts.finishes_with text part  -- 17.4.3.7
 function_value function.Contains (text ∷ part ∷ []) = test_of_texts texts.contains text part  -- 17.4.3.8
-function_value function.StrBefore (text ∷ part ∷ []) = value_of_texts (λ a b. part_of a (texts.text_before a.text b.text)) text part
-function_value function.StrAfter (text ∷ part ∷ []) = value_of_texts (λ a b. part_of a (texts.text_after a.text b.text)) text part
+function_value function.StrBefore (text ∷ part ∷ []) =
+    value_of_texts (λ a b. part_of a (texts.text_before a.text b.text)) text part
+function_value function.StrAfter (text ∷ part ∷ []) =
+    value_of_texts (λ a b. part_of a (texts.text_after a.text b.text)) text part
 function_value function.LangMatches (tag ∷ range ∷ []) =
     value_of_both (λ a b. boolean_result (Some (is_matched_by a b))) (string_of tag) (string_of range)
 function_value function.Substr (text ∷ start ∷ []) = value_of_both part_from (written_of text) (integer_of start)

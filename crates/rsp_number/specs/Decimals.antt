@@ -36,7 +36,8 @@ is_below_zero n = int_lt n (pos 0)
 abbrev pub shortest_form : Bool → ℕ → ℕ → Scaled
 shortest_form negative size zero = record { coefficient = with_sign negative size; scale = 0 }
 shortest_form negative size (suc scale) =
-    cond (size % 10 == 0) (shortest_form negative (size / 10) scale) (record { coefficient = with_sign negative size; scale = suc scale })
+    cond (size % 10 == 0) (shortest_form negative (size / 10) scale)
+    (record { coefficient = with_sign negative size; scale = suc scale })
 
 -- the greatest number up to the bound at which the test holds
 unfoldable pub greatest : (ℕ → Bool) → ℕ → Option ℕ

@@ -63,7 +63,9 @@ value_or_beyond (Some value) = Value value
 
 abbrev pub read_integer : List ℕ → Reading ℤ
 read_integer text =
-    cond (has_integer_form text) (value_or_beyond (integer_in_range (with_sign (is_negative text) (number_after 0 (without_sign text))))) NotForm
+    cond (has_integer_form text)
+    (value_or_beyond (integer_in_range (with_sign (is_negative text) (number_after 0 (without_sign text)))))
+    NotForm
 
 -- the digits of both sides of the point write the coefficient, and those behind it are counted by the scale
 abbrev pub read_decimal : List ℕ → Reading Scaled

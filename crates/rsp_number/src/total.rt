@@ -59,7 +59,8 @@ impl Total {
     pub fn give(&mut self, number: &Number, times: u64)
         requires integers { integers_of number.now times ≤ self.old.integers }
         requires decimals { decimals_of number.now times ≤ self.old.decimals }
-        requires within { let after = after_giving self.old number.now times in IsWithin after.sum (after.integers + after.decimals) }
+        requires within { let after = after_giving self.old number.now times in
+            IsWithin after.sum (after.integers + after.decimals) }
         requires whole { let after = after_giving self.old number.now times in after.decimals ≡ 0 → IsWhole after.sum }
         ensures { self.new ≡ after_giving self.old number.now times }
     {

@@ -8,7 +8,8 @@ use Rattle.rsp_scan.specs.Readers.{PartReader, iri, string, label, tag}
 use Rattle.rsp_scan.specs.Scans.{tag_machine}
 
 pub record Reads {A : Type 0} (reader : PartReader A) (rule : Rule A) : Type 0 where
-  pub sound : (text rest : List ℕ) (v : A) → reader text ≡ Some (v, rest) → (part : List ℕ) × ((text ≡ part ++ rest) × rule part rest v)
+  pub sound : (text rest : List ℕ) (v : A) → reader text ≡ Some (v, rest)
+      → (part : List ℕ) × ((text ≡ part ++ rest) × rule part rest v)
   pub full : (part rest : List ℕ) (v : A) → rule part rest v → reader (part ++ rest) ≡ Some (v, rest)
 
 -- the four readers follow their rules, and tags are what their automaton accepts

@@ -111,7 +111,8 @@ abbrev mutual
       with_test group
       (record { negated = negated; tree = closed (with_parts s at fresh nothing body); condition = condition_of body })
   with_part s at fresh group (optional body) =
-      with_tree group (node.of_two (node.left_join (condition_of body)) (closed group) (closed (with_parts s at fresh nothing body)))
+      with_tree group
+      (node.of_two (node.left_join (condition_of body)) (closed group) (closed (with_parts s at fresh nothing body)))
   with_part s at fresh group (minus body) =
       with_tree group (node.of_two node.minus (closed group) (finished body (with_parts s at fresh nothing body)))
   with_part s at fresh group (union groups) =

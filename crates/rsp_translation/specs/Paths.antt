@@ -30,7 +30,8 @@ abbrev mutual
   path_node place fresh subject (step predicate) object = triple_node place subject predicate object
   path_node place fresh subject (inverse way) object = path_node place fresh object way subject
   path_node place fresh subject (sequence ways) object = from_left (node.of_two node.join) (steps place fresh subject ways object)
-  path_node place fresh subject (choice ways) object = from_left (node.of_two node.union) (choices place fresh subject ways object)
+  path_node place fresh subject (choice ways) object =
+      from_left (node.of_two node.union) (choices place fresh subject ways object)
 
   -- one behind the other
   pub steps : Place → ℕ → Slot → Ways → Slot → List Node

@@ -110,7 +110,8 @@ abbrev mutual
   clause s at fresh (optional body) = behind (λ left.
       node.of_two (node.left_join (condition (clauses s at fresh body))) left (elements (clauses s at fresh body)))
   clause s at fresh (minus body) = behind (λ left. node.of_two node.minus left (group (clauses s at fresh body)))
-  clause s at fresh (union groups) = behind (λ left. joined left (from_left (node.of_two node.union) (group_nodes s at fresh groups)))
+  clause s at fresh (union groups) =
+      behind (λ left. joined left (from_left (node.of_two node.union) (group_nodes s at fresh groups)))
   clause s at fresh (graph name word body) = behind (λ left. joined left (group (clauses s (graph_place name) fresh body)))
   clause s at fresh (window name word body) =
       behind (λ left. joined left (group (clauses s (window_place s.windows name) fresh body)))

@@ -40,7 +40,8 @@ fn ended(tree: Tree) -> Begun
 }
 
 fn is_unit(tree: &Tree) -> bool
-    ensures { (right : Node) → trees.joined (node_of tree.now) right ≡ cond result right (node.of_two node.join (node_of tree.now) right) }
+    ensures { (right : Node) → trees.joined (node_of tree.now) right
+        ≡ cond result right (node.of_two node.join (node_of tree.now) right) }
 {
     match tree {
         Tree::Unit => true,
@@ -146,7 +147,8 @@ pub(crate) fn with_bind(
     expression: &Expression,
 ) -> Result<Begun, AllocError>
     ensures { IfOk result (λ next. begun_of next
-        ≡ trees.with_tree (begun_of group) (node.over (node.extend variable (formula_of expression.now)) (trees.closed (begun_of group)))) }
+        ≡ trees.with_tree (begun_of group)
+        (node.over (node.extend variable (formula_of expression.now)) (trees.closed (begun_of group)))) }
 {
     let child = closed(alloc, group)?;
     Ok(ended(nodes::extend(alloc, child, variable, expression)?))
