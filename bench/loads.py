@@ -232,9 +232,9 @@ def one_row(node, count):
     clause = "FROM NAMED WINDOW <w:1> ON <s:a> [RANGE PT1S]"
     head = f"REGISTER ISTREAM <q:o> REPORT CLOSE TICK TIME AS SELECT {columns} {clause} WHERE {{ {body} }}{end}\n"
     half = count // 2
-    quads = [f"<a:{k}> <p:v> <b:{k}> .\n<b:{2 * k + 1}> <p:m> <c:{k}> .\n" for k in range(half)]
 
     def load(size):
+        quads = [f"<a:{k}> <p:v> <b:{k}> .\n<b:{2 * k + 1}> <p:m> <c:{k}> .\n" for k in range(half)]
         stored = b"".join(block("@insert", quads[at:at + 500]) for at in range(0, half, 500))
         keys = [2 * (number % half) + 1 if key == "marked" else 2 * (half + number) for number in range(size)]
         rounds = [
@@ -380,6 +380,16 @@ def readings_in_files(count):
         return Run(words, {"query.rq": query, **files})
 
     return load
+
+
+REFUSED_LINE = b"<a:1> <p:v> a line of 32 bytes.\n"
+MOST_REFUSED = 2_000_000
+
+
+def refused_lines(size):
+    """A recorded stream of so many lines, 64 MB at most, of which each is refused."""
+    query = registration("query", NEVER, ELSEWHERE, PATTERN).split(b"\n")[1]
+    return Run(["run", "query.rq", "s:a=a.nq"], {"query.rq": query, "a.nq": REFUSED_LINE * size})
 
 
 def generated(size):

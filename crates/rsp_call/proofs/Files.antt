@@ -4,7 +4,8 @@ use Rattle.std.specs.Prelude.{IsSomeAnd}
 use Rattle.std.specs.Io.KnownBytes.{Consumes, IsAtEnd}
 use Rattle.rsp_io.specs.Files.{NamedFile, file_named}
 use Rattle.rsp_io.specs.Reading.{given_after}
-use Rattle.rsp_call.specs.Shelves.{ShelfSeen, most_file_bytes}
+use Rattle.rsp_spec.specs.Limits.{most_file_bytes}
+use Rattle.rsp_call.specs.Shelves.{ShelfSeen}
 use Rattle.rsp_call.specs.Readings.{Reads, ReadsPicked, Takes, TakesTooMany}
 use Rattle.rsp_call.specs.declared.reading.Unread.{Unread}
 use Rattle.rsp_call.specs.declared.reading.Unread.TheVariants.{Memory, Fault, TooLong}
@@ -14,12 +15,12 @@ given_all : (before given n : ℕ) → before ≡ given → given ≤ most_file_
 given_all before given n is short low = omega (arith, is, short, low)
 
 -- a piece more than the limit allows
-pub takes_too_many : (before mid now : ShelfSeen) (taken piece : List ℕ) (n : ℕ) → Takes before mid taken → n ≡ length piece → n ≤ 2 ^ 14 → Consumes mid.left now.left piece → now.given ≡ given_after mid.given n → most_file_bytes < length taken + n → now.faults ≡ mid.faults → TakesTooMany before now
+pub takes_too_many : (before mid now : ShelfSeen) (taken piece : List ℕ) (n : ℕ) → Takes before mid taken → n ≡ length piece → n ≤ 2 ^ 14 → Consumes mid.source.left now.source.left piece → now.source.given ≡ given_after mid.source.given n → most_file_bytes < length taken + n → now.source.faults ≡ mid.source.faults → TakesTooMany before now
 takes_too_many before mid now taken piece n so_far size low consumed given past faultless =
     record {
       bytes = taken ++ piece;
-      left = consumed_more before.left mid.left now.left taken piece so_far.left consumed;
-      given = rw (length-append taken piece, ← size) (given ∙ given_all mid.given (length taken) n so_far.given so_far.short low);
+      left = consumed_more before.source.left mid.source.left now.source.left taken piece so_far.left consumed;
+      given = rw (length-append taken piece, ← size) (given ∙ given_all mid.source.given (length taken) n so_far.given so_far.short low);
       long = rw (length-append taken piece, ← size) past;
       faultless = faultless ∙ so_far.faultless;
     }
@@ -41,10 +42,10 @@ long_file (Some files) None rest name bytes named taken long = absurd (true≢fa
 long_file (Some files) (Some left) None name bytes named taken long = absurd taken
 long_file (Some files) (Some left) (Some rest) name bytes named taken long = rw (← named.1) (longer left bytes rest taken long)
 
-pub picked_reads : {A : Type 0} (before mid now : ShelfSeen) (name : List ℕ) (result : Result (Vec ℕ A) Unread) → NamedFile before.files name mid.left → mid.faults ≡ before.faults → mid.sure ≡ before.sure → mid.files ≡ before.files → ReadsPicked mid now result → Reads before now name result
+pub picked_reads : {A : Type 0} (before mid now : ShelfSeen) (name : List ℕ) (result : Result (Vec ℕ A) Unread) → NamedFile before.files name mid.source.left → mid.source.faults ≡ before.source.faults → mid.source.sure ≡ before.source.sure → mid.files ≡ before.files → ReadsPicked mid now result → Reads before now name result
 picked_reads before mid now name (Ok bytes) named faultless sure files read =
     record {
-      file = whole_file before.files mid.left now.left name bytes.items named read.0.left read.1;
+      file = whole_file before.files mid.source.left now.source.left name bytes.items named read.0.left read.1;
       at_end = read.1;
       given = read.0.given;
       short = read.0.short;
@@ -63,6 +64,6 @@ picked_reads before mid now name (Err Fault) named faultless sure files read =
 picked_reads before mid now name (Err TooLong) named faultless sure files read =
     record {
       long = rw read.given read.long;
-      file = long_file before.files mid.left now.left name read.bytes named read.left read.long;
+      file = long_file before.files mid.source.left now.source.left name read.bytes named read.left read.long;
       faultless = read.faultless ∙ faultless;
     }

@@ -1,18 +1,21 @@
 -- What the generator is asked for, and what is answered.
-use Rattle.std.proofs.Common.{◌≡◌, ℕ, ◌≤◌, ◌&&◌, Bool, true, false, true≢false, nat_le, List, [], ◌∷◌, Option, None, Some, Result, Ok, Err, refl, codes, bytes_eq, option_map, inr}
+use Rattle.std.proofs.Common.{◌≡◌, ℕ, ◌≤◌, ◌&&◌, Bool, true, false, nat_le, List, [], ◌∷◌, Option, None, Some, Result, Ok, Err, refl, codes, bytes_eq, option_map, sym, ◌∙◌}
 use Rattle.std.specs.Prelude.{IfOk, if◌then◌else◌}
+use Rattle.std.specs.Bool.{then_some}
 use Rattle.std.specs.List.{list_any}
+use Rattle.std.specs.Option.{option_and_then}
 use Rattle.std.proofs.lemmas.Bool.{leb-true}
 use Rattle.rsp_text.specs.Digits.{read_u64}
+use Rattle.rsp_io.specs.Seen.{SinkSeen}
+use Rattle.rsp_spec.specs.Limits.{most_file_bytes}
 use Rattle.rsp_call.specs.declared.form.Form.{Form}
 use Rattle.rsp_call.specs.declared.stop.Stop.{Stop}
-use Rattle.rsp_call.specs.declared.stop.Stop.TheVariants.{Memory, Write}
 use Rattle.rsp_call.specs.FileAnswers.{AnswersFiles, SayingOf}
 use Rattle.rsp_call.specs.Output.{is_refusal, text_of}
 use Rattle.rsp_call.specs.Shelves.{ShelfSeen}
-use Rattle.rsp_call.specs.Sinks.{SinkSeen}
 use Rattle.rsp_call.specs.Stops.{Ends, status_of}
-use Rattle.rsp_call.specs.Words.{Mode, Replay, check, check_of, events_of, form_of, generate, generate_of, generate_so_many, is_count, is_file, mode_of, run, values, without_json}
+use Rattle.rsp_call.specs.Words.{Mode, Replay, check, check_of, events_of, form_of, generate, generate_of, is_count, is_file, mode_of, run, run_of, values, without_json}
+use Rattle.rsp_call.proofs.Answering.{told}
 
 -- ---- at most a million items
 
@@ -20,11 +23,12 @@ and_second : (a b : Bool) → (a && b) ≡ true → b ≡ true
 and_second true b h = h
 and_second false b h = cc
 
-few_of_number : (read : Option ℕ) (count : ℕ) → generate_so_many read ≡ Some (generate count) → count ≤ 1000000
+few_of_number : (read : Option ℕ) (count : ℕ)
+    → option_and_then (λ number. then_some (is_count number) (generate number)) read ≡ Some (generate count) → count ≤ 1000000
 few_of_number None count is = cc
 few_of_number (Some n) count is = by (is_count n) refl is
   where
-    by : (b : Bool) → is_count n ≡ b → (if b then Some (generate n) else None) ≡ Some (generate count) → count ≤ 1000000
+    by : (b : Bool) → is_count n ≡ b → then_some b (generate n) ≡ Some (generate count) → count ≤ 1000000
     by false test is = cc
     by true test is =
         let same : n ≡ count = cc in
@@ -54,19 +58,23 @@ no_check (query ∷ []) count is = by (is_file query) is
 no_check (query ∷ other ∷ more) count is = cc
 
 -- by the row of the table
-few_by_row : (a b c d : Bool) (e r k g : Option Mode) (count : ℕ) → (e ≡ Some (generate count) → count ≤ 1000000) → (r ≡ Some (generate count) → count ≤ 1000000)
-    → (k ≡ Some (generate count) → count ≤ 1000000) → (g ≡ Some (generate count) → count ≤ 1000000)
-    → (if a then e else (if b then r else (if c then k else (if d then g else None)))) ≡ Some (generate count) → count ≤ 1000000
-few_by_row true b c d e r k g count of_e of_r of_k of_g is = of_e is
-few_by_row false true c d e r k g count of_e of_r of_k of_g is = of_r is
-few_by_row false false true d e r k g count of_e of_r of_k of_g is = of_k is
-few_by_row false false false true e r k g count of_e of_r of_k of_g is = of_g is
-few_by_row false false false false e r k g count of_e of_r of_k of_g is = cc
+few_by_row : (more : List (List ℕ)) (a b c d : Bool) (e r k g : List (List ℕ) → Option Mode) (count : ℕ)
+    → (e more ≡ Some (generate count) → count ≤ 1000000) → (r more ≡ Some (generate count) → count ≤ 1000000)
+    → (k more ≡ Some (generate count) → count ≤ 1000000) → (g more ≡ Some (generate count) → count ≤ 1000000)
+    → option_and_then (λ row. row more) (if a then Some e else (if b then Some r else (if c then Some k else (if d then Some g else None))))
+    ≡ Some (generate count) → count ≤ 1000000
+few_by_row more true b c d e r k g count of_e of_r of_k of_g is = of_e is
+few_by_row more false true c d e r k g count of_e of_r of_k of_g is = of_r is
+few_by_row more false false true d e r k g count of_e of_r of_k of_g is = of_k is
+few_by_row more false false false true e r k g count of_e of_r of_k of_g is = of_g is
+few_by_row more false false false false e r k g count of_e of_r of_k of_g is = cc
 
 pub few_asked : (words : List (List ℕ)) (count : ℕ) → mode_of words ≡ Some (generate count) → count ≤ 1000000
 few_asked [] count is = cc
 few_asked (word ∷ more) count is =
-    few_by_row (bytes_eq word (codes "events")) (bytes_eq word (codes "run")) (bytes_eq word (codes "check")) (bytes_eq word (codes "gen")) _ _ _ _ count
+    few_by_row more (bytes_eq word (codes "events")) (bytes_eq word (codes "run")) (bytes_eq word (codes "check")) (bytes_eq word (codes "gen"))
+    (λ words. events_of (form_of words) (values (without_json words))) run_of (λ words. check_of (values words)) (λ words. generate_of (values words))
+    count
     (no_events (form_of more) (values (without_json more)) count)
     (no_run _ count)
     (no_check (values more) count)
@@ -76,8 +84,6 @@ few_asked (word ∷ more) count is =
 -- ---- the answer, where no file is read and nothing is refused
 
 pub none_read : (form : Form) (said : SayingOf) (shelf : ShelfSeen) (sink sink' : SinkSeen) (result : Result Bool Stop) → Ends sink sink' (text_of form (said [])) result
-    → IfOk result (λ refused. refused ≡ false) → list_any is_refusal (said []) ≡ false → AnswersFiles form [] said shelf shelf sink sink' (status_of result)
-none_read form said shelf sink sink' (Ok false) ends refused none = record { files = []; read = refl; written = ends; refused = none }
-none_read form said shelf sink sink' (Ok true) ends refused none = absurd (true≢false refused)
-none_read form said shelf sink sink' (Err Memory) ends refused none = inr (record { files = []; read = refl; part = ends })
-none_read form said shelf sink sink' (Err Write) ends refused none = record { files = []; read = refl; failed = ends }
+    → IfOk result (λ refused. refused ≡ false) → list_any is_refusal (said []) ≡ false → AnswersFiles most_file_bytes form [] said shelf shelf sink sink' (status_of result)
+none_read form said shelf sink sink' (Ok refused) ends is none = told form [] said shelf shelf sink sink' [] (Ok refused) refl ends (is ∙ sym none)
+none_read form said shelf sink sink' (Err why) ends is none = told form [] said shelf shelf sink sink' [] (Err why) refl ends tt

@@ -1,5 +1,6 @@
 pub mod Writings
 pub mod Tabless
+pub mod Refusing
 pub mod Tellings
 pub mod Folding
 pub mod Takings
@@ -19,5 +20,6 @@ pub mod Cutting
 pub mod Filed
 pub mod Recorded
 pub mod Played
+pub mod Replayed
 pub mod Spoken
 pub mod Generated

@@ -3,6 +3,7 @@ use Rattle.std.proofs.Common.{◌≡◌, Bool, true, false, ◌||◌, Result, Ok
 use Rattle.std.proofs.lemmas.Grind.{flat_map-append}
 use Rattle.std.proofs.lemmas.List.Folds.{list_any-append}
 use Rattle.std.specs.List.{list_any}
+use Rattle.rsp_io.specs.Seen.{SinkSeen}
 use Rattle.rsp_call.specs.declared.form.Form.{Form}
 use Rattle.rsp_call.specs.declared.refusing.Place.{Place}
 use Rattle.rsp_call.specs.declared.stop.Stop.{Stop}
@@ -10,7 +11,6 @@ use Rattle.rsp_call.specs.declared.stop.Stop.TheVariants.{Memory}
 use Rattle.rsp_call.specs.Output.{Saying, a_refusal, is_refusal, text_of, text_of_saying}
 use Rattle.rsp_call.specs.Refusals.{Reason, refusal_line}
 use Rattle.rsp_call.specs.Sayings.{Says}
-use Rattle.rsp_call.specs.Sinks.{SinkSeen}
 use Rattle.rsp_call.specs.Stops.{Ends}
 use Rattle.rsp_call.proofs.Writings.{stopped_at_once, stops_before_more, stops_behind, wrote_more, wrote_nothing}
 

@@ -4,7 +4,7 @@ use Rattle.std.specs.List.{slice_get}
 use Rattle.rsp_events.specs.declared.recording.RecordedItems.{RecordedItems}
 use Rattle.rsp_call.specs.declared.replay.Stream as stream_read
 use Rattle.rsp_call.specs.Playing.{stream_for}
-use Rattle.rsp_call.specs.Replays.{all_lines_said, lines_said}
+use Rattle.rsp_call.specs.Played.{all_lines_said, lines_said}
 use Rattle.rsp_call.proofs.Filed.{behind_place}
 
 pub file_next : (streams : List stream_read.Stream) (reads : List RecordedItems) (place : ℕ) (stream : stream_read.Stream) (read : RecordedItems) → Some stream ≡ slice_get streams place → Some read ≡ slice_get reads place → all_lines_said (map stream_for (drop place streams)) (drop place reads) ≡ lines_said stream.file.now read.refused ++ all_lines_said (map stream_for (drop (place + 1) streams)) (drop (place + 1) reads)

@@ -5,11 +5,12 @@ use Rattle.rsp_events.specs.declared.event.Block.{Block}
 use Rattle.rsp_events.specs.Instants.{AllTimed, IsTimed}
 use Rattle.rsp_engine.specs.World.{World}
 use Rattle.rsp_engine.specs.Stands.{State, Stands, is_idle}
+use Rattle.rsp_io.specs.Seen.{SinkSeen}
 use Rattle.rsp_call.specs.declared.form.Form.{Form}
 use Rattle.rsp_call.specs.declared.stop.Stop.{Stop}
 use Rattle.rsp_call.specs.declared.refusing.Place.TheVariants as place
 use Rattle.rsp_call.specs.Runs.{text_from, world_from, refused_from, content_text, content_world, content_refused}
-use Rattle.rsp_call.specs.Sinks.{SinkSeen, Wrote}
+use Rattle.rsp_call.specs.Sinks.{Wrote}
 use Rattle.rsp_call.specs.Stops.{Stops}
 use Rattle.rsp_call.proofs.Writings.{wrote_nothing, wrote_more, stops_behind, stops_before_more}
 use Rattle.rsp_call.proofs.Folding.{or-assoc, or-false, refused_more, text_more}

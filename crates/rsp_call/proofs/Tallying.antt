@@ -15,22 +15,22 @@ use Rattle.rsp_engine.specs.declared.report.Outcome.TheVariants.{Rows, Overfull}
 use Rattle.rsp_engine.specs.World.{World, empty_world}
 use Rattle.rsp_engine.specs.Accept.{accept}
 use Rattle.rsp_engine.specs.Moments.{Moment, moments}
-use Rattle.rsp_engine.specs.Refusals.{Refusal, refusal_of}
 use Rattle.rsp_engine.specs.Reports.{IsOutcome, reports, world_behind}
 use Rattle.rsp_engine.specs.Stands.{State, Stands, is_idle}
-use Rattle.rsp_engine.specs.Offers.{Answers, GivesFirst, HasNone, Refuses}
+use Rattle.rsp_engine.specs.Offers.{GivesFirst, HasNone, Refuses}
 use Rattle.rsp_engine.proofs.ReportSteps.{reports_step, world_step}
 use Rattle.rsp_call.specs.declared.counting.Tally.{Tally}
 use Rattle.rsp_call.specs.declared.refusing.Place.{Place}
 use Rattle.rsp_call.specs.declared.refusing.Place.TheVariants as place
 use Rattle.rsp_call.specs.Generator.{item, item_of, next_random, query_text, random}
-use Rattle.rsp_call.specs.Output.{Saying, a_refusal, a_report, answer_step, event_step, run}
+use Rattle.rsp_call.specs.Output.{Saying, a_refusal, a_report, answer_step}
+use Rattle.rsp_call.specs.Reasons.{event_reason}
 use Rattle.rsp_call.specs.Refusals.{of_event}
-use Rattle.rsp_call.specs.Runs.{event_world, world_from}
+use Rattle.rsp_call.specs.Runs.{event_step, event_world, run_blocks, world_from}
 use Rattle.rsp_call.specs.Summaries.{is_report, numbered, rows_in, rows_said, said_of}
 use Rattle.rsp_call.specs.Tallies.{Counts, CountsReports, items_from, rows_of}
-use Rattle.rsp_call.proofs.Folding.{run-append}
-use Rattle.rsp_call.proofs.Tellings.{counted}
+use Rattle.rsp_call.proofs.Folding.{run_blocks-append}
+use Rattle.rsp_call.proofs.Tellings.{counted, named_refusal, refused_idle}
 
 -- ---- counts of one list behind another
 
@@ -72,26 +72,19 @@ accepted_counts world place event after engine before now is counts stands = (
   rw (ap (λ answer. (answer_step world place event answer).after) is) stands,
 )
 
-counts_refusal : (tally : Tally) (place : Place) (refusal : Refusal) → Counts tally tally (a_refusal place (of_event refusal) ∷ [])
-counts_refusal tally place refusal = record { reports = omega arith; rows = omega arith }
+counts_refusal : (tally : Tally) (place : Place) (why : Refused) → Counts tally tally (a_refusal place (of_event why) ∷ [])
+counts_refusal tally place why = record { reports = omega arith; rows = omega arith }
 
-pub refused_counts : (world : World) (place : Place) (event : events.Event) (why : Refused) (old new : State) (tally : Tally) → Refuses old event why new → is_some (refusal_of why) ≡ true → Stands old world []
+pub refused_counts : (world : World) (place : Place) (event : events.Event) (why : Refused) (old new : State) (tally : Tally) → Refuses old event why new → is_some (event_reason why) ≡ true → Stands old world []
     → Counts tally tally (event_step world place event).said × Stands new (event_world world place event) []
-refused_counts world place event why old new tally refuses some stands = by (refusal_of why) refuses some
-  where
-    by : (o : Option Refusal) → Answers old event why o new → is_some o ≡ true → Counts tally tally (event_step world place event).said × Stands new (event_world world place event) []
-    by None answers some = cc
-    by (Some refusal) answers some = (
-      rw (ap (λ answer. (answer_step world place event answer).said) (answers.refused world stands)) (counts_refusal tally place refusal),
+refused_counts world place event why old new tally refuses some stands =
+    let answers = named_refusal old new event why refuses some in (
+      rw (ap (λ answer. (answer_step world place event answer).said) (answers.refused world stands)) (counts_refusal tally place why),
       rw (ap (λ answer. (answer_step world place event answer).after) (answers.refused world stands), answers.unchanged) stands,
     )
 
-pub refused_stays_idle : (old new : State) (event : events.Event) (why : Refused) → Refuses old event why new → is_some (refusal_of why) ≡ true → IsTrue (is_idle old) → IsTrue (is_idle new)
-refused_stays_idle old new event why refuses some idle = by (refusal_of why) refuses some
-  where
-    by : (o : Option Refusal) → Answers old event why o new → is_some o ≡ true → IsTrue (is_idle new)
-    by None answers some = cc
-    by (Some refusal) answers some = rw answers.unchanged idle
+pub refused_stays_idle : (old new : State) (event : events.Event) (why : Refused) → Refuses old event why new → is_some (event_reason why) ≡ true → IsTrue (is_idle old) → IsTrue (is_idle new)
+refused_stays_idle old new event why refuses some idle = refused_idle old new event why refuses some idle
 
 -- ---- the reports of an event, one at a time
 
@@ -161,8 +154,8 @@ told_all world left engine after before now told none =
 pub record Done (world : World) (count : ℕ) (engine : State) (before now : Tally) (made : ℕ) : Type 0 where
   pub here : World
   pub stands : Stands engine here []
-  pub reports : before.reports + count_by is_report (run world (items_from 1 count)).said ≡ now.reports + count_by is_report (run here (items_from (made + 1) (count - made))).said
-  pub rows : before.rows + sum_by rows_said (run world (items_from 1 count)).said ≡ now.rows + sum_by rows_said (run here (items_from (made + 1) (count - made))).said
+  pub reports : before.reports + count_by is_report (run_blocks world (items_from 1 count)).said ≡ now.reports + count_by is_report (run_blocks here (items_from (made + 1) (count - made))).said
+  pub rows : before.rows + sum_by rows_said (run_blocks world (items_from 1 count)).said ≡ now.rows + sum_by rows_said (run_blocks here (items_from (made + 1) (count - made))).said
   pub leads : world_from world (items_from 1 count) ≡ world_from here (items_from (made + 1) (count - made))
 
 pub record Going (engine_before : State) (before : Tally) (count : ℕ) (engine : State) (now : Tally) (made x : ℕ) : Type 0 where
@@ -198,12 +191,12 @@ done_more world count engine after before mid now made below done counts =
     let next = event_world done.here spot (item (made + 1)) in
     let rest = items_from (made + 1 + 1) (count - (made + 1)) in
     let first = (event_step done.here spot (item (made + 1))).said in
-    let said : (run done.here (items_from (made + 1) (count - made))).said ≡ first ++ (run next rest).said = ap (λ bs. (run done.here bs).said) (first_left made count below) in
+    let said : (run_blocks done.here (items_from (made + 1) (count - made))).said ≡ first ++ (run_blocks next rest).said = ap (λ bs. (run_blocks done.here bs).said) (first_left made count below) in
     record {
       here = next;
       stands = told.1;
-      reports = one_told before.reports _ _ _ mid.reports (count_by is_report first) done.reports (ap (count_by is_report) said ∙ sum_by-append (λ x. cond (is_report x) 1 0) first (run next rest).said) now.reports told.0.reports;
-      rows = one_told before.rows _ _ _ mid.rows (sum_by rows_said first) done.rows (ap (sum_by rows_said) said ∙ sum_by-append rows_said first (run next rest).said) now.rows told.0.rows;
+      reports = one_told before.reports _ _ _ mid.reports (count_by is_report first) done.reports (ap (count_by is_report) said ∙ sum_by-append (λ x. cond (is_report x) 1 0) first (run_blocks next rest).said) now.reports told.0.reports;
+      rows = one_told before.rows _ _ _ mid.rows (sum_by rows_said first) done.rows (ap (sum_by rows_said) said ∙ sum_by-append rows_said first (run_blocks next rest).said) now.rows told.0.rows;
       leads = done.leads ∙ ap (λ bs. world_from done.here bs) (first_left made count below);
     }
 
@@ -222,7 +215,7 @@ going_on engine_before engine after before mid now count made x y event going be
       done = λ world stands. done_more world count engine after before mid now made below (going.done world stands) (rw here at counts);
     }
 
-pub going_all : (engine_before engine : State) (before now : Tally) (count made x : ℕ) (world : World) → Going engine_before before count engine now made x → (made < count → ⊥) → Stands engine_before world [] → Counts before now (run world (items_from 1 count)).said × Stands engine (world_from world (items_from 1 count)) []
+pub going_all : (engine_before engine : State) (before now : Tally) (count made x : ℕ) (world : World) → Going engine_before before count engine now made x → (made < count → ⊥) → Stands engine_before world [] → Counts before now (run_blocks world (items_from 1 count)).said × Stands engine (world_from world (items_from 1 count)) []
 going_all engine_before engine before now count made x world going ended stands =
     let done = going.done world stands in
     let none : count - made ≡ 0 = omega (arith, ended) in
@@ -243,12 +236,12 @@ numbered-append n (x ∷ xs) ys =
     ap (λ rest. record { number = n; content = Event x } ∷ rest) (numbered-append (n + 1) xs ys ∙ ap (λ m. numbered (n + 1) xs ++ numbered m ys) e)
 
 -- the tick at the end
-last_counts : (world : World) (blocks : List Block) (n time : ℕ) (before mid now : Tally) → Counts before mid (run world blocks).said → Counts mid now (event_step (world_from world blocks) (place.Block n) (Tick time)).said → Counts before now (run world (blocks ++ numbered n (Tick time ∷ []))).said
+last_counts : (world : World) (blocks : List Block) (n time : ℕ) (before mid now : Tally) → Counts before mid (run_blocks world blocks).said → Counts mid now (event_step (world_from world blocks) (place.Block n) (Tick time)).said → Counts before now (run_blocks world (blocks ++ numbered n (Tick time ∷ []))).said
 last_counts world blocks n time before mid now first last =
-    rw (ap (λ s. s.said) (run-append world blocks (numbered n (Tick time ∷ []))))
-    (counts_more before mid now (run world blocks).said _ first (rw (append-nil _) last))
+    rw (ap (λ s. s.said) (run_blocks-append world blocks (numbered n (Tick time ∷ []))))
+    (counts_more before mid now (run_blocks world blocks).said _ first (rw (append-nil _) last))
 
-all_of : (count : ℕ) (start first second now : Tally) (after : World) → after ≡ event_world empty_world (place.Block 1) (Register (codes "g") query_text) → Counts start first (event_step empty_world (place.Block 1) (Register (codes "g") query_text)).said → Counts first second (run after (items_from 1 count)).said → ((n : ℕ) → Counts second now (event_step (world_from after (items_from 1 count)) (place.Block n) (Tick (100 * count))).said) → Counts start now (said_of count)
+all_of : (count : ℕ) (start first second now : Tally) (after : World) → after ≡ event_world empty_world (place.Block 1) (Register (codes "g") query_text) → Counts start first (event_step empty_world (place.Block 1) (Register (codes "g") query_text)).said → Counts first second (run_blocks after (items_from 1 count)).said → ((n : ℕ) → Counts second now (event_step (world_from after (items_from 1 count)) (place.Block n) (Tick (100 * count))).said) → Counts start now (said_of count)
 unfolding said_of
 all_of count start first second now after is head items last =
     let n = 2 + length (map item (range_with_len 1 count)) in
@@ -256,7 +249,7 @@ all_of count start first second now after is head items last =
     let blocks : numbered 2 (map item (range_with_len 1 count) ++ (Tick (100 * count) ∷ [])) ≡ items_from 1 count ++ numbered n (Tick (100 * count) ∷ []) = numbered-append 2 (map item (range_with_len 1 count)) (Tick (100 * count) ∷ []) in
     counts_more start first now _ _ head (rw (blocks, ← is) rest)
 
-pub all_counts : (count : ℕ) (start first second now : Tally) (event : events.Event) → event ≡ Register (codes "g") query_text → Counts start first (event_step empty_world (place.Block 1) event).said → Counts first second (run (event_world empty_world (place.Block 1) event) (items_from 1 count)).said → ((n : ℕ) → Counts second now (event_step (world_from (event_world empty_world (place.Block 1) event) (items_from 1 count)) (place.Block n) (Tick (100 * count))).said) → Counts start now (said_of count)
+pub all_counts : (count : ℕ) (start first second now : Tally) (event : events.Event) → event ≡ Register (codes "g") query_text → Counts start first (event_step empty_world (place.Block 1) event).said → Counts first second (run_blocks (event_world empty_world (place.Block 1) event) (items_from 1 count)).said → ((n : ℕ) → Counts second now (event_step (world_from (event_world empty_world (place.Block 1) event) (items_from 1 count)) (place.Block n) (Tick (100 * count))).said) → Counts start now (said_of count)
 all_counts count start first second now event is head items last =
     all_of count start first second now (event_world empty_world (place.Block 1) event) (ap (event_world empty_world (place.Block 1)) is)
     (subst (λ e. Counts start first (event_step empty_world (place.Block 1) e).said) is head)

@@ -14,13 +14,13 @@ use Rattle.rsp_engine.specs.declared.report.Outcome.TheVariants.{Rows, Overfull}
 use Rattle.rsp_events.specs.declared.event.Event.{Event}
 use Rattle.rsp_engine.specs.declared.refused.Refused.{Refused}
 use Rattle.rsp_engine.specs.World.{World}
-use Rattle.rsp_engine.specs.Refusals.{Refusal, refusal_of}
 use Rattle.rsp_engine.specs.Accept.{accept}
 use Rattle.rsp_engine.specs.Moments.{Moment, moments}
 use Rattle.rsp_engine.specs.Reports.{IsOutcome, IsReport, reports, world_behind}
 use Rattle.rsp_engine.specs.Stands.{State, Stands, is_idle}
-use Rattle.rsp_engine.specs.Offers.{Answers, GivesFirst, GivesOf, HasNone, Refuses}
+use Rattle.rsp_engine.specs.Offers.{GivesFirst, GivesOf, HasNone, Refuses, RefusesAs}
 use Rattle.rsp_engine.proofs.ReportSteps.{reports_step, world_step}
+use Rattle.rsp_io.specs.Seen.{SinkSeen}
 use Rattle.rsp_call.specs.declared.form.Form.{Form}
 use Rattle.rsp_call.specs.declared.form.Form.TheVariants.{Table, Json}
 use Rattle.rsp_call.specs.declared.stop.Stop.{Stop}
@@ -29,10 +29,12 @@ use Rattle.rsp_call.specs.Apart.{IsTold, have_tab}
 use Rattle.rsp_call.specs.Output.{a_report, answer_step, is_refusal, outcome_text, text_of, text_of_report}
 use Rattle.std.specs.Fmt.{decimal}
 use Rattle.std.specs.Prelude.{codes}
-use Rattle.rsp_call.specs.Refusals.{Reason, details, kind, of_event, place_text, refusal_line}
+use Rattle.rsp_call.specs.Reasons.{details, event_reason, kind}
+use Rattle.rsp_call.specs.Refusals.{Reason, place_text, refusal_line}
 use Rattle.rsp_call.specs.Runs.{event_refused, event_text, event_world, reports_text}
-use Rattle.rsp_call.specs.Sinks.{SinkSeen, Wrote, WrotePart}
+use Rattle.rsp_call.specs.Sinks.{Wrote, WrotePart}
 use Rattle.rsp_call.specs.Stops.{IsLineOf, Stops}
+use Rattle.rsp_call.proofs.Refusing.{refuses_as}
 use Rattle.rsp_call.proofs.Tabless.{same_json}
 use Rattle.rsp_call.proofs.Writings.{wrote_more, wrote_part, stops_behind, stops_before_more}
 
@@ -167,32 +169,35 @@ accepted_stands world place event after engine is stands = (
 
 -- a refused event says its refusal
 pub refused_text : (form : Form) (old new : State) (event : Event) (why : Refused) (place : Place) (world : World) → Refuses old event why new → Stands old world []
-    → IsLineOf place (option_map of_event (refusal_of why)) (event_text form world place event)
-refused_text form old new event why place world refuses stands = by (refusal_of why) refuses
+    → IsLineOf place (event_reason why) (event_text form world place event)
+refused_text form old new event why place world refuses stands = by (event_reason why) refl
   where
-    by : (o : Option Refusal) → Answers old event why o new → IsLineOf place (option_map of_event o) (event_text form world place event)
-    by None answers = tt
-    by (Some refusal) answers = ap (λ answer. text_of form (answer_step world place event answer).said) (answers.refused world stands) ∙ append-nil _
+    by : (o : Option Reason) → event_reason why ≡ o → IsLineOf place o (event_text form world place event)
+    by None is = tt
+    by (Some reason) is =
+        let named = refuses_as old new event why reason refuses is in
+        rw named.1 (ap (λ answer. text_of form (answer_step world place event answer).said) (named.0.refused world stands) ∙ append-nil _)
+
+some_reason : (o : Option Reason) → is_some o ≡ true → (reason : Reason) × (o ≡ Some reason)
+some_reason None some = cc
+some_reason (Some reason) some = (reason, refl)
+
+-- the definition's refusal, where there is one
+pub named_refusal : (old new : State) (event : Event) (why : Refused) → Refuses old event why new → is_some (event_reason why) ≡ true → RefusesAs old event why new
+named_refusal old new event why refuses some = let found = some_reason (event_reason why) some in (refuses_as old new event why found.0 refuses found.1).0
 
 -- and leaves the world
-pub refused_stands : (old new : State) (event : Event) (why : Refused) (place : Place) (world : World) → Refuses old event why new → is_some (option_map of_event (refusal_of why)) ≡ true → Stands old world []
+pub refused_stands : (old new : State) (event : Event) (why : Refused) (place : Place) (world : World) → Refuses old event why new → is_some (event_reason why) ≡ true → Stands old world []
     → (true ≡ event_refused world place event) × Stands new (event_world world place event) []
-refused_stands old new event why place world refuses some stands = by (refusal_of why) refuses some
-  where
-    by : (o : Option Refusal) → Answers old event why o new → is_some (option_map of_event o) ≡ true → (true ≡ event_refused world place event) × Stands new (event_world world place event) []
-    by None answers some = cc
-    by (Some refusal) answers some = (
+refused_stands old new event why place world refuses some stands =
+    let answers = named_refusal old new event why refuses some in (
       sym (ap (λ answer. list_any is_refusal (answer_step world place event answer).said) (answers.refused world stands)),
       rw (ap (λ answer. (answer_step world place event answer).after) (answers.refused world stands), answers.unchanged) stands,
     )
 
 -- the engine stays idle
-pub refused_idle : (old new : State) (event : Event) (why : Refused) → Refuses old event why new → is_some (option_map of_event (refusal_of why)) ≡ true → IsTrue (is_idle old) → IsTrue (is_idle new)
-refused_idle old new event why refuses some idle = by (refusal_of why) refuses some
-  where
-    by : (o : Option Refusal) → Answers old event why o new → is_some (option_map of_event o) ≡ true → IsTrue (is_idle new)
-    by None answers some = cc
-    by (Some refusal) answers some = rw answers.unchanged idle
+pub refused_idle : (old new : State) (event : Event) (why : Refused) → Refuses old event why new → is_some (event_reason why) ≡ true → IsTrue (is_idle old) → IsTrue (is_idle new)
+refused_idle old new event why refuses some idle = let answers = named_refusal old new event why refuses some in rw answers.unchanged idle
 
 -- ---- the line of a refusal
 

@@ -6,15 +6,16 @@ use Rattle.rsp_events.specs.Reader.{Reader, HasRead}
 use Rattle.rsp_events.specs.Blocks.{blocks, whole_blocks}
 use Rattle.rsp_engine.specs.World.{World, empty_world}
 use Rattle.rsp_engine.specs.Stands.{State, Stands}
+use Rattle.rsp_io.specs.Seen.{SinkSeen}
 use Rattle.rsp_call.specs.declared.form.Form.{Form}
 use Rattle.rsp_call.specs.declared.stop.Stop.{Stop}
 use Rattle.rsp_call.specs.declared.stop.Stop.TheVariants.{Memory}
-use Rattle.rsp_call.specs.Output.{log_blocks, log_whole_blocks, whole_text, output}
+use Rattle.rsp_call.specs.Output.{whole_text, output}
 use Rattle.rsp_call.specs.declared.refusing.Place.TheVariants as place
 use Rattle.rsp_call.specs.Runs.{text_from, world_from, refused_from, content_text, content_refused}
-use Rattle.rsp_call.specs.Sinks.{SinkSeen, Wrote}
+use Rattle.rsp_call.specs.Sinks.{Wrote}
 use Rattle.rsp_call.specs.Stops.{Stops}
-use Rattle.rsp_call.specs.Sessions.{IsAt, Adds, Breaks, Closes}
+use Rattle.rsp_call.specs.Sessions.{IsAt, Adds, Breaks, Closes, log_blocks, log_whole_blocks, start_of}
 use Rattle.rsp_call.proofs.Writings.{wrote_nothing, stops_before_more, stopped_at_once}
 use Rattle.rsp_call.proofs.Folding.{text_from-append, text_more, world_from-append, refused_from-append, refused_more, or-false}
 
@@ -23,7 +24,7 @@ abbrev pub world_at : List ℕ → World
 world_at bytes = world_from empty_world (log_whole_blocks bytes)
 
 -- what stands behind the whole blocks of some bytes, as text
-pub text_behind : (form : Form) (bytes log : List ℕ) (rest : List Block) → log_blocks log ≡ log_whole_blocks bytes ++ rest → output form log ≡ whole_text form bytes ++ text_from form (world_at bytes) rest
+pub text_behind : (form : Form) (bytes log : List ℕ) (rest : List Block) → log_blocks log ≡ log_whole_blocks bytes ++ rest → output (start_of form) log ≡ whole_text (start_of form) bytes ++ text_from form (world_at bytes) rest
 text_behind form bytes log rest is = ap (text_from form empty_world) is ∙ text_from-append form empty_world (log_whole_blocks bytes) rest
 
 -- ---- the reader's document is the log's
@@ -69,7 +70,7 @@ work_stops form bytes piece more given rest before now why is behind stops =
       text = text_from form (world_at bytes) given ++ text_from form (world_from (world_at bytes) given) rest;
       added =
           text_behind form bytes (bytes ++ (piece ++ more)) (given ++ rest) all
-          ∙ ap (λ text. whole_text form bytes ++ text) (text_from-append form (world_at bytes) given rest);
+          ∙ ap (λ text. whole_text (start_of form) bytes ++ text) (text_from-append form (world_at bytes) given rest);
       stops = stops_before_more before now _ _ why stops;
     }
 
@@ -85,8 +86,8 @@ work_refused form bytes more rest sink is =
 -- the end of the log ends a block
 pub closed : (form : Form) (bytes : List ℕ) (reader : Reader) (engine : State) (known this : Bool) (block : Block) (before now : SinkSeen) → IsAt reader engine known bytes → log_blocks bytes ≡ log_whole_blocks bytes ++ block ∷ [] → ((world : World) → Stands engine world [] → Wrote before now (content_text form world (place.Block block.number) block.content)) → ((world : World) → Stands engine world [] → this ≡ content_refused world (place.Block block.number) block.content) → Closes form before now bytes (Ok (known || this))
 closed form bytes reader engine known this block before now at is wrote told =
-    let text : output form bytes ≡ whole_text form bytes ++ content_text form (world_at bytes) (place.Block block.number) block.content =
-    text_behind form bytes bytes (block ∷ []) is ∙ ap (λ text. whole_text form bytes ++ text) (text_more form (world_at bytes) block [] ∙ append-nil _) in
+    let text : output (start_of form) bytes ≡ whole_text (start_of form) bytes ++ content_text form (world_at bytes) (place.Block block.number) block.content =
+    text_behind form bytes bytes (block ∷ []) is ∙ ap (λ text. whole_text (start_of form) bytes ++ text) (text_more form (world_at bytes) block [] ∙ append-nil _) in
     let all = ap (refused_from empty_world) is ∙ refused_from-append empty_world (log_whole_blocks bytes) (block ∷ []) in
     record {
       text = content_text form (world_at bytes) (place.Block block.number) block.content;
@@ -99,8 +100,8 @@ closed form bytes reader engine known this block before now at is wrote told =
 
 pub close_stops : (form : Form) (bytes : List ℕ) (reader : Reader) (engine : State) (known : Bool) (block : Block) (before now : SinkSeen) (why : Stop) → IsAt reader engine known bytes → log_blocks bytes ≡ log_whole_blocks bytes ++ block ∷ [] → ((world : World) → Stands engine world [] → Stops before now (content_text form world (place.Block block.number) block.content) why) → Closes form before now bytes (Err why)
 close_stops form bytes reader engine known block before now why at is stops =
-    let text : output form bytes ≡ whole_text form bytes ++ content_text form (world_at bytes) (place.Block block.number) block.content =
-    text_behind form bytes bytes (block ∷ []) is ∙ ap (λ text. whole_text form bytes ++ text) (text_more form (world_at bytes) block [] ∙ append-nil _) in
+    let text : output (start_of form) bytes ≡ whole_text (start_of form) bytes ++ content_text form (world_at bytes) (place.Block block.number) block.content =
+    text_behind form bytes bytes (block ∷ []) is ∙ ap (λ text. whole_text (start_of form) bytes ++ text) (text_more form (world_at bytes) block [] ∙ append-nil _) in
     record {
       text = content_text form (world_at bytes) (place.Block block.number) block.content;
       added = text;

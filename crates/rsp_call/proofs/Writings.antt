@@ -4,12 +4,13 @@ use Rattle.std.proofs.lemmas.List.{append-nil, length-take, take-append-drop}
 use Rattle.std.proofs.Math.Seq.{take-add}
 use Rattle.std.specs.Option.{IfSome}
 use Rattle.std.specs.Io.KnownBytes.{Appends}
+use Rattle.rsp_io.specs.Seen.{SinkSeen}
 use Rattle.rsp_io.specs.Writing.{Lowers}
 use Rattle.rsp_call.specs.declared.stop.Stop.{Stop}
 use Rattle.rsp_call.specs.declared.stop.Stop.TheVariants.{Memory, Write}
 use Rattle.rsp_spec.specs.Faults.{Rose}
 use Rattle.rsp_spec.specs.Written.{AppendsPart}
-use Rattle.rsp_call.specs.Sinks.{SinkSeen, Wrote, WrotePart, WriteFailed}
+use Rattle.rsp_call.specs.Sinks.{Wrote, WrotePart, WriteFailed}
 use Rattle.rsp_call.specs.Stops.{Stops, Ends}
 
 min-left : (a b : ℕ) → a ≤ b → min a b ≡ a

@@ -15,8 +15,9 @@ pub mod FileAnswers
 pub mod Answers
 -- Words of the way
 pub mod Asked
+pub mod Reasons
+pub mod Played
 pub mod Apart
-pub mod Verdicts
 pub mod Tallies
 pub mod Readings
 pub mod Runs

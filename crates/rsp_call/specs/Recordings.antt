@@ -1,5 +1,6 @@
 -- Definitions: the files of recorded streams as events: their items by time, and a last tick.
-use Rattle.std.specs.Prelude.{ℕ, ◌+◌, ◌-◌, List, [], ◌∷◌, ◌++◌, length, map, option_map, option_to_list, slice_get}
+use Rattle.std.specs.Prelude.{ℕ, ◌-◌, List, ◌++◌, length, map, option_map, option_to_list, slice_get}
+use Rattle.std.specs.List.{enumerate_from, zip}
 use Rattle.rsp_events.specs.declared.event.Event.{Event}
 use Rattle.rsp_events.specs.declared.event.Event.TheVariants.{Tick}
 use Rattle.rsp_events.specs.declared.recording.RecordedItems.{RecordedItems}
@@ -9,10 +10,7 @@ use Rattle.rsp_call.specs.Words.{Stream}
 
 -- each file is a document, of which the first has this number
 abbrev pub recordings : ℕ → List Stream → List (List ℕ) → List RecordedItems
-recordings document [] files = []
-recordings document (stream ∷ streams) [] = []
-recordings document (stream ∷ streams) (file ∷ files) =
-    recorded stream.iri document file ∷ recordings (document + 1) streams files
+recordings document streams files = map (λ x. recorded x.1.0.iri x.0 x.1.1) (enumerate_from document (zip streams files))
 
 -- a tick at the time of the last item, if there is one
 abbrev pub last_tick : List Event → List Event

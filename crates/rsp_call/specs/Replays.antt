@@ -1,6 +1,7 @@
--- Definitions: what is said of recorded streams that are replayed for a query: the refused lines of their files, and then what the
--- events say.
+-- Definitions: what recorded streams give that are replayed for a query: the refused lines of their files, and then the events.
 use Rattle.std.specs.Prelude.{ℕ, ◌+◌, Option, None, Some, List, [], ◌∷◌, ◌++◌, codes, map}
+use Rattle.std.specs.List.{flat_map, zip}
+use Rattle.std.specs.Option.{option_map_or}
 use Rattle.rsp_terms.specs.declared.statement.Quad.{Quad}
 use Rattle.rsp_events.specs.declared.event.Event.{Event}
 use Rattle.rsp_events.specs.declared.event.Event.TheVariants.{Insert, Register}
@@ -8,73 +9,49 @@ use Rattle.rsp_events.specs.declared.loading.LoadedQuads.{LoadedQuads}
 use Rattle.rsp_events.specs.declared.recording.RecordedItems.{RecordedItems}
 use Rattle.rsp_events.specs.declared.refused.LineRefused.{LineRefused}
 use Rattle.rsp_events.specs.Files.{loaded}
-use Rattle.rsp_engine.specs.Refusals.{Refusal}
-use Rattle.rsp_engine.specs.World.{World, empty_world}
+use Rattle.rsp_engine.specs.declared.refused.Refused.TheVariants.{Text}
+use Rattle.rsp_engine.specs.World.{empty_world}
 use Rattle.rsp_call.specs.declared.refusing.Place.TheVariants.{Block, Line}
 use Rattle.rsp_call.specs.Checks.{bytes_fault}
-use Rattle.rsp_call.specs.Output.{Saying, Step, a_refusal, event_step, followed_by, run}
+use Rattle.rsp_call.specs.Output.{Given, Saying, a_block, a_refused, run}
 use Rattle.rsp_call.specs.Recordings.{events_of, recordings}
 use Rattle.rsp_call.specs.Refusals.{of_event, of_line}
-use Rattle.rsp_call.specs.Summaries.{numbered}
+use Rattle.rsp_call.specs.Summaries.{event_block, numbered}
 use Rattle.rsp_call.specs.Words.{Replay, Stream}
 
--- ---- refused lines, by the name of their file
+-- the refused lines of a file, by its name
+abbrev pub lines_given : List ℕ → List LineRefused → List Given
+lines_given file refused = map (λ (line : LineRefused). a_refused (Line file line.line) (of_line line.fault)) refused
 
-abbrev pub line_said : List ℕ → LineRefused → Saying
-line_said file refused = a_refusal (Line file refused.line) (of_line refused.fault)
+abbrev pub all_lines_given : List Stream → List RecordedItems → List Given
+all_lines_given streams reads = flat_map (λ x. lines_given x.0.file x.1.refused) (zip streams reads)
 
-abbrev pub lines_said : List ℕ → List LineRefused → List Saying
-lines_said file refused = map (line_said file) refused
-
-abbrev pub all_lines_said : List Stream → List RecordedItems → List Saying
-all_lines_said [] reads = []
-all_lines_said (stream ∷ streams) [] = []
-all_lines_said (stream ∷ streams) (read ∷ reads) = lines_said stream.file read.refused ++ all_lines_said streams reads
-
--- ---- the query
-
--- its registration, as the block of this number; a file that can be no text of a query is refused in its place
-abbrev pub step_by : World → ℕ → List ℕ → Option Refusal → Step
-step_by world number bytes None = event_step world (Block number) (Register (codes "query") bytes)
-step_by world number bytes (Some why) = record { said = a_refusal (Block number) (of_event why) ∷ []; after = world }
-
-abbrev pub query_step : World → ℕ → List ℕ → Step
-query_step world number bytes = step_by world number bytes (bytes_fault bytes)
-
--- ---- all blocks
+-- the query's registration; a file that can be no text of a query is refused in its place
+abbrev pub query_given : ℕ → List ℕ → Given
+query_given number bytes =
+    option_map_or (λ why. a_refused (Block number) (of_event (Text why))) (bytes_fault bytes)
+    (a_block (event_block (number, Register (codes "query") bytes)))
 
 -- the query, as the block of this number, and the events behind it
-abbrev pub played : World → ℕ → List ℕ → List Event → Step
-played world number query events =
-    followed_by
-    (query_step world number query)
-    (run (query_step world number query).after (numbered (number + 1) events))
+abbrev pub played : ℕ → List ℕ → List Event → List Given
+played number query events = query_given number query ∷ map a_block (numbered (number + 1) events)
 
 -- the stored quads are inserted first
-abbrev pub insert_step : List Quad → Step
-insert_step quads = event_step empty_world (Block 1) (Insert quads)
-
-abbrev pub played_over : List Quad → List ℕ → List Event → Step
-played_over quads query events = followed_by (insert_step quads) (played (insert_step quads).after 2 query events)
-
--- ---- all files
-
-abbrev pub said_of_streams : List Stream → List ℕ → List RecordedItems → List Saying
-said_of_streams streams query reads = all_lines_said streams reads ++ (played empty_world 1 query (events_of reads)).said
-
-abbrev pub said_of_store : List Stream → List ℕ → List ℕ → LoadedQuads → List RecordedItems → List Saying
-said_of_store streams query file stored reads =
-    lines_said file stored.refused
-    ++ (all_lines_said streams reads ++ (played_over stored.quads query (events_of reads)).said)
+abbrev pub played_over : List Quad → List ℕ → List Event → List Given
+played_over quads query events = a_block (event_block (1, Insert quads)) ∷ played 2 query events
 
 -- the file of the stored quads is document 1, where there is one, and those of the streams are the documents behind it
-abbrev pub said_by : List Stream → List ℕ → Option (List ℕ) → List (List ℕ) → List Saying
-said_by streams query None files = said_of_streams streams query (recordings 1 streams files)
-said_by streams query (Some name) [] = []
-said_by streams query (Some name) (store ∷ files) =
-    said_of_store streams query name (loaded 1 store) (recordings 2 streams files)
+abbrev pub given_over : List Stream → List ℕ → List ℕ → LoadedQuads → List RecordedItems → List Given
+given_over streams query file stored reads =
+    lines_given file stored.refused ++ (all_lines_given streams reads ++ played_over stored.quads query (events_of reads))
+
+abbrev pub given_by : List Stream → List ℕ → Option (List ℕ) → List (List ℕ) → List Given
+given_by streams query None files =
+    all_lines_given streams (recordings 1 streams files) ++ played 1 query (events_of (recordings 1 streams files))
+given_by streams query (Some name) [] = []
+given_by streams query (Some name) (store ∷ files) = given_over streams query name (loaded 1 store) (recordings 2 streams files)
 
 -- the file of the query is the first
 abbrev pub replayed : Replay → List (List ℕ) → List Saying
 replayed replay [] = []
-replayed replay (query ∷ files) = said_by replay.streams query replay.store files
+replayed replay (query ∷ files) = (run empty_world (given_by replay.streams query replay.store files)).said

@@ -1,10 +1,11 @@
 -- Words of the way: how the writing of what is said ends.
 use Rattle.std.specs.Prelude.{◌≡◌, Bool, Result, Ok, Err, List}
 use Rattle.std.specs.List.{list_any}
+use Rattle.rsp_io.specs.Seen.{SinkSeen}
 use Rattle.rsp_call.specs.declared.form.Form.{Form}
 use Rattle.rsp_call.specs.declared.stop.Stop.{Stop}
 use Rattle.rsp_call.specs.Output.{Saying, is_refusal, text_of}
-use Rattle.rsp_call.specs.Sinks.{SinkSeen, Wrote}
+use Rattle.rsp_call.specs.Sinks.{Wrote}
 use Rattle.rsp_call.specs.Stops.{Stops}
 
 -- it was written, and it is known whether something of it is a refusal; or the call stopped on the way

@@ -1,19 +1,11 @@
 -- Definitions: what was written of a text to a sink, by what contracts see of the sink before and now.
-use Rattle.std.specs.Prelude.{◌≡◌, ℕ, ◌<◌, Option, List, length}
+use Rattle.std.specs.Prelude.{◌≡◌, ℕ, ◌<◌, List, length}
 use Rattle.std.specs.Option.{IfSome}
 use Rattle.std.specs.Io.KnownBytes.{Appends}
 use Rattle.rsp_spec.specs.Faults.{Rose}
 use Rattle.rsp_spec.specs.Written.{AppendsPart}
+use Rattle.rsp_io.specs.Seen.{SinkSeen}
 use Rattle.rsp_io.specs.Writing.{Lowers}
-
--- the bytes that a sink has taken, and its room, where it tells them; and its count of faults
-pub record SinkSeen : Type 0 where
-  pub taken : Option (List ℕ)
-  pub room : Option ℕ
-  pub faults : ℕ
-
-abbrev pub sink_seen : Option (List ℕ) → Option ℕ → ℕ → SinkSeen
-sink_seen taken room faults = record { taken = taken; room = room; faults = faults }
 
 -- the text was written, whole, and no write failed
 pub record Wrote (before now : SinkSeen) (text : List ℕ) : Type 0 where

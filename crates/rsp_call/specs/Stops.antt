@@ -1,11 +1,12 @@
 -- Words of the way: how the writing of a text ends.
 use Rattle.std.specs.Prelude.{◌≡◌, ℕ, Bool, true, false, Option, Some, None, Result, Ok, Err, MatchResult, List, ⊤}
+use Rattle.rsp_io.specs.Seen.{SinkSeen}
 use Rattle.rsp_call.specs.declared.status.Status.{Status}
 use Rattle.rsp_call.specs.declared.status.Status.TheVariants.{Done, DoneWithRefusals, WriteFault, OutOfMemory}
 use Rattle.rsp_call.specs.declared.stop.Stop.{Stop}
 use Rattle.rsp_call.specs.declared.stop.Stop.TheVariants.{Memory, Write}
 use Rattle.rsp_call.specs.declared.refusing.Place.{Place}
-use Rattle.rsp_call.specs.Sinks.{SinkSeen, Wrote, WrotePart, WriteFailed}
+use Rattle.rsp_call.specs.Sinks.{Wrote, WrotePart, WriteFailed}
 use Rattle.rsp_call.specs.Refusals.{Reason, refusal_line}
 
 abbrev pub Stops : SinkSeen → SinkSeen → List ℕ → Stop → Type 0

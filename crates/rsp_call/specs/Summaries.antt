@@ -1,5 +1,6 @@
 -- Definitions: what is said of the generator's events.
-use Rattle.std.specs.Prelude.{ℕ, ◌+◌, Bool, true, false, List, [], ◌∷◌, count_by, length, sum_by}
+use Rattle.std.specs.Prelude.{ℕ, Bool, true, false, List, [], ◌∷◌, count_by, length, map, sum_by}
+use Rattle.std.specs.List.{enumerate_from}
 use Rattle.rsp_events.specs.declared.event.Event as events
 use Rattle.rsp_events.specs.declared.event.Block.{Block}
 use Rattle.rsp_events.specs.declared.event.Content.TheVariants.{Event}
@@ -7,12 +8,14 @@ use Rattle.rsp_engine.specs.declared.report.Outcome.{Outcome}
 use Rattle.rsp_engine.specs.declared.report.Outcome.TheVariants.{Rows, Overfull}
 use Rattle.rsp_engine.specs.World.{empty_world}
 use Rattle.rsp_call.specs.Generator.{generated}
-use Rattle.rsp_call.specs.Output.{Saying, a_report, a_summary, run}
+use Rattle.rsp_call.specs.Output.{Saying, a_block, a_report, a_summary, run}
 
--- events as the blocks of a log, numbered from this on
+-- an event as the block of a log of this number; and events as blocks, numbered from this on
+abbrev pub event_block : ℕ × events.Event → Block
+event_block event = record { number = event.0; content = Event event.1 }
+
 abbrev pub numbered : ℕ → List events.Event → List Block
-numbered number [] = []
-numbered number (event ∷ more) = record { number = number; content = Event event } ∷ numbered (number + 1) more
+numbered number events = map event_block (enumerate_from number events)
 
 -- an overfull report has no rows
 abbrev pub rows_in : Outcome → ℕ
@@ -32,7 +35,7 @@ summary count said = a_summary count (count_by is_report said) (sum_by rows_said
 
 -- what the events say, from the empty world
 unfoldable pub said_of : ℕ → List Saying
-said_of count = (run empty_world (numbered 1 (generated count))).said
+said_of count = (run empty_world (map a_block (numbered 1 (generated count)))).said
 
 -- no file is read
 abbrev pub counted : ℕ → List (List ℕ) → List Saying

@@ -1,6 +1,8 @@
 -- Definitions: what the program's words ask for: the table of the command line.
 use Rattle.std.specs.Prelude.{ℕ, Bool, true, false, not, ◌&&◌, ◌==◌, nat_le, nat_eq, if◌then◌else◌, Option, Some, None, List, [], ◌∷◌, ◌++◌, length, drop, map, option_map, option_to_list, codes, bytes_eq}
+use Rattle.std.specs.Bool.{then_some}
 use Rattle.std.specs.List.{starts_with}
+use Rattle.std.specs.Map.{lookup}
 use Rattle.std.specs.Option.{is_some, option_and_then, option_map_or, option_or}
 use Rattle.std.specs.Path.{rsplit_once}
 use Rattle.std.specs.Str.{byte, chars}
@@ -104,14 +106,11 @@ abbrev pub events_of : Form → List (List ℕ) → Option Mode
 events_of form [] = Some (events form)
 events_of form _ = None
 
--- a stream's name is an absolute IRI; its word is cut at the last `=`
-abbrev pub stream_cut : Option (List ℕ × List ℕ) → Option Stream
-stream_cut None = None
-stream_cut (Some cut) =
-    if is_iri_text (chars cut.0) && is_file cut.1 then Some (record { iri = cut.0; file = cut.1 }) else None
-
+-- a stream's word is cut at its last `=`; its name is an absolute IRI
 abbrev pub stream_of : List ℕ → Option Stream
-stream_of word = stream_cut (rsplit_once (byte "=") word)
+stream_of word =
+    option_and_then (λ cut. then_some (is_iri_text (chars cut.0) && is_file cut.1) (record { iri = cut.0; file = cut.1 }))
+    (rsplit_once (byte "=") word)
 
 -- all words as streams; none where one isn't
 abbrev pub streams_of : List (List ℕ) → Option (List Stream)
@@ -139,20 +138,13 @@ check_of (query ∷ []) = if is_file query then Some (check query) else None
 check_of _ = None
 
 -- gen COUNT
-abbrev pub generate_so_many : Option ℕ → Option Mode
-generate_so_many None = None
-generate_so_many (Some count) = if is_count count then Some (generate count) else None
-
 abbrev pub generate_of : List (List ℕ) → Option Mode
-generate_of (count ∷ []) = generate_so_many (read_u64 count)
+generate_of (count ∷ []) = option_and_then (λ number. then_some (is_count number) (generate number)) (read_u64 count)
 generate_of _ = None
 
 -- ---- the table: the word of a mode, and what it makes of the words behind it
 
-abbrev pub Row : Type 0
-Row = List ℕ × (List (List ℕ) → Option Mode)
-
-abbrev pub table : List Row
+abbrev pub table : List (List ℕ × (List (List ℕ) → Option Mode))
 table =
     (codes "events", λ words. events_of (form_of words) (values (without_json words)))
     ∷ (codes "run", run_of)
@@ -160,11 +152,7 @@ table =
     ∷ (codes "gen", λ words. generate_of (values words))
     ∷ []
 
-abbrev pub mode_in : List Row → List ℕ → List (List ℕ) → Option Mode
-mode_in [] word more = None
-mode_in (row ∷ rows) word more = if bytes_eq word row.0 then row.1 more else mode_in rows word more
-
 -- none where the words are in no row
 abbrev pub mode_of : List (List ℕ) → Option Mode
 mode_of [] = None
-mode_of (word ∷ more) = mode_in table word more
+mode_of (word ∷ more) = option_and_then (λ row. row more) (lookup (bytes_eq word) table)

@@ -1,12 +1,12 @@
 // Checking the query in a file.
 ghost use Rattle.std.specs.Prelude.{◌≡◌, ◌∷◌, [], IfOk};
 ghost use Rattle.std.specs.List.{list_any};
+ghost use Rattle.rsp_spec.specs.Limits.{most_file_bytes};
 ghost use Rattle.rsp_call.specs.Checks.{checked};
 ghost use Rattle.rsp_call.specs.FileAnswers.{AnswersFiles};
 ghost use Rattle.rsp_call.specs.declared.form.Form.TheVariants.{Table};
 ghost use Rattle.rsp_call.specs.Output.{is_refusal, text_of};
 ghost use Rattle.rsp_call.specs.Shelves.{shelf_seen};
-ghost use Rattle.rsp_call.specs.Sinks.{sink_seen};
 ghost use Rattle.rsp_call.specs.Stops.{Ends};
 ghost use Rattle.rsp_call.specs.Readings.{status_of_unread};
 
@@ -16,6 +16,7 @@ use crate::refusing::{Answered, Place, refuse};
 use crate::status::Status;
 use crate::stop::{Stop, status_of};
 use crate::writing::write_all;
+use rsp_engine::Refused;
 use rsp_io::{Shelf, Sink};
 use std::alloc::{AllocError, Global};
 
@@ -26,12 +27,9 @@ pub(crate) fn check<H: Shelf, K: Sink>(
     shelf: &mut H,
     out: &mut K,
 ) -> Status
-    ensures file { AnswersFiles Table (query.now ∷ []) checked
-        (shelf_seen (H.files shelf.old) (H.left shelf.old) (H.given shelf.old) (H.faults shelf.old) (H.sure shelf.old))
-        (shelf_seen (H.files shelf.new) (H.left shelf.new) (H.given shelf.new) (H.faults shelf.new) (H.sure shelf.new))
-        (sink_seen (K.taken out.old) (K.room out.old) (K.faults out.old))
-        (sink_seen (K.taken out.new) (K.room out.new) (K.faults out.new))
-        result }
+    ensures file { AnswersFiles most_file_bytes Table (query.now ∷ []) checked
+        (shelf_seen (H.files shelf.old) (H.seen shelf.old))
+        (shelf_seen (H.files shelf.new) (H.seen shelf.new)) (K.seen out.old) (K.seen out.new) result }
 {
     match read_named(alloc, shelf, query) {
         Ok(bytes) => status_of(tell_verdict(alloc, bytes.as_slice(), out)),
@@ -41,14 +39,14 @@ pub(crate) fn check<H: Shelf, K: Sink>(
 
 // writes what is said of the file; the answer is whether the query is refused
 fn tell_verdict<K: Sink>(alloc: Global, bytes: &[u8], out: &mut K) -> Result<bool, Stop>
-    ensures text { Ends
-        (sink_seen (K.taken out.old) (K.room out.old) (K.faults out.old))
-        (sink_seen (K.taken out.new) (K.room out.new) (K.faults out.new))
-        (text_of Table (checked (bytes.now ∷ []))) result }
+    ensures text { Ends (K.seen out.old) (K.seen out.new) (text_of Table (checked (bytes.now ∷ []))) result }
     ensures refused { IfOk result (λ refused. refused ≡ list_any is_refusal (checked (bytes.now ∷ []))) }
 {
     match file_fault(alloc, bytes) {
-        Ok(Some(why)) => refuse(alloc, Place::Query, Answered::Event(why), out),
+        Ok(Some(why)) => {
+            let why = Refused::Text(why);
+            refuse(alloc, Place::Query, Answered::Event(why), out)
+        }
         Ok(None) => {
             write_all(out, b"ok\n")?;
             Ok(false)

@@ -2,16 +2,16 @@
 ghost use Rattle.std.specs.Prelude.{◌≡◌, ◌≤◌, ◌+◌, IsTrue, IfOk, OnOk, List, [], false, is_some};
 ghost use Rattle.rsp_events.specs.Instants.{IsInstant};
 ghost use Rattle.rsp_engine.specs.Moments.{Moment};
-ghost use Rattle.rsp_engine.specs.Refusals.{refusal_of};
+ghost use Rattle.rsp_call.specs.Reasons.{event_reason};
 ghost use Rattle.rsp_engine.specs.Reports.{reports, world_behind};
 ghost use Rattle.rsp_engine.specs.World.{World, empty_world};
 ghost use Rattle.rsp_engine.specs.Stands.{Stands, is_idle};
+ghost use Rattle.rsp_spec.specs.Limits.{most_file_bytes};
 ghost use Rattle.rsp_call.specs.FileAnswers.{AnswersFiles};
 ghost use Rattle.rsp_call.specs.declared.form.Form.TheVariants.{Table};
-ghost use Rattle.rsp_call.specs.Output.{a_summary, event_step, run, text_of, text_of_saying};
-ghost use Rattle.rsp_call.specs.Runs.{event_world, world_from};
+ghost use Rattle.rsp_call.specs.Output.{a_summary, text_of, text_of_saying};
+ghost use Rattle.rsp_call.specs.Runs.{event_step, event_world, run_blocks, world_from};
 ghost use Rattle.rsp_call.specs.Shelves.{ShelfSeen};
-ghost use Rattle.rsp_call.specs.Sinks.{sink_seen};
 ghost use Rattle.rsp_call.specs.Stops.{Ends};
 ghost use Rattle.rsp_call.specs.Summaries.{counted, rows_in, said_of};
 ghost use Rattle.rsp_call.specs.Tallies.{Counts, CountsReports, items_from};
@@ -44,10 +44,7 @@ pub(crate) fn generate<K: Sink, L: Ledger>(
     steps: &mut Steps<L>,
 ) -> Status
     requires { count ≤ 1000000 }
-    ensures text { (shelf : ShelfSeen) → AnswersFiles Table [] (counted count) shelf shelf
-        (sink_seen (K.taken out.old) (K.room out.old) (K.faults out.old))
-        (sink_seen (K.taken out.new) (K.room out.new) (K.faults out.new))
-        result }
+    ensures text { (shelf : ShelfSeen) → AnswersFiles most_file_bytes Table [] (counted count) shelf shelf (K.seen out.old) (K.seen out.new) result }
 {
     let mut engine = Engine::new(alloc);
     // a new engine has no report left, so it is idle
@@ -66,10 +63,7 @@ fn tell_summary<K: Sink, L: Ledger>(
     requires idle { IsTrue (is_idle engine.old) }
     requires new { Stands engine.old empty_world [] }
     requires count { count ≤ 1000000 }
-    ensures text { Ends
-        (sink_seen (K.taken out.old) (K.room out.old) (K.faults out.old))
-        (sink_seen (K.taken out.new) (K.room out.new) (K.faults out.new))
-        (text_of Table (counted count [])) result }
+    ensures text { Ends (K.seen out.old) (K.seen out.new) (text_of Table (counted count [])) result }
     ensures refused { IfOk result (λ refused. refused ≡ false) }
 {
     match tally_of(alloc, engine, count, steps) {
@@ -84,10 +78,7 @@ fn write_summary<K: Sink>(
     tally: Tally,
     out: &mut K,
 ) -> Result<bool, Stop>
-    ensures text { Ends
-        (sink_seen (K.taken out.old) (K.room out.old) (K.faults out.old))
-        (sink_seen (K.taken out.new) (K.room out.new) (K.faults out.new))
-        (text_of_saying Table (a_summary count tally.reports tally.rows)) result }
+    ensures text { Ends (K.seen out.old) (K.seen out.new) (text_of_saying Table (a_summary count tally.reports tally.rows)) result }
     ensures refused { IfOk result (λ refused. refused ≡ false) }
 {
     let Tally { reports, rows } = tally;
@@ -135,7 +126,7 @@ fn count_items<L: Ledger>(
     requires count { count ≤ 1000000 }
     ensures idle { OnOk result (IsTrue (is_idle engine.new)) }
     ensures counts { OnOk result ((world : World) → Stands engine.old world []
-        → Counts tally.old tally.new (run world (items_from 1 count)).said
+        → Counts tally.old tally.new (run_blocks world (items_from 1 count)).said
         × Stands engine.new (world_from world (items_from 1 count)) []) }
 {
     let mut x = 1;
@@ -171,7 +162,7 @@ fn count_event<L: Ledger>(
 
 // whether this isn't for want of memory
 fn is_refusal(why: &Refused) -> bool
-    ensures { result ≡ is_some (refusal_of why.now) }
+    ensures { result ≡ is_some (event_reason why.now) }
 {
     !matches!(why, Refused::Broken | Refused::OutOfMemory)
 }

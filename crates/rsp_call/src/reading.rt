@@ -1,5 +1,6 @@
 // Reading a named file whole.
 ghost use Rattle.std.specs.Prelude.{◌≡◌, MatchResult};
+ghost use Rattle.rsp_spec.specs.Limits.{most_file_bytes};
 ghost use Rattle.rsp_call.specs.Playing.{replay_for};
 ghost use Rattle.rsp_call.specs.Shelves.{ReadsWhole, shelf_seen};
 ghost use Rattle.rsp_call.specs.Readings.{Ends, Reads, ReadsFiles, ReadsPicked};
@@ -32,8 +33,8 @@ pub(crate) fn read_named<H: Shelf>(
     name: &str,
 ) -> Result<Vec<u8>, Unread>
     ensures file { Reads
-        (shelf_seen (H.files shelf.old) (H.left shelf.old) (H.given shelf.old) (H.faults shelf.old) (H.sure shelf.old))
-        (shelf_seen (H.files shelf.new) (H.left shelf.new) (H.given shelf.new) (H.faults shelf.new) (H.sure shelf.new))
+        (shelf_seen (H.files shelf.old) (H.seen shelf.old))
+        (shelf_seen (H.files shelf.new) (H.seen shelf.new))
         name.now result }
 {
     match shelf.pick(name) {
@@ -49,8 +50,8 @@ pub(crate) fn read_files<H: Shelf>(
     replay: &Replay<'_>,
 ) -> Result<Listed<Listed<u8>>, Unread>
     ensures files { ReadsFiles
-        (shelf_seen (H.files shelf.old) (H.left shelf.old) (H.given shelf.old) (H.faults shelf.old) (H.sure shelf.old))
-        (shelf_seen (H.files shelf.new) (H.left shelf.new) (H.given shelf.new) (H.faults shelf.new) (H.sure shelf.new))
+        (shelf_seen (H.files shelf.old) (H.seen shelf.old))
+        (shelf_seen (H.files shelf.new) (H.seen shelf.new))
         (names_of (replay_for replay.now)) result }
 {
     let mut files = Listed::new(alloc);
@@ -70,13 +71,13 @@ pub(crate) fn read_files<H: Shelf>(
 
 fn read_file<H: Shelf>(alloc: Global, shelf: &mut H, name: &str) -> Result<Listed<u8>, Unread>
     ensures file { MatchResult result
-        (λ bytes. ReadsWhole
-        (shelf_seen (H.files shelf.old) (H.left shelf.old) (H.given shelf.old) (H.faults shelf.old) (H.sure shelf.old))
-        (shelf_seen (H.files shelf.new) (H.left shelf.new) (H.given shelf.new) (H.faults shelf.new) (H.sure shelf.new))
+        (λ bytes. ReadsWhole most_file_bytes
+        (shelf_seen (H.files shelf.old) (H.seen shelf.old))
+        (shelf_seen (H.files shelf.new) (H.seen shelf.new))
         name.now bytes)
         (λ why. Ends why
-        (shelf_seen (H.files shelf.old) (H.left shelf.old) (H.given shelf.old) (H.faults shelf.old) (H.sure shelf.old))
-        (shelf_seen (H.files shelf.new) (H.left shelf.new) (H.given shelf.new) (H.faults shelf.new) (H.sure shelf.new))
+        (shelf_seen (H.files shelf.old) (H.seen shelf.old))
+        (shelf_seen (H.files shelf.new) (H.seen shelf.new))
         name.now) }
 {
     match read_named(alloc, shelf, name) {
@@ -87,10 +88,10 @@ fn read_file<H: Shelf>(alloc: Global, shelf: &mut H, name: &str) -> Result<Liste
 
 // the bytes that are left of the file that was just picked
 fn read_picked<H: Shelf>(alloc: Global, shelf: &mut H) -> Result<Vec<u8>, Unread>
-    requires { H.given shelf.old ≡ 0 }
+    requires { (H.seen shelf.old).given ≡ 0 }
     ensures file { ReadsPicked
-        (shelf_seen (H.files shelf.old) (H.left shelf.old) (H.given shelf.old) (H.faults shelf.old) (H.sure shelf.old))
-        (shelf_seen (H.files shelf.new) (H.left shelf.new) (H.given shelf.new) (H.faults shelf.new) (H.sure shelf.new))
+        (shelf_seen (H.files shelf.old) (H.seen shelf.old))
+        (shelf_seen (H.files shelf.new) (H.seen shelf.new))
         result }
 {
     let mut bytes = Vec::new(alloc);

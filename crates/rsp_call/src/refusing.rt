@@ -1,12 +1,13 @@
 // The line of a refusal.
 ghost use Rattle.std.specs.Prelude.{◌≡◌, List, ℕ, Some, true, IfOk, IsSome, is_some, option_map, string_bytes};
-ghost use Rattle.rsp_call.specs.Refusals.{Reason, details, kind, limit_word, place_text, reason_of, refusal_line};
-ghost use Rattle.rsp_call.specs.Sinks.{sink_seen};
+ghost use Rattle.rsp_call.specs.Reasons.{details, kind, reason_of};
+ghost use Rattle.rsp_call.specs.Refusals.{Reason, limit_word, of_event, place_text, refusal_line};
+ghost use Rattle.rsp_engine.specs.declared.refused.Refused.TheVariants as refused;
 ghost use Rattle.rsp_call.specs.Stops.{Ends, IsLineOf};
 
 use crate::stop::Stop;
 use crate::writing::write_all;
-use rsp_engine::{LimitName, Refused};
+use rsp_engine::{LimitName, PolicyMix, Refused, Shape, SyntaxFault, TextFault};
 use rsp_events::{BlockFault, RefusedAs};
 use rsp_io::Sink;
 use rsp_terms::Text;
@@ -39,10 +40,7 @@ pub(crate) fn refuse<K: Sink>(
     out: &mut K,
 ) -> Result<bool, Stop>
     ensures text { (text : List ℕ) → IsLineOf place (reason_of answered) text
-        → Ends
-        (sink_seen (K.taken out.old) (K.room out.old) (K.faults out.old))
-        (sink_seen (K.taken out.new) (K.room out.new) (K.faults out.new))
-        text result }
+        → Ends (K.seen out.old) (K.seen out.new) text result }
     ensures refused { IfOk result (λ refused. (refused ≡ true) × (is_some (reason_of answered) ≡ true)) }
 {
     write_line(alloc, place, &answered, out)
@@ -56,10 +54,7 @@ fn write_line<K: Sink>(
     out: &mut K,
 ) -> Result<bool, Stop>
     ensures text { (text : List ℕ) → IsLineOf place (reason_of answered.now) text
-        → Ends
-        (sink_seen (K.taken out.old) (K.room out.old) (K.faults out.old))
-        (sink_seen (K.taken out.new) (K.room out.new) (K.faults out.new))
-        text result }
+        → Ends (K.seen out.old) (K.seen out.new) text result }
     ensures refused { IfOk result (λ refused. (refused ≡ true) × (is_some (reason_of answered.now) ≡ true)) }
 {
     match line(alloc, place, answered) {
@@ -107,14 +102,7 @@ fn kind(answered: &Answered) -> Option<(u64, &'static str)>
         Answered::Fault(BlockFault::BadBody { .. }) => Some((4, "BadBody")),
         Answered::Fault(BlockFault::BlockTooLarge) => Some((5, "BlockTooLarge")),
         Answered::Line(RefusedAs::NoTimeLine) => Some((6, "NoTimeLine")),
-        Answered::Event(Refused::BadToken { .. }) => Some((7, "BadToken")),
-        Answered::Event(Refused::Syntax { .. }) => Some((8, "Syntax")),
-        Answered::Event(Refused::LeftOut { .. }) => Some((9, "LeftOut")),
-        Answered::Event(Refused::Limit { .. }) => Some((10, "Limit")),
-        Answered::Event(Refused::GraphShape { .. }) => Some((11, "GraphShape")),
-        Answered::Event(Refused::ExistsShape { .. }) => Some((12, "ExistsShape")),
-        Answered::Event(Refused::Scope { .. }) => Some((13, "Scope")),
-        Answered::Event(Refused::PolicyMix) => Some((14, "PolicyMix")),
+        Answered::Event(Refused::Text(fault)) => Some(text_kind(fault)),
         Answered::Event(Refused::Late { .. }) => Some((15, "Late")),
         Answered::Event(Refused::NameTaken) => Some((16, "NameTaken")),
         Answered::Event(Refused::NoQuery) => Some((17, "NoQuery")),
@@ -127,6 +115,25 @@ fn kind(answered: &Answered) -> Option<(u64, &'static str)>
     }
 }
 
+// those of a text's faults; want of memory is none
+fn text_kind(fault: &TextFault) -> (u64, &'static str)
+    ensures { (result.0, result.1.now) ≡ kind (of_event (refused.Text fault.now)) }
+{
+    match fault {
+        TextFault::Syntax(SyntaxFault::BadToken { .. }) => (7, "BadToken"),
+        TextFault::Syntax(SyntaxFault::Syntax { .. }) => (8, "Syntax"),
+        TextFault::Syntax(SyntaxFault::LeftOut { .. }) => (9, "LeftOut"),
+        TextFault::Syntax(SyntaxFault::Limit { .. }) => (10, "Limit"),
+        TextFault::Shape(Shape::GraphShape { .. }) => (11, "GraphShape"),
+        TextFault::Shape(Shape::ExistsShape { .. }) => (12, "ExistsShape"),
+        TextFault::Shape(Shape::Scope { .. }) => (13, "Scope"),
+        TextFault::Policy(PolicyMix) => (14, "PolicyMix"),
+        TextFault::Syntax(SyntaxFault::OutOfMemory) | TextFault::Shape(Shape::OutOfMemory) => {
+            (0, "")
+        }
+    }
+}
+
 // the details of each refusal
 fn details(alloc: Global, answered: &Answered) -> Result<String, AllocError>
     ensures { IfOk result (λ text. (reason : Reason) → reason_of answered.now ≡ Some reason
@@ -136,20 +143,7 @@ fn details(alloc: Global, answered: &Answered) -> Result<String, AllocError>
         Answered::Line(RefusedAs::BadStatement { column }) => format!(in alloc; " column={column}"),
         Answered::Line(RefusedAs::RelativeIri { column }) => format!(in alloc; " column={column}"),
         Answered::Fault(BlockFault::BadBody { line }) => format!(in alloc; " line={line}"),
-        Answered::Event(Refused::BadToken { at }) => format!(in alloc; " at={at}"),
-        Answered::Event(Refused::Syntax { at }) => format!(in alloc; " at={at}"),
-        Answered::Event(Refused::LeftOut { at, what }) => {
-            format!(in alloc; " at={at} what={what}")
-        }
-        Answered::Event(Refused::Limit { what }) => {
-            let word = limit_word(*what);
-            format!(in alloc; " what={word}")
-        }
-        Answered::Event(Refused::GraphShape { at }) => format!(in alloc; " at={at}"),
-        Answered::Event(Refused::ExistsShape { at }) => format!(in alloc; " at={at}"),
-        Answered::Event(Refused::Scope { variable }) => {
-            format!(in alloc; " variable={variable}")
-        }
+        Answered::Event(Refused::Text(fault)) => text_details(alloc, fault),
         Answered::Event(Refused::Late { time, next }) => {
             format!(in alloc; " time={time} next={next}")
         }
@@ -159,6 +153,28 @@ fn details(alloc: Global, answered: &Answered) -> Result<String, AllocError>
             format!(in alloc; " triples={triples}")
         }
         _ => Ok(String::new(alloc)),
+    }
+}
+
+fn text_details(alloc: Global, fault: &TextFault) -> Result<String, AllocError>
+    ensures { IfOk result (λ text. string_bytes text ≡ details (of_event (refused.Text fault.now))) }
+{
+    match fault {
+        TextFault::Syntax(SyntaxFault::BadToken { at }) => format!(in alloc; " at={at}"),
+        TextFault::Syntax(SyntaxFault::Syntax { at }) => format!(in alloc; " at={at}"),
+        TextFault::Syntax(SyntaxFault::LeftOut { at, what }) => {
+            format!(in alloc; " at={at} what={what}")
+        }
+        TextFault::Syntax(SyntaxFault::Limit { what }) => {
+            let word = limit_word(*what);
+            format!(in alloc; " what={word}")
+        }
+        TextFault::Shape(Shape::GraphShape { at }) => format!(in alloc; " at={at}"),
+        TextFault::Shape(Shape::ExistsShape { at }) => format!(in alloc; " at={at}"),
+        TextFault::Shape(Shape::Scope { variable }) => format!(in alloc; " variable={variable}"),
+        TextFault::Policy(_)
+        | TextFault::Syntax(SyntaxFault::OutOfMemory)
+        | TextFault::Shape(Shape::OutOfMemory) => Ok(String::new(alloc)),
     }
 }
 

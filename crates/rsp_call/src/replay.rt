@@ -1,9 +1,12 @@
 // What `run` is asked for.
 ghost use Rattle.std.specs.Prelude.{◌≡◌, ◌&&◌, ◌≤◌, Some, length, map, nat_le, option_map, slice_get, true};
+ghost use Rattle.std.specs.Bool.{then_some};
 ghost use Rattle.std.specs.Option.{option_map_or};
+ghost use Rattle.std.specs.Str.{chars};
+ghost use Rattle.rsp_terms.specs.Characters.{is_iri_text};
 ghost use Rattle.rsp_call.specs.Playing.{replay_for, stream_for, values_in};
 ghost use Rattle.rsp_call.specs.Words as words;
-ghost use Rattle.rsp_call.specs.Words.{is_file, names_behind, names_of, replay_of, stream_cut, stream_of, streams_of};
+ghost use Rattle.rsp_call.specs.Words.{is_file, names_behind, names_of, replay_of, stream_of, streams_of};
 
 use crate::form::Form;
 use crate::options::Options;
@@ -101,7 +104,8 @@ fn stream_of(word: &str) -> Option<Stream<'_>>
 }
 
 fn stream_in<'a>(iri: &'a str, file: &'a str) -> Option<Stream<'a>>
-    ensures { option_map stream_for result ≡ stream_cut (Some (iri.now, file.now)) }
+    ensures { option_map stream_for result
+        ≡ then_some (is_iri_text (chars iri.now) && is_file file.now) (record { iri = iri.now; file = file.now }) }
 {
     if !is_iri(iri) {
         return None;

@@ -3,16 +3,17 @@ ghost use Rattle.std.specs.Prelude.{◌≡◌, ◌≤◌, ◌+◌, ◌∷◌, �
 ghost use Rattle.rsp_events.specs.declared.event.Event.TheVariants as event;
 ghost use Rattle.rsp_engine.specs.Stands.{Stands, is_idle};
 ghost use Rattle.rsp_engine.specs.World.{World, empty_world};
+ghost use Rattle.rsp_spec.specs.Limits.{most_file_bytes};
 ghost use Rattle.rsp_call.specs.FileAnswers.{AnswersFiles};
 ghost use Rattle.rsp_call.specs.declared.form.Form as forms;
 ghost use Rattle.rsp_call.specs.Playing.{AreTimed, replay_for, stream_for};
-ghost use Rattle.rsp_call.specs.Output.{run};
 ghost use Rattle.rsp_call.specs.Recordings as replays;
 ghost use Rattle.rsp_call.specs.Recordings.{events_of};
-ghost use Rattle.rsp_call.specs.Replays.{all_lines_said, line_said, lines_said, played, played_over, query_step, replayed, said_of_store, said_of_streams, said_by};
+ghost use Rattle.rsp_call.specs.Played.{all_lines_said, line_said, lines_said, played, played_over, query_step, said_by, said_of_files, said_of_store, said_of_streams};
+ghost use Rattle.rsp_call.specs.Replays.{replayed};
+ghost use Rattle.rsp_call.specs.Runs.{run_blocks};
 ghost use Rattle.rsp_call.specs.Sayings.{Says};
 ghost use Rattle.rsp_call.specs.Shelves.{shelf_seen};
-ghost use Rattle.rsp_call.specs.Sinks.{sink_seen};
 ghost use Rattle.rsp_call.specs.Summaries.{numbered};
 ghost use Rattle.rsp_call.specs.Words.{names_of};
 
@@ -27,7 +28,7 @@ use crate::session::{either, take_blocks};
 use crate::status::Status;
 use crate::stop::{Stop, status_of};
 use crate::taking::take_event;
-use rsp_engine::Engine;
+use rsp_engine::{Engine, Refused};
 use rsp_eval::Plain;
 use rsp_events::{Event, LineRefused, LoadedQuads, RecordedItems, loaded};
 use rsp_io::{Shelf, Sink};
@@ -45,12 +46,9 @@ pub(crate) fn replay<H: Shelf, K: Sink, L: Ledger>(
     out: &mut K,
     steps: &mut Steps<L>,
 ) -> Status
-    ensures files { AnswersFiles replay.now.form (names_of (replay_for replay.now)) (replayed (replay_for replay.now))
-        (shelf_seen (H.files shelf.old) (H.left shelf.old) (H.given shelf.old) (H.faults shelf.old) (H.sure shelf.old))
-        (shelf_seen (H.files shelf.new) (H.left shelf.new) (H.given shelf.new) (H.faults shelf.new) (H.sure shelf.new))
-        (sink_seen (K.taken out.old) (K.room out.old) (K.faults out.old))
-        (sink_seen (K.taken out.new) (K.room out.new) (K.faults out.new))
-        result }
+    ensures files { AnswersFiles most_file_bytes replay.now.form (names_of (replay_for replay.now)) (replayed (replay_for replay.now))
+        (shelf_seen (H.files shelf.old) (H.seen shelf.old))
+        (shelf_seen (H.files shelf.new) (H.seen shelf.new)) (K.seen out.old) (K.seen out.new) result }
 {
     match read_files(alloc, shelf, replay) {
         Ok(files) => status_of(tell_files(alloc, replay, files.as_slice(), out, steps)),
@@ -66,10 +64,7 @@ fn tell_files<K: Sink, L: Ledger>(
     out: &mut K,
     steps: &mut Steps<L>,
 ) -> Result<bool, Stop>
-    ensures { Says replay.now.form
-        (sink_seen (K.taken out.old) (K.room out.old) (K.faults out.old))
-        (sink_seen (K.taken out.new) (K.room out.new) (K.faults out.new))
-        (replayed (replay_for replay.now) files.now) result }
+    ensures { Says replay.now.form (K.seen out.old) (K.seen out.new) (said_of_files (replay_for replay.now) files.now) result }
 {
     let streams = replay.streams.as_slice();
     match files {
@@ -103,10 +98,7 @@ fn tell_streams<K: Sink, L: Ledger>(
     out: &mut K,
     steps: &mut Steps<L>,
 ) -> Result<bool, Stop>
-    ensures { Says form
-        (sink_seen (K.taken out.old) (K.room out.old) (K.faults out.old))
-        (sink_seen (K.taken out.new) (K.room out.new) (K.faults out.new))
-        (said_by (map stream_for streams.now) query.now None files.now) result }
+    ensures { Says form (K.seen out.old) (K.seen out.new) (said_by (map stream_for streams.now) query.now None files.now) result }
 {
     match recordings(alloc, 1, streams, files) {
         Ok(reads) => tell_recordings(alloc, streams, query, reads, form, out, steps),
@@ -124,10 +116,7 @@ fn tell_recordings<K: Sink, L: Ledger>(
     steps: &mut Steps<L>,
 ) -> Result<bool, Stop>
     requires { AreTimed reads }
-    ensures { Says form
-        (sink_seen (K.taken out.old) (K.room out.old) (K.faults out.old))
-        (sink_seen (K.taken out.new) (K.room out.new) (K.faults out.new))
-        (said_of_streams (map stream_for streams.now) query.now reads) result }
+    ensures { Says form (K.seen out.old) (K.seen out.new) (said_of_streams (map stream_for streams.now) query.now reads) result }
 {
     match tell_all_lines(alloc, streams, reads.as_slice(), out) {
         Ok(lines) => match play(alloc, query, reads, form, out, steps) {
@@ -149,10 +138,7 @@ fn tell_store<K: Sink, L: Ledger>(
     out: &mut K,
     steps: &mut Steps<L>,
 ) -> Result<bool, Stop>
-    ensures { Says form
-        (sink_seen (K.taken out.old) (K.room out.old) (K.faults out.old))
-        (sink_seen (K.taken out.new) (K.room out.new) (K.faults out.new))
-        (said_by (map stream_for streams.now) query.now (Some file.now) files.now) result }
+    ensures { Says form (K.seen out.old) (K.seen out.new) (said_by (map stream_for streams.now) query.now (Some file.now) files.now) result }
 {
     match files {
         [] => Ok(false),
@@ -176,10 +162,7 @@ fn tell_stored<K: Sink, L: Ledger>(
     out: &mut K,
     steps: &mut Steps<L>,
 ) -> Result<bool, Stop>
-    ensures { Says form
-        (sink_seen (K.taken out.old) (K.room out.old) (K.faults out.old))
-        (sink_seen (K.taken out.new) (K.room out.new) (K.faults out.new))
-        (said_of_store (map stream_for streams.now) query.now file.now stored
+    ensures { Says form (K.seen out.old) (K.seen out.new) (said_of_store (map stream_for streams.now) query.now file.now stored
         (replays.recordings 2 (map stream_for streams.now) files.now)) result }
 {
     match recordings(alloc, 2, streams, files) {
@@ -200,10 +183,7 @@ fn tell_loaded<K: Sink, L: Ledger>(
     steps: &mut Steps<L>,
 ) -> Result<bool, Stop>
     requires { AreTimed reads }
-    ensures { Says form
-        (sink_seen (K.taken out.old) (K.room out.old) (K.faults out.old))
-        (sink_seen (K.taken out.new) (K.room out.new) (K.faults out.new))
-        (said_of_store (map stream_for streams.now) query.now file.now stored reads) result }
+    ensures { Says form (K.seen out.old) (K.seen out.new) (said_of_store (map stream_for streams.now) query.now file.now stored reads) result }
 {
     let LoadedQuads { quads, refused } = stored;
     match tell_lines(alloc, file, refused.as_slice(), out) {
@@ -227,10 +207,7 @@ fn tell_behind<K: Sink, L: Ledger>(
     steps: &mut Steps<L>,
 ) -> Result<bool, Stop>
     requires { AreTimed reads }
-    ensures { Says form
-        (sink_seen (K.taken out.old) (K.room out.old) (K.faults out.old))
-        (sink_seen (K.taken out.new) (K.room out.new) (K.faults out.new))
-        (all_lines_said (map stream_for streams.now) reads ++ (played_over quads query.now (events_of reads)).said) result }
+    ensures { Says form (K.seen out.old) (K.seen out.new) (all_lines_said (map stream_for streams.now) reads ++ (played_over quads query.now (events_of reads)).said) result }
 {
     match tell_all_lines(alloc, streams, reads.as_slice(), out) {
         Ok(lines) => match play_over(alloc, quads, query, reads, form, out, steps) {
@@ -250,10 +227,7 @@ fn tell_all_lines<K: Sink>(
     reads: &[RecordedItems],
     out: &mut K,
 ) -> Result<bool, Stop>
-    ensures { (form : forms.Form) → Says form
-        (sink_seen (K.taken out.old) (K.room out.old) (K.faults out.old))
-        (sink_seen (K.taken out.new) (K.room out.new) (K.faults out.new))
-        (all_lines_said (map stream_for streams.now) reads.now) result }
+    ensures { (form : forms.Form) → Says form (K.seen out.old) (K.seen out.new) (all_lines_said (map stream_for streams.now) reads.now) result }
 {
     let mut refused = false;
     let mut place = 0;
@@ -280,10 +254,7 @@ fn tell_lines<K: Sink>(
     lines: &[LineRefused],
     out: &mut K,
 ) -> Result<bool, Stop>
-    ensures { (form : forms.Form) → Says form
-        (sink_seen (K.taken out.old) (K.room out.old) (K.faults out.old))
-        (sink_seen (K.taken out.new) (K.room out.new) (K.faults out.new))
-        (lines_said file.now lines.now) result }
+    ensures { (form : forms.Form) → Says form (K.seen out.old) (K.seen out.new) (lines_said file.now lines.now) result }
 {
     let mut refused = false;
     for line in lines {
@@ -301,10 +272,7 @@ fn tell_line<K: Sink>(
     refused: LineRefused,
     out: &mut K,
 ) -> Result<bool, Stop>
-    ensures { (form : forms.Form) → Says form
-        (sink_seen (K.taken out.old) (K.room out.old) (K.faults out.old))
-        (sink_seen (K.taken out.new) (K.room out.new) (K.faults out.new))
-        (line_said file.now refused ∷ []) result }
+    ensures { (form : forms.Form) → Says form (K.seen out.old) (K.seen out.new) (line_said file.now refused ∷ []) result }
 {
     let LineRefused { line, fault } = refused;
     match Text::new(alloc, file) {
@@ -325,10 +293,7 @@ fn play<K: Sink, L: Ledger>(
     steps: &mut Steps<L>,
 ) -> Result<bool, Stop>
     requires { AreTimed reads }
-    ensures { Says form
-        (sink_seen (K.taken out.old) (K.room out.old) (K.faults out.old))
-        (sink_seen (K.taken out.new) (K.room out.new) (K.faults out.new))
-        (played empty_world 1 query.now (events_of reads)).said result }
+    ensures { Says form (K.seen out.old) (K.seen out.new) (played empty_world 1 query.now (events_of reads)).said result }
 {
     let mut engine = Engine::new(alloc);
     // a new engine has no report left, so it is idle
@@ -347,10 +312,7 @@ fn play_over<K: Sink, L: Ledger>(
     steps: &mut Steps<L>,
 ) -> Result<bool, Stop>
     requires { AreTimed reads }
-    ensures { Says form
-        (sink_seen (K.taken out.old) (K.room out.old) (K.faults out.old))
-        (sink_seen (K.taken out.new) (K.room out.new) (K.faults out.new))
-        (played_over quads query.now (events_of reads)).said result }
+    ensures { Says form (K.seen out.old) (K.seen out.new) (played_over quads query.now (events_of reads)).said result }
 {
     let mut engine = Engine::new(alloc);
     // a new engine has no report left, so it is idle
@@ -397,10 +359,7 @@ fn take_query_and_items<K: Sink, L: Ledger>(
     requires number { number ≤ 2 }
     requires instants { AreTimed reads }
     ensures { (world : World) → Stands engine.old world []
-        → Says form
-        (sink_seen (K.taken out.old) (K.room out.old) (K.faults out.old))
-        (sink_seen (K.taken out.new) (K.room out.new) (K.faults out.new))
-        (played world number query.now (events_of reads)).said result }
+        → Says form (K.seen out.old) (K.seen out.new) (played world number query.now (events_of reads)).said result }
 {
     match take_query(alloc, engine, number, query, form, out, steps) {
         Ok(first) => match take_items(alloc, engine, number + 1, reads, form, out, steps) {
@@ -423,10 +382,7 @@ fn take_query<K: Sink, L: Ledger>(
     requires idle { IsTrue (is_idle engine.old) }
     ensures idle { OnOk result (IsTrue (is_idle engine.new)) }
     ensures says { (world : World) → Stands engine.old world []
-        → Says form
-        (sink_seen (K.taken out.old) (K.room out.old) (K.faults out.old))
-        (sink_seen (K.taken out.new) (K.room out.new) (K.faults out.new))
-        (query_step world number query.now).said result }
+        → Says form (K.seen out.old) (K.seen out.new) (query_step world number query.now).said result }
     ensures stands { OnOk result ((world : World) → Stands engine.old world []
         → Stands engine.new (query_step world number query.now).after []) }
 {
@@ -435,7 +391,10 @@ fn take_query<K: Sink, L: Ledger>(
             Ok(event) => take_event(alloc, engine, Place::Block(number), event, form, out, steps),
             Err(AllocError) => Err(Stop::Memory),
         },
-        Err(why) => refuse(alloc, Place::Block(number), Answered::Event(why), out),
+        Err(why) => {
+            let why = Refused::Text(why);
+            refuse(alloc, Place::Block(number), Answered::Event(why), out)
+        }
     }
 }
 
@@ -459,10 +418,7 @@ fn take_items<K: Sink, L: Ledger>(
     requires idle { IsTrue (is_idle engine.old) }
     requires instants { AreTimed reads }
     ensures { (world : World) → Stands engine.old world []
-        → Says form
-        (sink_seen (K.taken out.old) (K.room out.old) (K.faults out.old))
-        (sink_seen (K.taken out.new) (K.room out.new) (K.faults out.new))
-        (run world (numbered first (events_of reads))).said result }
+        → Says form (K.seen out.old) (K.seen out.new) (run_blocks world (numbered first (events_of reads))).said result }
 {
     match blocks_of(alloc, first, reads) {
         Ok(blocks) => take_blocks(alloc, engine, blocks, form, out, steps),

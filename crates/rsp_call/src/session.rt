@@ -4,11 +4,9 @@ ghost use Rattle.rsp_events.specs.declared.event.Block.{Block};
 ghost use Rattle.rsp_events.specs.Instants.{AllTimed};
 ghost use Rattle.rsp_engine.specs.World.{World};
 ghost use Rattle.rsp_engine.specs.Stands.{Stands, is_idle};
-ghost use Rattle.rsp_call.specs.Output.{log_blocks, log_whole_blocks};
 ghost use Rattle.rsp_call.specs.Runs.{refused_from, text_from, world_from};
-ghost use Rattle.rsp_call.specs.Sinks.{sink_seen};
 ghost use Rattle.rsp_call.specs.Stops.{Ends};
-ghost use Rattle.rsp_call.specs.Sessions.{IsAt, Adds, Breaks, Closes};
+ghost use Rattle.rsp_call.specs.Sessions.{IsAt, Adds, Breaks, Closes, log_blocks, log_whole_blocks};
 
 use crate::form::Form;
 use crate::refusing::Place;
@@ -66,15 +64,9 @@ impl Session {
         ensures idle { OnOk result (IsTrue (is_idle self.new.engine)) }
         ensures ok { OnOk result ((bytes : List ℕ) → IsAt self.old.blocks self.old.engine self.old.refused bytes
             → IsAt self.new.blocks self.new.engine self.new.refused (bytes ++ piece.now)
-            × Adds form
-            (sink_seen (K.taken out.old) (K.room out.old) (K.faults out.old))
-            (sink_seen (K.taken out.new) (K.room out.new) (K.faults out.new))
-            bytes piece.now) }
+            × Adds form (K.seen out.old) (K.seen out.new) bytes piece.now) }
         ensures err { IfErr result (λ why. (bytes more : List ℕ) → IsAt self.old.blocks self.old.engine self.old.refused bytes
-            → Breaks form
-            (sink_seen (K.taken out.old) (K.room out.old) (K.faults out.old))
-            (sink_seen (K.taken out.new) (K.room out.new) (K.faults out.new))
-            bytes (piece.now ++ more) why) }
+            → Breaks form (K.seen out.old) (K.seen out.new) bytes (piece.now ++ more) why) }
     {
         match self.blocks.feed(piece) {
             Ok(given) => match take_blocks(self.alloc, &mut self.engine, given, form, out, steps) {
@@ -98,10 +90,7 @@ impl Session {
     ) -> Result<bool, Stop>
         requires { IsTrue (is_idle self.old.engine) }
         ensures closes { (bytes : List ℕ) → IsAt self.old.blocks self.old.engine self.old.refused bytes
-            → Closes form
-            (sink_seen (K.taken out.old) (K.room out.old) (K.faults out.old))
-            (sink_seen (K.taken out.new) (K.room out.new) (K.faults out.new))
-            bytes result }
+            → Closes form (K.seen out.old) (K.seen out.new) bytes result }
     {
         match self.blocks.finish() {
             Ok(Some(block)) => {
@@ -144,10 +133,7 @@ pub(crate) fn take_blocks<K: Sink, L: Ledger>(
     requires instants { AllTimed blocks }
     ensures idle { OnOk result (IsTrue (is_idle engine.new)) }
     ensures text { (world : World) → Stands engine.old world []
-        → Ends
-        (sink_seen (K.taken out.old) (K.room out.old) (K.faults out.old))
-        (sink_seen (K.taken out.new) (K.room out.new) (K.faults out.new))
-        (text_from form world blocks) result }
+        → Ends (K.seen out.old) (K.seen out.new) (text_from form world blocks) result }
     ensures stands { IfOk result (λ refused. (world : World) → Stands engine.old world []
         → (refused ≡ refused_from world blocks) × Stands engine.new (world_from world blocks) []) }
 {

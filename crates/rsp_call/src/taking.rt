@@ -4,7 +4,6 @@ ghost use Rattle.rsp_events.specs.Instants.{IsInstant, IsTimed};
 ghost use Rattle.rsp_engine.specs.World.{World};
 ghost use Rattle.rsp_engine.specs.Stands.{Stands, is_idle};
 ghost use Rattle.rsp_call.specs.Runs.{content_refused, content_text, content_world, event_refused, event_text, event_world};
-ghost use Rattle.rsp_call.specs.Sinks.{sink_seen};
 ghost use Rattle.rsp_call.specs.Stops.{Ends};
 
 use crate::form::Form;
@@ -33,10 +32,7 @@ pub(crate) fn take_content<K: Sink, L: Ledger>(
     requires instant { IsTimed content }
     ensures idle { OnOk result (IsTrue (is_idle engine.new)) }
     ensures text { (world : World) → Stands engine.old world []
-        → Ends
-        (sink_seen (K.taken out.old) (K.room out.old) (K.faults out.old))
-        (sink_seen (K.taken out.new) (K.room out.new) (K.faults out.new))
-        (content_text form world place content) result }
+        → Ends (K.seen out.old) (K.seen out.new) (content_text form world place content) result }
     ensures stands { IfOk result (λ refused. (world : World) → Stands engine.old world []
         → (refused ≡ content_refused world place content) × Stands engine.new (content_world world place content) []) }
 {
@@ -60,10 +56,7 @@ pub(crate) fn take_event<K: Sink, L: Ledger>(
     requires instant { IsInstant event }
     ensures idle { OnOk result (IsTrue (is_idle engine.new)) }
     ensures text { (world : World) → Stands engine.old world []
-        → Ends
-        (sink_seen (K.taken out.old) (K.room out.old) (K.faults out.old))
-        (sink_seen (K.taken out.new) (K.room out.new) (K.faults out.new))
-        (event_text form world place event) result }
+        → Ends (K.seen out.old) (K.seen out.new) (event_text form world place event) result }
     ensures stands { IfOk result (λ refused. (world : World) → Stands engine.old world []
         → (refused ≡ event_refused world place event) × Stands engine.new (event_world world place event) []) }
 {

@@ -10,7 +10,6 @@ ghost use Rattle.rsp_streams_out.specs.Reports.{overfull_text, report_text};
 ghost use Rattle.rsp_call.specs.Apart.{have_tab};
 ghost use Rattle.rsp_call.specs.Output.{text_of_report};
 ghost use Rattle.rsp_call.specs.Runs.{reports_text};
-ghost use Rattle.rsp_call.specs.Sinks.{sink_seen};
 ghost use Rattle.rsp_call.specs.Stops.{Ends};
 
 use crate::apart::have_tab;
@@ -37,10 +36,7 @@ pub(crate) fn tell_reports<K: Sink, L: Ledger>(
 ) -> Result<(), Stop>
     ensures idle { OnOk result (IsTrue (is_idle engine.new)) }
     ensures text { (world : World) (left : List Moment) → Stands engine.old world left
-        → Ends
-        (sink_seen (K.taken out.old) (K.room out.old) (K.faults out.old))
-        (sink_seen (K.taken out.new) (K.room out.new) (K.faults out.new))
-        (reports_text form (reports world left)) result }
+        → Ends (K.seen out.old) (K.seen out.new) (reports_text form (reports world left)) result }
     ensures stands { OnOk result ((world : World) (left : List Moment) → Stands engine.old world left
         → Stands engine.new (world_behind world left) []) }
 {
@@ -58,10 +54,7 @@ pub(crate) fn tell_reports<K: Sink, L: Ledger>(
 
 fn tell<K: Sink>(alloc: Global, report: &Report, form: Form, out: &mut K) -> Result<(), Stop>
     ensures text { (wanted : Report) → IsReport report.now wanted
-        → Ends
-        (sink_seen (K.taken out.old) (K.room out.old) (K.faults out.old))
-        (sink_seen (K.taken out.new) (K.room out.new) (K.faults out.new))
-        (text_of_report form wanted) result }
+        → Ends (K.seen out.old) (K.seen out.new) (text_of_report form wanted) result }
 {
     match text_of(alloc, report, form) {
         Ok(text) => write_all(out, text.as_slice()),

@@ -2,11 +2,8 @@
 ghost use Rattle.std.specs.Prelude.{◌≡◌, ◌++◌, IsTrue, List, ℕ, [], false};
 ghost use Rattle.rsp_events.specs.declared.event.Block.{Block};
 ghost use Rattle.rsp_engine.specs.Stands.{is_idle};
-ghost use Rattle.rsp_call.specs.Output.{log_blocks, log_whole_blocks};
-ghost use Rattle.rsp_call.specs.Sessions.{IsAt};
+ghost use Rattle.rsp_call.specs.Sessions.{IsAt, log_blocks, log_whole_blocks, start_of};
 ghost use Rattle.rsp_call.specs.Words.{mode_of};
-ghost use Rattle.rsp_call.specs.Sinks.{sink_seen};
-ghost use Rattle.rsp_call.specs.Sources.{source_seen};
 ghost use Rattle.rsp_call.specs.Shelves.{shelf_seen};
 ghost use Rattle.rsp_call.specs.Stops.{status_of};
 ghost use Rattle.rsp_call.specs.Answers.{Answers, AnswersLog, AnswersUsage, reads_shelf, reads_source};
@@ -49,12 +46,9 @@ pub fn rsp<S: Source, H: Shelf, K: Sink, L: Ledger>(
     steps: &mut Steps<L>,
 ) -> Status
     ensures answer { Answers (mode_of words.now)
-        (source_seen (S.left input.old) (S.given input.old) (S.faults input.old) (S.sure input.old))
-        (source_seen (S.left input.new) (S.given input.new) (S.faults input.new) (S.sure input.new))
-        (shelf_seen (H.files shelf.old) (H.left shelf.old) (H.given shelf.old) (H.faults shelf.old) (H.sure shelf.old))
-        (shelf_seen (H.files shelf.new) (H.left shelf.new) (H.given shelf.new) (H.faults shelf.new) (H.sure shelf.new))
-        (sink_seen (K.taken out.old) (K.room out.old) (K.faults out.old))
-        (sink_seen (K.taken out.new) (K.room out.new) (K.faults out.new)) result }
+        (S.seen input.old) (S.seen input.new) (shelf_seen (H.files shelf.old) (H.seen shelf.old))
+        (shelf_seen (H.files shelf.new) (H.seen shelf.new))
+        (K.seen out.old) (K.seen out.new) result }
     ensures unread { reads_source (mode_of words.now) ≡ false → input.new ≡ input.old }
     ensures shelf { reads_shelf (mode_of words.now) ≡ false → shelf.new ≡ shelf.old }
 {
@@ -69,10 +63,7 @@ pub fn rsp<S: Source, H: Shelf, K: Sink, L: Ledger>(
 
 // Writes the usage line.
 fn usage<K: Sink>(out: &mut K) -> Status
-    ensures { AnswersUsage
-        (sink_seen (K.taken out.old) (K.room out.old) (K.faults out.old))
-        (sink_seen (K.taken out.new) (K.room out.new) (K.faults out.new))
-        result }
+    ensures { AnswersUsage (K.seen out.old) (K.seen out.new) result }
 {
     match write_whole(out, USAGE.as_bytes()) {
         Ok(()) => Status::Usage,
@@ -88,10 +79,7 @@ fn events<S: Source, K: Sink, L: Ledger>(
     out: &mut K,
     steps: &mut Steps<L>,
 ) -> Status
-    ensures log { AnswersLog form (source_seen (S.left input.old) (S.given input.old) (S.faults input.old) (S.sure input.old))
-        (source_seen (S.left input.new) (S.given input.new) (S.faults input.new) (S.sure input.new))
-        (sink_seen (K.taken out.old) (K.room out.old) (K.faults out.old))
-        (sink_seen (K.taken out.new) (K.room out.new) (K.faults out.new)) result }
+    ensures log { AnswersLog (start_of form) (S.seen input.old) (S.seen input.new) (K.seen out.old) (K.seen out.new) result }
 {
     let mut session = Session::new(alloc);
     read_log(&mut session, form, input, out, steps)
@@ -109,10 +97,7 @@ fn read_log<S: Source, K: Sink, L: Ledger>(
     requires idle { IsTrue (is_idle session.old.engine) }
     requires prefix { (bytes more : List ℕ) → (rest : List Block)
         × (log_blocks (bytes ++ more) ≡ log_whole_blocks bytes ++ rest) }
-    ensures log { AnswersLog form (source_seen (S.left input.old) (S.given input.old) (S.faults input.old) (S.sure input.old))
-        (source_seen (S.left input.new) (S.given input.new) (S.faults input.new) (S.sure input.new))
-        (sink_seen (K.taken out.old) (K.room out.old) (K.faults out.old))
-        (sink_seen (K.taken out.new) (K.room out.new) (K.faults out.new)) result }
+    ensures log { AnswersLog (start_of form) (S.seen input.old) (S.seen input.new) (K.seen out.old) (K.seen out.new) result }
 {
     let mut buffer = [0u8; READ_BYTES];
     let mut taken = 0;

@@ -1,8 +1,10 @@
 // The program's words.
-ghost use Rattle.std.specs.Prelude.{◌≡◌, ◌∷◌, ◌||◌, ◌&&◌, [], IfOk, drop, map, option_map, string_bytes};
+ghost use Rattle.std.specs.Prelude.{◌≡◌, ◌∷◌, ◌||◌, ◌&&◌, [], IfOk, drop, map, bytes_eq, option_map, string_bytes};
 ghost use Rattle.std.specs.Vec.Iter.{into_iter_items};
+ghost use Rattle.std.specs.Map.{lookup};
+ghost use Rattle.std.specs.Option.{option_and_then};
 ghost use Rattle.rsp_call.specs.Asked.{mode_for, only_value};
-ghost use Rattle.rsp_call.specs.Words.{check_of, events_of, form_of, generate_of, is_dashes, is_file, is_json, mode_in, mode_of, run_of, table, values, without_json};
+ghost use Rattle.rsp_call.specs.Words.{check_of, events_of, form_of, generate_of, is_dashes, is_file, is_json, mode_of, run_of, table, values, without_json};
 
 use crate::form::Form;
 use crate::options::read_options;
@@ -39,7 +41,7 @@ pub(crate) fn mode_of(words: &[Text]) -> Option<Mode<'_>>
 }
 
 fn mode_in_table<'a>(word: &str, more: &'a [Text]) -> Option<Mode<'a>>
-    ensures { option_map mode_for result ≡ mode_in table word.now more.now }
+    ensures { option_map mode_for result ≡ option_and_then (λ row. row more.now) (lookup (bytes_eq word.now) table) }
 {
     match word {
         "events" => events_of(more),

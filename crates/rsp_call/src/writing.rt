@@ -1,6 +1,6 @@
 // Writing a text to a sink, whole.
 ghost use Rattle.std.specs.Prelude.{MatchResult};
-ghost use Rattle.rsp_call.specs.Sinks.{Wrote, WriteFailed, sink_seen};
+ghost use Rattle.rsp_call.specs.Sinks.{Wrote, WriteFailed};
 ghost use Rattle.rsp_call.specs.Stops.{Ends};
 
 use crate::stop::Stop;
@@ -9,14 +9,8 @@ use rsp_io::{Failed, Sink};
 /// Writes a text, however many calls that takes. Fails where a write fails.
 pub(crate) fn write_whole<K: Sink>(out: &mut K, text: &[u8]) -> Result<(), Failed>
     ensures text { MatchResult result
-        (λ _. Wrote
-        (sink_seen (K.taken out.old) (K.room out.old) (K.faults out.old))
-        (sink_seen (K.taken out.new) (K.room out.new) (K.faults out.new))
-        text.now)
-        (λ _. WriteFailed
-        (sink_seen (K.taken out.old) (K.room out.old) (K.faults out.old))
-        (sink_seen (K.taken out.new) (K.room out.new) (K.faults out.new))
-        text.now) }
+        (λ _. Wrote (K.seen out.old) (K.seen out.new) text.now)
+        (λ _. WriteFailed (K.seen out.old) (K.seen out.new) text.now) }
 {
     let mut written = 0;
     'pieces: while written < text.len() {
@@ -30,10 +24,7 @@ pub(crate) fn write_whole<K: Sink>(out: &mut K, text: &[u8]) -> Result<(), Faile
 
 /// Writes a text of a log's work, whole. Stops where a write fails.
 pub(crate) fn write_all<K: Sink>(out: &mut K, text: &[u8]) -> Result<(), Stop>
-    ensures text { Ends
-        (sink_seen (K.taken out.old) (K.room out.old) (K.faults out.old))
-        (sink_seen (K.taken out.new) (K.room out.new) (K.faults out.new))
-        text.now result }
+    ensures text { Ends (K.seen out.old) (K.seen out.new) text.now result }
 {
     match write_whole(out, text) {
         Ok(()) => Ok(()),

@@ -3,10 +3,9 @@ ghost use Rattle.std.specs.Prelude.{◌≡◌, is_none, IfSome, IfOk, ◌++◌, 
 ghost use Rattle.rsp_algebra.specs.Overfull.{too_many};
 
 use rsp_multiset::{Cell, Row};
+pub(crate) use rsp_spec::limits::MOST_ROWS;
 use rsp_terms::Term;
 use std::alloc::{AllocError, Global};
-
-pub(crate) use rsp_spec::limits::MOST_ROWS;
 
 /// The rows; None exactly where they are too many.
 pub(crate) fn within_limit(rows: Vec<Row<Term>>) -> Option<Vec<Row<Term>>>

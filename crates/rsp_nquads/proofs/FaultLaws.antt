@@ -12,7 +12,7 @@ use Rattle.rsp_nquads.specs.Faults.{FaultFromGraph, FaultFromObject, FaultFromPr
 use Rattle.rsp_scan.specs.Readers.{PartReader}
 use Rattle.rsp_nquads.specs.Parts.{iri_term, node, object}
 use Rattle.rsp_nquads.specs.Statements.{part_of, optional_part, is_end, ends, closes, onward, parts_of, column}
-use Rattle.rsp_scan.proofs.RuleLaws.{Reads}
+use Rattle.rsp_scan.specs.Following.{Reads, FollowRules}
 use Rattle.rsp_nquads.proofs.TermLaws.{blanks_split, behind_onto, StartsWell, stands_sound, stands_full, node_reads, node_starts, object_less, object_starts, iri_term_reads, iri_term_starts}
 use Rattle.rsp_nquads.proofs.StatementLaws.{at_place, dot_stands, dot_behind, end_found, end_finds, object_stands, graph_read, predicate_step, object_step, graph_step, last_step}
 
@@ -58,21 +58,21 @@ found_by reader rule h starts = record {
   };
 }
 
-module _ (document : ℕ) where
+module _ (scanned : FollowRules) (document : ℕ) where
   object_here : (text rest : List ℕ) (term : Term) → (s : Stands (IsObject document) text rest term) → behind_blanks text ≡ s.part ++ rest
   object_here text rest term s =
-      ap behind_blanks s.text_is ∙ behind_onto s.blanks (s.part ++ rest) s.are_blanks (object_starts document s.part rest term s.is)
+      ap behind_blanks s.text_is ∙ behind_onto s.blanks (s.part ++ rest) s.are_blanks (object_starts scanned document s.part rest term s.is)
 
   object_found : Finds (object document) (IsObject document)
   object_found = record {
     none = λ text is rest term s.
-        let read = object_less document s.part rest term s.is in
+        let read = object_less scanned document s.part rest term s.is in
         let some = ap (object document) (object_here text rest term s) ∙ read.is in
         absurd (cc);
     longest = λ text rest term is. record {
-      stands = object_stands document text rest term is;
+      stands = object_stands scanned document text rest term is;
       longest = λ other another s.
-          let read = object_less document s.part other another s.is in
+          let read = object_less scanned document s.part other another s.is in
           let same = rest_same term read.term rest read.behind (sym is ∙ (ap (object document) (object_here text other another s) ∙ read.is)) in
           let size = ap length same in
           let less = read.less in
@@ -189,9 +189,9 @@ fault_from_dot text left (inr e) = by (sign 46 (behind_blanks text)) refl
 
 -- ---- all parts
 
-module _ (document : ℕ) where
+module _ (scanned : FollowRules) (document : ℕ) where
   node_found : Finds (node document) (IsNode document)
-  node_found = found_by (node document) (IsNode document) (node_reads document) (node_starts document)
+  node_found = found_by (node document) (IsNode document) (node_reads scanned document) (node_starts scanned document)
 
   graph_halts : (text : List ℕ) (n : ℕ) → closes (optional_part (node document) text).1 ≡ halt n → LeftAt (FaultFromGraph document) text n
   graph_halts text n is = by (node document (behind_blanks text)) refl is
@@ -225,7 +225,7 @@ module _ (document : ℕ) where
   last_halts (Err m) s p o g n is = ap (λ k. halt k) (halt_same m n is)
 
   iri_term_found : Finds iri_term IsIriTerm
-  iri_term_found = found_by iri_term IsIriTerm iri_term_reads iri_term_starts
+  iri_term_found = found_by iri_term IsIriTerm (iri_term_reads scanned) iri_term_starts
 
   pub halts : (line : List ℕ) (n : ℕ) → parts_of document line ≡ halt n → LeftAt (FaultFromSubject document) line n
   unfolding parts_of
@@ -234,7 +234,7 @@ module _ (document : ℕ) where
       (λ s k at_s.
       part_halts iri_term IsIriTerm iri_term_found (object_step document s.0) (FaultFromObject document)
       (λ p m at_p.
-      part_halts (object document) (IsObject document) (object_found document) (graph_step document s.0 p.0) (FaultFromGraph document)
+      part_halts (object document) (IsObject document) (object_found scanned document) (graph_step document s.0 p.0) (FaultFromGraph document)
       (λ o l at_o. graph_halts o.1 l (last_halts (closes (optional_part (node document) o.1).1) s.0 p.0 o.0 (optional_part (node document) o.1).0 l at_o))
       p.1 m at_p)
       s.1 k at_s)
@@ -247,7 +247,7 @@ module _ (document : ℕ) where
       (λ s t at_s.
       fault_halts iri_term IsIriTerm iri_term_found (object_step document s.0) (FaultFromObject document)
       (λ p u at_p.
-      fault_halts (object document) (IsObject document) (object_found document) (graph_step document s.0 p.0) (FaultFromGraph document)
+      fault_halts (object document) (IsObject document) (object_found scanned document) (graph_step document s.0 p.0) (FaultFromGraph document)
       (λ o v at_o. ap (λ r. onward r (last_step s.0 p.0 o.0 (optional_part (node document) o.1).0)) (fault_from_graph o.1 v at_o))
       p.1 u at_p)
       s.1 t at_s)

@@ -5,10 +5,10 @@ use Rattle.std.specs.Option.{option_and_then}
 use Rattle.rsp_spec.proofs.Truths.{and_left, and_right, equal_from}
 use Rattle.rsp_terms.specs.Characters.{is_absolute}
 use Rattle.rsp_scan.specs.Enclosed.{IsIri}
+use Rattle.rsp_scan.specs.Following.{FollowRules}
 use Rattle.rsp_nquads.specs.Grammar.{IsAbsoluteIri}
 use Rattle.rsp_scan.specs.Readers.{iri}
 use Rattle.rsp_nquads.specs.Fields.{absolute_iri}
-use Rattle.rsp_scan.proofs.RuleLaws.{iri_reads}
 
 abbrev some_name : List ℕ → Option (List ℕ)
 some_name name = Some name
@@ -20,16 +20,16 @@ nothing_behind (x ∷ xs) h = absurd (let size = equal_from (length (x ∷ xs)) 
 name_same : (a b : List ℕ) → some_name a ≡ some_name b → a ≡ b
 name_same a b is = cc
 
-iri_from : (field name : List ℕ) → absolute_iri field ≡ some_name name → IsAbsoluteIri field name
+iri_from : (scanned : FollowRules) → (field name : List ℕ) → absolute_iri field ≡ some_name name → IsAbsoluteIri field name
 unfolding absolute_iri
-iri_from field name is = by (iri field) refl is
+iri_from scanned field name is = by (iri field) refl is
   where
     by_test : (x : List ℕ × List ℕ) → iri field ≡ Some x → (b : Bool) → ((length x.1 == 0) && is_absolute x.0) ≡ b
         → (if b then some_name x.0 else None) ≡ some_name name → IsAbsoluteIri field name
     by_test x read false test is = absurd (cc)
     by_test x read true test is =
         let same = name_same x.0 name is in
-        let p = iri_reads.sound field x.1 x.0 read in
+        let p = scanned.iris.sound field x.1 x.0 read in
         let none = nothing_behind x.1 (and_left (length x.1 == 0) (is_absolute x.0) test) in
         let whole : field ≡ p.0 = p.1.0 ∙ (ap (λ r. p.0 ++ r) none ∙ append-nil p.0) in
         let stands : IsIri p.0 [] x.0 = p.1.1 in
@@ -40,11 +40,11 @@ iri_from field name is = by (iri field) refl is
     by None read is = absurd (cc)
     by (Some x) read is = by_test x read ((length x.1 == 0) && is_absolute x.0) refl is
 
-iri_to : (field name : List ℕ) → IsAbsoluteIri field name → absolute_iri field ≡ some_name name
+iri_to : (scanned : FollowRules) → (field name : List ℕ) → IsAbsoluteIri field name → absolute_iri field ≡ some_name name
 unfolding absolute_iri
-iri_to field name h =
-    let read = sym (ap iri (append-nil field)) ∙ iri_reads.full field [] name h.0 in
+iri_to scanned field name h =
+    let read = sym (ap iri (append-nil field)) ∙ scanned.iris.full field [] name h.0 in
     rw (read, h.1) refl
 
-pub field_by_grammar : (field name : List ℕ) → (absolute_iri field ≡ Some name) ↔ IsAbsoluteIri field name
-field_by_grammar field name = (iri_from field name, iri_to field name)
+pub field_by_grammar : (scanned : FollowRules) → (field name : List ℕ) → (absolute_iri field ≡ Some name) ↔ IsAbsoluteIri field name
+field_by_grammar scanned field name = (iri_from scanned field name, iri_to scanned field name)

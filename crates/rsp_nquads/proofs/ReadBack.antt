@@ -18,12 +18,12 @@ use Rattle.rsp_terms.specs.Characters.{is_iri_character, is_tag_text}
 use Rattle.rsp_scan.specs.Machines.{accepts}
 use Rattle.rsp_scan.specs.Enclosed.{Piece, plain, short, long, named, piece_text, StandsFor, IsIriPiece, IsStringPiece, IsPieceOf, IsEnclosed, IsIri, Rule, is_scalar}
 use Rattle.rsp_scan.specs.Names.{IsTag}
+use Rattle.rsp_scan.specs.Following.{FollowRules}
 use Rattle.rsp_nquads.specs.Grammar.{IsDatatype, IsQualified, IsLiteral, IsIriTerm, IsNode, IsObject, IsGraph, Stands, Says}
 use Rattle.rsp_scan.specs.Scans.{next_of_tag, tag_machine}
 use Rattle.rsp_nquads.specs.Statements.{statement_of}
 use Rattle.rsp_nquads.specs.Answers.{statement}
 use Rattle.rsp_nquads.specs.Writing.{line_of, graph_text, IsNotBlank, IsNotBlankIn, HasNoBlank}
-use Rattle.rsp_scan.proofs.LongestTag.{tag_is}
 use Rattle.rsp_scan.proofs.Pieces.{texts, values, plains, plain_texts, plain_values, wide_bytes}
 use Rattle.rsp_nquads.proofs.StatementLaws.{says_from, says_to}
 
@@ -188,15 +188,15 @@ space_ends s (x ∷ xs) ys = by (next_of_tag s x) (λ t. space_ends t xs ys)
     by None more = refl
     by (Some t) more = more t
 
-tag_written : (part rest language after : List ℕ) → IsTag part rest language → IsTag (codes "@" ++ language) (32 ∷ after) language
-tag_written part rest language after e = record { is_tag = e.is_tag; part_is = refl; longest = longest }
+tag_written : (scanned : FollowRules) → (part rest language after : List ℕ) → IsTag part rest language → IsTag (codes "@" ++ language) (32 ∷ after) language
+tag_written scanned part rest language after e = record { is_tag = e.is_tag; part_is = refl; longest = longest }
   where
     longest : (more others : List ℕ) → (32 ∷ after) ≡ more ++ others → is_tag_text (language ++ more) ≡ true → more ≡ []
     longest [] others is passes = refl
     longest (m ∷ ms) others is passes =
         let space : 32 ≡ m = cc in
         let whole : is_tag_text (language ++ (32 ∷ ms)) ≡ true = ap (λ c. is_tag_text (language ++ (c ∷ ms))) space ∙ passes in
-        absurd (true≢false (sym whole ∙ (tag_is (language ++ (32 ∷ ms)) ∙ space_ends (true, false) language ms)))
+        absurd (true≢false (sym whole ∙ (scanned.tag_texts (language ++ (32 ∷ ms)) ∙ space_ends (true, false) language ms)))
 
 -- ---- terms
 
@@ -223,10 +223,10 @@ qualified qualifier s q after lexical name string_is is = record {
   name_is = at_front qualifier q after name is;
 }
 
-literal_written : (part rest after : List ℕ) (term : Term) → IsLiteral part rest term → IsLiteral (term_text term) (32 ∷ after) term
-literal_written part rest after (Iri name) e = absurd e
-literal_written part rest after (Blank number name) e = absurd e
-literal_written part rest after (Literal lexical name) e = by (bytes_eq name xsd_string) refl e
+literal_written : (scanned : FollowRules) → (part rest after : List ℕ) (term : Term) → IsLiteral part rest term → IsLiteral (term_text term) (32 ∷ after) term
+literal_written scanned part rest after (Iri name) e = absurd e
+literal_written scanned part rest after (Blank number name) e = absurd e
+literal_written scanned part rest after (Literal lexical name) e = by (bytes_eq name xsd_string) refl e
   where
     text : Bool → List ℕ
     text b = string_text lexical ++ (if b then [] else codes "^^" ++ iri_text name)
@@ -242,9 +242,9 @@ literal_written part rest after (Literal lexical name) e = by (bytes_eq name xsd
         inl (qualified IsDatatype q.string (codes "^^" ++ iri_text name) (32 ∷ after) lexical name q.is_string
         (datatype_written q.name_is.is.name_is.part name (32 ∷ after) q.name_is.is.name_is.is))
     by false other (inr x) = absurd (true≢false (sym ((bytes_decides name xsd_string).1 x.0) ∙ other))
-literal_written part rest after (Tagged lexical language) q =
+literal_written scanned part rest after (Tagged lexical language) q =
     qualified IsTag q.string (codes "@" ++ language) (32 ∷ after) lexical language q.is_string
-    (tag_written q.name_is.part rest language after q.name_is.is)
+    (tag_written scanned q.name_is.part rest language after q.name_is.is)
 
 node_written : (d document : ℕ) (part rest after : List ℕ) (term : Term) → IsNotBlank term → IsNode d part rest term
     → IsNode document (term_text term) after term
@@ -259,10 +259,10 @@ iri_term_written part rest after (Blank number name) e = absurd e
 iri_term_written part rest after (Literal lexical name) e = absurd e
 iri_term_written part rest after (Tagged lexical language) e = absurd e
 
-object_written : (d document : ℕ) (part rest after : List ℕ) (term : Term) → IsNotBlank term → IsObject d part rest term
+object_written : (scanned : FollowRules) → (d document : ℕ) (part rest after : List ℕ) (term : Term) → IsNotBlank term → IsObject d part rest term
     → IsObject document (term_text term) (32 ∷ after) term
-object_written d document part rest after term no_blank (inl e) = inl (node_written d document part rest (32 ∷ after) term no_blank e)
-object_written d document part rest after term no_blank (inr e) = inr (literal_written part rest after term e)
+object_written scanned d document part rest after term no_blank (inl e) = inl (node_written d document part rest (32 ∷ after) term no_blank e)
+object_written scanned d document part rest after term no_blank (inr e) = inr (literal_written scanned part rest after term e)
 
 -- ---- the line
 
@@ -281,8 +281,8 @@ graph_written d document text rest None no_blank e = refl
 graph_written d document text rest (Some name) no_blank e =
     behind_space (IsNode document) (term_text name) (codes " .") name (node_written d document e.part rest (codes " .") name no_blank e.is)
 
-pub read_back : (d document : ℕ) (line : List ℕ) (quad : Quad) → Says d line quad → HasNoBlank quad → Says document (line_of quad) quad
-read_back d document line quad h no_blank =
+pub read_back : (scanned : FollowRules) → (d document : ℕ) (line : List ℕ) (quad : Quad) → Says d line quad → HasNoBlank quad → Says document (line_of quad) quad
+read_back scanned d document line quad h no_blank =
     let tail = tail_of quad.graph in
     let s = h.statement in
     record {
@@ -298,7 +298,7 @@ read_back d document line quad h no_blank =
             (iri_term_written s.predicate.part s.after_predicate (codes " " ++ (term_text quad.triple.object ++ (graph_text quad.graph ++ codes " ."))) quad.triple.predicate s.predicate.is);
         object = behind_space (IsObject document) (term_text quad.triple.object) (graph_text quad.graph ++ codes " .") quad.triple.object
             (subst (λ r. IsObject document (term_text quad.triple.object) r quad.triple.object) (sym tail.is)
-            (object_written d document s.object.part s.after_object tail.after quad.triple.object no_blank.1 s.object.is));
+            (object_written scanned d document s.object.part s.after_object tail.after quad.triple.object no_blank.1 s.object.is));
         graph = graph_written d document s.after_object s.after_graph quad.graph no_blank.2 s.graph;
         dot = record { blanks = 32 ∷ []; part = codes "."; are_blanks = refl; text_is = refl; is = refl };
         ends = record { blanks = []; comment = []; are_blanks = refl; text_is = refl; is_comment = inl refl };
@@ -306,6 +306,6 @@ read_back d document line quad h no_blank =
       absolute = h.absolute;
     }
 
-pub says_again : (d : ℕ) (line : List ℕ) (quad : Quad) → statement_of d line ≡ statement quad → HasNoBlank quad → (document : ℕ)
+pub says_again : (scanned : FollowRules) → (d : ℕ) (line : List ℕ) (quad : Quad) → statement_of d line ≡ statement quad → HasNoBlank quad → (document : ℕ)
     → statement_of document (line_of quad) ≡ statement quad
-says_again d line quad is no_blank document = says_to document (line_of quad) quad (read_back d document line quad (says_from d line quad is) no_blank)
+says_again scanned d line quad is no_blank document = says_to scanned document (line_of quad) quad (read_back scanned d document line quad (says_from scanned d line quad is) no_blank)

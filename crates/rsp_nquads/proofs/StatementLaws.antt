@@ -10,6 +10,7 @@ use Rattle.rsp_spec.proofs.Truths.{and_left, and_right, equal_from}
 use Rattle.rsp_terms.specs.declared.term.Term.{Term}
 use Rattle.rsp_terms.specs.declared.term.Term.TheVariants.{Iri, Blank, Literal, Tagged}
 use Rattle.rsp_terms.specs.declared.statement.Quad.{Quad}
+use Rattle.rsp_scan.specs.Following.{FollowRules}
 use Rattle.rsp_nquads.specs.declared.statements.Part.{Part}
 use Rattle.rsp_nquads.specs.declared.statements.Parts.{Parts}
 use Rattle.rsp_scan.specs.Enclosed.{sign}
@@ -144,15 +145,15 @@ closed_finds text rest s e = rw (dot_behind text rest s, sign_finds 46 rest, end
 abbrev pub graph_read : List ℕ → Option (Term × List ℕ) → Option Part × List ℕ
 graph_read text o = option_map_or (λ x. (Some (record { term = x.0; left = length (behind_blanks text) }), x.1)) o (None, text)
 
-graph_found : (document : ℕ) (text : List ℕ)
+graph_found : (scanned : FollowRules) → (document : ℕ) (text : List ℕ)
     → IsGraph document text (graph_read text (node document (behind_blanks text))).1
     (option_map (λ (part : Part). part.term) (graph_read text (node document (behind_blanks text))).0)
-graph_found document text = by (node document (behind_blanks text)) refl
+graph_found scanned document text = by (node document (behind_blanks text)) refl
   where
     by : (o : Option (Term × List ℕ)) → node document (behind_blanks text) ≡ o
         → IsGraph document text (graph_read text o).1 (option_map (λ (part : Part). part.term) (graph_read text o).0)
     by None read = refl
-    by (Some x) read = stands_sound (node document) (IsNode document) (node_reads document) text x.1 x.0 read
+    by (Some x) read = stands_sound (node document) (IsNode document) (node_reads scanned document) text x.1 x.0 read
 
 no_node_at_dot : (document : ℕ) (rest : List ℕ) → node document (46 ∷ rest) ≡ None
 unfolding node iri string enclosed label sign
@@ -172,14 +173,14 @@ graph_again : (text : List ℕ) (graph : Option Term) → term_in (graph_at text
 graph_again text None = refl
 graph_again text (Some term) = refl
 
-graph_finds : (document : ℕ) (text rest after : List ℕ) (graph : Option Term) → IsGraph document text rest graph → Stands IsDot rest after tt
+graph_finds : (scanned : FollowRules) → (document : ℕ) (text rest after : List ℕ) (graph : Option Term) → IsGraph document text rest graph → Stands IsDot rest after tt
     → optional_part (node document) text ≡ (graph_at text graph, rest)
-graph_finds document text rest after None same dot =
+graph_finds scanned document text rest after None same dot =
     let here = dot_behind text after (subst (λ t. Stands IsDot t after tt) same dot) in
     let none : node document (behind_blanks text) ≡ None = ap (node document) here ∙ no_node_at_dot document after in
     rw (none, same) refl
-graph_finds document text rest after (Some term) stands dot =
-    let read = stands_full (node document) (IsNode document) (node_reads document) (node_starts document) text rest term stands in
+graph_finds scanned document text rest after (Some term) stands dot =
+    let read = stands_full (node document) (IsNode document) (node_reads scanned document) (node_starts scanned document) text rest term stands in
     rw read refl
 
 -- ---- what may follow an object
@@ -217,11 +218,11 @@ node_free text n = by n.kind
     by (inl is) = free_at text 60 n.others (n.is ∙ ap (λ c. c ∷ n.others) is) refl refl
     by (inr is) = free_at text 95 n.others (n.is ∙ ap (λ c. c ∷ n.others) is) refl refl
 
-graph_free : (document : ℕ) (text rest after : List ℕ) (graph : Option Term) → IsGraph document text rest graph → Stands IsDot rest after tt → IsFree text
-graph_free document text rest after None same dot =
+graph_free : (scanned : FollowRules) → (document : ℕ) (text rest after : List ℕ) (graph : Option Term) → IsGraph document text rest graph → Stands IsDot rest after tt → IsFree text
+graph_free scanned document text rest after None same dot =
     free_at text 46 after (dot_behind text after (subst (λ t. Stands IsDot t after tt) same dot)) refl refl
-graph_free document text rest after (Some term) s dot =
-    let here = stands_behind (node document) (IsNode document) (node_reads document) (node_starts document) text rest term s in
+graph_free scanned document text rest after (Some term) s dot =
+    let here = stands_behind (node document) (IsNode document) (node_reads scanned document) (node_starts scanned document) text rest term s in
     node_free text (subst Node (sym here) (node_first document s.part rest term s.is))
 
 not_end : (text : List ℕ) → Node text → is_end text ≡ false
@@ -234,10 +235,10 @@ not_end text n = rw n.is (by n.kind)
 
 -- ---- all parts
 
-pub object_stands : (document : ℕ) (text rest : List ℕ) (term : Term) → object document (behind_blanks text) ≡ term_of term rest
+pub object_stands : (scanned : FollowRules) → (document : ℕ) (text rest : List ℕ) (term : Term) → object document (behind_blanks text) ≡ term_of term rest
     → Stands (IsObject document) text rest term
-object_stands document text rest term is =
-    let p = object_sound document (behind_blanks text) rest term is in
+object_stands scanned document text rest term is =
+    let p = object_sound scanned document (behind_blanks text) rest term is in
     record {
       blanks = take (prefix_len is_blank text) text;
       part = p.0;
@@ -246,12 +247,12 @@ object_stands document text rest term is =
       is = p.1.1;
     }
 
-object_finds : (document : ℕ) (text rest : List ℕ) (term : Term) → IsFree rest → Stands (IsObject document) text rest term
+object_finds : (scanned : FollowRules) → (document : ℕ) (text rest : List ℕ) (term : Term) → IsFree rest → Stands (IsObject document) text rest term
     → object document (behind_blanks text) ≡ term_of term rest
-object_finds document text rest term free s =
+object_finds scanned document text rest term free s =
     let here : behind_blanks text ≡ s.part ++ rest
-    = ap behind_blanks s.text_is ∙ behind_onto s.blanks (s.part ++ rest) s.are_blanks (object_starts document s.part rest term s.is) in
-    ap (object document) here ∙ object_full document s.part rest term free s.is
+    = ap behind_blanks s.text_is ∙ behind_onto s.blanks (s.part ++ rest) s.are_blanks (object_starts scanned document s.part rest term s.is) in
+    ap (object document) here ∙ object_full scanned document s.part rest term free s.is
 
 -- the parts of a quad, each where it stands
 abbrev pub parts_at : (line after_subject after_predicate after_object : List ℕ) → Quad → Parts
@@ -288,9 +289,9 @@ all_read parts = Ok parts
 ok_same : (a b : Parts) → all_read a ≡ all_read b → a ≡ b
 ok_same a b h = cc
 
-pub parts_found : (document : ℕ) (line : List ℕ) (parts : Parts) → parts_of document line ≡ Ok parts → PartsRead document line parts
+pub parts_found : (scanned : FollowRules) → (document : ℕ) (line : List ℕ) (parts : Parts) → parts_of document line ≡ Ok parts → PartsRead document line parts
 unfolding parts_of
-parts_found document line parts is = by_subject (part_of (node document) line) refl is
+parts_found scanned document line parts is = by_subject (part_of (node document) line) refl is
   where
     by_end : (s p o : Part × List ℕ) → part_of (node document) line ≡ Ok s → part_of iri_term s.1 ≡ Ok p → part_of (object document) p.1 ≡ Ok o
         → (r : Result Bool ℕ) → closes (optional_part (node document) o.1).1 ≡ r
@@ -311,10 +312,10 @@ parts_found document line parts is = by_subject (part_of (node document) line) r
             after_object = o.1;
             after_graph = (optional_part (node document) o.1).1;
             after_dot = c.rest;
-            subject = stands_sound (node document) (IsNode document) (node_reads document) line s.1 s.0.term fs.read;
-            predicate = stands_sound iri_term IsIriTerm iri_term_reads s.1 p.1 p.0.term fp.read;
-            object = object_stands document p.1 o.1 o.0.term fo.read;
-            graph = graph_found document o.1;
+            subject = stands_sound (node document) (IsNode document) (node_reads scanned document) line s.1 s.0.term fs.read;
+            predicate = stands_sound iri_term IsIriTerm (iri_term_reads scanned) s.1 p.1 p.0.term fp.read;
+            object = object_stands scanned document p.1 o.1 o.0.term fo.read;
+            graph = graph_found scanned document o.1;
             dot = c.dot;
             ends = c.ends;
           };
@@ -335,18 +336,18 @@ parts_found document line parts is = by_subject (part_of (node document) line) r
     by_subject (Err left) hs is = absurd (cc)
     by_subject (Ok s) hs is = by_predicate s hs (part_of iri_term s.1) refl is
 
-pub parts_given : (document : ℕ) (line : List ℕ) (quad : Quad) → (h : IsStatement document line quad)
+pub parts_given : (scanned : FollowRules) → (document : ℕ) (line : List ℕ) (quad : Quad) → (h : IsStatement document line quad)
     → parts_of document line ≡ all_read (parts_at line h.after_subject h.after_predicate h.after_object quad)
 unfolding parts_of
-parts_given document line quad h =
-    let free = graph_free document h.after_object h.after_graph h.after_dot quad.graph h.graph h.dot in
+parts_given scanned document line quad h =
+    let free = graph_free scanned document h.after_object h.after_graph h.after_dot quad.graph h.graph h.dot in
     let s = part_finds (node document) line h.after_subject quad.triple.subject
-    (stands_full (node document) (IsNode document) (node_reads document) (node_starts document) line h.after_subject quad.triple.subject h.subject) in
+    (stands_full (node document) (IsNode document) (node_reads scanned document) (node_starts scanned document) line h.after_subject quad.triple.subject h.subject) in
     let p = part_finds iri_term h.after_subject h.after_predicate quad.triple.predicate
-    (stands_full iri_term IsIriTerm iri_term_reads iri_term_starts h.after_subject h.after_predicate quad.triple.predicate h.predicate) in
+    (stands_full iri_term IsIriTerm (iri_term_reads scanned) iri_term_starts h.after_subject h.after_predicate quad.triple.predicate h.predicate) in
     let o = part_finds (object document) h.after_predicate h.after_object quad.triple.object
-    (object_finds document h.after_predicate h.after_object quad.triple.object free h.object) in
-    let g = graph_finds document h.after_object h.after_graph h.after_dot quad.graph h.graph h.dot in
+    (object_finds scanned document h.after_predicate h.after_object quad.triple.object free h.object) in
+    let g = graph_finds scanned document h.after_object h.after_graph h.after_dot quad.graph h.graph h.dot in
     let c = closed_finds h.after_graph h.after_dot h.dot h.ends in
     rw (s, p, o, g, c) refl
 
@@ -448,18 +449,18 @@ pub nothing_at : (document : ℕ) (line : List ℕ) → is_end (behind_blanks li
 unfolding statement_of
 nothing_at document line end = rw end refl
 
-pub statement_goes_on : (document : ℕ) (line : List ℕ) (quad : Quad) → IsStatement document line quad → is_end (behind_blanks line) ≡ false
-statement_goes_on document line quad h =
-    let here = stands_behind (node document) (IsNode document) (node_reads document) (node_starts document) line h.after_subject quad.triple.subject h.subject in
+pub statement_goes_on : (scanned : FollowRules) → (document : ℕ) (line : List ℕ) (quad : Quad) → IsStatement document line quad → is_end (behind_blanks line) ≡ false
+statement_goes_on scanned document line quad h =
+    let here = stands_behind (node document) (IsNode document) (node_reads scanned document) (node_starts scanned document) line h.after_subject quad.triple.subject h.subject in
     not_end (behind_blanks line) (subst Node (sym here) (node_first document h.subject.part h.after_subject quad.triple.subject h.subject.is))
 
 -- the answer to a statement
-pub statement_answer : (document : ℕ) (line : List ℕ) (quad : Quad) (h : IsStatement document line quad)
+pub statement_answer : (scanned : FollowRules) → (document : ℕ) (line : List ℕ) (quad : Quad) (h : IsStatement document line quad)
     → statement_of document line
     ≡ judged_by line quad (find holds_relative (terms_in line h.after_subject h.after_predicate h.after_object quad))
-statement_answer document line quad h =
-    answer_at document line (statement_goes_on document line quad h)
-    ∙ (ap (answer line) (parts_given document line quad h) ∙ judged_in line quad line h.after_subject h.after_predicate h.after_object)
+statement_answer scanned document line quad h =
+    answer_at document line (statement_goes_on scanned document line quad h)
+    ∙ (ap (answer line) (parts_given scanned document line quad h) ∙ judged_in line quad line h.after_subject h.after_predicate h.after_object)
 
 -- a line is blank or a comment, has a first fault, or is a statement
 pub data Reading (document : ℕ) (line : List ℕ) : Type 0 where
@@ -467,22 +468,22 @@ pub data Reading (document : ℕ) (line : List ℕ) : Type 0 where
   fault : (left : ℕ) → is_end (behind_blanks line) ≡ false → parts_of document line ≡ Err left → Reading document line
   whole : (quad : Quad) → IsStatement document line quad → Reading document line
 
-pub reading : (document : ℕ) (line : List ℕ) → Reading document line
-reading document line = by (is_end (behind_blanks line)) refl (parts_of document line) refl
+pub reading : (scanned : FollowRules) → (document : ℕ) (line : List ℕ) → Reading document line
+reading scanned document line = by (is_end (behind_blanks line)) refl (parts_of document line) refl
   where
     by : (b : Bool) → is_end (behind_blanks line) ≡ b → (r : Result Parts ℕ) → parts_of document line ≡ r → Reading document line
     by true end r read = blank end
     by false end (Err left) read = fault left end read
-    by false end (Ok parts) read = whole (quad_of parts) (parts_found document line parts read).statement
+    by false end (Ok parts) read = whole (quad_of parts) (parts_found scanned document line parts read).statement
 
-pub says_to : (document : ℕ) (line : List ℕ) (quad : Quad) → Says document line quad → statement_of document line ≡ statement quad
-says_to document line quad h =
+pub says_to : (scanned : FollowRules) → (document : ℕ) (line : List ℕ) (quad : Quad) → Says document line quad → statement_of document line ≡ statement quad
+says_to scanned document line quad h =
     let s = h.statement in
-    statement_answer document line quad s
+    statement_answer scanned document line quad s
     ∙ ap (judged_by line quad) (absolute_finds line s.after_subject s.after_predicate s.after_object quad h.absolute)
 
-pub says_from : (document : ℕ) (line : List ℕ) (quad : Quad) → statement_of document line ≡ statement quad → Says document line quad
-says_from document line quad is = by (reading document line)
+pub says_from : (scanned : FollowRules) → (document : ℕ) (line : List ℕ) (quad : Quad) → statement_of document line ≡ statement quad → Says document line quad
+says_from scanned document line quad is = by (reading scanned document line)
   where
     by_found : (q : Quad) (s : IsStatement document line q) (o : Option (List ℕ × Term))
         → find holds_relative (terms_in line s.after_subject s.after_predicate s.after_object q) ≡ o → judged_by line q o ≡ statement quad
@@ -497,10 +498,10 @@ says_from document line quad is = by (reading document line)
     by (fault left end read) = absurd (let said = sym (answer_at document line end ∙ ap (answer line) read) ∙ is in cc)
     by (whole q s) =
         by_found q s (find holds_relative (terms_in line s.after_subject s.after_predicate s.after_object q)) refl
-        (sym (statement_answer document line q s) ∙ is)
+        (sym (statement_answer scanned document line q s) ∙ is)
 
-pub nothing_from : (document : ℕ) (line : List ℕ) → statement_of document line ≡ nothing → SaysNothing line
-nothing_from document line is = by (reading document line)
+pub nothing_from : (scanned : FollowRules) → (document : ℕ) (line : List ℕ) → statement_of document line ≡ nothing → SaysNothing line
+nothing_from scanned document line is = by (reading scanned document line)
   where
     by_found : (q : Quad) (o : Option (List ℕ × Term)) → judged_by line q o ≡ nothing → SaysNothing line
     by_found q (Some x) said = absurd (cc)
@@ -510,7 +511,7 @@ nothing_from document line is = by (reading document line)
     by (blank end) = end_found line end
     by (fault left end read) = absurd (let said = sym (answer_at document line end ∙ ap (answer line) read) ∙ is in cc)
     by (whole q s) =
-        by_found q (find holds_relative (terms_in line s.after_subject s.after_predicate s.after_object q)) (sym (statement_answer document line q s) ∙ is)
+        by_found q (find holds_relative (terms_in line s.after_subject s.after_predicate s.after_object q)) (sym (statement_answer scanned document line q s) ∙ is)
 
 pub nothing_to : (document : ℕ) (line : List ℕ) → SaysNothing line → statement_of document line ≡ nothing
 nothing_to document line h = nothing_at document line (end_finds line h)

@@ -15,8 +15,8 @@ use Rattle.rsp_text.specs.Fronts.{is_blank, behind_blanks}
 use Rattle.rsp_scan.specs.Names.{IsLabel, IsTag}
 use Rattle.rsp_nquads.specs.Grammar.{Stands, IsDatatype, IsQualified, IsLiteral, IsIriTerm, IsNode, IsObject}
 use Rattle.rsp_scan.proofs.Pieces.{both_of, all_run}
-use Rattle.rsp_scan.proofs.RuleLaws.{Reads, sign_found, sign_finds, iri_reads, string_reads}
-use Rattle.rsp_scan.proofs.NameLaws.{tag_reads, label_reads}
+use Rattle.rsp_scan.proofs.RuleLaws.{sign_found, sign_finds}
+use Rattle.rsp_scan.specs.Following.{Reads, FollowRules}
 
 -- ---- blanks
 
@@ -83,9 +83,9 @@ tag_starts part rest v e = rw e.part_is refl
 datatype_starts : StartsWell IsDatatype
 datatype_starts part rest v e = rw e.part_is refl
 
-datatype_sound : (text rest v : List ℕ) → datatype text ≡ both_of v rest → (part : List ℕ) × ((text ≡ part ++ rest) × IsDatatype part rest v)
+datatype_sound : (scanned : FollowRules) → (text rest v : List ℕ) → datatype text ≡ both_of v rest → (part : List ℕ) × ((text ≡ part ++ rest) × IsDatatype part rest v)
 unfolding datatype
-datatype_sound text rest v is = by_first (sign 94 text) refl is
+datatype_sound scanned text rest v is = by_first (sign 94 text) refl is
   where
     Goal : Type 0
     Goal = (part : List ℕ) × ((text ≡ part ++ rest) × IsDatatype part rest v)
@@ -94,7 +94,7 @@ datatype_sound text rest v is = by_first (sign 94 text) refl is
         → option_and_then (λ inner. iri (behind_blanks inner)) o ≡ both_of v rest → Goal
     by_second more first None second is = absurd (cc)
     by_second more first (Some inner) second is =
-        let s = stands_sound iri IsIri iri_reads inner rest v is in
+        let s = stands_sound iri IsIri scanned.iris inner rest v is in
         let start = sign_found 94 text more first ∙ ap (λ ys. 94 ∷ ys) (sign_found 94 more inner second) in
         let split : inner ≡ (s.blanks ++ s.part) ++ rest = s.text_is ∙ sym (append_assoc s.blanks s.part rest) in (
           94 ∷ 94 ∷ (s.blanks ++ s.part),
@@ -119,15 +119,15 @@ datatype_sound text rest v is = by_first (sign 94 text) refl is
     by_first None first is = absurd (cc)
     by_first (Some more) first is = by_second more first (sign 94 more) refl is
 
-datatype_full : (part rest v : List ℕ) → IsDatatype part rest v → datatype (part ++ rest) ≡ both_of v rest
+datatype_full : (scanned : FollowRules) → (part rest v : List ℕ) → IsDatatype part rest v → datatype (part ++ rest) ≡ both_of v rest
 unfolding datatype
-datatype_full part rest v e =
+datatype_full scanned part rest v e =
     let start : part ++ rest ≡ 94 ∷ 94 ∷ (e.behind ++ rest) = ap (λ ys. ys ++ rest) e.part_is in
     rw (start, sign_finds 94 (94 ∷ (e.behind ++ rest)), sign_finds 94 (e.behind ++ rest))
-    (stands_full iri IsIri iri_reads iri_starts (e.behind ++ rest) rest v e.name_is)
+    (stands_full iri IsIri scanned.iris iri_starts (e.behind ++ rest) rest v e.name_is)
 
-datatype_reads : Reads datatype IsDatatype
-datatype_reads = record { sound = datatype_sound; full = datatype_full }
+datatype_reads : (scanned : FollowRules) → Reads datatype IsDatatype
+datatype_reads scanned = record { sound = datatype_sound scanned; full = datatype_full scanned }
 
 -- ---- literals
 
@@ -160,10 +160,10 @@ split_again : (s blanks part rest text all : List ℕ) → all ≡ s ++ text →
 split_again s blanks part rest text all first second =
     first ∙ (ap (λ ys. s ++ ys) (second ∙ sym (append_assoc blanks part rest)) ∙ sym (append_assoc s (blanks ++ part) rest))
 
-literal_from : (all s text rest lexical : List ℕ) (term : Term) → all ≡ s ++ text → IsString s text lexical → literal_of lexical text ≡ term_of term rest
+literal_from : (scanned : FollowRules) → (all s text rest lexical : List ℕ) (term : Term) → all ≡ s ++ text → IsString s text lexical → literal_of lexical text ≡ term_of term rest
     → (part : List ℕ) × ((all ≡ part ++ rest) × IsLiteral part rest term)
 unfolding literal_of
-literal_from all s text rest lexical term split string_is is =
+literal_from scanned all s text rest lexical term split string_is is =
     by (datatype (behind_blanks text)) refl (tag (behind_blanks text)) refl is
   where
     by : (d : Option (List ℕ × List ℕ)) → datatype (behind_blanks text) ≡ d → (t : Option (List ℕ × List ℕ)) → tag (behind_blanks text) ≡ t
@@ -172,7 +172,7 @@ literal_from all s text rest lexical term split string_is is =
         → (part : List ℕ) × ((all ≡ part ++ rest) × IsLiteral part rest term)
     by (Some x) d_is t t_is is =
         let same = term_same (Literal lexical x.0) term x.1 rest is in
-        let q = stands_sound datatype IsDatatype datatype_reads text rest x.0 (d_is ∙ ap (λ r. both_of x.0 r) same.1) in (
+        let q = stands_sound datatype IsDatatype (datatype_reads scanned) text rest x.0 (d_is ∙ ap (λ r. both_of x.0 r) same.1) in (
           s ++ (q.blanks ++ q.part),
           (
             split_again s q.blanks q.part rest text all split q.text_is,
@@ -181,7 +181,7 @@ literal_from all s text rest lexical term split string_is is =
         )
     by None d_is (Some x) t_is is =
         let same = term_same (Tagged lexical x.0) term x.1 rest is in
-        let q = stands_sound tag IsTag tag_reads text rest x.0 (t_is ∙ ap (λ r. both_of x.0 r) same.1) in (
+        let q = stands_sound tag IsTag scanned.tags text rest x.0 (t_is ∙ ap (λ r. both_of x.0 r) same.1) in (
           s ++ (q.blanks ++ q.part),
           (
             split_again s q.blanks q.part rest text all split q.text_is,
@@ -197,17 +197,17 @@ literal_from all s text rest lexical term split string_is is =
           ),
         )
 
-pub literal_sound : (text rest : List ℕ) (term : Term) → literal text ≡ term_of term rest
+pub literal_sound : (scanned : FollowRules) → (text rest : List ℕ) (term : Term) → literal text ≡ term_of term rest
     → (part : List ℕ) × ((text ≡ part ++ rest) × IsLiteral part rest term)
 unfolding literal
-literal_sound text rest term is = by (string text) refl is
+literal_sound scanned text rest term is = by (string text) refl is
   where
     by : (o : Option (List ℕ × List ℕ)) → string text ≡ o → option_and_then (λ x. literal_of x.0 x.1) o ≡ term_of term rest
         → (part : List ℕ) × ((text ≡ part ++ rest) × IsLiteral part rest term)
     by None read is = absurd (cc)
     by (Some x) read is =
-        let s = string_reads.sound text x.1 x.0 read in
-        literal_from text s.0 x.1 rest x.0 term s.1.0 s.1.1 is
+        let s = scanned.strings.sound text x.1 x.0 read in
+        literal_from scanned text s.0 x.1 rest x.0 term s.1.0 s.1.1 is
 
 -- no datatype and no tag stands behind the blanks
 pub record IsFree (rest : List ℕ) : Type 0 where
@@ -218,42 +218,42 @@ no_datatype_at_tag : (part rest language : List ℕ) → IsTag part rest languag
 unfolding datatype sign
 no_datatype_at_tag part rest language e = rw e.part_is refl
 
-literal_typed : (part rest lexical name : List ℕ) → IsQualified IsDatatype part rest lexical name
+literal_typed : (scanned : FollowRules) → (part rest lexical name : List ℕ) → IsQualified IsDatatype part rest lexical name
     → literal (part ++ rest) ≡ term_of (Literal lexical name) rest
 unfolding literal literal_of
-literal_typed part rest lexical name q =
+literal_typed scanned part rest lexical name q =
     let split : part ++ rest ≡ q.string ++ (q.behind ++ rest) = ap (λ ys. ys ++ rest) q.part_is ∙ append_assoc q.string q.behind rest in
     rw (
       split,
-      string_reads.full q.string (q.behind ++ rest) lexical q.is_string,
-      stands_full datatype IsDatatype datatype_reads datatype_starts (q.behind ++ rest) rest name q.name_is,
+      scanned.strings.full q.string (q.behind ++ rest) lexical q.is_string,
+      stands_full datatype IsDatatype (datatype_reads scanned) datatype_starts (q.behind ++ rest) rest name q.name_is,
     )
     refl
 
-literal_tagged : (part rest lexical language : List ℕ) → IsQualified IsTag part rest lexical language
+literal_tagged : (scanned : FollowRules) → (part rest lexical language : List ℕ) → IsQualified IsTag part rest lexical language
     → literal (part ++ rest) ≡ term_of (Tagged lexical language) rest
 unfolding literal literal_of
-literal_tagged part rest lexical language q =
+literal_tagged scanned part rest lexical language q =
     let split : part ++ rest ≡ q.string ++ (q.behind ++ rest) = ap (λ ys. ys ++ rest) q.part_is ∙ append_assoc q.string q.behind rest in
-    let behind = stands_behind tag IsTag tag_reads tag_starts (q.behind ++ rest) rest language q.name_is in
+    let behind = stands_behind tag IsTag scanned.tags tag_starts (q.behind ++ rest) rest language q.name_is in
     let none : datatype (behind_blanks (q.behind ++ rest)) ≡ None
     = ap datatype behind ∙ no_datatype_at_tag q.name_is.part rest language q.name_is.is in
     rw (
       split,
-      string_reads.full q.string (q.behind ++ rest) lexical q.is_string,
+      scanned.strings.full q.string (q.behind ++ rest) lexical q.is_string,
       none,
-      stands_full tag IsTag tag_reads tag_starts (q.behind ++ rest) rest language q.name_is,
+      stands_full tag IsTag scanned.tags tag_starts (q.behind ++ rest) rest language q.name_is,
     )
     refl
 
-pub literal_full : (part rest : List ℕ) (term : Term) → IsFree rest → IsLiteral part rest term → literal (part ++ rest) ≡ term_of term rest
+pub literal_full : (scanned : FollowRules) → (part rest : List ℕ) (term : Term) → IsFree rest → IsLiteral part rest term → literal (part ++ rest) ≡ term_of term rest
 unfolding literal literal_of
-literal_full part rest (Iri name) free e = absurd e
-literal_full part rest (Blank number name) free e = absurd e
-literal_full part rest (Literal lexical name) free (inl q) = literal_typed part rest lexical name q
-literal_full part rest (Literal lexical name) free (inr e) =
-    rw (string_reads.full part rest lexical e.1, free.no_datatype, free.no_tag, e.0) refl
-literal_full part rest (Tagged lexical language) free q = literal_tagged part rest lexical language q
+literal_full scanned part rest (Iri name) free e = absurd e
+literal_full scanned part rest (Blank number name) free e = absurd e
+literal_full scanned part rest (Literal lexical name) free (inl q) = literal_typed scanned part rest lexical name q
+literal_full scanned part rest (Literal lexical name) free (inr e) =
+    rw (scanned.strings.full part rest lexical e.1, free.no_datatype, free.no_tag, e.0) refl
+literal_full scanned part rest (Tagged lexical language) free q = literal_tagged scanned part rest lexical language q
 
 -- what a reader of terms reads leaves no more than this
 pub record LeavesLess (reader : PartReader Term) (text rest : List ℕ) : Type 0 where
@@ -269,9 +269,9 @@ stands_less rule text rest v s =
     let second = length-append s.part rest in
     omega arith
 
-qualified_less : (lexical text : List ℕ) → LeavesLess (literal_of lexical) text text
+qualified_less : (scanned : FollowRules) → (lexical text : List ℕ) → LeavesLess (literal_of lexical) text text
 unfolding literal_of
-qualified_less lexical text = by (datatype (behind_blanks text)) refl (tag (behind_blanks text)) refl
+qualified_less scanned lexical text = by (datatype (behind_blanks text)) refl (tag (behind_blanks text)) refl
   where
     by : (d : Option (List ℕ × List ℕ)) → datatype (behind_blanks text) ≡ d → (t : Option (List ℕ × List ℕ)) → tag (behind_blanks text) ≡ t
         → LeavesLess (literal_of lexical) text text
@@ -279,13 +279,13 @@ qualified_less lexical text = by (datatype (behind_blanks text)) refl (tag (behi
       term = Literal lexical x.0;
       behind = x.1;
       is = rw d_is refl;
-      less = stands_less IsDatatype text x.1 x.0 (stands_sound datatype IsDatatype datatype_reads text x.1 x.0 d_is);
+      less = stands_less IsDatatype text x.1 x.0 (stands_sound datatype IsDatatype (datatype_reads scanned) text x.1 x.0 d_is);
     }
     by None d_is (Some x) t_is = record {
       term = Tagged lexical x.0;
       behind = x.1;
       is = rw (d_is, t_is) refl;
-      less = stands_less IsTag text x.1 x.0 (stands_sound tag IsTag tag_reads text x.1 x.0 t_is);
+      less = stands_less IsTag text x.1 x.0 (stands_sound tag IsTag scanned.tags text x.1 x.0 t_is);
     }
     by None d_is None t_is = record {
       term = Literal lexical xsd_string;
@@ -294,39 +294,39 @@ qualified_less lexical text = by (datatype (behind_blanks text)) refl (tag (behi
       less = omega arith;
     }
 
-literal_less : (part rest : List ℕ) (term : Term) → IsLiteral part rest term → LeavesLess literal (part ++ rest) rest
+literal_less : (scanned : FollowRules) → (part rest : List ℕ) (term : Term) → IsLiteral part rest term → LeavesLess literal (part ++ rest) rest
 unfolding literal
-literal_less part rest (Iri name) e = absurd e
-literal_less part rest (Blank number name) e = absurd e
-literal_less part rest (Literal lexical name) (inl q) =
-    record { term = Literal lexical name; behind = rest; is = literal_typed part rest lexical name q; less = omega arith }
-literal_less part rest (Literal lexical name) (inr e) =
-    let more = qualified_less lexical rest in
-    record { term = more.term; behind = more.behind; is = rw (string_reads.full part rest lexical e.1) more.is; less = more.less }
-literal_less part rest (Tagged lexical language) q =
-    record { term = Tagged lexical language; behind = rest; is = literal_tagged part rest lexical language q; less = omega arith }
+literal_less scanned part rest (Iri name) e = absurd e
+literal_less scanned part rest (Blank number name) e = absurd e
+literal_less scanned part rest (Literal lexical name) (inl q) =
+    record { term = Literal lexical name; behind = rest; is = literal_typed scanned part rest lexical name q; less = omega arith }
+literal_less scanned part rest (Literal lexical name) (inr e) =
+    let more = qualified_less scanned lexical rest in
+    record { term = more.term; behind = more.behind; is = rw (scanned.strings.full part rest lexical e.1) more.is; less = more.less }
+literal_less scanned part rest (Tagged lexical language) q =
+    record { term = Tagged lexical language; behind = rest; is = literal_tagged scanned part rest lexical language q; less = omega arith }
 
 -- ---- terms of a statement
 
-iri_term_sound : (text rest : List ℕ) (term : Term) → iri_term text ≡ term_of term rest → (part : List ℕ) × ((text ≡ part ++ rest) × IsIriTerm part rest term)
-iri_term_sound text rest term is = by (iri text) refl is
+iri_term_sound : (scanned : FollowRules) → (text rest : List ℕ) (term : Term) → iri_term text ≡ term_of term rest → (part : List ℕ) × ((text ≡ part ++ rest) × IsIriTerm part rest term)
+iri_term_sound scanned text rest term is = by (iri text) refl is
   where
     by : (o : Option (List ℕ × List ℕ)) → iri text ≡ o → told (λ name. Iri name) o ≡ term_of term rest
         → (part : List ℕ) × ((text ≡ part ++ rest) × IsIriTerm part rest term)
     by None read is = absurd (cc)
     by (Some x) read is =
         let same = term_same (Iri x.0) term x.1 rest is in
-        let p = iri_reads.sound text rest x.0 (read ∙ ap (λ r. both_of x.0 r) same.1) in
+        let p = scanned.iris.sound text rest x.0 (read ∙ ap (λ r. both_of x.0 r) same.1) in
         (p.0, (p.1.0, subst (λ y. IsIriTerm p.0 rest y) same.0 p.1.1))
 
-iri_term_full : (part rest : List ℕ) (term : Term) → IsIriTerm part rest term → iri_term (part ++ rest) ≡ term_of term rest
-iri_term_full part rest (Iri name) e = rw (iri_reads.full part rest name e) refl
-iri_term_full part rest (Blank number name) e = absurd e
-iri_term_full part rest (Literal lexical name) e = absurd e
-iri_term_full part rest (Tagged lexical language) e = absurd e
+iri_term_full : (scanned : FollowRules) → (part rest : List ℕ) (term : Term) → IsIriTerm part rest term → iri_term (part ++ rest) ≡ term_of term rest
+iri_term_full scanned part rest (Iri name) e = rw (scanned.iris.full part rest name e) refl
+iri_term_full scanned part rest (Blank number name) e = absurd e
+iri_term_full scanned part rest (Literal lexical name) e = absurd e
+iri_term_full scanned part rest (Tagged lexical language) e = absurd e
 
-pub iri_term_reads : Reads iri_term IsIriTerm
-iri_term_reads = record { sound = iri_term_sound; full = iri_term_full }
+pub iri_term_reads : (scanned : FollowRules) → Reads iri_term IsIriTerm
+iri_term_reads scanned = record { sound = iri_term_sound scanned; full = iri_term_full scanned }
 
 pub iri_term_starts : StartsWell IsIriTerm
 iri_term_starts part rest (Iri name) e = iri_starts part rest name e
@@ -340,7 +340,7 @@ node_of_iri document part rest (Blank number name) e = absurd e
 node_of_iri document part rest (Literal lexical name) e = absurd e
 node_of_iri document part rest (Tagged lexical language) e = absurd e
 
-module _ (document : ℕ) where
+module _ (scanned : FollowRules) (document : ℕ) where
   blank_sound : (text rest : List ℕ) (term : Term) → blank document text ≡ term_of term rest → (part : List ℕ) × ((text ≡ part ++ rest) × IsNode document part rest term)
   blank_sound text rest term is = by (label text) refl is
     where
@@ -349,7 +349,7 @@ module _ (document : ℕ) where
       by None read is = absurd (cc)
       by (Some x) read is =
           let same = term_same (Blank document x.0) term x.1 rest is in
-          let p = label_reads.sound text rest x.0 (read ∙ ap (λ r. both_of x.0 r) same.1) in
+          let p = scanned.labels.sound text rest x.0 (read ∙ ap (λ r. both_of x.0 r) same.1) in
           (p.0, (p.1.0, subst (λ y. IsNode document p.0 rest y) same.0 (refl, p.1.1)))
 
   node_sound : (text rest : List ℕ) (term : Term) → node document text ≡ term_of term rest → (part : List ℕ) × ((text ≡ part ++ rest) × IsNode document part rest term)
@@ -360,7 +360,7 @@ module _ (document : ℕ) where
           → (part : List ℕ) × ((text ≡ part ++ rest) × IsNode document part rest term)
       by None read is = blank_sound text rest term is
       by (Some x) read is =
-          let p = iri_term_sound text rest term (read ∙ is) in
+          let p = iri_term_sound scanned text rest term (read ∙ is) in
           (p.0, (p.1.0, node_of_iri document p.0 rest term p.1.1))
 
   no_iri_at_label : (part rest name : List ℕ) → IsLabel part rest name → iri_term (part ++ rest) ≡ None
@@ -369,8 +369,8 @@ module _ (document : ℕ) where
 
   node_full : (part rest : List ℕ) (term : Term) → IsNode document part rest term → node document (part ++ rest) ≡ term_of term rest
   unfolding node
-  node_full part rest (Iri name) e = rw (iri_term_full part rest (Iri name) e) refl
-  node_full part rest (Blank number name) e = rw (no_iri_at_label part rest name e.1, label_reads.full part rest name e.1, e.0) refl
+  node_full part rest (Iri name) e = rw (iri_term_full scanned part rest (Iri name) e) refl
+  node_full part rest (Blank number name) e = rw (no_iri_at_label part rest name e.1, scanned.labels.full part rest name e.1, e.0) refl
   node_full part rest (Literal lexical name) e = absurd e
   node_full part rest (Tagged lexical language) e = absurd e
 
@@ -390,7 +390,7 @@ module _ (document : ℕ) where
     where
       by : (o : Option (Term × List ℕ)) → node document text ≡ o → option_or o (literal text) ≡ term_of term rest
           → (part : List ℕ) × ((text ≡ part ++ rest) × IsObject document part rest term)
-      by None read is = let p = literal_sound text rest term is in (p.0, (p.1.0, inr p.1.1))
+      by None read is = let p = literal_sound scanned text rest term is in (p.0, (p.1.0, inr p.1.1))
       by (Some x) read is = let p = node_sound text rest term (read ∙ is) in (p.0, (p.1.0, inl p.1.1))
 
   -- a literal begins with its quotation mark
@@ -411,7 +411,7 @@ module _ (document : ℕ) where
   object_full part rest term free (inr e) =
       let q = quoted part rest term e in
       let none : node document (part ++ rest) ≡ None = ap (node document) q.1 ∙ no_node q.0 in
-      rw (none, literal_full part rest term free e) refl
+      rw (none, literal_full scanned part rest term free e) refl
 
   -- whatever stands, the reader reads what is no shorter
   pub object_less : (part rest : List ℕ) (term : Term) → IsObject document part rest term → LeavesLess (object document) (part ++ rest) rest
@@ -420,7 +420,7 @@ module _ (document : ℕ) where
   object_less part rest term (inr e) =
       let q = quoted part rest term e in
       let none : node document (part ++ rest) ≡ None = ap (node document) q.1 ∙ no_node q.0 in
-      let more = literal_less part rest term e in
+      let more = literal_less scanned part rest term e in
       record { term = more.term; behind = more.behind; is = rw none more.is; less = more.less }
 
   pub object_starts : StartsWell (IsObject document)

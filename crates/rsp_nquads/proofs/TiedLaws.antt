@@ -4,6 +4,7 @@ use Rattle.std.specs.List.{find, cons_option, AllByRecursion}
 use Rattle.std.specs.Option.{option_map}
 use Rattle.rsp_terms.specs.declared.term.Term.{Term}
 use Rattle.rsp_terms.specs.declared.statement.Quad.{Quad}
+use Rattle.rsp_scan.specs.Following.{FollowRules}
 use Rattle.rsp_nquads.specs.declared.fault.LineFault.{LineFault}
 use Rattle.rsp_nquads.specs.declared.fault.LineFault.TheVariants.{BadStatement, RelativeIri, OutOfMemory}
 use Rattle.rsp_text.specs.Fronts.{behind_blanks}
@@ -21,8 +22,8 @@ relative_same m n is = cc
 
 -- ---- the first fault
 
-fault_from : (document : ℕ) (line : List ℕ) (n : ℕ) → statement_of document line ≡ bad_statement n → IsFirstFault document line n
-fault_from document line n is = by (reading document line)
+fault_from : (scanned : FollowRules) → (document : ℕ) (line : List ℕ) (n : ℕ) → statement_of document line ≡ bad_statement n → IsFirstFault document line n
+fault_from scanned document line n is = by (reading scanned document line)
   where
     by_found : (q : Quad) (o : Option (List ℕ × Term)) → judged_by line q o ≡ bad_statement n → IsFirstFault document line n
     by_found q (Some x) said = absurd (cc)
@@ -31,7 +32,7 @@ fault_from document line n is = by (reading document line)
     by : Reading document line → IsFirstFault document line n
     by (blank end) = absurd (let said = sym (nothing_at document line end) ∙ is in cc)
     by (fault left end read) =
-        let h = halts document line left read in
+        let h = halts scanned document line left read in
         let said = sym (answer_at document line end ∙ ap (answer line) read) ∙ is in
         record {
           says_something = λ blank. let none = sym (nothing_to document line blank) ∙ is in cc;
@@ -41,16 +42,16 @@ fault_from document line n is = by (reading document line)
               (column_at line h.left (subject_within document line h.left h.is));
         }
     by (whole q s) =
-        by_found q (find holds_relative (terms_in line s.after_subject s.after_predicate s.after_object q)) (sym (statement_answer document line q s) ∙ is)
+        by_found q (find holds_relative (terms_in line s.after_subject s.after_predicate s.after_object q)) (sym (statement_answer scanned document line q s) ∙ is)
 
-fault_to : (document : ℕ) (line : List ℕ) (n : ℕ) → IsFirstFault document line n → statement_of document line ≡ bad_statement n
-fault_to document line n h = by (is_end (behind_blanks line)) refl
+fault_to : (scanned : FollowRules) → (document : ℕ) (line : List ℕ) (n : ℕ) → IsFirstFault document line n → statement_of document line ≡ bad_statement n
+fault_to scanned document line n h = by (is_end (behind_blanks line)) refl
   where
     by : (b : Bool) → is_end (behind_blanks line) ≡ b → statement_of document line ≡ bad_statement n
-    by true end = absurd (h.says_something (nothing_from document line (nothing_at document line end)))
+    by true end = absurd (h.says_something (nothing_from scanned document line (nothing_at document line end)))
     by false end =
         answer_at document line end
-        ∙ (ap (answer line) (faults document line h.left h.fault) ∙ ap bad_statement (column_of line h.left n h.column_is))
+        ∙ (ap (answer line) (faults scanned document line h.left h.fault) ∙ ap bad_statement (column_of line h.left n h.column_is))
 
 -- ---- the first relative IRI
 
@@ -96,8 +97,8 @@ place_within document line quad s x found = by quad.graph found
         ((line, quad.triple.subject) ∷ (s.after_subject, quad.triple.predicate) ∷ (s.after_predicate, quad.triple.object) ∷ (s.after_object, name) ∷ [])
         x (all, (second, (third, (fourth, tt)))) is
 
-relative_from : (document : ℕ) (line : List ℕ) (n : ℕ) → statement_of document line ≡ relative_iri n → IsFirstRelative document line n
-relative_from document line n is = by (reading document line)
+relative_from : (scanned : FollowRules) → (document : ℕ) (line : List ℕ) (n : ℕ) → statement_of document line ≡ relative_iri n → IsFirstRelative document line n
+relative_from scanned document line n is = by (reading scanned document line)
   where
     by_found : (q : Quad) (s : IsStatement document line q) (o : Option (List ℕ × Term))
         → find holds_relative (terms_in line s.after_subject s.after_predicate s.after_object q) ≡ o → judged_by line q o ≡ relative_iri n
@@ -118,31 +119,31 @@ relative_from document line n is = by (reading document line)
     by (fault left end read) = absurd (let said = sym (answer_at document line end ∙ ap (answer line) read) ∙ is in cc)
     by (whole q s) =
         by_found q s (find holds_relative (terms_in line s.after_subject s.after_predicate s.after_object q)) refl
-        (sym (statement_answer document line q s) ∙ is)
+        (sym (statement_answer scanned document line q s) ∙ is)
 
-relative_to : (document : ℕ) (line : List ℕ) (n : ℕ) → IsFirstRelative document line n → statement_of document line ≡ relative_iri n
-relative_to document line n h =
-    statement_answer document line h.quad h.statement
+relative_to : (scanned : FollowRules) → (document : ℕ) (line : List ℕ) (n : ℕ) → IsFirstRelative document line n → statement_of document line ≡ relative_iri n
+relative_to scanned document line n h =
+    statement_answer scanned document line h.quad h.statement
     ∙ (ap (judged_by line h.quad) h.first ∙ ap relative_iri (column_of line h.text n h.column_is))
 
 -- ---- every line
 
-pub tied : (document : ℕ) (line : List ℕ) → IsTied document line (statement_of document line)
-tied document line = record {
-  says_nothing = (nothing_from document line, nothing_to document line);
-  says = λ quad. (says_from document line quad, says_to document line quad);
-  first_fault = λ n. (fault_from document line n, fault_to document line n);
-  first_relative = λ n. (relative_from document line n, relative_to document line n);
+pub tied : (scanned : FollowRules) → (document : ℕ) (line : List ℕ) → IsTied document line (statement_of document line)
+tied scanned document line = record {
+  says_nothing = (nothing_from scanned document line, nothing_to document line);
+  says = λ quad. (says_from scanned document line quad, says_to scanned document line quad);
+  first_fault = λ n. (fault_from scanned document line n, fault_to scanned document line n);
+  first_relative = λ n. (relative_from scanned document line n, relative_to scanned document line n);
 }
 
 -- ---- what the call answers
 
-only : (document : ℕ) (line : List ℕ) (given : Answer) → IsTied document line given → statement_of document line ≡ given
-only document line nothing t = nothing_to document line (t.says_nothing.0 refl)
-only document line (statement quad) t = says_to document line quad ((t.says quad).0 refl)
-only document line (bad_statement column) t = fault_to document line column ((t.first_fault column).0 refl)
-only document line (relative_iri column) t = relative_to document line column ((t.first_relative column).0 refl)
+only : (scanned : FollowRules) → (document : ℕ) (line : List ℕ) (given : Answer) → IsTied document line given → statement_of document line ≡ given
+only scanned document line nothing t = nothing_to document line (t.says_nothing.0 refl)
+only scanned document line (statement quad) t = says_to scanned document line quad ((t.says quad).0 refl)
+only scanned document line (bad_statement column) t = fault_to scanned document line column ((t.first_fault column).0 refl)
+only scanned document line (relative_iri column) t = relative_to scanned document line column ((t.first_relative column).0 refl)
 
-pub by_grammar : (document : ℕ) (line : List ℕ) (result : Result (Option Quad) LineFault) → IsAnswer result (statement_of document line)
+pub by_grammar : (scanned : FollowRules) → (document : ℕ) (line : List ℕ) (result : Result (Option Quad) LineFault) → IsAnswer result (statement_of document line)
     → IsByGrammar document line result
-by_grammar document line result is = λ given t. subst (IsAnswer result) (only document line given t) is
+by_grammar scanned document line result is = λ given t. subst (IsAnswer result) (only scanned document line given t) is

@@ -3,7 +3,7 @@ ghost use Rattle.std.specs.Prelude.{◌≡◌, ◌↔◌, ℕ, List, Some, IfOk}
 ghost use Rattle.rsp_nquads.specs.Grammar.{IsAbsoluteIri};
 ghost use Rattle.rsp_nquads.specs.Fields.{absolute_iri};
 
-use rsp_scan::iri;
+use rsp_scan::{follow_rules, iri};
 use rsp_terms::Text;
 use rsp_terms::characters::is_absolute;
 use std::alloc::{AllocError, Global};
@@ -17,6 +17,7 @@ pub fn absolute_iri(alloc: Global, field: &[u8]) -> Result<Option<Text>, AllocEr
     ensures value { IfOk result (λ name. name ≡ absolute_iri field.now) }
     ensures grammar { (name : List ℕ) → (absolute_iri field.now ≡ Some name) ↔ IsAbsoluteIri field.now name }
 {
+    follow_rules();
     whole_iri(alloc, field)
 }
 

@@ -9,7 +9,7 @@ ghost use Rattle.rsp_nquads.specs.Answers.{IsAnswer, IsByGrammar, IsTied};
 
 use crate::LineFault;
 use crate::terms::{iri_term, node, object};
-use rsp_scan::sign;
+use rsp_scan::{follow_rules, sign};
 use rsp_terms::characters::is_absolute;
 use rsp_terms::{Quad, Term, Triple};
 use rsp_text::behind_blanks;
@@ -69,6 +69,7 @@ pub fn statement(alloc: Global, document: u32, line: &[u8]) -> Result<Option<Qua
     // the grammar says the same of every line, read or not
     ensures every_line { (number : ℕ) (text : List ℕ) → IsTied number text (lines.statement_of number text) }
 {
+    follow_rules();
     said(alloc, document, line)
 }
 

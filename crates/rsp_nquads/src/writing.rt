@@ -5,6 +5,7 @@ ghost use Rattle.rsp_nquads.specs.Answers.{statement};
 ghost use Rattle.rsp_nquads.specs.Statements.{statement_of};
 ghost use Rattle.rsp_nquads.specs.Writing.{line_of, graph_text, HasNoBlank};
 
+use rsp_scan::follow_rules;
 use rsp_terms::{Quad, Term, print};
 use std::alloc::AllocError;
 
@@ -20,6 +21,7 @@ pub fn write(quad: &Quad, out: &mut Vec<u8>) -> Result<(), AllocError>
     ensures read_back { (of : ℕ) (line : List ℕ) → statement_of of line ≡ statement quad.now → HasNoBlank quad.now
         → (document : ℕ) → statement_of document (line_of quad.now) ≡ statement quad.now }
 {
+    follow_rules();
     let before = out.len();
     let written = push_line(quad, out);
     if written.is_err() {

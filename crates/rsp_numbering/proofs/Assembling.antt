@@ -9,7 +9,7 @@ use Rattle.rsp_numbering.specs.Naming.{Before, nothing, variable_text}
 use Rattle.rsp_numbering.specs.SelectionSteps.{behind_selected, selected_of}
 use Rattle.rsp_numbering.specs.Clauses.{operator_of}
 use Rattle.rsp_numbering.specs.Counting.{passed_as_written, variables_of}
-use Rattle.rsp_numbering.specs.Limits.{select_operators}
+use Rattle.rsp_numbering.specs.Operators.{select_operators}
 use Rattle.rsp_numbering.specs.Results.{limit_behind, query_behind}
 use Rattle.rsp_numbering.specs.declared.limit.LimitName.{LimitName}
 

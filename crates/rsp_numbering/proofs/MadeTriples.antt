@@ -11,13 +11,13 @@ use Rattle.rsp_numbering.specs.TripleSteps.{behind_inner, behind_nodes, behind_p
 
 verb_made : (at : List Scope) (verb : Verb) (state : State)
     → verb_way at verb state
-    ≡ (verb_of at state.before verb, record { before = behind_verb at state.before verb; aggregates = state.aggregates })
+    ≡ (verb_of at state.before verb, record state { before = behind_verb at state.before verb })
 verb_made at (named x) state = refl
 verb_made at (along way) state = refl
 
 slot_made : (at : List Scope) (node : Node) (state : State)
     → node_slot at node state
-    ≡ (slot_of at state.before node, record { before = behind_slot at state.before node; aggregates = state.aggregates })
+    ≡ (slot_of at state.before node, record state { before = behind_slot at state.before node })
 slot_made at (variable_node x) state = refl
 slot_made at (iri_node x) state = refl
 slot_made at (constant_node t) state = refl
@@ -29,7 +29,7 @@ mutual
   inner_made : (at : List Scope) (those : List Part) (subject : Slot) (node : Node) (state : State)
       → (those ++ (inner_triples at subject node state).0 ≡ with_inner at state.before those subject node)
       × ((inner_triples at subject node state).1
-      ≡ record { before = behind_inner at state.before node; aggregates = state.aggregates })
+      ≡ record state { before = behind_inner at state.before node })
   inner_made at those subject (variable_node x) state = (append-nil those, refl)
   inner_made at those subject (iri_node x) state = (append-nil those, refl)
   inner_made at those subject (constant_node t) state = (append-nil those, refl)
@@ -40,14 +40,14 @@ mutual
   objects_made : (at : List Scope) (those : List Part) (subject : Slot) (verb : Way) (nodes : Nodes) (state : State)
       → (those ++ (object_triples at subject verb nodes state).0 ≡ with_objects at state.before those subject verb nodes)
       × ((object_triples at subject verb nodes state).1
-      ≡ record { before = behind_nodes at state.before nodes; aggregates = state.aggregates })
+      ≡ record state { before = behind_nodes at state.before nodes })
   objects_made at those subject verb no_node state = (append-nil those, refl)
   objects_made at those subject verb (node_then node more) state =
       let object = slot_of at state.before node in
-      let opened : State = record { before = behind_slot at state.before node; aggregates = state.aggregates } in
+      let opened : State = record state { before = behind_slot at state.before node } in
       let made = those ++ (triple subject verb object ∷ []) in
       let inner = inner_made at made object node opened in
-      let behind : State = record { before = behind_inner at opened.before node; aggregates = state.aggregates } in
+      let behind : State = record state { before = behind_inner at opened.before node } in
       let others = objects_made at (with_inner at opened.before made object node) subject verb more behind in
       rw (slot_made at node state)
       (rw (inner.1) (
@@ -61,13 +61,13 @@ mutual
   properties_made : (at : List Scope) (those : List Part) (subject : Slot) (properties : Properties) (state : State)
       → (those ++ (property_triples at subject properties state).0 ≡ with_properties at state.before those subject properties)
       × ((property_triples at subject properties state).1
-      ≡ record { before = behind_properties at state.before properties; aggregates = state.aggregates })
+      ≡ record state { before = behind_properties at state.before properties })
   properties_made at those subject no_property state = (append-nil those, refl)
   properties_made at those subject (property_then verb objects more) state =
       let way = verb_of at state.before verb in
-      let opened : State = record { before = behind_verb at state.before verb; aggregates = state.aggregates } in
+      let opened : State = record state { before = behind_verb at state.before verb } in
       let first = objects_made at those subject way objects opened in
-      let behind : State = record { before = behind_nodes at opened.before objects; aggregates = state.aggregates } in
+      let behind : State = record state { before = behind_nodes at opened.before objects } in
       let others = properties_made at (with_objects at opened.before those subject way objects) subject more behind in
       rw (verb_made at verb state)
       (rw (first.1) (
@@ -80,12 +80,12 @@ mutual
 pub triples_made : (at : List Scope) (those : List Part) (node : Node) (properties : Properties) (state : State)
     → (those ++ (triples at node properties state).0 ≡ with_triples at state.before those node properties)
     × ((triples at node properties state).1
-    ≡ record { before = behind_triples at state.before node properties; aggregates = state.aggregates })
+    ≡ record state { before = behind_triples at state.before node properties })
 triples_made at those node properties state =
     let subject = slot_of at state.before node in
-    let opened : State = record { before = behind_slot at state.before node; aggregates = state.aggregates } in
+    let opened : State = record state { before = behind_slot at state.before node } in
     let inner = inner_made at those subject node opened in
-    let behind : State = record { before = behind_inner at opened.before node; aggregates = state.aggregates } in
+    let behind : State = record state { before = behind_inner at opened.before node } in
     let others = properties_made at (with_inner at opened.before those subject node) subject properties behind in
     rw (slot_made at node state)
     (rw (inner.1) (

@@ -12,7 +12,8 @@ use Rattle.rsp_numbering.specs.Naming.{variable_text}
 use Rattle.rsp_numbering.specs.Numbered.{start}
 use Rattle.rsp_numbering.specs.Selections.{select}
 use Rattle.rsp_query.specs.Paths.{slashes}
-use Rattle.rsp_numbering.specs.Limits.{operators, steps}
+use Rattle.rsp_numbering.specs.Limits.{steps}
+use Rattle.rsp_numbering.specs.Expressions.{expression}
 
 to : List ℕ → Node → Properties
 to x object = property_then (along (step x)) (node_then object no_node) no_property
@@ -88,7 +89,7 @@ unfolding to var
 all = refl
 
 -- `?a || ?b || ?c` has two signs
-signs : operators (any_of (expr_then (variable (codes "a")) (expr_then (variable (codes "b")) (expr_then (variable (codes "c")) no_expr)))) ≡ 2
+signs : (expression [] (any_of (expr_then (variable (codes "a")) (expr_then (variable (codes "b")) (expr_then (variable (codes "c")) no_expr)))) start).1.operators ≡ 2
 signs = refl
 
 -- <a:p>/<a:q>/<a:r> is three patterns, with two variables between

@@ -14,3 +14,4 @@ pub mod Same
 pub mod Results
 pub mod Seeing
 pub mod Counting
+pub mod Operators

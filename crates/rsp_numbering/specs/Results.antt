@@ -11,7 +11,8 @@ use Rattle.rsp_numbering.specs.Naming.{nothing, variable_text}
 use Rattle.rsp_numbering.specs.SelectionSteps.{behind_selected, selected_of}
 use Rattle.rsp_numbering.specs.Clauses.{clause_of, operator_of, policy_of, query_of}
 use Rattle.rsp_numbering.specs.Counting.{passed_as_written, variables_of}
-use Rattle.rsp_numbering.specs.Limits.{has_spans, limit_of, over, select_operators}
+use Rattle.rsp_numbering.specs.Limits.{has_spans, limit_of, over}
+use Rattle.rsp_numbering.specs.Operators.{select_operators}
 use Rattle.rsp_numbering.specs.declared.limit.LimitName.{LimitName}
 use Rattle.rsp_numbering.specs.declared.limit.LimitName.TheVariants as limit
 

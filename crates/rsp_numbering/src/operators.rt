@@ -4,7 +4,7 @@ ghost use Rattle.std.specs.Prelude.{◌≡◌, ◌+◌, IfOk, map, option_to_lis
 ghost use Rattle.rsp_written.specs.Building.{elements_in, exprs_in, groups_in, operands_in};
 ghost use Rattle.rsp_written.specs.GroupMeanings as written;
 ghost use Rattle.rsp_written.specs.Meanings.{expr_of, operand_of};
-ghost use Rattle.rsp_numbering.specs.Limits as limits;
+ghost use Rattle.rsp_numbering.specs.Operators as counted;
 ghost use Rattle.rsp_numbering.specs.Seeing.{written_branches_of};
 ghost use Rattle.rsp_numbering.specs.Selections.{items_in};
 
@@ -21,7 +21,7 @@ pub(crate) fn plus(first: usize, second: usize) -> Result<usize, AllocError>
 
 #[cycle(operators)]
 fn operators(expression: &Expression) -> Result<usize, AllocError>
-    ensures { IfOk result (λ n. n ≡ limits.operators (expr_of expression.now)) }
+    ensures { IfOk result (λ n. n ≡ counted.operators (expr_of expression.now)) }
 {
     match expression {
         Expression::Variable(_) => Ok(0),
@@ -56,7 +56,7 @@ fn operators(expression: &Expression) -> Result<usize, AllocError>
 // each with so many signs before it
 #[cycle(operators)]
 fn operators_among(signs: usize, expressions: &[Expression]) -> Result<usize, AllocError>
-    ensures { IfOk result (λ n. n ≡ limits.operators_among signs (exprs_in (map expr_of expressions.now))) }
+    ensures { IfOk result (λ n. n ≡ counted.operators_among signs (exprs_in (map expr_of expressions.now))) }
 {
     let mut count = 0;
     for expression in expressions {
@@ -67,7 +67,7 @@ fn operators_among(signs: usize, expressions: &[Expression]) -> Result<usize, Al
 
 #[cycle(operators)]
 fn operators_behind(operands: &[Operand]) -> Result<usize, AllocError>
-    ensures { IfOk result (λ n. n ≡ limits.operators_behind (operands_in (map operand_of operands.now))) }
+    ensures { IfOk result (λ n. n ≡ counted.operators_behind (operands_in (map operand_of operands.now))) }
 {
     let mut count = 0;
     for operand in operands {
@@ -79,7 +79,7 @@ fn operators_behind(operands: &[Operand]) -> Result<usize, AllocError>
 // ---- of items and HAVING
 
 fn of_item(item: &Item) -> Result<usize, AllocError>
-    ensures { IfOk result (λ n. n ≡ limits.item_operators (written.item_of item.now)) }
+    ensures { IfOk result (λ n. n ≡ counted.item_operators (written.item_of item.now)) }
 {
     match item {
         Item::Shown(_) => Ok(0),
@@ -88,7 +88,7 @@ fn of_item(item: &Item) -> Result<usize, AllocError>
 }
 
 fn of_items(items: &[Item]) -> Result<usize, AllocError>
-    ensures { IfOk result (λ n. n ≡ sum_by limits.item_operators (map written.item_of items.now)) }
+    ensures { IfOk result (λ n. n ≡ sum_by counted.item_operators (map written.item_of items.now)) }
 {
     let mut count = 0;
     for item in items {
@@ -98,7 +98,7 @@ fn of_items(items: &[Item]) -> Result<usize, AllocError>
 }
 
 fn of_projection(projection: &Projection) -> Result<usize, AllocError>
-    ensures { IfOk result (λ n. n ≡ sum_by limits.item_operators (items_in (written.projection_of projection.now))) }
+    ensures { IfOk result (λ n. n ≡ sum_by counted.item_operators (items_in (written.projection_of projection.now))) }
 {
     match projection {
         Projection::Every => Ok(0),
@@ -107,7 +107,7 @@ fn of_projection(projection: &Projection) -> Result<usize, AllocError>
 }
 
 fn of_having(having: &Option<Expression>) -> Result<usize, AllocError>
-    ensures { IfOk result (λ n. n ≡ sum_by limits.operators (option_to_list (written.maybe_expr having.now))) }
+    ensures { IfOk result (λ n. n ≡ sum_by counted.operators (option_to_list (written.maybe_expr having.now))) }
 {
     match having {
         None => Ok(0),
@@ -119,7 +119,7 @@ fn of_having(having: &Option<Expression>) -> Result<usize, AllocError>
 
 #[cycle(group_operators)]
 fn of_element(element: &Element) -> Result<usize, AllocError>
-    ensures { IfOk result (λ n. n ≡ limits.element_operators (written.element_of element.now)) }
+    ensures { IfOk result (λ n. n ≡ counted.element_operators (written.element_of element.now)) }
 {
     match element {
         Element::Triples(_) => Ok(0),
@@ -138,7 +138,7 @@ fn of_element(element: &Element) -> Result<usize, AllocError>
 
 #[cycle(group_operators)]
 fn of_group(elements: &[Element]) -> Result<usize, AllocError>
-    ensures { IfOk result (λ n. n ≡ limits.group_operators (elements_in (map written.element_of elements.now))) }
+    ensures { IfOk result (λ n. n ≡ counted.group_operators (elements_in (map written.element_of elements.now))) }
 {
     let mut count = 0;
     for element in elements {
@@ -149,7 +149,7 @@ fn of_group(elements: &[Element]) -> Result<usize, AllocError>
 
 #[cycle(group_operators)]
 fn of_groups(branches: &[Vec<Element>]) -> Result<usize, AllocError>
-    ensures { IfOk result (λ n. n ≡ limits.groups_operators (groups_in (written_branches_of branches.now))) }
+    ensures { IfOk result (λ n. n ≡ counted.groups_operators (groups_in (written_branches_of branches.now))) }
 {
     let mut count = 0;
     for branch in branches {
@@ -161,7 +161,7 @@ fn of_groups(branches: &[Vec<Element>]) -> Result<usize, AllocError>
 /// The operators, calls and aggregates of a SELECT.
 #[cycle(group_operators)]
 pub(crate) fn of_select(select: &Select) -> Result<usize, AllocError>
-    ensures { IfOk result (λ n. n ≡ limits.select_operators (written.select_of select.now)) }
+    ensures { IfOk result (λ n. n ≡ counted.select_operators (written.select_of select.now)) }
 {
     let items = of_projection(&select.projection)?;
     let body = of_group(&select.body)?;

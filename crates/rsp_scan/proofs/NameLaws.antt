@@ -17,7 +17,8 @@ use Rattle.rsp_scan.specs.Readers.{label, longest_label, some_of, behind, tag}
 use Rattle.rsp_scan.specs.Names.{IsLabel, IsTag}
 use Rattle.rsp_scan.proofs.Fronts.{take_front, drop_front, scalars-take, scalars-drop, parted}
 use Rattle.rsp_scan.proofs.Pieces.{both_of, pair_same}
-use Rattle.rsp_scan.proofs.RuleLaws.{Reads, sign_found, sign_finds, front_longest, no_longer, longest_given, length_take, take_past}
+use Rattle.rsp_scan.proofs.RuleLaws.{sign_found, sign_finds, front_longest, no_longer, longest_given, length_take, take_past}
+use Rattle.rsp_scan.specs.Following.{Reads}
 
 -- ---- a front that is there
 

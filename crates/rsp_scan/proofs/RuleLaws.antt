@@ -10,15 +10,12 @@ use Rattle.std.proofs.lemmas.Str.{length-encode, len_utf8_bounds}
 use Rattle.rsp_spec.proofs.Truths.{equal_from}
 use Rattle.rsp_scan.specs.Fronts.{longest_front, longest_up_to}
 use Rattle.rsp_scan.specs.Readers.{PartReader, spelled, enclosed, iri, string}
+use Rattle.rsp_scan.specs.Following.{Reads}
 use Rattle.rsp_scan.specs.Enclosed.{Rule, Piece, plain, short, long, named, piece_text, IsEnclosed, IsFront, HasNoFront, HasFront, IsIri, IsString, sign}
 use Rattle.rsp_scan.proofs.Fronts.{take_front}
 use Rattle.rsp_scan.proofs.Longest.{IsLongest, longest_is}
 use Rattle.rsp_scan.proofs.Pieces.{Spells, texts, pieced, pieces_spelled, both_of, pair_same}
 use Rattle.rsp_scan.proofs.EscapeLaws.{iri_spells, string_spells}
-
-pub record Reads {A : Type 0} (reader : PartReader A) (rule : Rule A) : Type 0 where
-  pub sound : (text rest : List ℕ) (v : A) → reader text ≡ Some (v, rest) → (part : List ℕ) × ((text ≡ part ++ rest) × rule part rest v)
-  pub full : (part rest : List ℕ) (v : A) → rule part rest v → reader (part ++ rest) ≡ Some (v, rest)
 
 abbrev found : {A : Type 0} → A → List ℕ → Option (A × List ℕ)
 found value rest = Some (value, rest)

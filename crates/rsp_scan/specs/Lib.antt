@@ -8,3 +8,4 @@ pub mod Machines
 pub mod Readers
 pub mod Kinds
 pub mod Scans
+pub mod Following

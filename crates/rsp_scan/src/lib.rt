@@ -10,10 +10,12 @@
 mod enclosed;
 mod escapes;
 mod escaping;
+mod following;
 mod labels;
 mod signs;
 
 pub use enclosed::{iri, string};
 pub use escaping::{Escape, Escaped, escape_step, uchar_step};
+pub use following::follow_rules;
 pub use labels::{label, tag};
 pub use signs::sign;

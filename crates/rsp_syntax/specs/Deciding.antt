@@ -14,7 +14,6 @@ use Rattle.rsp_numbering.specs.Clauses.{query_of}
 use Rattle.rsp_numbering.specs.Limits.{limit_of}
 use Rattle.rsp_numbering.specs.declared.limit.LimitName.{LimitName}
 use Rattle.rsp_numbering.specs.declared.limit.LimitName.TheVariants as limit
-use Rattle.rsp_syntax.specs.Answers.{IsFailure}
 use Rattle.rsp_syntax.specs.Parsing.{is_too_deep, said_token, wrong}
 use Rattle.rsp_syntax.specs.declared.fault.SyntaxFault.{SyntaxFault}
 use Rattle.rsp_syntax.specs.declared.fault.SyntaxFault.TheVariants.{BadToken, Syntax, LeftOut, Limit, OutOfMemory}
@@ -59,4 +58,5 @@ IsFault (Limit what) wanted = Limit what ≡ wanted
 
 abbrev pub IsRegistered : Result Registration SyntaxFault → Result Written SyntaxFault → Type 0
 IsRegistered (Ok registration) wanted = wanted ≡ Ok (written_of registration)
-IsRegistered (Err fault) wanted = IsFailure fault wanted
+IsRegistered (Err OutOfMemory) wanted = ⊤
+IsRegistered (Err fault) wanted = wanted ≡ Err fault

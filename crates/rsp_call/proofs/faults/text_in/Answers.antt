@@ -1,4 +1,4 @@
-use Rattle.std.proofs.Common.{◌≡◌, ◌∙◌, IsUtf8, false, length, nat_lt, refl, rules}
+use Rattle.std.proofs.Common.{◌≡◌, ◌∙◌, IsUtf8, false, length, nat_lt, rules}
 use Rattle.std.proofs.lemmas.Str.{is_utf8-from_IsUtf8}
 use Rattle.rsp_spec.specs.Limits.{most_text_bytes}
 use Rattle.rsp_scan.proofs.Spelling.{not_utf8}
@@ -16,4 +16,4 @@ pub returns-in-Err : goal.returns-in-Err
 returns-in-Err c =
     let short : nat_lt most_text_bytes (length c.args.bytes.now) ≡ false = search rules in
     let place = c.valid_up_to.ensures ∙ c.in-Err.ensures.valid_len in
-    (fault_of_bytes c.args.bytes.now _ short (not_utf8 _ c.in-Err.ensures.cases.0) place, refl)
+    fault_of_bytes c.args.bytes.now _ short (not_utf8 _ c.in-Err.ensures.cases.0) place

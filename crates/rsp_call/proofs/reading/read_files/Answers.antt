@@ -1,5 +1,6 @@
 use Rattle.std.proofs.Common.{◌≡◌, Some, length, rules}
 use Rattle.std.specs.List.{slice_get}
+use Rattle.rsp_spec.specs.Limits.{most_file_bytes}
 use Rattle.rsp_call.specs.Playing.{replay_for}
 use Rattle.rsp_call.specs.Readings.{Ends}
 use Rattle.rsp_call.specs.Shelves.{LacksMemory}
@@ -10,17 +11,17 @@ use Rattle.rsp_call.proofs.reading.read_files.Goals as goal
 pub files-preserved : goal.files-preserved
 files-preserved g c =
     let named : Some c.in-Some.name.now ≡ slice_get (names_of (replay_for c.args.replay.now)) (length c.files.files) = search rules in
-    read_on _ _ _ _ _ _ _ _ c.files.invariant named c.in-Ok.ensures.file c.in-Ok-push.ensures.ok
+    read_on most_file_bytes _ _ _ _ _ _ _ _ c.files.invariant named c.in-Ok.ensures.file c.in-Ok-push.ensures.ok
 
 pub returns-in-Err-push : goal.returns-in-Err-push
 returns-in-Err-push g c =
     let named : Some c.in-Some.name.now ≡ slice_get (names_of (replay_for c.args.replay.now)) (length c.files.files) = search rules in
-    record { files = read_stopped LacksMemory _ _ _ _ _ _ c.files.invariant named (read_lacks _ _ _ _ c.in-Ok.ensures.file) }
+    record { files = read_stopped most_file_bytes (LacksMemory most_file_bytes) _ _ _ _ _ _ c.files.invariant named (read_lacks most_file_bytes _ _ _ _ c.in-Ok.ensures.file) }
 
 pub returns-in-Err : goal.returns-in-Err
 returns-in-Err g c =
     let named : Some c.in-Some.name.now ≡ slice_get (names_of (replay_for c.args.replay.now)) (length c.files.files) = search rules in
-    record { files = read_stopped (Ends c.in-Err.unread) _ _ _ _ _ _ c.files.invariant named c.in-Err.ensures.file }
+    record { files = read_stopped most_file_bytes (Ends c.in-Err.unread) _ _ _ _ _ _ c.files.invariant named c.in-Err.ensures.file }
 
 pub returns-in-None : goal.returns-in-None
-returns-in-None g c = record { files = read_all _ _ _ _ c.files.invariant (search rules) }
+returns-in-None g c = record { files = read_all most_file_bytes _ _ _ _ c.files.invariant (search rules) }

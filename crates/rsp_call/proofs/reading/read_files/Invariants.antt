@@ -1,4 +1,5 @@
 use Rattle.std.proofs.Common.{◌-◌, length}
+use Rattle.rsp_spec.specs.Limits.{most_file_bytes}
 use Rattle.rsp_call.specs.Playing.{replay_for}
 use Rattle.rsp_call.specs.Shelves.{shelf_seen}
 use Rattle.rsp_call.specs.Words.{names_of}
@@ -7,9 +8,9 @@ use Rattle.rsp_call.proofs.reading.read_files.Given as goal
 
 abbrev pub invariant-files : goal.invariant-files
 invariant-files g l =
-    ReadSome
-    (shelf_seen (g.H.Source.files l.initial.shelf) (g.H.Source.left l.initial.shelf) (g.H.Source.given l.initial.shelf) (g.H.Source.faults l.initial.shelf) (g.H.Source.sure l.initial.shelf))
-    (shelf_seen (g.H.Source.files l.shelf) (g.H.Source.left l.shelf) (g.H.Source.given l.shelf) (g.H.Source.faults l.shelf) (g.H.Source.sure l.shelf))
+    ReadSome most_file_bytes
+    (shelf_seen (g.H.Source.files l.initial.shelf) (g.H.Source.seen l.initial.shelf))
+    (shelf_seen (g.H.Source.files l.shelf) (g.H.Source.seen l.shelf))
     (names_of (replay_for l.replay))
     l.files
 

@@ -1,5 +1,5 @@
 use Rattle.std.proofs.Common.{◌+◌, ◌<◌, ◌≤◌, ◌^◌, length, rules, take}
-use Rattle.rsp_call.specs.Shelves.{most_file_bytes}
+use Rattle.rsp_spec.specs.Limits.{most_file_bytes}
 use Rattle.rsp_call.proofs.Files.{takes_too_many}
 use Rattle.rsp_call.proofs.Consuming.{first_many}
 use Rattle.rsp_call.proofs.reading.read_picked.Goals as goal

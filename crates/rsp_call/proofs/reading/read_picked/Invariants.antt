@@ -1,13 +1,14 @@
 use Rattle.std.proofs.Common.{◌-◌, ◌+◌, length}
-use Rattle.rsp_call.specs.Shelves.{most_file_bytes, shelf_seen}
+use Rattle.rsp_spec.specs.Limits.{most_file_bytes}
+use Rattle.rsp_call.specs.Shelves.{shelf_seen}
 use Rattle.rsp_call.specs.Readings.{Takes}
 use Rattle.rsp_call.proofs.reading.read_picked.Given as goal
 
 abbrev pub invariant-reads : goal.invariant-reads
 invariant-reads g l =
     Takes
-    (shelf_seen (g.H.Source.files l.initial.shelf) (g.H.Source.left l.initial.shelf) (g.H.Source.given l.initial.shelf) (g.H.Source.faults l.initial.shelf) (g.H.Source.sure l.initial.shelf))
-    (shelf_seen (g.H.Source.files l.shelf) (g.H.Source.left l.shelf) (g.H.Source.given l.shelf) (g.H.Source.faults l.shelf) (g.H.Source.sure l.shelf))
+    (shelf_seen (g.H.Source.files l.initial.shelf) (g.H.Source.seen l.initial.shelf))
+    (shelf_seen (g.H.Source.files l.shelf) (g.H.Source.seen l.shelf))
     l.bytes.items
 
 abbrev pub decreases-reads : goal.decreases-reads

@@ -1,7 +1,7 @@
 use Rattle.std.proofs.Common.{◌≡◌, ◌++◌, ◌∷◌, [], rules, string_bytes}
 use Rattle.std.specs.Fmt.{decimal}
 use Rattle.std.specs.Prelude.{codes}
-use Rattle.rsp_call.specs.Refusals.{reason_of}
+use Rattle.rsp_call.specs.Reasons.{reason_of}
 use Rattle.rsp_call.proofs.Tellings.{line_is}
 use Rattle.rsp_call.proofs.refusing.line.Goals as goal
 

@@ -1,5 +1,5 @@
 use Rattle.std.proofs.Common.{◌≡◌, string_bytes}
-use Rattle.rsp_call.specs.Refusals.{reason_of}
+use Rattle.rsp_call.specs.Reasons.{reason_of}
 use Rattle.rsp_call.proofs.Tellings.{line_written}
 use Rattle.rsp_call.proofs.refusing.write_line.Goals as goal
 

@@ -1,4 +1,4 @@
-use Rattle.rsp_call.specs.Replays.{query_step}
+use Rattle.rsp_call.specs.Played.{query_step}
 use Rattle.rsp_call.proofs.Speaking.{first_stopped, says_both, second_stopped}
 use Rattle.rsp_call.proofs.replaying.take_query_and_items.Goals as goal
 

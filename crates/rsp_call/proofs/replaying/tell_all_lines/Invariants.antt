@@ -1,8 +1,7 @@
 use Rattle.std.proofs.Common.{◌-◌, drop, length, map}
 use Rattle.rsp_call.specs.declared.form.Form.{Form}
 use Rattle.rsp_call.specs.Playing.{stream_for}
-use Rattle.rsp_call.specs.Replays.{all_lines_said}
-use Rattle.rsp_call.specs.Sinks.{sink_seen}
+use Rattle.rsp_call.specs.Played.{all_lines_said}
 use Rattle.rsp_call.proofs.Speaking.{SaidSome}
 use Rattle.rsp_call.proofs.replaying.tell_all_lines.Given as goal
 
@@ -10,8 +9,8 @@ abbrev pub invariant-files : goal.invariant-files
 invariant-files g l =
     (form : Form)
     → SaidSome form
-    (sink_seen (g.K.Sink.taken l.initial.out) (g.K.Sink.room l.initial.out) (g.K.Sink.faults l.initial.out))
-    (sink_seen (g.K.Sink.taken l.out) (g.K.Sink.room l.out) (g.K.Sink.faults l.out))
+    (g.K.Sink.seen l.initial.out)
+    (g.K.Sink.seen l.out)
     (all_lines_said (map stream_for l.streams) l.reads)
     (all_lines_said (map stream_for (drop l.place l.streams)) (drop l.place l.reads))
     l.refused

@@ -1,7 +1,7 @@
 use Rattle.std.proofs.Common.{[], ◌∷◌, refl}
 use Rattle.rsp_call.specs.declared.refusing.Place.TheVariants.{Line}
 use Rattle.rsp_call.specs.Refusals.{of_line}
-use Rattle.rsp_call.specs.Replays.{line_said}
+use Rattle.rsp_call.specs.Played.{line_said}
 use Rattle.rsp_call.proofs.Speaking.{refusal_says, says_no_more}
 use Rattle.rsp_call.proofs.replaying.tell_line.Goals as goal
 

@@ -2,7 +2,7 @@ use Rattle.std.proofs.Common.{◌+◌, [], ◌∷◌, ap, drop, get_or, drop_of_
 use Rattle.std.proofs.lemmas.List.{drop_more}
 use Rattle.rsp_events.specs.declared.refused.LineRefused.{LineRefused}
 use Rattle.rsp_events.specs.declared.refused.RefusedAs.TheVariants.{BadStatement}
-use Rattle.rsp_call.specs.Replays.{line_said, lines_said}
+use Rattle.rsp_call.specs.Played.{line_said, lines_said}
 use Rattle.rsp_call.proofs.Speaking.{said_all, said_none, said_on, said_stopped}
 use Rattle.rsp_call.proofs.replaying.tell_lines.Goals as goal
 

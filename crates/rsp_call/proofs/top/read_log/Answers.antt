@@ -1,5 +1,5 @@
 use Rattle.std.proofs.Common.{◌+◌, ◌≤◌, length, rules, sym, take, true≢false}
-use Rattle.rsp_call.specs.Answers.{most_log_bytes}
+use Rattle.rsp_spec.specs.Limits.{most_log_bytes}
 use Rattle.rsp_call.proofs.Consuming.{first_many, first_none}
 use Rattle.rsp_call.proofs.Going.{going_nothing, going_on, log_ended, read_failed, too_long, work_stopped}
 use Rattle.rsp_call.proofs.top.read_log.Goals as goal

@@ -1,7 +1,5 @@
 use Rattle.std.proofs.Common.{◌-◌, ◌+◌}
-use Rattle.rsp_call.specs.Answers.{most_log_bytes}
-use Rattle.rsp_call.specs.Sinks.{sink_seen}
-use Rattle.rsp_call.specs.Sources.{source_seen}
+use Rattle.rsp_spec.specs.Limits.{most_log_bytes}
 use Rattle.rsp_call.proofs.Going.{Going}
 use Rattle.rsp_call.proofs.top.read_log.Given as goal
 
@@ -9,10 +7,10 @@ abbrev pub invariant-reads : goal.invariant-reads
 invariant-reads g l =
     Going
     l.fn.form
-    (source_seen (g.S.Source.left l.initial.input) (g.S.Source.given l.initial.input) (g.S.Source.faults l.initial.input) (g.S.Source.sure l.initial.input))
-    (sink_seen (g.K.Sink.taken l.initial.out) (g.K.Sink.room l.initial.out) (g.K.Sink.faults l.initial.out))
-    (source_seen (g.S.Source.left l.input) (g.S.Source.given l.input) (g.S.Source.faults l.input) (g.S.Source.sure l.input))
-    (sink_seen (g.K.Sink.taken l.out) (g.K.Sink.room l.out) (g.K.Sink.faults l.out))
+    (g.S.Source.seen l.initial.input)
+    (g.K.Sink.seen l.initial.out)
+    (g.S.Source.seen l.input)
+    (g.K.Sink.seen l.out)
     l.session.blocks
     l.session.engine
     l.session.refused

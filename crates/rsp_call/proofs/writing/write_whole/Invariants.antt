@@ -1,5 +1,4 @@
 use Rattle.std.proofs.Common.{◌-◌, length}
-use Rattle.rsp_call.specs.Sinks.{sink_seen}
 use Rattle.rsp_call.proofs.Writings.{Writing}
 use Rattle.rsp_call.proofs.writing.write_whole.Given as goal
 
@@ -7,8 +6,8 @@ use Rattle.rsp_call.proofs.writing.write_whole.Given as goal
 abbrev pub invariant-pieces : goal.invariant-pieces
 invariant-pieces g l =
     Writing
-    (sink_seen (g.K.Sink.taken l.initial.out) (g.K.Sink.room l.initial.out) (g.K.Sink.faults l.initial.out))
-    (sink_seen (g.K.Sink.taken l.out) (g.K.Sink.room l.out) (g.K.Sink.faults l.out))
+    (g.K.Sink.seen l.initial.out)
+    (g.K.Sink.seen l.out)
     l.text
     l.written
 

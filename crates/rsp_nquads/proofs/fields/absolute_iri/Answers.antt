@@ -2,4 +2,4 @@ use Rattle.rsp_nquads.proofs.FieldLaws.{field_by_grammar}
 use Rattle.rsp_nquads.proofs.fields.absolute_iri.Goals as goal
 
 pub returns-clause-grammar : goal.returns-clause-grammar
-returns-clause-grammar c = λ name. field_by_grammar c.args.field.now name
+returns-clause-grammar c = λ name. field_by_grammar c.follow_rules.ensures c.args.field.now name

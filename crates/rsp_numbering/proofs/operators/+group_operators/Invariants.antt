@@ -1,7 +1,7 @@
 use Rattle.std.proofs.Common.{◌≡◌, ◌+◌, ◌*◌, map, drop}
 use Rattle.rsp_written.specs.Building.{elements_in, groups_in}
 use Rattle.rsp_written.specs.GroupMeanings as written
-use Rattle.rsp_numbering.specs.Limits.{group_operators, groups_operators}
+use Rattle.rsp_numbering.specs.Operators.{group_operators, groups_operators}
 use Rattle.rsp_numbering.specs.Seeing.{written_branches_of}
 use Rattle.rsp_numbering.proofs.operators.+group_operators.Given as goal
 

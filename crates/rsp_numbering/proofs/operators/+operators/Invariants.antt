@@ -1,7 +1,7 @@
 use Rattle.std.proofs.Common.{◌≡◌, ◌+◌, map, drop}
 use Rattle.rsp_written.specs.Building.{exprs_in, operands_in}
 use Rattle.rsp_written.specs.Meanings.{expr_of, operand_of}
-use Rattle.rsp_numbering.specs.Limits.{operators_among, operators_behind}
+use Rattle.rsp_numbering.specs.Operators.{operators_among, operators_behind}
 use Rattle.rsp_numbering.proofs.operators.+operators.Given as goal
 
 abbrev pub invariant-operators_among-loop-expression : goal.invariant-operators_among-loop-expression

@@ -2,7 +2,7 @@ use Rattle.std.proofs.Common.{◌≡◌, ◌+◌, map, drop}
 use Rattle.std.specs.List.{fold}
 use Rattle.std.specs.Prelude.{sum_by}
 use Rattle.rsp_written.specs.GroupMeanings as written
-use Rattle.rsp_numbering.specs.Limits.{item_operators}
+use Rattle.rsp_numbering.specs.Operators.{item_operators}
 use Rattle.rsp_numbering.proofs.operators.of_items.Given as goal
 
 abbrev pub invariant-loop-item : goal.invariant-loop-item
