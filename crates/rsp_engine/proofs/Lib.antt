@@ -2,6 +2,7 @@ pub mod Left
 pub mod Named
 pub mod Places
 pub mod Standing
+pub mod TextCauses
 pub mod Seen
 pub mod Reporting
 pub mod Readiness

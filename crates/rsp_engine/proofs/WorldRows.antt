@@ -48,11 +48,11 @@ use Rattle.rsp_engine.specs.Kept.{held, kept_items}
 -- ---- what the rows speak of
 
 -- windows of a width and a slide: of 10 and 5 they are (0, 10], (5, 15], .., of 2 and 5 (0, 2], (5, 7], ..
-abbrev over : List ℕ → ℕ → ℕ → StreamWindow
-over stream width slide = record { stream = stream; shape = record { width = width; slide = slide; origin = 0 } }
+abbrev window_over : List ℕ → ℕ → ℕ → StreamWindow
+window_over stream width slide = record { stream = stream; shape = record { width = width; slide = slide; origin = 0 } }
 
 abbrev on_a : ℕ → ℕ → List StreamWindow
-on_a width slide = over (codes "s:a") width slide ∷ []
+on_a width slide = window_over (codes "s:a") width slide ∷ []
 
 -- <a:n>, for a digit n
 abbrev iri : ℕ → Term
@@ -308,7 +308,7 @@ items_leave_and_enter = refl
 
 -- over a stream of content up to 10, and one that closes at 4, 8 and 12
 abbrev over_both : List StreamWindow
-over_both = over (codes "s:a") 10 10 ∷ over (codes "s:b") 4 4 ∷ []
+over_both = window_over (codes "s:a") 10 10 ∷ window_over (codes "s:b") 4 4 ∷ []
 
 strategies_hold_by_different_windows : map (λ asked. instants (at_instants asked) over_both (arrives 1 1 ∷ Tick 12 ∷ []))
     ((Close ∷ NonEmpty ∷ []) ∷ (NonEmpty ∷ Every 4 ∷ Close ∷ []) ∷ []) ≡ (4 ∷ 8 ∷ 10 ∷ []) ∷ (4 ∷ 8 ∷ []) ∷ []
@@ -318,7 +318,7 @@ strategies_hold_by_different_windows = refl
 
 -- 3 and 13 lie in gaps of the second window, and the first has content up to 10; no window is over `s:c`
 each_strategy_on_items : map
-    (λ asked. instants (on_items asked) (over (codes "s:a") 10 10 ∷ over (codes "s:b") 2 5 ∷ [])
+    (λ asked. instants (on_items asked) (window_over (codes "s:a") 10 10 ∷ window_over (codes "s:b") 2 5 ∷ [])
     (arrives 1 1 ∷ arrives_on (codes "s:b") 3 1 ∷ arrives_on (codes "s:c") 6 1 ∷ arrives_on (codes "s:b") 13 1 ∷ Tick 20 ∷ []))
     ([] ∷ (Change ∷ []) ∷ (NonEmpty ∷ []) ∷ (NonEmpty ∷ Change ∷ []) ∷ [])
     ≡ (1 ∷ 3 ∷ 13 ∷ []) ∷ (1 ∷ []) ∷ (1 ∷ 3 ∷ []) ∷ (1 ∷ []) ∷ []
@@ -380,7 +380,7 @@ joining_is_read : reading_of
       operator = Rstream;
       output = codes "o:a";
       policy = Absent;
-      windows = clause (codes "w:1") (over (codes "s:a") 10 10) ∷ clause (codes "w:2") (over (codes "s:b") 4 4) ∷ [];
+      windows = clause (codes "w:1") (window_over (codes "s:a") 10 10) ∷ clause (codes "w:2") (window_over (codes "s:b") 4 4) ∷ [];
       selection = words.selection false false (record { variable = 0; formula = None } ∷ [])
           (words.parts_in (of_window (codes "w:1") ∷ of_window (codes "w:2") ∷ [])) false [] None [];
       variables = codes "s" ∷ codes "o" ∷ [];

@@ -8,8 +8,9 @@ ghost use Rattle.rsp_syntax.specs.Answers.{IsParsed};
 ghost use Rattle.rsp_syntax.specs.Deciding.{parse};
 ghost use Rattle.rsp_syntax.specs.Periods.{HasPeriods};
 ghost use Rattle.rsp_syntax.specs.declared.fault.SyntaxFault as syntax;
+ghost use Rattle.rsp_syntax.specs.declared.fault.SyntaxFault.TheVariants as grammar;
 ghost use Rattle.rsp_translation.specs.Translation.{IsFault, IsTranslated};
-ghost use Rattle.rsp_translation.specs.declared.shape.Shape as shape;
+ghost use Rattle.rsp_translation.specs.declared.shape.Shape.TheVariants as shapes;
 ghost use Rattle.rsp_engine.specs.Passing.{IsAsked};
 ghost use Rattle.rsp_engine.specs.Refusals.{query_fault, sound, text_fault};
 ghost use Rattle.rsp_engine.specs.declared.refused.TextFault.TheVariants as fault;
@@ -34,8 +35,8 @@ pub(crate) struct Asked {
 /// memory is refused.
 pub fn text_fault(alloc: Global, text: &str) -> Result<Option<TextFault>, AllocError>
     ensures value { IfOk result (λ fault. fault ≡ text_fault text.now) }
-    ensures grammar { (text : List ℕ) → text_fault text ≡ Some (fault.Syntax syntax.TheVariants.OutOfMemory) → ⊥ }
-    ensures shape { (text : List ℕ) → text_fault text ≡ Some (fault.Shape shape.TheVariants.OutOfMemory) → ⊥ }
+    ensures grammar { (text : List ℕ) → text_fault text ≡ Some (fault.Syntax grammar.OutOfMemory) → ⊥ }
+    ensures shape { (text : List ℕ) → text_fault text ≡ Some (fault.Shape shapes.OutOfMemory) → ⊥ }
 {
     match read(alloc, text)? {
         Ok(_asked) => Ok(None),
@@ -50,7 +51,7 @@ pub(crate) fn read(alloc: Global, text: &str) -> Result<Result<Asked, TextFault>
         (λ why. text_fault text.now ≡ Some why)) }
 {
     match parse(alloc, text) {
-        Ok(query) => asked(alloc, query),
+        Ok(query) => of_query(alloc, query),
         Err(fault) => Ok(Err(syntax_fault(fault)?)),
     }
 }
@@ -65,7 +66,7 @@ fn syntax_fault(found: SyntaxFault) -> Result<TextFault, AllocError>
     }
 }
 
-fn asked(alloc: Global, query: Query) -> Result<Result<Asked, TextFault>, AllocError>
+fn of_query(alloc: Global, query: Query) -> Result<Result<Asked, TextFault>, AllocError>
     requires sound { IsSound (registered query) }
     requires periods { HasPeriods (registered query).policy }
     ensures { IfOk result (λ found. MatchResult found
@@ -73,7 +74,7 @@ fn asked(alloc: Global, query: Query) -> Result<Result<Asked, TextFault>, AllocE
         (λ why. query_fault (registered query) ≡ Some why)) }
 {
     match translate(alloc, &query) {
-        Ok(made) => asked_under(alloc, query, made),
+        Ok(made) => under_policy(alloc, query, made),
         Err(fault) => Ok(Err(shape_fault(fault)?)),
     }
 }
@@ -89,7 +90,7 @@ fn shape_fault(found: Shape) -> Result<TextFault, AllocError>
 }
 
 // a query that has a translation, under its policy
-fn asked_under(
+fn under_policy(
     alloc: Global,
     query: Query,
     made: Translated,

@@ -2,7 +2,7 @@
 ghost use Rattle.std.specs.Prelude.{◌≡◌, ◌<◌, IfOk};
 ghost use Rattle.rsp_events.specs.Instants.{IsInstant};
 
-use rsp_engine::{Engine, Outcome, Refused};
+use rsp_engine::{Engine, Outcome, Refused, TextFault};
 use rsp_eval::Plain;
 use rsp_events::{Blocks, Content, Event};
 use rsp_steps::Steps;
@@ -77,6 +77,16 @@ fn take(engine: &mut Engine<Plain>, event: Event) -> Result<Result<(), Refused>,
     Ok(engine.offer(event))
 }
 
+// why an event was refused; of a text with a fault the fault alone
+fn describe(alloc: Global, why: &Refused) -> Result<String, AllocError> {
+    match why {
+        Refused::Text(TextFault::Syntax(fault)) => format!(in alloc; "{fault:?}"),
+        Refused::Text(TextFault::Shape(fault)) => format!(in alloc; "{fault:?}"),
+        Refused::Text(TextFault::Policy(fault)) => format!(in alloc; "{fault:?}"),
+        why => format!(in alloc; "{why:?}"),
+    }
+}
+
 // appends what the engine answers to an event, and where it then stands
 fn tell(
     alloc: Global,
@@ -87,7 +97,10 @@ fn tell(
     let event = event_of(alloc, text)?;
     let line = match take(engine, event)? {
         Ok(()) => format!(in alloc; "taken; held {}\n", engine.held())?,
-        Err(why) => format!(in alloc; "{why:?}; held {}\n", engine.held())?,
+        Err(why) => {
+            let why = describe(alloc, &why)?;
+            format!(in alloc; "{why}; held {}\n", engine.held())?
+        }
     };
     out.extend_from_slice(line.as_bytes())?;
     Ok(())

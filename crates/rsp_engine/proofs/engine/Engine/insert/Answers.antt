@@ -10,7 +10,7 @@ use Rattle.rsp_engine.specs.declared.refused.Refused.TheVariants as answer
 use Rattle.rsp_engine.specs.Inside.{IsReady, live_of, state_of}
 use Rattle.rsp_engine.specs.Stands.{IsStore}
 use Rattle.rsp_engine.proofs.FactSets.{store_more}
-use Rattle.rsp_engine.proofs.Offering.{IsLoggedFor, Leads, fits_logged, full_store_refuses, insert_leads}
+use Rattle.rsp_engine.proofs.Offering.{IsLoggedFor, Leads, fits_logged, full_store_refuses, insert_fits, insert_leads}
 use Rattle.rsp_engine.proofs.Readiness.{idle_first, mapped, ready_stored}
 use Rattle.rsp_engine.proofs.engine.Engine.insert.Goals as goal
 
@@ -46,3 +46,14 @@ returns-in-Err-StoreFull g c =
     rw (← c.self.view_is)
     (subst (λ fs. RefusesAs old (Insert c.args.quads.now) (answer.StoreFull many) (record old { stored = fs; log = c.insert.new.log })) (sym same.0)
     (subst (λ log. RefusesAs old (Insert c.args.quads.now) (answer.StoreFull many) (record old { log = log })) (sym same.1) refused))
+
+pub returns-in-Err-OutOfMemory : goal.returns-in-Err-OutOfMemory
+returns-in-Err-OutOfMemory g c =
+    let old = state_of g.A.Answer.facts c.self.inside in
+    let fits : length (stored_with c.self.inside.stored c.args.quads.now) ≤ most_quads = rw c.in-Err-OutOfMemory.field-0-is at c.in-Err-OutOfMemory.ensures.fault in
+    rw (← c.self.view_is)
+    (record {
+      was_ready = rw (← c.self.view_is) at c.requires.ready;
+      broken = refl;
+      may_take = λ world stands. insert_fits old c.args.quads.now world fits stands;
+    })

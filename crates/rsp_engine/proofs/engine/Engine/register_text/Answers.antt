@@ -5,7 +5,7 @@ use Rattle.rsp_engine.proofs.engine.Engine.register_text.Goals as goal
 
 pub returns-in-Ok-Err : goal.returns-in-Ok-Err
 returns-in-Ok-Err g c =
-    let found = rw c.in-Ok-Err.field-0-is at c.in-Ok-Err.ensures in
+    let found = rw (c.in-Ok-Err.field-0-is, c.as_str.ensures) at c.in-Ok-Err.ensures in
     faulty_refuses c.args.self.now c.args.name c.args.text c.in-Ok-Err.fault c.requires.ready c.requires.free found
 
 pub returns-in-Err : goal.returns-in-Err
