@@ -79,19 +79,19 @@ after_report world query t =
     then record world { queries = without query.name world.queries }
     else record world { queries = map (query_after_report world t query.name) world.queries }
 
--- the moments worked off in order: their reports, and the world behind them; a moment of a query that is no longer live has none
-abbrev pub worked_off : World → List Moment → List Report × World
-worked_off world [] = ([], world)
-worked_off world (moment ∷ left) =
-    option_map_or
-    (λ (query : Query).
-    let behind = worked_off (after_report world query.registration moment.at) left in
-    (report_of world query moment.at ∷ behind.0, behind.1))
-    (worked_off world left)
-    (live_query world moment.query)
-
+-- the reports of the moments, in order, each in the world that those before it leave; one of a query that is no longer live has none
 abbrev pub reports : World → List Moment → List Report
-reports world left = (worked_off world left).0
+reports world [] = []
+reports world (moment ∷ left) =
+    option_map_or
+    (λ (query : Query). report_of world query moment.at ∷ reports (after_report world query.registration moment.at) left)
+    (live_query world moment.query)
+    (reports world left)
 
+-- the world behind them
 abbrev pub world_behind : World → List Moment → World
-world_behind world left = (worked_off world left).1
+world_behind world [] = world
+world_behind world (moment ∷ left) =
+    option_map_or (λ (query : Query). world_behind (after_report world query.registration moment.at) left)
+    (live_query world moment.query)
+    (world_behind world left)
