@@ -11,6 +11,7 @@ pub mod Kept
 pub mod Bounds
 pub mod Offers
 -- Words of the way
+pub mod Steps
 pub mod Left
 pub mod Stands
 pub mod Inside
