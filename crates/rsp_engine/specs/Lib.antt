@@ -17,4 +17,5 @@ pub mod Inside
 pub mod Passing
 pub mod Watching
 pub mod Watched
+pub mod Seeing
 pub mod Keeping
