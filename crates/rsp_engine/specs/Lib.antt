@@ -18,4 +18,5 @@ pub mod Inside
 pub mod Passing
 pub mod Watching
 pub mod Watched
+pub mod Seeing
 pub mod Keeping
