@@ -23,7 +23,8 @@ use Rattle.rsp_scope.proofs.Takings.{times-filter}
 use Rattle.rsp_algebra.specs.Changing.{IsSet, MayChange}
 use Rattle.rsp_algebra.proofs.Sets.{times-set}
 use Rattle.rsp_engine.specs.declared.live_query.StreamWindow.{StreamWindow}
-use Rattle.rsp_engine.specs.Contents.{facts_over, facts_seen, watches_from}
+use Rattle.rsp_engine.specs.Contents.{facts_over, watches_from}
+use Rattle.rsp_engine.specs.Seeing.{facts_seen}
 use Rattle.rsp_engine.specs.Stands.{IsStore}
 
 -- once or not at all

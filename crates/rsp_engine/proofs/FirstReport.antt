@@ -27,7 +27,8 @@ use Rattle.rsp_engine.specs.Contents.{facts_over, watches}
 use Rattle.rsp_engine.specs.Left.{IsFirstLeft, left_from}
 use Rattle.rsp_engine.specs.Watching.{name_of}
 use Rattle.rsp_engine.specs.Moments.{Moment}
-use Rattle.rsp_engine.specs.Reports.{IsOutcome, after_report, cells_at, facts, is_overfull, live_query, moments_behind, next_step, query_after_report, report_of, rows_over, solutions}
+use Rattle.rsp_engine.specs.Reports.{IsOutcome, after_report, cells_at, facts, is_overfull, live_query, query_after_report, report_of, rows_over, solutions}
+use Rattle.rsp_engine.specs.Steps.{moments_behind, next_step}
 use Rattle.rsp_engine.specs.Stands.{Behind, Follows, HaveSeen, IsState, Live, Precede, Stands, State, asked_in, asked_of, left_in, next_in, places_left, registration_of, registrations_in, test_in}
 use Rattle.rsp_engine.specs.Offers.{GivesOf}
 use Rattle.rsp_engine.specs.Passing.{HasContents, ReportsFirst, facts_at, is_overfull_outcome, outcome_over, place_behind, queries_behind}

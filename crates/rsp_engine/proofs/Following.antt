@@ -18,7 +18,8 @@ use Rattle.rsp_scope.specs.Kept.{Kept}
 use Rattle.rsp_scope.specs.Moves.{Followed, HasSeen}
 use Rattle.rsp_scope.specs.Logged.{since}
 use Rattle.rsp_scope.specs.Logged.{Log}
-use Rattle.rsp_engine.specs.Contents.{facts_over, facts_seen, watches}
+use Rattle.rsp_engine.specs.Contents.{facts_over, watches}
+use Rattle.rsp_engine.specs.Seeing.{facts_seen}
 use Rattle.rsp_engine.specs.Keeping.{watches_followed}
 use Rattle.rsp_engine.specs.Passing.{HasContents, IsFollowed, facts_at}
 use Rattle.rsp_engine.specs.Stands.{Follows, IsStore, Live, facts_followed, unseen}

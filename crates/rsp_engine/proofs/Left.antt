@@ -9,7 +9,8 @@ use Rattle.std.proofs.lemmas.Option.{get_or_from_slice_get, same_Some, slice_get
 use Rattle.rsp_scope.specs.Contents.{Accepted}
 use Rattle.rsp_engine.specs.declared.finding.Pending.{Pending}
 use Rattle.rsp_engine.specs.World.{Registration}
-use Rattle.rsp_engine.specs.Due.{is_due, is_due_over, newest}
+use Rattle.rsp_engine.specs.Due.{is_due}
+use Rattle.rsp_engine.specs.Seeing.{is_due_over, newest}
 use Rattle.rsp_engine.specs.Moments.{Moment, moments_at}
 use Rattle.rsp_engine.specs.Left.{IsFirstLeft, IsWaiting, left_from, moments_of, name_in, reports_at}
 use Rattle.rsp_engine.proofs.Named.{get_map, last_of}

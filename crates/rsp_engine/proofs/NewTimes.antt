@@ -9,7 +9,8 @@ use Rattle.rsp_report.specs.Seen.{seen_at}
 use Rattle.rsp_scope.specs.Contents.{Accepted}
 use Rattle.rsp_engine.specs.World.{Registration}
 use Rattle.rsp_engine.specs.declared.live_query.StreamWindow.{StreamWindow}
-use Rattle.rsp_engine.specs.Due.{is_over, visible_items, watched_window}
+use Rattle.rsp_engine.specs.Due.{is_over, watched_window}
+use Rattle.rsp_engine.specs.Seeing.{visible_items}
 use Rattle.rsp_engine.specs.Watching.{Tells, with_time}
 use Rattle.rsp_engine.specs.Watched.{AreWatchedWith}
 use Rattle.rsp_engine.proofs.Named.{last_of}

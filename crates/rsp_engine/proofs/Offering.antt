@@ -47,7 +47,7 @@ use Rattle.rsp_engine.specs.Readings.{reading_of}
 use Rattle.rsp_spec.specs.Limits.{most_held, most_quads, most_queries, most_triples}
 use Rattle.rsp_engine.specs.Accept.{accept, has_name, is_live, new_query, starts_overfull, with_item, without}
 use Rattle.rsp_engine.specs.Contents.{watches, watches_from}
-use Rattle.rsp_engine.specs.Due.{is_due_over}
+use Rattle.rsp_engine.specs.Seeing.{is_due_over}
 use Rattle.rsp_engine.specs.Keeping.{IsUnmoved, excess}
 use Rattle.rsp_engine.specs.Kept.{held, watches_of}
 use Rattle.rsp_engine.specs.Left.{IsFirstLeft, left_from, name_in, reports_at}

@@ -1,25 +1,80 @@
--- A step leaves fewer moments, so the folds over steps are as long as it takes.
-use Rattle.std.proofs.Common.{◌≡◌, ℕ, zero, suc, ◌≤◌, Bool, true, false, List, [], ◌∷◌, length, filter, Option, None, Some, refl, ◌∙◌, ap, arith}
+-- Moments that are worked off one report at a time are worked off as defined.
+use Rattle.std.proofs.Common.{◌≡◌, ℕ, Bool, true, false, List, [], ◌∷◌, map, filter, Option, None, Some, refl, sym, ◌∙◌, ap, subst}
 use Rattle.std.specs.Prelude.{if◌then◌else◌, not, bytes_eq}
+use Rattle.std.specs.List.{find}
 use Rattle.std.specs.Option.{option_map_or}
-use Rattle.rsp_engine.specs.World.{World, Query}
+use Rattle.std.proofs.lemmas.Slice.Eq.{bytes_eq-Decides}
+use Rattle.rsp_engine.specs.declared.report.Report.{Report}
+use Rattle.rsp_engine.specs.World.{World, Query, Registration}
 use Rattle.rsp_engine.specs.Moments.{Moment}
-use Rattle.rsp_engine.specs.Reports.{ReportStep, after_report, is_overfull, live_query, moments_behind, next_step, report_of, reports, reports_within, world_behind, world_within}
+use Rattle.rsp_engine.specs.Accept.{has_name, without}
+use Rattle.rsp_engine.specs.Reports.{after_report, is_overfull, live_query, query_after_report, report_of, reports, solutions, world_behind}
+use Rattle.rsp_engine.specs.Steps.{ReportStep, moments_behind, next_step}
 
--- ---- fewer moments
+-- ---- a query that isn't live isn't after a report either
 
-filtered : (test : Moment → Bool) (left : List Moment) → length (filter test left) ≤ length left
-filtered test [] = omega arith
-filtered test (moment ∷ left) =
-    let less = filtered test left in
-    elim (test moment) as (λ v. length (if v then moment ∷ filter test left else filter test left) ≤ suc (length left)) [
-      | true ↦ omega (arith, less)
-      | false ↦ omega (arith, less)
-    ]
+abbrev named : List ℕ → Query → Bool
+named name query = has_name name query.registration
 
-struck_fewer : (full : Bool) (test : Moment → Bool) (left : List Moment) → length (if full then filter test left else left) ≤ length left
-struck_fewer true test left = filtered test left
-struck_fewer false test left = omega arith
+abbrev Lacks : List ℕ → List Query → Type 0
+Lacks name queries = find (named name) queries ≡ None
+
+lacks_first : (name : List ℕ) (b : Bool) (query : Query) (queries : List Query) → named name query ≡ b → Lacks name (query ∷ queries) → b ≡ false
+lacks_first name true query queries is none = absurd (let found : find (named name) (query ∷ queries) ≡ Some query = rw is refl in cc)
+lacks_first name false query queries is none = refl
+
+lacks_others : (name : List ℕ) (query : Query) (queries : List Query) → Lacks name (query ∷ queries) → Lacks name queries
+lacks_others name query queries none =
+    let other = lacks_first name (named name query) query queries refl none in
+    rw other at none
+
+lacks_both : (name : List ℕ) (query : Query) (queries : List Query) → named name query ≡ false → Lacks name queries → Lacks name (query ∷ queries)
+lacks_both name query queries other none = rw other none
+
+gone : (name : List ℕ) (queries : List Query) → Lacks name (without name queries)
+gone name [] = refl
+gone name (query ∷ queries) = by (named name query) refl (gone name queries)
+  where
+    by : (b : Bool) → named name query ≡ b → Lacks name (without name queries) → Lacks name (without name (query ∷ queries))
+    by true is rest = rw is rest
+    by false is rest = rw is (lacks_both name query (without name queries) is rest)
+
+filtered : (name : List ℕ) (test : Query → Bool) (queries : List Query) → Lacks name queries → Lacks name (filter test queries)
+filtered name test [] none = refl
+filtered name test (query ∷ queries) none =
+    by (test query) refl (filtered name test queries (lacks_others name query queries none))
+  where
+    by : (b : Bool) → test query ≡ b → Lacks name (filter test queries) → Lacks name (filter test (query ∷ queries))
+    by true is rest = rw is (lacks_both name query (filter test queries) (lacks_first name (named name query) query queries refl none) rest)
+    by false is rest = rw is rest
+
+same_name : (world : World) (t : ℕ) (other name : List ℕ) (query : Query) → named name (query_after_report world t other query) ≡ named name query
+same_name world t other name query = by (has_name other query.registration)
+  where
+    by : (b : Bool) → named name (if b then record query { preceding = solutions world query.registration t } else query) ≡ named name query
+    by true = refl
+    by false = refl
+
+reported : (world : World) (t : ℕ) (other name : List ℕ) (queries : List Query) → Lacks name queries → Lacks name (map (query_after_report world t other) queries)
+reported world t other name [] none = refl
+reported world t other name (query ∷ queries) none =
+    lacks_both name (query_after_report world t other query) (map (query_after_report world t other) queries)
+    (same_name world t other name query ∙ lacks_first name (named name query) query queries refl none)
+    (reported world t other name queries (lacks_others name query queries none))
+
+lacks_after : (name : List ℕ) (world : World) (query : Registration) (t : ℕ) → Lacks name world.queries → Lacks name (after_report world query t).queries
+lacks_after name world query t none = by (is_overfull world query t)
+  where
+    after : Bool → World
+    after b =
+        if b then record world { queries = without query.name world.queries }
+        else record world { queries = map (query_after_report world t query.name) world.queries }
+
+    by : (b : Bool) → Lacks name (after b).queries
+    by true = filtered name (λ (q : Query). not (has_name query.name q.registration)) world.queries none
+    by false = reported world t query.name name world.queries none
+
+-- ---- moments of a query that isn't live give nothing
 
 -- the step of a moment, by its live query
 abbrev step_of : World → Moment → List Moment → Option Query → Option ReportStep
@@ -35,65 +90,117 @@ step_of world moment left query =
     query
     (next_step world left)
 
-fewer : (world : World) (left : List Moment) (step : ReportStep) → next_step world left ≡ Some step → suc (length step.left) ≤ length left
-fewer world [] step is = cc
-fewer world (moment ∷ left) step is = by (live_query world moment.query) (fewer world left step) is
+step_same : (a b : ReportStep) → Some a ≡ Some b → a ≡ b
+step_same a b is = cc
+
+-- moments worked off: what the world behind them makes, and what each report adds to what those behind it make
+module _ {R : Type 0} (ends : World → R) (adds : Report → R → R) where
+  abbrev pub worked : World → List Moment → R
+  worked world [] = ends world
+  worked world (moment ∷ left) =
+      option_map_or
+      (λ (query : Query). adds (report_of world query moment.at) (worked (after_report world query.registration moment.at) left))
+      (live_query world moment.query)
+      (worked world left)
+
+  -- the first moment, by its live query
+  abbrev pub first_by : World → Moment → List Moment → Option Query → R
+  first_by world moment left query =
+      option_map_or
+      (λ (query : Query). adds (report_of world query moment.at) (worked (after_report world query.registration moment.at) left))
+      query
+      (worked world left)
+
+  struck : (name : List ℕ) (left : List Moment) (world : World) → Lacks name world.queries
+      → worked world (filter (λ (m : Moment). not (bytes_eq m.query name)) left) ≡ worked world left
+  struck name [] world none = refl
+  struck name (moment ∷ left) world none = by (bytes_eq moment.query name) refl (λ other lacks. struck name left other lacks)
+    where
+      Rest : Type 0
+      Rest = (other : World) → Lacks name other.queries
+          → worked other (filter (λ (m : Moment). not (bytes_eq m.query name)) left) ≡ worked other left
+
+      kept : (query : Option Query) → Rest
+          → first_by world moment (filter (λ (m : Moment). not (bytes_eq m.query name)) left) query ≡ first_by world moment left query
+      kept None rest = rest world none
+      kept (Some query) rest =
+          ap (adds (report_of world query moment.at))
+          (rest (after_report world query.registration moment.at) (lacks_after name world query.registration moment.at none))
+
+      by : (b : Bool) → bytes_eq moment.query name ≡ b → Rest
+          → worked world (filter (λ (m : Moment). not (bytes_eq m.query name)) (moment ∷ left)) ≡ worked world (moment ∷ left)
+      by true is rest =
+          let same : moment.query ≡ name = (bytes_eq-Decides moment.query name).0 is in
+          let dead : live_query world moment.query ≡ None = ap (live_query world) same ∙ none in
+          rw is (rest world none ∙ sym (ap (first_by world moment left) dead))
+      by false is rest = rw is (kept (live_query world moment.query) rest)
+
+  behind_is : (world : World) (query : Registration) (t : ℕ) (left : List Moment)
+      → worked (after_report world query t) (moments_behind world query t left) ≡ worked (after_report world query t) left
+  behind_is world query t left = by (is_overfull world query t)
+    where
+      after : Bool → World
+      after b =
+          if b then record world { queries = without query.name world.queries }
+          else record world { queries = map (query_after_report world t query.name) world.queries }
+
+      moments : Bool → List Moment
+      moments b = if b then filter (λ (moment : Moment). not (bytes_eq moment.query query.name)) left else left
+
+      by : (b : Bool) → worked (after b) (moments b) ≡ worked (after b) left
+      by true = struck query.name left (record world { queries = without query.name world.queries }) (gone query.name world.queries)
+      by false = refl
+
+  -- they are the report of the next step, and what it leaves worked off
+  worked_step : (world : World) (left : List Moment) (step : ReportStep) → next_step world left ≡ Some step
+      → worked world left ≡ adds step.report (worked step.after step.left)
+  worked_step world [] step is = cc
+  worked_step world (moment ∷ left) step is = by (live_query world moment.query) is (worked_step world left step)
+    where
+      by : (query : Option Query) → step_of world moment left query ≡ Some step
+          → (next_step world left ≡ Some step → worked world left ≡ adds step.report (worked step.after step.left))
+          → first_by world moment left query ≡ adds step.report (worked step.after step.left)
+      by None next later = later next
+      by (Some query) next later =
+          let same = step_same _ step next in
+          ap (adds (report_of world query moment.at)) (sym (behind_is world query.registration moment.at left))
+          ∙ ap (λ (s : ReportStep). adds s.report (worked s.after s.left)) same
+
+-- ---- reports, and the world behind them
+
+reports_are : (world : World) (left : List Moment) → reports world left ≡ worked (λ _. []) (λ report others. report ∷ others) world left
+reports_are world [] = refl
+reports_are world (moment ∷ left) = by (live_query world moment.query) (λ other. reports_are other left)
   where
-    by : (query : Option Query) → (next_step world left ≡ Some step → suc (length step.left) ≤ length left) → step_of world moment left query ≡ Some step → suc (length step.left) ≤ suc (length left)
-    by None later is = let less = later is in omega (arith, less)
-    by (Some query) later is =
-        let behind : moments_behind world query.registration moment.at left ≡ step.left = cc in
-        let less = struck_fewer (is_overfull world query.registration moment.at) (λ (m : Moment). not (bytes_eq m.query query.registration.name)) left in
-        rw (← behind) (omega (arith, less))
+    by : (query : Option Query)
+        → ((other : World) → reports other left ≡ worked (λ _. []) (λ report others. report ∷ others) other left)
+        → option_map_or
+        (λ (query : Query). report_of world query moment.at ∷ reports (after_report world query.registration moment.at) left) query (reports world left)
+        ≡ first_by (λ _. []) (λ report others. report ∷ others) world moment left query
+    by None rest = rest world
+    by (Some query) rest =
+        ap (λ others. report_of world query moment.at ∷ others) (rest (after_report world query.registration moment.at))
 
--- ---- enough steps
+world_is : (world : World) (left : List Moment) → world_behind world left ≡ worked (λ after. after) (λ report after. after) world left
+world_is world [] = refl
+world_is world (moment ∷ left) = by (live_query world moment.query) (λ other. world_is other left)
+  where
+    by : (query : Option Query)
+        → ((other : World) → world_behind other left ≡ worked (λ after. after) (λ report after. after) other left)
+        → option_map_or (λ (query : Query). world_behind (after_report world query.registration moment.at) left) query (world_behind world left)
+        ≡ first_by (λ after. after) (λ report after. after) world moment left query
+    by None rest = rest world
+    by (Some query) rest = rest (after_report world query.registration moment.at)
 
-enough_reports : (n m : ℕ) (world : World) (left : List Moment) → length left ≤ n → length left ≤ m → reports_within n world left ≡ reports_within m world left
-enough_reports zero zero world left low high = refl
-enough_reports zero (suc m) world [] low high = refl
-enough_reports zero (suc m) world (moment ∷ left) low high = absurd (omega (arith, low))
-enough_reports (suc n) zero world [] low high = refl
-enough_reports (suc n) zero world (moment ∷ left) low high = absurd (omega (arith, high))
-enough_reports (suc n) (suc m) world left low high =
-    elim (next_step world left) as (λ o. next_step world left ≡ o
-    → option_map_or (λ (step : ReportStep). step.report ∷ reports_within n step.after step.left) o []
-    ≡ option_map_or (λ (step : ReportStep). step.report ∷ reports_within m step.after step.left) o []) [
-      | None ↦ λ is. refl
-      | (Some step) ↦ λ is.
-          let less = fewer world left step is in
-          ap (λ rest. step.report ∷ rest) (enough_reports n m step.after step.left (omega (arith, low, less)) (omega (arith, high, less)))
-    ] refl
-
-enough_world : (n m : ℕ) (world : World) (left : List Moment) → length left ≤ n → length left ≤ m → world_within n world left ≡ world_within m world left
-enough_world zero zero world left low high = refl
-enough_world zero (suc m) world [] low high = refl
-enough_world zero (suc m) world (moment ∷ left) low high = absurd (omega (arith, low))
-enough_world (suc n) zero world [] low high = refl
-enough_world (suc n) zero world (moment ∷ left) low high = absurd (omega (arith, high))
-enough_world (suc n) (suc m) world left low high =
-    elim (next_step world left) as (λ o. next_step world left ≡ o
-    → option_map_or (λ (step : ReportStep). world_within n step.after step.left) o world
-    ≡ option_map_or (λ (step : ReportStep). world_within m step.after step.left) o world) [
-      | None ↦ λ is. refl
-      | (Some step) ↦ λ is.
-          let less = fewer world left step is in
-          enough_world n m step.after step.left (omega (arith, low, less)) (omega (arith, high, less))
-    ] refl
-
--- ---- one step
-
--- the reports are that of the next step, and those of what it leaves
-pub reports_step : (world : World) (left : List Moment) (step : ReportStep) → next_step world left ≡ Some step → reports world left ≡ step.report ∷ reports step.after step.left
+pub reports_step : (world : World) (left : List Moment) (step : ReportStep) → next_step world left ≡ Some step
+    → reports world left ≡ step.report ∷ reports step.after step.left
 reports_step world left step is =
-    enough_reports (length left) (suc (length left)) world left (omega arith) (omega arith)
-    ∙ (ap (λ o. option_map_or (λ (s : ReportStep). s.report ∷ reports_within (length left) s.after s.left) o []) is
-    ∙ ap (λ rest. step.report ∷ rest)
-    (let less = fewer world left step is in
-    enough_reports (length left) (length step.left) step.after step.left (omega (arith, less)) (omega arith)))
+    reports_are world left
+    ∙ (worked_step (λ _. []) (λ report others. report ∷ others) world left step is
+    ∙ ap (λ others. step.report ∷ others) (sym (reports_are step.after step.left)))
 
-pub world_step : (world : World) (left : List Moment) (step : ReportStep) → next_step world left ≡ Some step → world_behind world left ≡ world_behind step.after step.left
+pub world_step : (world : World) (left : List Moment) (step : ReportStep) → next_step world left ≡ Some step
+    → world_behind world left ≡ world_behind step.after step.left
 world_step world left step is =
-    enough_world (length left) (suc (length left)) world left (omega arith) (omega arith)
-    ∙ (ap (λ o. option_map_or (λ (s : ReportStep). world_within (length left) s.after s.left) o world) is
-    ∙ (let less = fewer world left step is in
-    enough_world (length left) (length step.left) step.after step.left (omega (arith, less)) (omega arith)))
+    world_is world left
+    ∙ (worked_step (λ after. after) (λ report after. after) world left step is ∙ sym (world_is step.after step.left))

@@ -41,7 +41,8 @@ use Rattle.rsp_engine.specs.World.{World, Query, Reading, Registration}
 use Rattle.rsp_engine.specs.Readings.{reading_of}
 use Rattle.rsp_engine.specs.Accept.{accept, accept_text, is_live, new_query, starts_overfull}
 use Rattle.rsp_engine.specs.Moments.{Moment, moments}
-use Rattle.rsp_engine.specs.Reports.{facts, reports, world_behind, is_overfull, after_report, moments_behind}
+use Rattle.rsp_engine.specs.Reports.{facts, reports, world_behind, is_overfull, after_report}
+use Rattle.rsp_engine.specs.Steps.{moments_behind}
 use Rattle.rsp_engine.specs.Kept.{held, kept_items}
 
 -- ---- what the rows speak of

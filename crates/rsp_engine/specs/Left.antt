@@ -5,7 +5,8 @@ use Rattle.std.specs.Option.{option_map_or}
 use Rattle.rsp_scope.specs.Contents.{Accepted}
 use Rattle.rsp_engine.specs.declared.finding.Pending.{Pending}
 use Rattle.rsp_engine.specs.World.{Registration}
-use Rattle.rsp_engine.specs.Due.{is_due, is_due_over}
+use Rattle.rsp_engine.specs.Due.{is_due}
+use Rattle.rsp_engine.specs.Seeing.{is_due_over}
 use Rattle.rsp_engine.specs.Moments.{Moment}
 
 -- whether a query reports at t: below `next` by the instant, at `next` itself by an item that just arrived over this stream

@@ -11,10 +11,12 @@ pub mod Kept
 pub mod Bounds
 pub mod Offers
 -- Words of the way
+pub mod Steps
 pub mod Left
 pub mod Stands
 pub mod Inside
 pub mod Passing
 pub mod Watching
 pub mod Watched
+pub mod Seeing
 pub mod Keeping

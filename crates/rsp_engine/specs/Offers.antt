@@ -10,7 +10,8 @@ use Rattle.rsp_engine.specs.declared.report.Report.{Report}
 use Rattle.rsp_engine.specs.World.{World}
 use Rattle.rsp_engine.specs.Accept.{accept, is_live}
 use Rattle.rsp_engine.specs.Moments.{Moment, moments}
-use Rattle.rsp_engine.specs.Reports.{IsReport, ReportStep, next_step}
+use Rattle.rsp_engine.specs.Reports.{IsReport}
+use Rattle.rsp_engine.specs.Steps.{ReportStep, next_step}
 use Rattle.rsp_engine.specs.Stands.{State, Stands, is_idle, places_left}
 
 -- the event was accepted: the engine stands for the world that the event makes, and for the event's moments

@@ -1,5 +1,5 @@
 -- Definitions: what is reported at a moment (RSP-QL), and working off the moments of an event.
-use Rattle.std.specs.Prelude.{◌≡◌, ℕ, zero, suc, Bool, not, if◌then◌else◌, Option, None, Some, List, [], ◌∷◌, ◌++◌, length, map, filter, slice_index_or, bytes_eq}
+use Rattle.std.specs.Prelude.{◌≡◌, ℕ, Bool, if◌then◌else◌, Option, None, Some, List, [], ◌∷◌, ◌++◌, map, slice_index_or}
 use Rattle.std.specs.List.{find}
 use Rattle.std.specs.Option.{option_map_or}
 use Rattle.rsp_terms.specs.declared.term.Term.{Term}
@@ -79,46 +79,19 @@ after_report world query t =
     then record world { queries = without query.name world.queries }
     else record world { queries = map (query_after_report world t query.name) world.queries }
 
--- the moments that are left behind a query's report at t: an overfull one strikes those of its query
-abbrev pub moments_behind : World → Registration → ℕ → List Moment → List Moment
-moments_behind world query t left =
-    if is_overfull world query t then filter (λ (moment : Moment). not (bytes_eq moment.query query.name)) left else left
-
--- a report, the world behind it, and the moments that are then left
-pub record ReportStep : Type 0 where
-  pub report : Report
-  pub after : World
-  pub left : List Moment
-
--- the step to the next report of the moments that are left; a moment of a query that is no longer live has none
-abbrev pub next_step : World → List Moment → Option ReportStep
-next_step world [] = None
-next_step world (moment ∷ left) =
-    option_map_or
-    (λ (query : Query).
-    Some
-    (record {
-      report = report_of world query moment.at;
-      after = after_report world query.registration moment.at;
-      left = moments_behind world query.registration moment.at left;
-    }))
-    (live_query world moment.query)
-    (next_step world left)
-
--- the reports of at most n steps, in order, and the world behind them
-abbrev pub reports_within : ℕ → World → List Moment → List Report
-reports_within zero world left = []
-reports_within (suc n) world left =
-    option_map_or (λ (step : ReportStep). step.report ∷ reports_within n step.after step.left) (next_step world left) []
-
-abbrev pub world_within : ℕ → World → List Moment → World
-world_within zero world left = world
-world_within (suc n) world left =
-    option_map_or (λ (step : ReportStep). world_within n step.after step.left) (next_step world left) world
-
--- the reports of the moments that are left, and the world once they are worked off: each step leaves fewer moments
+-- the reports of the moments, in order, each in the world that those before it leave; one of a query that is no longer live has none
 abbrev pub reports : World → List Moment → List Report
-reports world left = reports_within (length left) world left
+reports world [] = []
+reports world (moment ∷ left) =
+    option_map_or
+    (λ (query : Query). report_of world query moment.at ∷ reports (after_report world query.registration moment.at) left)
+    (live_query world moment.query)
+    (reports world left)
 
+-- the world behind them
 abbrev pub world_behind : World → List Moment → World
-world_behind world left = world_within (length left) world left
+world_behind world [] = world
+world_behind world (moment ∷ left) =
+    option_map_or (λ (query : Query). world_behind (after_report world query.registration moment.at) left)
+    (live_query world moment.query)
+    (world_behind world left)

@@ -4,8 +4,8 @@ use Rattle.rsp_expr.specs.Formulas.{Aggregation}
 use Rattle.rsp_numbering.specs.declared.variable.Variable.{Variable}
 use Rattle.rsp_numbering.specs.Naming.{Scope, Before, nothing, number, behind, behind_select, named}
 
--- what stands before a place; the aggregates of its SELECT so far, each with the variable that stands for it; and how many operators
--- stand before it
+-- what stands before a place; the aggregates of its SELECT so far, each with the variable that stands for it; and how many
+-- operators stand before it
 pub record State : Type 0 where
   pub before : Before
   pub aggregates : List (ℕ × Aggregation)
@@ -45,7 +45,8 @@ counting n part state = part (record state { operators = state.operators + n })
 -- ---- the number of a variable; of a name
 
 abbrev pub numbered : (Before → Variable) → Numbered ℕ
-numbered variable state = (number state.before (variable state.before), record state { before = behind state.before (variable state.before) })
+numbered variable state =
+    (number state.before (variable state.before), record state { before = behind state.before (variable state.before) })
 
 abbrev pub numbered_name : List Scope → List ℕ → Numbered ℕ
 numbered_name at x = numbered (λ before. named at x)

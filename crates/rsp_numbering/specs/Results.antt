@@ -1,5 +1,5 @@
--- Words of the way: the answer to a text that the grammar has read, `limit_of` and `query_of` as one answer; and the same in
--- the words by which the code makes it.
+-- Words of the way: the answer to a text that the grammar has read, `limit_of` and `query_of` as one answer; and the same
+-- in the words by which the code makes it.
 use Rattle.std.specs.Prelude.{◌≡◌, cond, List, [], Option, None, Some, Result, Ok, Err, length, map}
 use Rattle.rsp_report.specs.declared.words.PolicyWords.{PolicyWords}
 use Rattle.rsp_query.specs.declared.query.Query.{Query}
