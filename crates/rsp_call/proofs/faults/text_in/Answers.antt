@@ -15,5 +15,5 @@ returns-in-Ok c =
 pub returns-in-Err : goal.returns-in-Err
 returns-in-Err c =
     let short : nat_lt most_text_bytes (length c.args.bytes.now) ≡ false = search rules in
-    let place = c.valid_up_to.ensures ∙ c.in-Err.ensures.valid_len in
+    let place = c.valid_up_to-at.ensures ∙ c.in-Err.ensures.valid_len in
     fault_of_bytes c.args.bytes.now _ short (not_utf8 _ c.in-Err.ensures.cases.0) place
