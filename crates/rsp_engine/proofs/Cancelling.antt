@@ -17,7 +17,7 @@ use Rattle.rsp_engine.specs.Stands.{Fits, Follows, IsLive, Live, State, cut_of, 
 use Rattle.rsp_engine.specs.Watching.{Tells}
 use Rattle.rsp_engine.proofs.Named.{All-remove, remove_map}
 use Rattle.rsp_engine.proofs.Needing.{less_needed}
-use Rattle.rsp_engine.proofs.Reporting.{all_watches, watches_same}
+use Rattle.rsp_engine.proofs.BehindReport.{all_watches, watches_same}
 
 -- times of kept items are within the instants
 pub timed_below : (items : List Item) (next : ℕ) → next ≤ last_instant + 1 → All (λ (item : Item). item.time ≤ next) items → All (λ (item : Item). item.time ≤ 2 ^ 48) items

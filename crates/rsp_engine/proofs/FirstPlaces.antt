@@ -7,7 +7,7 @@ use Rattle.rsp_spec.specs.Instants.{IsLeastIn}
 use Rattle.rsp_spec.proofs.InstantLaws.{least_alike}
 use Rattle.rsp_report.specs.Searches.{sooner}
 use Rattle.rsp_report.proofs.NextItems.{sooner_least}
-use Rattle.rsp_engine.specs.declared.finding.Pending.{Pending}
+use Rattle.rsp_engine.specs.declared.schedule.Pending.{Pending}
 use Rattle.rsp_engine.specs.Left.{IsFirstAt, IsFirstLeft}
 use Rattle.rsp_engine.proofs.Left.{jump, none, over, quiet}
 

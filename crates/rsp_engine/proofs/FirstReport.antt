@@ -13,7 +13,7 @@ use Rattle.rsp_multiset.specs.Weights.{IsSameMultiset}
 use Rattle.rsp_multiset.proofs.SameLists.{same-append}
 use Rattle.rsp_algebra.specs.Solutions.{eval}
 use Rattle.rsp_algebra.proofs.SameFacts.{same_mapped, same_solutions}
-use Rattle.rsp_engine.specs.declared.finding.Pending.{Pending}
+use Rattle.rsp_engine.specs.declared.schedule.Pending.{Pending}
 use Rattle.rsp_engine.specs.declared.report.Outcome.{Outcome}
 use Rattle.rsp_engine.specs.declared.report.Outcome.TheVariants as outcomes
 use Rattle.rsp_engine.specs.declared.report.Report.{Report}
@@ -38,7 +38,7 @@ use Rattle.rsp_engine.proofs.Named.{drop_named, find_named, get_map, remove_map,
 use Rattle.rsp_engine.proofs.Fitting.{contents_here}
 use Rattle.rsp_engine.specs.Bounds.{IsWorld}
 use Rattle.rsp_engine.proofs.Bounds.{alike_keeps, without_keeps}
-use Rattle.rsp_engine.proofs.Reporting.{All-get}
+use Rattle.rsp_engine.proofs.BehindReport.{All-get}
 use Rattle.rsp_engine.proofs.Seen.{name_of_query, seen_at, seen_removed, seen_set, world_at, world_names}
 use Rattle.rsp_engine.proofs.Standing.{head_is, left_here, left_renamed, none_is, waits_renamed}
 

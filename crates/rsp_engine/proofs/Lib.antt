@@ -4,7 +4,7 @@ pub mod Places
 pub mod Standing
 pub mod TextCauses
 pub mod Seen
-pub mod Reporting
+pub mod BehindReport
 pub mod Readiness
 pub mod Fitting
 pub mod Cancelling

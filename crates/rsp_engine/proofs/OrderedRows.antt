@@ -6,7 +6,7 @@ use Rattle.rsp_multiset.specs.Weights.{IsChanged, only, times, total, weight}
 use Rattle.rsp_multiset.specs.RowSame.{row_decides}
 use Rattle.rsp_multiset.proofs.Linear.{sum-changed}
 use Rattle.rsp_multiset.proofs.Sums.{sum_z-map}
-use Rattle.rsp_streams_out.specs.Streams.{less, reported}
+use Rattle.rsp_streams_out.specs.Streams.{reported}
 use Rattle.rsp_streams_out.specs.Turning.{StandsFor}
 use Rattle.rsp_report.specs.declared.operator.Operator.{Operator}
 use Rattle.rsp_report.specs.declared.operator.Operator.TheVariants.{Rstream, Istream, Dstream}
@@ -77,10 +77,7 @@ stands_for Rstream change solutions preceding present other changed = absurd (ot
 stands_for Istream change solutions preceding present other changed = changed
 stands_for Dstream change solutions preceding present other changed = changed
 
--- nothing less something is nothing
-less_nothing : (ys : List (Cells Term)) → less (row_eq term_eq) [] ys ≡ []
-less_nothing [] = refl
-less_nothing (y ∷ ys) = less_nothing ys
-
-pub none_gone : (present : List (Cells Term)) → AreRows [] (reported Dstream [] present)
-none_gone present = rw (less_nothing present) (record { same = λ q. refl; texts = refl })
+-- no rows where none are to be reported
+pub no_rows : (operator : Operator) (preceding present : List (Cells Term)) → preceding ≡ [] → reported operator [] present ≡ []
+    → AreRows [] (reported operator preceding present)
+no_rows operator preceding present none is = rw (none, is) (record { same = λ q. refl; texts = refl })

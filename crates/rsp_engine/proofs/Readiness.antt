@@ -17,7 +17,7 @@ use Rattle.rsp_scope.specs.Kept.{Kept, needed, taken}
 use Rattle.rsp_scope.specs.Moves.{Followed, IsReached}
 use Rattle.rsp_scope.specs.declared.item.Item.{Item}
 use Rattle.rsp_engine.specs.declared.engine.Engine.TheInside.{Inside}
-use Rattle.rsp_engine.specs.declared.finding.Pending.{Pending}
+use Rattle.rsp_engine.specs.declared.schedule.Pending.{Pending}
 use Rattle.rsp_engine.specs.declared.live_query.LiveQuery.{LiveQuery}
 use Rattle.rsp_engine.specs.Accept.{has_name}
 use Rattle.rsp_engine.specs.Contents.{watches}

@@ -12,7 +12,7 @@ use Rattle.rsp_report.specs.Seen.{seen_at}
 use Rattle.rsp_report.specs.Due as windows
 use Rattle.rsp_report.proofs.Unseen.{due_on_item_seen, due_seen}
 use Rattle.rsp_scope.specs.Contents.{Accepted}
-use Rattle.rsp_engine.specs.declared.finding.Pending.{Pending}
+use Rattle.rsp_engine.specs.declared.schedule.Pending.{Pending}
 use Rattle.rsp_engine.specs.Due.{is_due, watched_of}
 use Rattle.rsp_engine.specs.Seeing.{is_due_over}
 use Rattle.rsp_engine.specs.Left.{IsFirstLeft, left_from, name_in, reports_at}

@@ -12,7 +12,7 @@ use Rattle.rsp_scope.specs.Moves.{Followed, HasSeen}
 use Rattle.rsp_scope.specs.Needed.{is_needed}
 use Rattle.rsp_scope.specs.declared.item.Item.{Item}
 use Rattle.rsp_scope.specs.Logged.{Log}
-use Rattle.rsp_engine.specs.declared.keeping.Arrival.{Arrival}
+use Rattle.rsp_engine.specs.declared.retention.Arrival.{Arrival}
 use Rattle.rsp_engine.specs.declared.live_query.LiveQuery.{LiveQuery}
 
 abbrev pub watches_followed : List Followed → List Watch

@@ -3,7 +3,7 @@ use Rattle.std.specs.Prelude.{◌≡◌, ℕ, ◌+◌, ◌-◌, ◌≤◌, Bool,
 use Rattle.std.specs.List.{flat_map, range_with_len}
 use Rattle.std.specs.Option.{option_map_or}
 use Rattle.rsp_scope.specs.Contents.{Accepted}
-use Rattle.rsp_engine.specs.declared.finding.Pending.{Pending}
+use Rattle.rsp_engine.specs.declared.schedule.Pending.{Pending}
 use Rattle.rsp_engine.specs.World.{Registration}
 use Rattle.rsp_engine.specs.Due.{is_due}
 use Rattle.rsp_engine.specs.Seeing.{is_due_over}

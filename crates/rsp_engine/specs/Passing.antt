@@ -19,7 +19,7 @@ use Rattle.rsp_scope.specs.Kept.{Kept}
 use Rattle.rsp_scope.specs.Logged.{Log}
 use Rattle.rsp_scope.specs.Moves.{Followed}
 use Rattle.rsp_streams_out.specs.Streams.{reported}
-use Rattle.rsp_engine.specs.declared.finding.Pending.{Pending}
+use Rattle.rsp_engine.specs.declared.schedule.Pending.{Pending}
 use Rattle.rsp_engine.specs.declared.live_query.LiveQuery.{LiveQuery}
 use Rattle.rsp_engine.specs.declared.report.Outcome.{Outcome}
 use Rattle.rsp_engine.specs.declared.report.Outcome.TheVariants as outcomes

@@ -21,7 +21,7 @@ use Rattle.rsp_scope.specs.Kept.{Kept}
 use Rattle.rsp_scope.specs.Moves.{Followed, HasSeen, IsReached}
 use Rattle.rsp_scope.specs.Logged.{since}
 use Rattle.rsp_scope.specs.Logged.{Log}
-use Rattle.rsp_engine.specs.declared.finding.Pending.{Pending}
+use Rattle.rsp_engine.specs.declared.schedule.Pending.{Pending}
 use Rattle.rsp_engine.specs.declared.live_query.StreamWindow.{StreamWindow}
 use Rattle.rsp_engine.specs.World.{World, Query, Reading, Registration, registrations}
 use Rattle.rsp_engine.specs.Contents.{watches}

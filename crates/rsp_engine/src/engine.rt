@@ -10,11 +10,11 @@ ghost use Rattle.rsp_engine.specs.Passing.{is_overfull_outcome};
 ghost use Rattle.rsp_engine.specs.Watching.{IsPrompt, name_of, reports_by};
 ghost use Rattle.rsp_engine.specs.declared.live_query.LiveQuery.{LiveQuery};
 
-use crate::finding::{Pending, first_left};
-use crate::keeping::{Arrival, cut_at, end_of, let_go, lower, take, too_many};
 use crate::live_query::LiveQuery;
 use crate::registering::begun;
-use crate::seeing::report_at;
+use crate::reporting::report_at;
+use crate::retention::{Arrival, cut_at, end_of, let_go, lower, take, too_many};
+use crate::schedule::{Pending, first_left};
 use crate::storing::{delete, insert};
 use crate::texts::{Asked, read};
 use crate::{EngineFault, Outcome, Refused, Report};

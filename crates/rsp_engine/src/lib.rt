@@ -8,18 +8,18 @@
 //! Above: the program. Below: events, query texts and their trees, answers, windows, terms and the order of rows.
 #![tactic(auto)]
 
+mod arrivals;
 mod engine;
-mod finding;
-mod keeping;
 mod live_query;
 mod refused;
 mod registering;
 mod report;
+mod reporting;
+mod retention;
 mod rows;
-mod seeing;
+mod schedule;
 mod storing;
 mod texts;
-mod watching;
 
 pub use engine::Engine;
 use live_query::LiveQuery;

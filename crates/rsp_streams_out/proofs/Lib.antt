@@ -3,6 +3,7 @@ pub mod InOrder
 pub mod JsonData
 mod JsonRows
 pub mod Less
+pub mod NoneGone
 pub mod SameTexts
 pub mod Sorted
 mod StreamRows

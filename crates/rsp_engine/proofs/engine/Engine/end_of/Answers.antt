@@ -3,7 +3,7 @@ use Rattle.std.specs.Option.{option_map_or}
 use Rattle.rsp_scope.specs.Needed.{is_needed}
 use Rattle.rsp_engine.specs.Inside.{IsReady, state_of}
 use Rattle.rsp_engine.specs.Stands.{cut_of, next_in}
-use Rattle.rsp_engine.proofs.Reporting.{all_watches, watches_same}
+use Rattle.rsp_engine.proofs.BehindReport.{all_watches, watches_same}
 use Rattle.rsp_engine.proofs.engine.Engine.end_of.Goals as goal
 
 pub returns : goal.returns

@@ -4,7 +4,7 @@ use Rattle.rsp_engine.specs.Inside.{IsReady, live_of}
 use Rattle.rsp_engine.specs.Passing.{is_overfull_outcome}
 use Rattle.rsp_engine.proofs.Cancelling.{timed_below}
 use Rattle.rsp_engine.proofs.Named.{get_index, get_map}
-use Rattle.rsp_engine.proofs.Reporting.{answers, fits_behind, followed, high, left_there, listed, place_is, prompt_behind, reached, ready_behind, states_behind, store, watches_are, within}
+use Rattle.rsp_engine.proofs.BehindReport.{answers, fits_behind, followed, high, left_there, listed, place_is, prompt_behind, reached, ready_behind, states_behind, store, watches_are, within}
 use Rattle.rsp_engine.proofs.engine.Engine.report_first.Goals as goal
 
 pub index_mut-requires : goal.index_mut-requires

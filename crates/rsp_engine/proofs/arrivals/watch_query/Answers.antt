@@ -1,0 +1,46 @@
+use Rattle.std.proofs.Common.{◌∙◌, false, ap, arith}
+use Rattle.std.specs.Prelude.{bytes_eq, slice_get}
+use Rattle.std.specs.Option.{option_map_or}
+use Rattle.rsp_engine.specs.declared.live_query.StreamWindow.{StreamWindow}
+use Rattle.rsp_engine.proofs.WatchedWith.{all_so_far, more_so_far, so_far_long, timed_before}
+use Rattle.rsp_engine.proofs.arrivals.watch_query.Goals as goal
+
+pub watch_window-requires-clause-timed : goal.watch_window-requires-clause-timed
+watch_window-requires-clause-timed g c =
+    let live = c.args.live.now in
+    timed_before c.args.stream.now c.args.time c.args.from c.loop-window.window live.windows live.watched.items
+    c.loop-window.live.watched.items c.index_mut.result.now c.loop-window.invariant.watched
+    (omega (
+      arith,
+      live.watched.ok.0,
+      so_far_long c.args.stream.now c.args.time c.args.from c.loop-window.window live.windows live.watched.items
+          c.loop-window.live.watched.items c.loop-window.invariant.watched,
+    )) c.index_mut.ensures.value c.requires.watching.timed
+
+pub loop-window-preserved : goal.loop-window-preserved
+loop-window-preserved g c =
+    let live = c.args.live.now in
+    let windows = ap (λ p. p.query.reading.windows) c.loop-window.invariant.parts in
+    let over = c.is_over-over.ensures
+    ∙ ap (λ ws. option_map_or (λ (w : StreamWindow). bytes_eq c.args.stream.now w.stream) (slice_get ws c.loop-window.window) false)
+    (c.as_slice.ensures ∙ windows) in
+    record {
+      parts = c.loop-window.invariant.parts;
+      watched =
+          more_so_far c.args.stream.now c.args.time c.args.from c.loop-window.window live.windows live.watched.items
+          c.loop-window.live.watched.items c.index_mut.result.now c.loop-window.invariant.watched
+          (omega (
+            arith,
+            live.watched.ok.0,
+            so_far_long c.args.stream.now c.args.time c.args.from c.loop-window.window live.windows live.watched.items
+                c.loop-window.live.watched.items c.loop-window.invariant.watched,
+          )) c.index_mut.ensures.value c.is_over-over.result c.watch_window.new.watched over
+          c.in_ok-watch_window.ensures.window c.in_ok-watch_window.ensures.timed c.in_ok-watch_window.ensures.fresh
+          c.in_ok-watch_window.ensures.seen;
+    }
+
+pub returns-clause-watched : goal.returns-clause-watched
+returns-clause-watched g c =
+    let live = c.args.live.now in
+    all_so_far c.args.stream.now c.args.time c.args.from c.loop-window.window live.windows live.watched.items
+    c.loop-window.live.watched.items c.loop-window.invariant.watched (omega (arith, live.watched.ok.0))
