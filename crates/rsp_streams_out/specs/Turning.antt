@@ -30,7 +30,7 @@ StandsFor Dstream change solutions preceding present = IsChanged (row_eq term_eq
 -- what an operator reads gives its rows, where its query has told some before or hasn't: all solutions, where none of them is
 -- left out; the change, where there is one; nothing, where no rows are to be given
 abbrev pub Reads : Operator → Bool → Reading → Type 0
-Reads operator told reading.Solutions =
-    (preceding present : List (Cells Term)) → (told ≡ false → preceding ≡ []) → reported operator preceding present ≡ in_order present
+Reads operator told reading.Solutions = (preceding present : List (Cells Term)) → (told ≡ false → preceding ≡ [])
+    → reported operator preceding present ≡ in_order present
 Reads operator told reading.Change = (operator ≢ Rstream) × (told ≡ true)
 Reads operator told reading.Nothing = (told ≡ false) × ((present : List (Cells Term)) → reported operator [] present ≡ [])
