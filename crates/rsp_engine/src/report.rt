@@ -1,12 +1,12 @@
 // Reports.
-use rsp_multiset::Row;
-use rsp_terms::{Listed, Term, Text};
+use rsp_streams_out::PrintedRows;
+use rsp_terms::{Listed, Text};
 
 /// What a query gave at an instant.
 #[derive(Drop)]
 pub enum Outcome {
     /// The rows, one cell for each variable, in the byte order of their texts.
-    Rows(Listed<Row<Term>>),
+    Rows(PrintedRows),
     /// Some subtree of the query has more than 1,000,000 rows. The query is no longer live.
     Overfull,
 }

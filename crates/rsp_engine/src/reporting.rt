@@ -26,7 +26,7 @@ use rsp_algebra::{Answer, Turn};
 use rsp_multiset::{Changes, Row};
 use rsp_scope::{Contents, StoreLog, Stored, Streams};
 use rsp_steps::Steps;
-use rsp_streams_out::{Reading, read_by};
+use rsp_streams_out::{PrintedRows, Reading, read_by};
 use rsp_terms::{Fact, Listed, Term, Text};
 use std::alloc::{AllocError, Global};
 use std::sync::ledger::Ledger;
@@ -175,7 +175,7 @@ fn told_rows<A: Answer>(
     alloc: Global,
     live: &LiveQuery<A>,
     net: &Changes<Row<Term>>,
-) -> Result<Listed<Row<Term>>, AllocError>
+) -> Result<PrintedRows, AllocError>
     requires { A.spent live.now.answer ≡ false }
     ensures { IfOk result (λ rows. (facts : List Fact) (before preceding : List (Cells Term))
         → IsSameMultiset fact_eq (A.facts live.now.answer) facts
@@ -188,12 +188,12 @@ fn told_rows<A: Answer>(
     match read_by(live.operator, live.reported) {
         Reading::Solutions => all_rows(alloc, live),
         Reading::Change => changed_rows(alloc, live.operator, net, live.query.shown.as_slice()),
-        Reading::Nothing => Ok(Listed::new(alloc)),
+        Reading::Nothing => Ok(PrintedRows::new(alloc)),
     }
 }
 
 // all rows of now
-fn all_rows<A: Answer>(alloc: Global, live: &LiveQuery<A>) -> Result<Listed<Row<Term>>, AllocError>
+fn all_rows<A: Answer>(alloc: Global, live: &LiveQuery<A>) -> Result<PrintedRows, AllocError>
     requires { A.spent live.now.answer ≡ false }
     ensures { IfOk result (λ rows. (facts : List Fact)
         → IsSameMultiset fact_eq (A.facts live.now.answer) facts

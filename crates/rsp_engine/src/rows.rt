@@ -10,7 +10,7 @@ ghost use Rattle.rsp_streams_out.specs.Streams.{reported};
 ghost use Rattle.rsp_engine.specs.Reports.{cells_at};
 
 use rsp_multiset::{Bag, Changes, Row};
-use rsp_streams_out::{Operator, ordered, rows_of, turn};
+use rsp_streams_out::{Operator, PrintedRows, printed, rows_of, turn_printed};
 use rsp_terms::{Listed, Term};
 use std::alloc::{AllocError, Global};
 
@@ -19,13 +19,13 @@ pub(crate) fn shown_rows(
     alloc: Global,
     solutions: &Bag<Term>,
     shown: &[usize],
-) -> Result<Listed<Row<Term>>, AllocError>
+) -> Result<PrintedRows, AllocError>
     ensures { IfOk result (λ rows. (wanted : _)
         → ((q : _) → weight (row_eq term_eq) solutions.now q ≡ times (row_eq term_eq) wanted q)
         → AreRows rows (in_order (map (cells_at shown.now) wanted))) }
 {
     let rows = rows_of(alloc, solutions)?;
-    ordered(alloc, all_cut(alloc, rows.as_slice(), shown)?)
+    printed(alloc, all_cut(alloc, rows.as_slice(), shown)?)
 }
 
 /// The rows that came, for ISTREAM, or went, for DSTREAM, by a change of solutions, with these places alone, in the byte order of
@@ -35,7 +35,7 @@ pub(crate) fn changed_rows(
     operator: Operator,
     net: &Changes<Row<Term>>,
     shown: &[usize],
-) -> Result<Listed<Row<Term>>, AllocError>
+) -> Result<PrintedRows, AllocError>
     requires { operator ≢ Rstream }
     ensures { IfOk result (λ rows. (before after preceding present : List (Cells Term))
         → IsChanged (row_eq term_eq) before net.now after
@@ -45,7 +45,7 @@ pub(crate) fn changed_rows(
 {
     let change = change_cut(alloc, net, shown)?;
     let unread = Bag::new(alloc);
-    let rows = turn(alloc, operator, &change, &unread)?;
+    let rows = turn_printed(alloc, operator, &change, &unread)?;
     Ok(rows)
 }
 

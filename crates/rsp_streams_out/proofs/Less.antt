@@ -1,5 +1,5 @@
 -- How often a value is in what is left of one list without another.
-use Rattle.std.proofs.Common.{◌≡◌, Bool, true, false, List, [], ◌∷◌, ℤ, pos, negsuc, ◌+ℤ◌, neg_ℤ, ◌≤ℤ◌, ℕ, suc, ◌+◌, cond, not, refl, sym, ap, ◌∙◌, arith, inl, inr, true≢false, Decides}
+use Rattle.std.proofs.Common.{◌≡◌, Bool, true, false, List, [], ◌∷◌, ℤ, pos, negsuc, ◌+ℤ◌, neg_ℤ, ◌≤ℤ◌, suc, ◌+◌, cond, not, refl, sym, ap, ◌∙◌, arith, inl, inr, true≢false, Decides}
 use Rattle.std.proofs.lemmas.Bool.{cases_Bool, cond-true, cond-false}
 use Rattle.std.proofs.lemmas.Int.{ints}
 use Rattle.rsp_multiset.specs.Weights.{only, times, above}

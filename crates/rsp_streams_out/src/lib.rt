@@ -9,16 +9,19 @@
 #![tactic(auto)]
 
 mod json_text;
+mod keyed;
 mod listing;
 mod order;
+mod printing;
 mod reading;
 mod text;
 mod turning;
 
 pub use json_text::report_json;
 pub use listing::rows_of;
-pub use order::ordered;
+pub use order::{ordered, printed};
+pub use printing::PrintedRows;
 pub use reading::{Reading, read_by};
 pub use rsp_report::Operator;
-pub use text::{overfull_text, report_text, row_text};
-pub use turning::turn;
+pub use text::{overfull_text, printed_text, report_text, row_text};
+pub use turning::{turn, turn_printed};

@@ -4,6 +4,7 @@ ghost use Rattle.std.specs.List.{join_with_byte};
 ghost use Rattle.rsp_streams_out.specs.Rows.{row_text, cell_text};
 ghost use Rattle.rsp_streams_out.specs.Reports.{overfull_text, report_text, report_head, variables_line, rows_text};
 
+use crate::PrintedRows;
 use rsp_multiset::Row;
 use rsp_terms::{Term, Text, print};
 use std::alloc::{AllocError, Global};
@@ -40,6 +41,26 @@ pub fn report_text(
     written
 }
 
+/// Appends the same text of a report whose rows are printed already.
+pub fn printed_text(
+    alloc: Global,
+    name: &str,
+    at: u64,
+    variables: &[Text],
+    rows: &PrintedRows,
+    out: &mut Vec<u8>,
+) -> Result<(), AllocError>
+    ensures ok { OnOk result (out.new.items ≡ out.old.items ++ report_text name.now at variables.now rows.now) }
+    ensures err { OnErr result (out.new.items ≡ out.old.items) }
+{
+    let before = out.len();
+    let written = push_printed(alloc, name, at, variables, rows, out);
+    if written.is_err() {
+        out.truncate(before);
+    }
+    written
+}
+
 /// Appends the line that stands for a report with too many rows: `# overfull`, the query's name and the instant (in
 /// milliseconds). Fails only where memory is refused; `out` then holds the bytes that it held before.
 pub fn overfull_text(
@@ -70,6 +91,23 @@ fn push_report(
     push_head(alloc, name, at, rows.len(), out)?;
     push_variables(variables, out)?;
     push_rows(rows, out)
+}
+
+fn push_printed(
+    alloc: Global,
+    name: &str,
+    at: u64,
+    variables: &[Text],
+    rows: &PrintedRows,
+    out: &mut Vec<u8>,
+) -> Result<(), AllocError>
+    ensures ok { OnOk result (out.new.items ≡ out.old.items ++ report_text name.now at variables.now rows.now) }
+    ensures begun { (rest : _) × (out.new.items ≡ out.old.items ++ rest) }
+{
+    push_head(alloc, name, at, rows.as_slice().len(), out)?;
+    push_variables(variables, out)?;
+    out.extend_from_slice(rows.lines())?;
+    Ok(())
 }
 
 fn push_head(

@@ -8,7 +8,7 @@ ghost use Rattle.rsp_streams_out.specs.Rows.{AreRows, in_order};
 ghost use Rattle.rsp_streams_out.specs.Streams.{reported};
 ghost use Rattle.rsp_streams_out.specs.Turning.{times_reported, StandsFor};
 
-use crate::{ordered, rows_of};
+use crate::{PrintedRows, printed, rows_of};
 use rsp_multiset::{Bag, Changes, Row, negative, positive};
 use rsp_report::Operator;
 use rsp_terms::{Listed, Term};
@@ -29,6 +29,22 @@ pub fn turn(
         → StandsFor operator change.now solutions.now preceding present
         → (q : Cells Term) → times (row_eq term_eq) rows q ≡ times_reported operator preceding present q) }
 {
+    Ok(turn_printed(alloc, operator, change, solutions)?.into_rows())
+}
+
+/// The same rows with their lines.
+pub fn turn_printed(
+    alloc: Global,
+    operator: Operator,
+    change: &Changes<Row<Term>>,
+    solutions: &Bag<Term>,
+) -> Result<PrintedRows, AllocError>
+    ensures rows { IfOk result (λ rows. (preceding present : List (Cells Term))
+        → StandsFor operator change.now solutions.now preceding present → AreRows rows (reported operator preceding present)) }
+    ensures counts { IfOk result (λ rows. (preceding present : List (Cells Term))
+        → StandsFor operator change.now solutions.now preceding present
+        → (q : Cells Term) → times (row_eq term_eq) rows q ≡ times_reported operator preceding present q) }
+{
     match operator {
         Operator::Rstream => in_order_of(alloc, solutions),
         Operator::Istream => in_order_of(alloc, &positive(alloc, change)?),
@@ -37,10 +53,10 @@ pub fn turn(
 }
 
 // the rows of a bag, in order
-fn in_order_of(alloc: Global, bag: &Bag<Term>) -> Result<Listed<Row<Term>>, AllocError>
+fn in_order_of(alloc: Global, bag: &Bag<Term>) -> Result<PrintedRows, AllocError>
     ensures rows { IfOk result (λ rows. (wanted : List (Cells Term))
         → Holds (row_eq term_eq) bag.now wanted → AreRows rows (in_order wanted)) }
     ensures counts { IfOk result (λ rows. (q : Cells Term) → times (row_eq term_eq) rows q ≡ weight (row_eq term_eq) bag.now q) }
 {
-    ordered(alloc, rows_of(alloc, bag)?)
+    printed(alloc, rows_of(alloc, bag)?)
 }

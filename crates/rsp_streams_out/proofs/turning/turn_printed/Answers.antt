@@ -1,7 +1,7 @@
 use Rattle.std.proofs.Common.{◌∙◌}
 use Rattle.std.proofs.lemmas.Result.{IfOk-weaker}
 use Rattle.rsp_streams_out.proofs.Turned.{new_rows, new_counts, gone_rows, gone_counts}
-use Rattle.rsp_streams_out.proofs.turning.turn.Goals as goal
+use Rattle.rsp_streams_out.proofs.turning.turn_printed.Goals as goal
 
 pub returns-in_ok-positive-in-Istream-clause-rows : goal.returns-in_ok-positive-in-Istream-clause-rows
 returns-in_ok-positive-in-Istream-clause-rows c =
