@@ -9,3 +9,4 @@ pub mod Sums
 pub mod Whole
 mod WorkedRows
 pub mod Counting
+pub mod Columns
