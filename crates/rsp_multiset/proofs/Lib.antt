@@ -2,8 +2,8 @@ pub mod Changing
 pub mod Held
 pub mod Linear
 pub mod Merging
-pub mod Renaming
 pub mod SameLists
+pub mod Shown
 pub mod Signs
 pub mod Sums
 pub mod Whole
