@@ -28,6 +28,9 @@ module _ {E : Type 0} (eq : E → E → Bool) where
   weight-append [] ds q = omega (arith, ints)
   weight-append (e ∷ es) ds q = let h = weight-append es ds q in omega (arith, ints)
 
+  pub weight-first : (es rest : List (E × ℤ)) (x : E) (n : ℤ) → es ≡ (x, n) ∷ rest → (q : E) → weight eq es q ≡ only (eq q x) n +ℤ weight eq rest q
+  weight-first es rest x n split q = ap (λ l. weight eq l q) split
+
   pub weight-last : (before after : List (E × ℤ)) (e : E) (n : ℤ) → before ≡ after ++ (e, n) ∷ [] → (q : E) → weight eq before q ≡ weight eq after q +ℤ only (eq q e) n
   weight-last before after e n split q = ap (λ es. weight eq es q) split ∙ (let h = weight-append after ((e, n) ∷ []) q in omega (arith, ints))
 

@@ -10,3 +10,6 @@ pub mod Whole
 mod WorkedRows
 pub mod Counting
 pub mod Columns
+pub mod Distincts
+pub mod Between
+pub mod KeySets

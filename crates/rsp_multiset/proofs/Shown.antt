@@ -1,9 +1,12 @@
 -- What entries hold by what they show: a law over what is shown needs nothing of how it is shown. Only where values are compared, or
 -- looked up, must known values be told apart.
 use Rattle.std.proofs.Common.{◌≡◌, ℕ, Bool, true, false, ◌&&◌, ◌||◌, nat_eq, if◌then◌else◌, List, [], ◌∷◌, ◌++◌, ℤ, pos, ◌+ℤ◌, ◌*ℤ◌, neg_ℤ, Option, Some, None, is_some, length, map, refl, sym, ap, ◌∙◌, true≢false, arith, Decides}
-use Rattle.std.specs.List.{AllByRecursion, range_with_len}
+use Rattle.std.specs.Cmp.{IsEquivalence}
+use Rattle.std.specs.List.{AllByRecursion, IsDistinct, range_with_len}
+use Rattle.std.specs.Map.{keys_of}
 use Rattle.std.specs.Option.{option_map, unwrap_or}
 use Rattle.std.proofs.lemmas.Int.{ints}
+use Rattle.std.proofs.lemmas.Map.Entries.{none_past_head}
 use Rattle.std.proofs.Math.IntN.{*ℤ-zero}
 use Rattle.std.proofs.Math.ListN.{get_or-map}
 use Rattle.rsp_multiset.specs.Rows.{Cells, row_eq, fits, compatible, shares, bound_in_either, merge}
@@ -11,9 +14,8 @@ use Rattle.rsp_multiset.specs.RowSame.{row_decides}
 use Rattle.rsp_multiset.specs.Shown.{shown_row, IsKnown, AreToldApart, weight_shown, HoldsShown, IsChangedShown}
 use Rattle.rsp_multiset.specs.Variables.{row_by, cell, among, extension, projection, cells_at}
 use Rattle.rsp_multiset.specs.Weights.{sum_z, only, weight, total, times, negation}
-use Rattle.rsp_multiset.proofs.Held.{weight-append}
+use Rattle.rsp_multiset.proofs.Held.{weight-append, weight-none}
 use Rattle.rsp_multiset.proofs.Linear.{total-append, total-negated, total-same, sum-changed, total-held}
-use Rattle.rsp_multiset.proofs.Sums.{sum_z-map}
 use Rattle.rsp_multiset.proofs.Whole.{times-one}
 
 pub times-only : (n : ℤ) (b : Bool) → n *ℤ only b (pos 1) ≡ only b n
@@ -88,6 +90,37 @@ module _ {E F : Type 0} {test : E → E → Bool} (same : (x y : E) → Decides 
   weight-told_apart [] x known p = refl
   weight-told_apart (e ∷ es) x known p =
       (λ i. (times-only e.1 (eq (shown x) (shown e.0)) ∙ ap (λ b. only b e.1) (tested-shown x e.0 p known.0)) i +ℤ weight-told_apart es x known.1 p i)
+
+module _ {E F : Type 0} {test : E → E → Bool} (laws : IsEquivalence test) (same : (x y : E) → Decides (test x y) (x ≡ y)) {eq : F → F → Bool} (same' : (x y : F) → Decides (eq x y) (x ≡ y))
+    {knows : E → Type 0} {shown : E → F} (apart : AreToldApart knows shown) where
+  -- distinct entries with a number made of what is shown and the count, where the count 0 makes 0
+  pub weight_shown-made : (f : F → ℤ → ℤ) → ((q : F) → f q (pos 0) ≡ pos 0) → (es : List (E × ℤ)) → IsDistinct test (keys_of es) → AreKnown knows es
+      → (q : F) → weight_shown eq shown (map {B = E × ℤ} (λ e. (e.0, f (shown e.0) e.1)) es) q ≡ f q (weight_shown eq shown es q)
+  unfolding IsDistinct
+  weight_shown-made f none [] d known q = sym (none q)
+  weight_shown-made f none (e ∷ es) d known q =
+      by (eq q (shown e.0)) refl (weight_shown-made f none es d.1 known.1 q)
+      (weight-told_apart same same' {knows = knows} apart es e.0 known.1 known.0 ∙ weight-none test e.0 es (none_past_head laws e.0 e es d ((same e.0 e.0).1 refl)))
+    where
+      made : List (E × ℤ)
+      made = map {B = E × ℤ} (λ e. (e.0, f (shown e.0) e.1)) es
+
+      by : (b : Bool) → eq q (shown e.0) ≡ b → weight_shown eq shown made q ≡ f q (weight_shown eq shown es q) → weight_shown eq shown es (shown e.0) ≡ pos 0
+          → f (shown e.0) e.1 *ℤ only b (pos 1) +ℤ weight_shown eq shown made q ≡ f q (e.1 *ℤ only b (pos 1) +ℤ weight_shown eq shown es q)
+      by true is rest others =
+          let w = ap (weight_shown eq shown es) ((same' q (shown e.0)).0 is) ∙ others in
+          let r = rest ∙ ap (f q) w ∙ none q in
+          let t = times-only e.1 true in
+          let u = times-only (f (shown e.0) e.1) true in
+          let k : e.1 *ℤ only true (pos 1) +ℤ weight_shown eq shown es q ≡ e.1 = omega (arith, ints, t, w) in
+          let s : f (shown e.0) e.1 *ℤ only true (pos 1) +ℤ weight_shown eq shown made q ≡ f (shown e.0) e.1 = omega (arith, ints, u, r) in
+          s ∙ ap (λ z. f z e.1) (sym ((same' q (shown e.0)).0 is)) ∙ ap (f q) (sym k)
+      by false is rest others =
+          let t = times-only e.1 false in
+          let u = times-only (f (shown e.0) e.1) false in
+          let k : e.1 *ℤ only false (pos 1) +ℤ weight_shown eq shown es q ≡ weight_shown eq shown es q = omega (arith, ints, t) in
+          let s : f (shown e.0) e.1 *ℤ only false (pos 1) +ℤ weight_shown eq shown made q ≡ weight_shown eq shown made q = omega (arith, ints, u) in
+          s ∙ rest ∙ ap (f q) (sym k)
 
 -- ---- rows, shown cell by cell
 
