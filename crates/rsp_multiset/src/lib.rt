@@ -11,6 +11,7 @@ mod changes;
 mod count;
 mod parts;
 mod row;
+mod variables;
 
 pub use bag::Bag;
 pub use cell::Cell;

@@ -1,0 +1,152 @@
+// Rows by their variables.
+ghost use Rattle.std.specs.Prelude.{◌≡◌, nat_eq, if◌then◌else◌, None, IfOk};
+ghost use Rattle.rsp_multiset.specs.Variables.{row_by, cell, among, extension, projection, cells_at};
+
+use crate::row::share_cell;
+use crate::{Cell, Row};
+use std::alloc::{AllocError, Global};
+
+impl<V: Cell> Row<V> {
+    ghost use Rattle.std.specs.Prelude.{◌≡◌, None, IfOk};
+    ghost use Rattle.rsp_multiset.specs.Variables.{row_by, extension, projection, cells_at};
+
+    /// The row of this width that binds nothing. Fails only where memory is refused.
+    pub fn unbound(alloc: Global, width: usize) -> Result<Row<V>, AllocError>
+        ensures { IfOk result (λ row. row ≡ row_by width (λ _. None)) }
+    {
+        let cells = unbound_cells(alloc, width)?;
+        Ok(Row { cells })
+    }
+
+    /// The row of this width with all variables but these unbound (SPARQL 1.1 Query, section 18.5, Project). Fails only
+    /// where memory is refused.
+    pub fn projected(&self, width: usize, variables: &[usize]) -> Result<Row<V>, AllocError>
+        ensures { IfOk result (λ row. row ≡ projection width variables.now self.now) }
+    {
+        let cells = projected_cells(*self.cells.allocator(), width, variables, self.cells())?;
+        Ok(Row { cells })
+    }
+
+    /// The row of this width with the value for the variable, whatever was bound there (SPARQL 1.1 Query, section 18.5,
+    /// Extend). Fails only where memory is refused.
+    pub fn extended(
+        &self,
+        width: usize,
+        variable: usize,
+        value: &Option<V>,
+    ) -> Result<Row<V>, AllocError>
+        ensures { IfOk result (λ row. row ≡ extension width variable value.now self.now) }
+    {
+        let cells = extended_cells(
+            *self.cells.allocator(),
+            width,
+            variable,
+            value,
+            self.cells(),
+        )?;
+        Ok(Row { cells })
+    }
+
+    /// The row's cells for these variables, in their order. Fails only where memory is refused.
+    pub fn cells_at(&self, variables: &[usize]) -> Result<Row<V>, AllocError>
+        ensures { IfOk result (λ row. row ≡ cells_at variables.now self.now) }
+    {
+        let cells = chosen_cells(*self.cells.allocator(), variables, self.cells())?;
+        Ok(Row { cells })
+    }
+}
+
+fn unbound_cells<V: Cell>(alloc: Global, width: usize) -> Result<Vec<Option<V>>, AllocError>
+    ensures { IfOk result (λ cells. cells.items ≡ row_by width (λ _. None)) }
+{
+    let mut cells = Vec::new(alloc);
+    for _variable in 0..width {
+        cells.push(None)?;
+    }
+    Ok(cells)
+}
+
+fn projected_cells<V: Cell>(
+    alloc: Global,
+    width: usize,
+    variables: &[usize],
+    row: &[Option<V>],
+) -> Result<Vec<Option<V>>, AllocError>
+    ensures { IfOk result (λ cells. cells.items ≡ projection width variables.now row.now) }
+{
+    let mut cells = Vec::new(alloc);
+    for variable in 0..width {
+        cells.push(projected_cell(variables, row, variable)?)?;
+    }
+    Ok(cells)
+}
+
+// what the row binds the variable to, if the variable is among those that are kept
+fn projected_cell<V: Cell>(
+    variables: &[usize],
+    row: &[Option<V>],
+    variable: usize,
+) -> Result<Option<V>, AllocError>
+    ensures { IfOk result (λ made. made ≡ (if among variables.now variable then cell row.now variable else None)) }
+{
+    if variables.contains(&variable) {
+        cell_at(row, variable)
+    } else {
+        Ok(None)
+    }
+}
+
+fn extended_cells<V: Cell>(
+    alloc: Global,
+    width: usize,
+    variable: usize,
+    value: &Option<V>,
+    row: &[Option<V>],
+) -> Result<Vec<Option<V>>, AllocError>
+    ensures { IfOk result (λ cells. cells.items ≡ extension width variable value.now row.now) }
+{
+    let mut cells = Vec::new(alloc);
+    for place in 0..width {
+        cells.push(extended_cell(row, place, variable, value)?)?;
+    }
+    Ok(cells)
+}
+
+fn extended_cell<V: Cell>(
+    row: &[Option<V>],
+    place: usize,
+    variable: usize,
+    value: &Option<V>,
+) -> Result<Option<V>, AllocError>
+    ensures { IfOk result (λ made. made ≡ (if nat_eq place variable then value.now else cell row.now place)) }
+{
+    if place == variable {
+        share_cell(value)
+    } else {
+        cell_at(row, place)
+    }
+}
+
+fn chosen_cells<V: Cell>(
+    alloc: Global,
+    variables: &[usize],
+    row: &[Option<V>],
+) -> Result<Vec<Option<V>>, AllocError>
+    ensures { IfOk result (λ cells. cells.items ≡ cells_at variables.now row.now) }
+{
+    let mut cells = Vec::new(alloc);
+    for variable in variables {
+        cells.push(cell_at(row, *variable)?)?;
+    }
+    Ok(cells)
+}
+
+// what the row binds the variable to; nothing past its width
+fn cell_at<V: Cell>(row: &[Option<V>], variable: usize) -> Result<Option<V>, AllocError>
+    ensures { IfOk result (λ made. made ≡ cell row.now variable) }
+{
+    match row.get(variable) {
+        Some(Some(value)) => Ok(Some(value.share()?)),
+        _ => Ok(None),
+    }
+}
