@@ -6,4 +6,5 @@ pub mod Writing
 pub mod Files
 pub mod Objects
 -- Words of the way
+pub mod States
 pub mod Parts

@@ -26,7 +26,7 @@ pub struct DirShelf<'a, R: Files> {
 
 impl<'a, R: Files> Model for DirShelf<'a, R> {
     ghost use Rattle.std.specs.Option.{is_some};
-    ghost use Rattle.rsp_io.specs.Objects.{DirShelfState};
+    ghost use Rattle.rsp_io.specs.States.{DirShelfState};
 
     ghost Value = { DirShelfState };
 

@@ -23,7 +23,7 @@ pub struct MemoryShelf {
 
 impl Model for MemoryShelf {
     ghost use Rattle.std.specs.Prelude.{◌≤◌};
-    ghost use Rattle.rsp_io.specs.Objects.{MemoryShelfState};
+    ghost use Rattle.rsp_io.specs.States.{MemoryShelfState};
 
     ghost Value = { MemoryShelfState };
 

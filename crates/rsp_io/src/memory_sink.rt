@@ -22,7 +22,7 @@ pub struct MemorySink {
 
 impl Model for MemorySink {
     ghost use Rattle.std.specs.Prelude.{◌≤◌};
-    ghost use Rattle.rsp_io.specs.Objects.{MemorySinkState};
+    ghost use Rattle.rsp_io.specs.States.{MemorySinkState};
 
     ghost Value = { MemorySinkState };
 

@@ -21,7 +21,7 @@ pub struct MemorySource {
 
 impl Model for MemorySource {
     ghost use Rattle.std.specs.Prelude.{◌≤◌};
-    ghost use Rattle.rsp_io.specs.Objects.{MemorySourceState};
+    ghost use Rattle.rsp_io.specs.States.{MemorySourceState};
 
     ghost Value = { MemorySourceState };
 

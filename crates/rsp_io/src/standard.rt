@@ -19,7 +19,7 @@ pub struct StdSource<R: Input> {
 }
 
 impl<R: Input> Model for StdSource<R> {
-    ghost use Rattle.rsp_io.specs.Objects.{StdSourceState};
+    ghost use Rattle.rsp_io.specs.States.{StdSourceState};
 
     ghost Value = { StdSourceState };
 
@@ -85,7 +85,7 @@ pub struct StdSink<'a, P: Print> {
 }
 
 impl<'a, P: Print> Model for StdSink<'a, P> {
-    ghost use Rattle.rsp_io.specs.Objects.{StdSinkState};
+    ghost use Rattle.rsp_io.specs.States.{StdSinkState};
 
     ghost Value = { StdSinkState };
 

@@ -21,7 +21,7 @@ pub struct SteadyShelf {
 
 impl Model for SteadyShelf {
     ghost use Rattle.std.specs.Prelude.{◌≤◌};
-    ghost use Rattle.rsp_io.specs.Objects.{SteadyShelfState};
+    ghost use Rattle.rsp_io.specs.States.{SteadyShelfState};
 
     ghost Value = { SteadyShelfState };
 

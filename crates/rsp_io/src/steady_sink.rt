@@ -20,7 +20,7 @@ pub struct SteadySink {
 
 impl Model for SteadySink {
     ghost use Rattle.std.specs.Prelude.{◌≤◌};
-    ghost use Rattle.rsp_io.specs.Objects.{SteadySinkState};
+    ghost use Rattle.rsp_io.specs.States.{SteadySinkState};
 
     ghost Value = { SteadySinkState };
 

@@ -16,7 +16,7 @@ pub struct SteadySource {
 
 impl Model for SteadySource {
     ghost use Rattle.std.specs.Prelude.{◌≤◌};
-    ghost use Rattle.rsp_io.specs.Objects.{SteadySourceState};
+    ghost use Rattle.rsp_io.specs.States.{SteadySourceState};
 
     ghost Value = { SteadySourceState };
 
