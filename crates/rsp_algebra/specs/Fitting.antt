@@ -83,7 +83,8 @@ Fits-prop width (node.of_two (node.exists condition) left right) =
     ×_prop (AreBelow-prop width (formula_variables condition)) (×_prop (Fits-prop width left) (Fits-prop width right))
 Fits-prop width (node.of_two (node.not_exists condition) left right) =
     ×_prop (AreBelow-prop width (formula_variables condition)) (×_prop (Fits-prop width left) (Fits-prop width right))
-Fits-prop width (node.over (node.filter condition) child) = ×_prop (AreBelow-prop width (formula_variables condition)) (Fits-prop width child)
+Fits-prop width (node.over (node.filter condition) child) =
+    ×_prop (AreBelow-prop width (formula_variables condition)) (Fits-prop width child)
 Fits-prop width (node.over (node.extend v formula) child) =
     ×_prop le_prop (×_prop (AreBelow-prop width (formula_variables formula)) (Fits-prop width child))
 Fits-prop width (node.values rows) =

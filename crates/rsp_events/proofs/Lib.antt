@@ -1,6 +1,7 @@
 pub mod Endings
 pub mod Cutting
 pub mod Grouping
+pub mod DirectiveLaws
 pub mod Times
 pub mod Reading
 pub mod Taking

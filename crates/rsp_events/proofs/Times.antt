@@ -1,5 +1,5 @@
 -- The times of a log's events are instants.
-use Rattle.std.proofs.Common.{◌≡◌, ℕ, ◌+◌, ◌*◌, ◌≤◌, Bool, true, false, List, [], ◌∷◌, ◌++◌, length, take, drop, refl, arith}
+use Rattle.std.proofs.Common.{◌≡◌, subst, ℕ, ◌+◌, ◌*◌, ◌≤◌, Bool, true, false, List, [], ◌∷◌, ◌++◌, length, take, drop, refl, arith}
 use Rattle.std.specs.Prelude.{⊤, nat_le, if◌then◌else◌, IfSome, Option, None, Some, ℤ, pos, negsuc, ◌&&◌, ◌||◌, ◌==◌, bytes_eq, codes, ◌+ℤ◌, ◌-ℤ◌, ◌*ℤ◌}
 use Rattle.std.specs.List.{before_first, flat_map, list_any, position_or_len}
 use Rattle.std.specs.Option.{option_and_then, option_map, option_map_or, option_or}
@@ -18,9 +18,12 @@ use Rattle.rsp_events.specs.declared.event.Content.TheVariants as content
 use Rattle.rsp_events.specs.declared.event.Event.{Event}
 use Rattle.rsp_events.specs.declared.event.Event.TheVariants as event
 use Rattle.rsp_events.specs.Contents.{content_of_directive, is_bad_quad, is_bad_text, is_bad_triple, content_of_body, quad_on, triple_on, with_line_feed}
-use Rattle.rsp_events.specs.Directives.{directive_alone, directive_by, directive_of, directive_with_name, directive_with_time, fields, item_directive, item_of_fields, name_of, number_of, only_field, time_of, two_fields}
+use Rattle.rsp_events.specs.Directives.{directive_of, fields, number_of, time_of}
+use Rattle.rsp_events.specs.DirectiveSteps.{directive_alone, directive_read, directive_with_name, directive_with_time, item_directive}
+use Rattle.rsp_events.specs.DirectiveSteps.{item_of_fields, name_of, only_field, two_fields}
 use Rattle.rsp_events.specs.Instants.{AllTimed, IsInstant, IsTimed}
 use Rattle.rsp_events.specs.Lines.{first_field, is_end}
+use Rattle.rsp_events.proofs.DirectiveLaws.{directive_is}
 
 pub AllTimed-append : (xs ys : List Block) → AllTimed xs → AllTimed ys → AllTimed (xs ++ ys)
 AllTimed-append [] ys hx hy = hy
@@ -118,8 +121,8 @@ one_of false false false true e f o p q r s t ho hp hq hr hs ht = hr
 one_of false false false false true f o p q r s t ho hp hq hr hs ht = hs
 one_of false false false false false f o p q r s t ho hp hq hr hs ht = choice f t None ht tt
 
-directive_timed : (word : List ℕ) (fields : List (List ℕ)) → IsTimedDirective (directive_by word fields)
-unfolding directive_by
+directive_timed : (word : List ℕ) (fields : List (List ℕ)) → IsTimedDirective (directive_read word fields)
+unfolding directive_read
 directive_timed word fields =
     one_of (bytes_eq word (codes "@register")) (bytes_eq word (codes "@cancel")) (bytes_eq word (codes "@item")) (bytes_eq word (codes "@tick"))
     (bytes_eq word (codes "@insert")) (bytes_eq word (codes "@delete"))
@@ -160,7 +163,9 @@ by_timed document first (Some directive.Delete) body h =
     body_timed first body (is_bad_quad document) (λ lines. event.Delete (flat_map (quad_on document) lines)) (λ lines. tt)
 
 line_timed : (line : List ℕ) → IsTimedDirective (directive_of line)
-line_timed line = directive_timed (first_field line) (fields (drop (length (first_field line)) line))
+line_timed line =
+    let behind = fields (drop (length (first_field line)) line) in
+    subst IsTimedDirective (directive_is (first_field line) behind) (directive_timed (first_field line) behind)
 
 pub said_timed : (document first : ℕ) (line : List ℕ) (d : Directive) (body : List (List ℕ)) → directive_of line ≡ Some d
     → (made : Content) → made ≡ content_of_directive document first d body → IsTimed made

@@ -1,5 +1,6 @@
 -- Definitions: the blocks of a whole text.
-use Rattle.std.specs.Prelude.{ℕ, zero, suc, ◌+◌, Bool, true, ◌||◌, not, nat_lt, if◌then◌else◌, List, [], ◌∷◌, length, filter, map, take}
+use Rattle.std.specs.Prelude.{ℕ, zero, suc, ◌+◌, Bool, true, ◌||◌, not, nat_lt, if◌then◌else◌, List, [], ◌∷◌, length, filter}
+use Rattle.std.specs.Prelude.{map, take}
 use Rattle.std.specs.List.{after_first, enumerate_from, list_any, position_or_len}
 use Rattle.rsp_spec.specs.Limits.{most_block_bytes}
 use Rattle.rsp_events.specs.declared.event.Content.{Content}

@@ -1,4 +1,5 @@
--- Definitions: which events and blocks have a time that is an instant, up to the end of the year 9999.
+-- Words of the way: which events and blocks have a time that is an instant, up to the end of the year 9999. What reads blocks
+-- and files promises it, and the engine asks it of what is offered.
 use Rattle.std.specs.Prelude.{◌≤◌, List, ⊤}
 use Rattle.std.specs.List.{AllByRecursion}
 use Rattle.rsp_spec.specs.Limits.{last_instant}

@@ -3,11 +3,12 @@ pub mod Lines
 pub mod Directives
 pub mod Contents
 pub mod Blocks
-pub mod Instants
 pub mod Files
 pub mod Recorded
 pub mod Merged
 -- Words of the way
+pub mod Instants
+pub mod DirectiveSteps
 pub mod Sorting
 pub mod FileLines
 pub mod Openings

@@ -1,5 +1,6 @@
 -- Definitions: the lines of the event log, and which of them begin and end a block.
-use Rattle.std.specs.Prelude.{ℕ, ◌+◌, Bool, true, false, ◌&&◌, ◌||◌, not, ◌==◌, nat_lt, if◌then◌else◌, List, [], ◌∷◌, drop, length, codes, nat_eq, bytes_eq, sum_by}
+use Rattle.std.specs.Prelude.{ℕ, ◌+◌, Bool, true, false, ◌&&◌, ◌||◌, not, ◌==◌, nat_lt, if◌then◌else◌, List, [], ◌∷◌, drop}
+use Rattle.std.specs.Prelude.{length, codes, nat_eq, bytes_eq, sum_by}
 use Rattle.std.specs.List.{list_any, list_all, slice_split, starts_with, before_first}
 use Rattle.std.specs.Str.{byte}
 use Rattle.std.specs.Str.Lines.{strip_carriage_return}

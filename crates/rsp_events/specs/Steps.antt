@@ -39,8 +39,11 @@ pub record TakesLine (old : Reader) (held : HeldLine) (new : Reader) (given : Li
   pub document : new.document ≡ old.document
   pub line : new.line ≡ old.line
   pub lines : new.lines ≡ old.lines + 1
-  pub block : (group : List Line) (line : Line) → begun_block_of group ≡ old.block → held_line_of line ≡ held → line.number ≡ old.lines + 1 → new.block ≡ begun_block_of (begun_at (place_of group line) group line)
-  pub blocks : (group : List Line) (line : Line) → begun_block_of group ≡ old.block → held_line_of line ≡ held → line.number ≡ old.lines + 1 → given ≡ numbered_from old.document old.number (closed_at (place_of group line) group line)
+  pub block : (group : List Line) (line : Line) → begun_block_of group ≡ old.block → held_line_of line ≡ held
+      → line.number ≡ old.lines + 1 → new.block ≡ begun_block_of (begun_at (place_of group line) group line)
+  pub blocks : (group : List Line) (line : Line) → begun_block_of group ≡ old.block → held_line_of line ≡ held
+      → line.number ≡ old.lines + 1
+      → given ≡ numbered_from old.document old.number (closed_at (place_of group line) group line)
   pub number : new.number ≡ old.number + length given
   pub ready : new.spent ≡ old.spent
   pub timed : AllTimed given
@@ -49,5 +52,6 @@ pub record TakesLine (old : Reader) (held : HeldLine) (new : Reader) (given : Li
 pub record Reads (old : Reader) (piece : List ℕ) (new : Reader) (given : List Block) : Type 0 where
   pub document : new.document ≡ old.document
   pub read : (before : List ℕ) → HasRead old before → HasRead new (before ++ piece)
-  pub blocks : (before : List ℕ) → HasRead old before → whole_blocks old.document (before ++ piece) ≡ whole_blocks old.document before ++ given
+  pub blocks : (before : List ℕ) → HasRead old before
+      → whole_blocks old.document (before ++ piece) ≡ whole_blocks old.document before ++ given
   pub timed : AllTimed given

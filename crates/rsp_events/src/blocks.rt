@@ -1,5 +1,6 @@
 // The reader of a log's blocks.
-ghost use Rattle.std.specs.Prelude.{◌≡◌, ◌+◌, ◌++◌, ◌∷◌, ◌↔◌, ◌≤◌, ◌==◌, [], ℕ, List, true, false, Ok, None, if◌then◌else◌, length, IfOk, OnOk, OnErr, IsErr, option_to_list};
+ghost use Rattle.std.specs.Prelude.{◌≡◌, ◌+◌, ◌++◌, ◌∷◌, ◌↔◌, ◌≤◌, ◌==◌, [], ℕ, List, true, false, Ok, None, if◌then◌else◌};
+ghost use Rattle.std.specs.Prelude.{length, IfOk, OnOk, OnErr, IsErr, option_to_list};
 ghost use Rattle.rsp_events.specs.declared.event.Block.{Block};
 ghost use Rattle.rsp_events.specs.declared.begun.BegunLine.TheVariants as line;
 ghost use Rattle.rsp_events.specs.declared.begun.BegunBlock.TheVariants as begun;
@@ -39,7 +40,14 @@ impl Model for Blocks {
 
     ghost Value = { Reader };
 
-    ghost view = { λ b. record { document = b.document; line = b.line; block = b.block; lines = b.lines; number = b.number; spent = b.spent } };
+    ghost view = { λ b. record {
+      document = b.document;
+      line = b.line;
+      block = b.block;
+      lines = b.lines;
+      number = b.number;
+      spent = b.spent;
+    } };
 }
 
 // Where a line stands that comes next.

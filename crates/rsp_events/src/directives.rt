@@ -2,6 +2,7 @@
 ghost use Rattle.std.specs.Prelude.{◌≡◌, IfOk};
 ghost use Rattle.rsp_events.specs.declared.directives.Directive.TheVariants.{Register, Cancel, Tick};
 ghost use Rattle.rsp_events.specs.Directives as form;
+ghost use Rattle.rsp_events.specs.DirectiveSteps as steps;
 
 use crate::fields::{has_fields, name_of, only_field, time_of, two_fields};
 use crate::lines::{first_field, same};
@@ -25,12 +26,16 @@ pub(crate) fn directive_of(alloc: Global, line: &[u8]) -> Result<Option<Directiv
     ensures { IfOk result (λ directive. directive ≡ form.directive_of line.now) }
 {
     let word = first_field(line);
-    directive_by(alloc, word, &line[word.len()..])
+    directive_read(alloc, word, &line[word.len()..])
 }
 
-#[tactic(auto, unfolding(crate::specs::Directives::directive_by))]
-fn directive_by(alloc: Global, word: &[u8], behind: &[u8]) -> Result<Option<Directive>, AllocError>
-    ensures { IfOk result (λ directive. directive ≡ form.directive_by word.now (form.fields behind.now)) }
+#[tactic(auto, unfolding(crate::specs::DirectiveSteps::directive_read))]
+fn directive_read(
+    alloc: Global,
+    word: &[u8],
+    behind: &[u8],
+) -> Result<Option<Directive>, AllocError>
+    ensures { IfOk result (λ directive. directive ≡ steps.directive_read word.now (form.fields behind.now)) }
 {
     if same(word, b"@register") {
         return register(alloc, behind);
@@ -54,7 +59,7 @@ fn directive_by(alloc: Global, word: &[u8], behind: &[u8]) -> Result<Option<Dire
 }
 
 fn register(alloc: Global, behind: &[u8]) -> Result<Option<Directive>, AllocError>
-    ensures { IfOk result (λ directive. directive ≡ form.directive_with_name (λ name. Register name) (form.fields behind.now)) }
+    ensures { IfOk result (λ directive. directive ≡ steps.directive_with_name (λ name. Register name) (form.fields behind.now)) }
 {
     let Some(field) = only_field(behind) else {
         return Ok(None);
@@ -66,7 +71,7 @@ fn register(alloc: Global, behind: &[u8]) -> Result<Option<Directive>, AllocErro
 }
 
 fn cancel(alloc: Global, behind: &[u8]) -> Result<Option<Directive>, AllocError>
-    ensures { IfOk result (λ directive. directive ≡ form.directive_with_name (λ name. Cancel name) (form.fields behind.now)) }
+    ensures { IfOk result (λ directive. directive ≡ steps.directive_with_name (λ name. Cancel name) (form.fields behind.now)) }
 {
     let Some(field) = only_field(behind) else {
         return Ok(None);
@@ -78,7 +83,7 @@ fn cancel(alloc: Global, behind: &[u8]) -> Result<Option<Directive>, AllocError>
 }
 
 fn item_of(alloc: Global, behind: &[u8]) -> Result<Option<Directive>, AllocError>
-    ensures { IfOk result (λ directive. directive ≡ form.item_of_fields (form.fields behind.now)) }
+    ensures { IfOk result (λ directive. directive ≡ steps.item_of_fields (form.fields behind.now)) }
 {
     let Some((stream, time)) = two_fields(behind) else {
         return Ok(None);
@@ -87,7 +92,7 @@ fn item_of(alloc: Global, behind: &[u8]) -> Result<Option<Directive>, AllocError
 }
 
 fn item(alloc: Global, stream: &[u8], time: &[u8]) -> Result<Option<Directive>, AllocError>
-    ensures { IfOk result (λ directive. directive ≡ form.item_directive stream.now time.now) }
+    ensures { IfOk result (λ directive. directive ≡ steps.item_directive stream.now time.now) }
 {
     let Some(stream) = absolute_iri(alloc, stream)? else {
         return Ok(None);
@@ -99,7 +104,7 @@ fn item(alloc: Global, stream: &[u8], time: &[u8]) -> Result<Option<Directive>, 
 }
 
 fn tick(behind: &[u8]) -> Option<Directive>
-    ensures { result ≡ form.directive_with_time (λ time. Tick time) (form.fields behind.now) }
+    ensures { result ≡ steps.directive_with_time (λ time. Tick time) (form.fields behind.now) }
 {
     let field = only_field(behind)?;
     let time = time_of(field)?;
@@ -108,7 +113,7 @@ fn tick(behind: &[u8]) -> Option<Directive>
 
 // a directive without further fields
 fn alone(directive: Directive, behind: &[u8]) -> Option<Directive>
-    ensures { result ≡ form.directive_alone directive (form.fields behind.now) }
+    ensures { result ≡ steps.directive_alone directive (form.fields behind.now) }
 {
     if has_fields(behind) {
         None

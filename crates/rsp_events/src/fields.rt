@@ -2,6 +2,7 @@
 ghost use Rattle.std.specs.Prelude.{◌≡◌, ◌∷◌, ◌==◌, [], not, Some, None, IfOk, MatchOption, length};
 ghost use Rattle.std.specs.List.{list_all};
 ghost use Rattle.rsp_events.specs.Directives as form;
+ghost use Rattle.rsp_events.specs.DirectiveSteps as steps;
 
 use crate::lines::first_blank;
 use rsp_spec::limits::LAST_INSTANT;
@@ -23,8 +24,8 @@ pub(crate) fn has_fields(text: &[u8]) -> bool
 
 /// The field of a text that has one and no other.
 pub(crate) fn only_field(text: &[u8]) -> Option<&[u8]>
-    ensures { MatchOption result (form.only_field (form.fields text.now) ≡ None)
-        (λ field. form.only_field (form.fields text.now) ≡ Some field.now) }
+    ensures { MatchOption result (steps.only_field (form.fields text.now) ≡ None)
+        (λ field. steps.only_field (form.fields text.now) ≡ Some field.now) }
 {
     let (field, behind) = next_field(text)?;
     match next_field(behind) {
@@ -35,8 +36,8 @@ pub(crate) fn only_field(text: &[u8]) -> Option<&[u8]>
 
 /// The fields of a text that has two.
 pub(crate) fn two_fields(text: &[u8]) -> Option<(&[u8], &[u8])>
-    ensures { MatchOption result (form.two_fields (form.fields text.now) ≡ None)
-        (λ x. form.two_fields (form.fields text.now) ≡ Some (x.0.now, x.1.now)) }
+    ensures { MatchOption result (steps.two_fields (form.fields text.now) ≡ None)
+        (λ x. steps.two_fields (form.fields text.now) ≡ Some (x.0.now, x.1.now)) }
 {
     let (first, behind) = next_field(text)?;
     let second = only_field(behind)?;
@@ -59,7 +60,7 @@ fn next_field(text: &[u8]) -> Option<(&[u8], &[u8])>
 
 /// The text of a query's name: 1 to 64 letters, digits, `_` and `-`.
 pub(crate) fn name_of(alloc: Global, field: &[u8]) -> Result<Option<Text>, AllocError>
-    ensures { IfOk result (λ name. name ≡ form.name_of field.now) }
+    ensures { IfOk result (λ name. name ≡ steps.name_of field.now) }
 {
     if !is_name(field) {
         return Ok(None);

@@ -4,9 +4,10 @@
 use Rattle.std.specs.Prelude.{ℕ, nat_eq, Bool, ◌||◌, ◌&&◌, not, cond, List, [], ◌∷◌, ◌++◌, Option, None, Some, is_some}
 use Rattle.std.specs.Bool.{then_some}
 use Rattle.std.specs.List.{find, list_any}
-use Rattle.std.specs.Option.{option_or, option_map}
+use Rattle.std.specs.Option.{option_or, option_map, option_and_then}
 use Rattle.rsp_expr.specs.Formulas.{Formula, Aggregation}
-use Rattle.rsp_query.specs.Groups.{Item, Part, Parts, Groups, Selection, triple, optional, minus, union, graph, window, filter, exists, bind, values, sub, no_part, part_then, no_group, group_then, selection, parts_in}
+use Rattle.rsp_query.specs.Groups.{Item, Part, Parts, Groups, Selection, optional, minus, union, graph, window, exists, bind}
+use Rattle.rsp_query.specs.Groups.{sub, no_part, part_then, no_group, group_then, selection, parts_in}
 use Rattle.rsp_query.specs.Queries.{Registered}
 use Rattle.rsp_algebra.specs.Nodes.{formula_variables}
 use Rattle.rsp_algebra.specs.Patterns.{among}
@@ -53,9 +54,8 @@ items_fault names body grouped keys aggregates before (item ∷ more) =
 
 -- a key of GROUP BY, behind those before it
 abbrev pub key_fault : List (List ℕ) → Parts → List Item → ℕ → Option Formula → Option Unscoped
-key_fault names body before v None = None
-key_fault names body before v (Some formula) =
-    where_true (is_visible_in names body v || among (variables_of before) v) v
+key_fault names body before v formula =
+    where_true (is_some formula && (is_visible_in names body v || among (variables_of before) v)) v
 
 abbrev pub keys_fault : List (List ℕ) → Parts → List Item → List Item → Option Unscoped
 keys_fault names body before [] = None
@@ -64,23 +64,20 @@ keys_fault names body before (key ∷ more) =
     (keys_fault names body (before ++ (key ∷ [])) more)
 
 abbrev pub having_fault : Bool → List Item → List Item → List (ℕ × Aggregation) → Option Formula → Option Unscoped
-having_fault grouped keys items aggregates None = None
-having_fault grouped keys items aggregates (Some condition) = unknown_in grouped keys items aggregates condition
+having_fault grouped keys items aggregates having = option_and_then (unknown_in grouped keys items aggregates) having
 
 abbrev mutual
   -- a part of a group, behind those before it
   pub scope_fault : List (List ℕ) → List Part → Part → Option Unscoped
-  scope_fault names before (triple subject verb object) = None
   scope_fault names before (optional body) = scope_fault_in names [] body
   scope_fault names before (minus body) = scope_fault_in names [] body
   scope_fault names before (union groups) = scope_fault_among names groups
   scope_fault names before (graph name at body) = scope_fault_in names [] body
   scope_fault names before (window name at body) = scope_fault_in names [] body
-  scope_fault names before (filter condition) = None
   scope_fault names before (exists negated at body) = scope_fault_in names [] body
   scope_fault names before (bind v formula) = where_true (is_visible_in names (parts_in before) v) v
-  scope_fault names before (values variables rows) = None
   scope_fault names before (sub inner) = scope_fault_of names inner
+  scope_fault names before _ = None
 
   pub scope_fault_in : List (List ℕ) → List Part → Parts → Option Unscoped
   scope_fault_in names before no_part = None

@@ -45,7 +45,8 @@ graph_fault windows _ = None
 -- the window clauses stand before the group
 abbrev pub graph_shape : Registered → Option ℕ
 graph_shape q =
-    option_or (repeated_window [] q.windows) (first_value (map (λ p. graph_fault (declared q.windows) p.1) (below (sub q.selection))))
+    option_or (repeated_window [] q.windows)
+    (first_value (map (λ p. graph_fault (declared q.windows) p.1) (below (sub q.selection))))
 
 -- ---- EXISTS
 

@@ -5,7 +5,8 @@ use Rattle.std.specs.Str.{bytes_eq}
 use Rattle.rsp_expr.specs.declared.slot.Slot.{Slot}
 use Rattle.rsp_expr.specs.declared.slot.Slot.TheVariants.{Variable, Constant}
 use Rattle.rsp_query.specs.Paths.{Way, Ways, step, inverse, sequence, choice, no_way, way_then}
-use Rattle.rsp_query.specs.Groups.{Item, Part, Parts, Groups, Selection, triple, optional, minus, union, graph, window, filter, exists, bind, values, sub, no_part, part_then, no_group, group_then, selection}
+use Rattle.rsp_query.specs.Groups.{Item, Part, Parts, Groups, Selection, triple, optional, union, graph, window, bind, values}
+use Rattle.rsp_query.specs.Groups.{sub, no_part, part_then, no_group, group_then, selection}
 use Rattle.rsp_algebra.specs.Patterns.{among}
 
 -- the name of a variable by its number
@@ -39,15 +40,13 @@ abbrev mutual
   is_visible names (triple subject verb object) v =
       is_variable subject v || (is_in_way verb v || is_variable object v)
   is_visible names (optional body) v = is_visible_in names body v
-  is_visible names (minus body) v = false
   is_visible names (union groups) v = is_visible_among names groups v
   is_visible names (graph name at body) v = is_variable name v || is_visible_in names body v
   is_visible names (window name at body) v = is_visible_in names body v
-  is_visible names (filter condition) v = false
-  is_visible names (exists negated at body) v = false
   is_visible names (bind w formula) v = nat_eq v w
   is_visible names (values variables rows) v = among variables v
   is_visible names (sub inner) v = is_projected names inner v
+  is_visible names _ v = false
 
   pub is_visible_in : List (List ℕ) → Parts → ℕ → Bool
   is_visible_in names no_part v = false

@@ -145,7 +145,8 @@ fn fault_of(windows: &[WindowClause], select: &Select) -> Option<usize>
 }
 
 fn first_fault(windows: &[WindowClause], select: &Select) -> Option<usize>
-    ensures { result ≡ first_value (map (λ p. shapes.graph_fault (shapes.declared windows.now) p.1) (below (sub (selection_of select.now)))) }
+    ensures { result ≡ first_value (map (λ p. shapes.graph_fault (shapes.declared windows.now) p.1)
+        (below (sub (selection_of select.now)))) }
 {
     fault_of(windows, select)
 }
