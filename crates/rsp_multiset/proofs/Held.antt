@@ -1,5 +1,5 @@
 -- The weight of a value in distinct entries is what a look-up finds.
-use Rattle.std.proofs.Common.{◌≡◌, ◌≢◌, ◌+◌, ℕ, Bool, true, false, cond, List, [], ◌∷◌, ◌++◌, ℤ, pos, ◌+ℤ◌, neg_ℤ, Option, Some, slice_get, drop, refl, sym, ap, subst, ◌∙◌, arith, add-one, drop-cons}
+use Rattle.std.proofs.Common.{◌≡◌, ◌≢◌, ◌+◌, ℕ, Bool, true, false, cond, List, [], ◌∷◌, ◌++◌, ℤ, pos, ◌+ℤ◌, neg_ℤ, Option, Some, slice_get, drop, refl, sym, ap, subst, ◌∙◌, arith, add-one, drop-cons, Decides}
 use Rattle.std.specs.Cmp.{IsEquivalence}
 use Rattle.std.specs.List.{IsDistinct, AllByRecursion}
 use Rattle.std.specs.Map.{keys_of, lookup}
@@ -15,6 +15,10 @@ head_or_rest : (b : Bool) (n w : ℤ) (rest : Option ℤ) → (b ≡ true → w 
 head_or_rest true n w rest h k = let z = h refl in omega (arith, ints)
 head_or_rest false n w rest h k = let z = k refl in omega (arith, ints)
 
+pub only-neg : (b : Bool) (n : ℤ) → only b (neg_ℤ n) ≡ neg_ℤ (only b n)
+only-neg true n = refl
+only-neg false n = refl
+
 module _ {E : Type 0} (eq : E → E → Bool) where
   pub weight-none : (q : E) (es : List (E × ℤ)) → NonePasses (eq q) es → weight eq es q ≡ pos 0
   weight-none q [] none = refl
@@ -24,12 +28,11 @@ module _ {E : Type 0} (eq : E → E → Bool) where
   weight-append [] ds q = omega (arith, ints)
   weight-append (e ∷ es) ds q = let h = weight-append es ds q in omega (arith, ints)
 
+  pub weight-first : (es rest : List (E × ℤ)) (x : E) (n : ℤ) → es ≡ (x, n) ∷ rest → (q : E) → weight eq es q ≡ only (eq q x) n +ℤ weight eq rest q
+  weight-first es rest x n split q = ap (λ l. weight eq l q) split
+
   pub weight-last : (before after : List (E × ℤ)) (e : E) (n : ℤ) → before ≡ after ++ (e, n) ∷ [] → (q : E) → weight eq before q ≡ weight eq after q +ℤ only (eq q e) n
   weight-last before after e n split q = ap (λ es. weight eq es q) split ∙ (let h = weight-append after ((e, n) ∷ []) q in omega (arith, ints))
-
-  only-neg : (b : Bool) (n : ℤ) → only b (neg_ℤ n) ≡ neg_ℤ (only b n)
-  only-neg true n = refl
-  only-neg false n = refl
 
   pub weight-negated : (es : List (E × ℤ)) (q : E) → weight eq (negation es) q ≡ neg_ℤ (weight eq es q)
   weight-negated [] q = refl
@@ -85,6 +88,30 @@ module _ {E : Type 0} {eq : E → E → Bool} (laws : IsEquivalence eq) where
       by : (q : E) (b : Bool) → cond b w (lookup (eq q) es) ≡ Some (pos 0) → ⊥
       by q true f = n f
       by q false f = not_found_zero eq (eq q) es (recursion_from_All (λ (e : E × ℤ). e.1 ≢ pos 0) es c.counted) f
+
+  -- the value of a key altered by so much, where a look-up found so much before
+  pub weight-altered : ((x y : E) → Decides (eq x y) (x ≡ y)) → (es fs : List (E × ℤ)) → IsDistinct eq (keys_of es) → IsDistinct eq (keys_of fs) → (k : E) (w : Option ℤ) → ((q : E) → lookup (eq q) fs ≡ cond (eq k q) w (lookup (eq q) es))
+      → (found by : ℤ) → unwrap_or (lookup (eq k) es) (pos 0) ≡ found → unwrap_or w (pos 0) ≡ found +ℤ by → (q : E) → weight eq fs q ≡ weight eq es q +ℤ only (eq q k) by
+  weight-altered same es fs d d' k w update found by is sum q =
+      weight-set es fs d d' k w update (found +ℤ by) sum q ∙ go (eq q k) refl
+    where
+      go : (b : Bool) → eq q k ≡ b → cond b (found +ℤ by) (weight eq es q) ≡ weight eq es q +ℤ only b by
+      go true h =
+          let held = weight-held k es d in
+          let here = ap (weight eq es) ((same q k).0 h) in
+          omega (arith, ints)
+      go false h = omega (arith, ints)
+
+module _ {E : Type 0} (eq : E → E → Bool) where
+  pub changes-unchanged : (es fs : List (E × ℤ)) → fs ≡ es → AreChanges eq es → AreChanges eq fs
+  changes-unchanged es fs is c = subst (AreChanges eq) (sym is) c
+
+  pub weight-unchanged : (es fs : List (E × ℤ)) (k : E) (by : ℤ) → fs ≡ es → by ≡ pos 0 → (q : E) → weight eq fs q ≡ weight eq es q +ℤ only (eq q k) by
+  weight-unchanged es fs k by is none q = go (eq q k)
+    where
+      go : (b : Bool) → weight eq fs q ≡ weight eq es q +ℤ only b by
+      go true = let same = ap (λ l. weight eq l q) is in omega (arith, ints)
+      go false = let same = ap (λ l. weight eq l q) is in omega (arith, ints)
 
 -- the list from a place on
 pub drop_here : {X : Type 0} (xs : List X) (i : ℕ) (x : X) → slice_get xs i ≡ Some x → drop i xs ≡ x ∷ drop (i + 1) xs

@@ -1,6 +1,6 @@
 -- Lists that are one multiset: what is made of them by words without an order is one multiset too.
 use Rattle.std.proofs.Common.{◌≡◌, suc, Bool, true, false, true≢false, not, ◌||◌, cond, nat_lt, List, [], ◌∷◌, ◌++◌, ℤ, pos, ◌+ℤ◌, length, map, filter, refl, sym, ap, ◌∙◌, arith, Decides}
-use Rattle.std.specs.List.{list_any, filter_map, flat_map}
+use Rattle.std.specs.List.{list_any, filter_map}
 use Rattle.std.specs.Option.{option_to_list}
 use Rattle.std.proofs.lemmas.Bool.Decides.{nat_tests}
 use Rattle.std.proofs.lemmas.Int.{ints}
@@ -8,7 +8,7 @@ use Rattle.rsp_multiset.specs.Rows.{Cells, row_eq}
 use Rattle.rsp_multiset.specs.RowLists.{merged_pair, merged_pairs, has_partner, with_partner, without_partner, each_once}
 use Rattle.rsp_multiset.specs.RowSame.{row_decides}
 use Rattle.rsp_multiset.specs.Weights.{only, sum_z, times, IsSameMultiset}
-use Rattle.rsp_multiset.proofs.Linear.{itself, turned, length-same, sum-same}
+use Rattle.rsp_multiset.proofs.Linear.{length-same, sum-same}
 use Rattle.rsp_multiset.proofs.Sums.{sum_z-alike, sum_z-none, sum_z-append, sum_z-map, sum_z-filter, sum_z-filter_map, sum_z-flat_map}
 
 pub filter-alike : {X : Type 0} (p r : X → Bool) → ((x : X) → p x ≡ r x) → (xs : List X) → filter p xs ≡ filter r xs

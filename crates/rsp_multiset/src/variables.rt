@@ -37,7 +37,13 @@ impl<V: Cell> Row<V> {
     ) -> Result<Row<V>, AllocError>
         ensures { IfOk result (λ row. row ≡ extension width variable value.now self.now) }
     {
-        let cells = extended_cells(*self.cells.allocator(), width, variable, value, self.cells())?;
+        let cells = extended_cells(
+            *self.cells.allocator(),
+            width,
+            variable,
+            value,
+            self.cells(),
+        )?;
         Ok(Row { cells })
     }
 

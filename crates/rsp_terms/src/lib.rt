@@ -8,6 +8,7 @@
 
 mod cells;
 pub mod characters;
+mod domain;
 mod listed;
 mod printing;
 mod statement;
@@ -15,6 +16,7 @@ mod term;
 mod text;
 
 pub use characters::{is_iri, is_label, is_tag};
+pub use domain::{Domain, Same};
 pub use listed::Listed;
 pub use printing::{XSD_STRING, print};
 pub use statement::{Fact, Quad, Spot, Triple};
