@@ -7,7 +7,9 @@
 #![tactic(auto)]
 
 mod buckets;
+mod entries;
 mod index;
 mod key;
 
+pub use entries::Entries;
 pub use index::Index;
