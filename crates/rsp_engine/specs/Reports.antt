@@ -79,7 +79,8 @@ after_report world query t =
     then record world { queries = without query.name world.queries }
     else record world { queries = map (query_after_report world t query.name) world.queries }
 
--- the reports of the moments, in order, each in the world that those before it leave; one of a query that is no longer live has none
+-- the reports of the moments, in order, each in the world that those before it leave; one of a query that is no longer live has
+-- none
 abbrev pub reports : World → List Moment → List Report
 reports world [] = []
 reports world (moment ∷ left) =

@@ -1,5 +1,6 @@
 -- Definitions: booleans, and the boolean value of a term (SPARQL 1.1, section 17.2.2).
-use Rattle.std.specs.Prelude.{ℕ, ◌==◌, Bool, true, false, not, ◌||◌, if◌then◌else◌, Option, None, Some, unwrap_or, List, length, codes}
+use Rattle.std.specs.Prelude.{ℕ, ◌==◌, Bool, true, false, not, ◌||◌, if◌then◌else◌, Option, None, Some, unwrap_or, List, length}
+use Rattle.std.specs.Prelude.{codes}
 use Rattle.std.specs.Str.{bytes_eq}
 use Rattle.rsp_number.specs.Numbers.{value_of, is_zero}
 use Rattle.rsp_number.specs.declared.number.Number.{Number}

@@ -1,5 +1,6 @@
 -- Definitions: the connectives (SPARQL 1.1 Query, sections 17.2 and 17.4.1). None is an error.
-use Rattle.std.specs.Prelude.{Bool, true, false, not, if◌then◌else◌, Option, Some, None, option_map, unwrap_or, is_some, List, map}
+use Rattle.std.specs.Prelude.{Bool, true, false, not, if◌then◌else◌, Option, Some, None, option_map, unwrap_or, is_some, List}
+use Rattle.std.specs.Prelude.{map}
 use Rattle.std.specs.List.{list_any, list_all}
 use Rattle.std.specs.Option.{option_and_then}
 use Rattle.rsp_terms.specs.declared.term.Term.{Term}

@@ -1,6 +1,7 @@
 -- Words of the way: the datatypes as the code keeps them, and what literals of them read as. The laws of `TypeLaws` say that
 -- this is what the definitions say of their IRIs.
-use Rattle.std.specs.Prelude.{ℕ, ◌-◌, ◌^◌, ℤ, pos, neg_ℤ, Bool, true, false, if◌then◌else◌, Option, None, Some, unwrap_or, List, [], ◌∷◌, codes}
+use Rattle.std.specs.Prelude.{ℕ, ◌-◌, ◌^◌, ℤ, pos, neg_ℤ, Bool, true, false, if◌then◌else◌, Option, None, Some, unwrap_or, List}
+use Rattle.std.specs.Prelude.{[], ◌∷◌, codes}
 use Rattle.std.specs.Str.{bytes_eq}
 use Rattle.rsp_number.specs.Texts.{read_decimal}
 use Rattle.rsp_number.specs.declared.number.Number.{Number}
@@ -9,9 +10,12 @@ use Rattle.rsp_number.specs.declared.reading.Reading.{Reading}
 use Rattle.rsp_expr.specs.BooleanValues.{boolean_reading, is_filled, numeric_value}
 use Rattle.rsp_expr.specs.Forms.{reading_map, whole_reading}
 use Rattle.rsp_expr.specs.declared.datatypes.WholeType.{WholeType}
-use Rattle.rsp_expr.specs.declared.datatypes.WholeType.TheVariants.{Integer, NonPositiveInteger, NegativeInteger, Long, Int, Short, Byte, NonNegativeInteger, UnsignedLong, UnsignedInt, UnsignedShort, UnsignedByte, PositiveInteger}
+use Rattle.rsp_expr.specs.declared.datatypes.WholeType.TheVariants.{Integer, NonPositiveInteger, NegativeInteger, Long, Int}
+use Rattle.rsp_expr.specs.declared.datatypes.WholeType.TheVariants.{Short, Byte, NonNegativeInteger, UnsignedLong, UnsignedInt}
+use Rattle.rsp_expr.specs.declared.datatypes.WholeType.TheVariants.{UnsignedShort, UnsignedByte, PositiveInteger}
 use Rattle.rsp_expr.specs.declared.datatypes.Datatype.{Datatype}
-use Rattle.rsp_expr.specs.declared.datatypes.Datatype.TheVariants.{Whole, Decimal, Double, Float, Boolean, String, LangString, Other}
+use Rattle.rsp_expr.specs.declared.datatypes.Datatype.TheVariants.{Whole, Decimal, Double, Float, Boolean, String, LangString}
+use Rattle.rsp_expr.specs.declared.datatypes.Datatype.TheVariants.{Other}
 
 -- the types of whole numbers, by their IRIs: first those without a number below 0, then all
 abbrev pub unsigned_types : List (List ℕ × WholeType)

@@ -1,10 +1,12 @@
 -- Definitions: arithmetic and the functions (SPARQL 1.1 Query, sections 17.3 and 17.4), a line each. None is an error.
-use Rattle.std.specs.Prelude.{ℕ, ℤ, pos, Bool, true, false, not, if◌then◌else◌, Option, Some, None, option_map, is_some, List, [], ◌∷◌, map, codes}
+use Rattle.std.specs.Prelude.{ℕ, ℤ, pos, Bool, true, false, not, if◌then◌else◌, Option, Some, None, option_map, is_some, List}
+use Rattle.std.specs.Prelude.{[], ◌∷◌, map, codes}
 use Rattle.std.specs.Bool.{then_some}
 use Rattle.std.specs.List.{concat, list_all}
 use Rattle.std.specs.Option.{option_and_then, option_eq}
 use Rattle.std.specs.Str.{bytes_eq, chars}
-use Rattle.rsp_number.specs.Numbers.{integer_result, sum, difference, product, quotient, negation, absolute_value, rounding, floor_of, ceil_of, round_of}
+use Rattle.rsp_number.specs.Numbers.{integer_result, sum, difference, product, quotient, negation, absolute_value, rounding}
+use Rattle.rsp_number.specs.Numbers.{floor_of, ceil_of, round_of}
 use Rattle.rsp_number.specs.declared.number.Number.{Number}
 use Rattle.rsp_number.specs.declared.number.Number.TheVariants.{Integer, Decimal}
 use Rattle.rsp_strings.specs.Occurrences as texts

@@ -1,5 +1,6 @@
 -- Definitions: files by name: pairs of a name and its bytes, of which the first of a name counts.
-use Rattle.std.specs.Prelude.{◌≡◌, ℕ, List, [], ◌∷◌, Option, Some, None, Result, MatchResult, IsErr, IsSome, if◌then◌else◌, bytes_eq, ⊤, String, Vec, string_bytes}
+use Rattle.std.specs.Prelude.{◌≡◌, ℕ, List, [], ◌∷◌, Option, Some, None, Result, MatchResult, IsErr, IsSome, if◌then◌else◌}
+use Rattle.std.specs.Prelude.{bytes_eq, ⊤, String, Vec, string_bytes}
 
 -- the bytes of the first file of this name
 abbrev pub file_named : List ℕ → List (List ℕ × List ℕ) → Option (List ℕ)
@@ -12,7 +13,8 @@ NamedFile None name left = ⊤
 NamedFile (Some files) name left = IsSome (file_named name files) × (left ≡ file_named name files)
 
 -- `Ok`: the named file's bytes are left; `Err`: what was left before
-abbrev pub PickFinds : {E : Type 0} → Option (List (List ℕ × List ℕ)) → List ℕ → Option (List ℕ) → Option (List ℕ) → Result (Unit {0}) E → Type 0
+abbrev pub PickFinds : {E : Type 0} → Option (List (List ℕ × List ℕ)) → List ℕ → Option (List ℕ) → Option (List ℕ)
+    → Result (Unit {0}) E → Type 0
 PickFinds files name before after result = MatchResult result (λ _. NamedFile files name after) (λ _. after ≡ before)
 
 -- files are told, and the pick failed only for want of one of this name

@@ -1,4 +1,5 @@
--- Words of the way: what the objects in memory are made of: bytes taken within a room, files of which one is picked, and calls that fail.
+-- Words of the way: what the objects in memory are made of: bytes taken within a room, files of which one is picked, and calls
+-- that fail.
 -- What is seen of a whole object (States) is made of what is seen of its parts.
 use Rattle.std.specs.Prelude.{ℕ, List, [], ◌∷◌, Option, None, Some, String, Vec, drop}
 

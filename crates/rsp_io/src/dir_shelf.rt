@@ -1,5 +1,6 @@
 // The trusted edge: files that the runtime opens, of which nothing is told but counts.
-ghost use Rattle.std.specs.Prelude.{◌≡◌, ◌<◌, ◌≤◌, ◌||◌, [], None, Some, Ok, IfOk, IsFalse, IsOk, IsTrue, is_ok, is_some, false, length};
+ghost use Rattle.std.specs.Prelude.{◌≡◌, ◌<◌, ◌≤◌, ◌||◌, [], None, Some, Ok, IfOk, IsFalse, IsOk, IsTrue, is_ok, is_some};
+ghost use Rattle.std.specs.Prelude.{false, length};
 ghost use Rattle.std.specs.Io.KnownBytes.{ReadConsumes};
 ghost use Rattle.std.specs.Option.{option_map_or};
 ghost use Rattle.rsp_spec.specs.Faults.{HasCause};

@@ -19,8 +19,10 @@ use Rattle.rsp_lex.specs.declared.numbers.DoubleState.TheVariants as double
 use Rattle.rsp_lex.specs.declared.numbers.SpanState.TheVariants as span
 use Rattle.rsp_lex.specs.declared.symbols.SymbolState.TheVariants as symbol
 use Rattle.rsp_lex.specs.Quoted.{iri_step, iri_ends, string_step, string_ends}
-use Rattle.rsp_lex.specs.Names.{word_step, word_ends, variable_step, variable_ends, label_step, label_ends, prefixed_step, prefixed_ends, tag_step, tag_ends}
-use Rattle.rsp_lex.specs.Numbers.{integer_step, integer_ends, decimal_step, decimal_ends, double_step, double_ends, span_step, span_ends}
+use Rattle.rsp_lex.specs.Names.{word_step, word_ends, variable_step, variable_ends, label_step, label_ends, prefixed_step}
+use Rattle.rsp_lex.specs.Names.{prefixed_ends, tag_step, tag_ends}
+use Rattle.rsp_lex.specs.Numbers.{integer_step, integer_ends, decimal_step, decimal_ends, double_step, double_ends, span_step}
+use Rattle.rsp_lex.specs.Numbers.{span_ends}
 use Rattle.rsp_lex.specs.Symbols.{symbol_step, symbol_ends}
 
 -- ---- one automaton for all kinds: where a kind starts, it goes on as its own

@@ -2,6 +2,7 @@ pub mod FaultLaws
 pub mod FieldLaws
 pub mod Judging
 pub mod Lines
+pub mod NoBlanks
 pub mod ReadBack
 pub mod StatementLaws
 pub mod StatementRows

@@ -23,7 +23,9 @@ use Rattle.rsp_nquads.specs.Grammar.{IsDatatype, IsQualified, IsLiteral, IsIriTe
 use Rattle.rsp_scan.specs.Scans.{next_of_tag, tag_machine}
 use Rattle.rsp_nquads.specs.Statements.{statement_of}
 use Rattle.rsp_nquads.specs.Answers.{statement}
-use Rattle.rsp_nquads.specs.Writing.{line_of, graph_text, IsNotBlank, IsNotBlankIn, HasNoBlank}
+use Rattle.rsp_nquads.specs.Writing.{line_of, graph_text, HasNoBlank}
+use Rattle.rsp_nquads.specs.Blanks.{IsNotBlank, IsNotBlankIn, AreNotBlank}
+use Rattle.rsp_nquads.proofs.NoBlanks.{no_blank_from}
 use Rattle.rsp_scan.proofs.Pieces.{texts, values, plains, plain_texts, plain_values, wide_bytes}
 use Rattle.rsp_nquads.proofs.StatementLaws.{says_from, says_to}
 
@@ -281,7 +283,7 @@ graph_written d document text rest None no_blank e = refl
 graph_written d document text rest (Some name) no_blank e =
     behind_space (IsNode document) (term_text name) (codes " .") name (node_written d document e.part rest (codes " .") name no_blank e.is)
 
-pub read_back : (scanned : FollowRules) → (d document : ℕ) (line : List ℕ) (quad : Quad) → Says d line quad → HasNoBlank quad → Says document (line_of quad) quad
+pub read_back : (scanned : FollowRules) → (d document : ℕ) (line : List ℕ) (quad : Quad) → Says d line quad → AreNotBlank quad → Says document (line_of quad) quad
 read_back scanned d document line quad h no_blank =
     let tail = tail_of quad.graph in
     let s = h.statement in
@@ -308,4 +310,4 @@ read_back scanned d document line quad h no_blank =
 
 pub says_again : (scanned : FollowRules) → (d : ℕ) (line : List ℕ) (quad : Quad) → statement_of d line ≡ statement quad → HasNoBlank quad → (document : ℕ)
     → statement_of document (line_of quad) ≡ statement quad
-says_again scanned d line quad is no_blank document = says_to scanned document (line_of quad) quad (read_back scanned d document line quad (says_from scanned d line quad is) no_blank)
+says_again scanned d line quad is no_blank document = says_to scanned document (line_of quad) quad (read_back scanned d document line quad (says_from scanned d line quad is) (no_blank_from quad no_blank))

@@ -7,4 +7,5 @@ pub mod Parts
 pub mod Statements
 pub mod Results
 pub mod Fields
+pub mod Blanks
 pub mod Faults

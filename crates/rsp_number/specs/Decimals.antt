@@ -1,6 +1,7 @@
 -- Definitions: decimals of at most 18 digits after the point, and the decimal that a fraction of whole numbers is cut to
 -- (XML Schema 1.1 part 2, section 3.3.3: a processor may limit the digits of a decimal).
-use Rattle.std.specs.Prelude.{ℕ, zero, suc, ◌*◌, ◌/◌, ◌%◌, ◌^◌, ◌-◌, ◌≤◌, Bool, cond, nat_le, ◌==◌, ℤ, pos, neg_ℤ, unsigned_abs, int_lt, Option, Some, None, option_map, ◌≡◌, ◌≢◌, ◌⊎◌}
+use Rattle.std.specs.Prelude.{ℕ, zero, suc, ◌*◌, ◌/◌, ◌%◌, ◌^◌, ◌-◌, ◌≤◌, Bool, cond, nat_le, ◌==◌, ℤ, pos, neg_ℤ, unsigned_abs}
+use Rattle.std.specs.Prelude.{int_lt, Option, Some, None, option_map, ◌≡◌, ◌≢◌, ◌⊎◌}
 
 -- the greatest size of an integer, and of a decimal's coefficient
 abbrev pub largest : ℕ

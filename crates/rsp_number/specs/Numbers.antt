@@ -1,6 +1,7 @@
 -- Definitions: numbers as fractions of whole numbers, and what each operation on them gives (XPath functions 3.1, sections
 -- 4.2 to 4.4: op:numeric-add to op:numeric-divide, op:numeric-less-than, fn:abs to fn:round).
-use Rattle.std.specs.Prelude.{ℕ, ◌*◌, ◌^◌, Bool, cond, ◌==◌, ℤ, pos, ◌+ℤ◌, ◌-ℤ◌, ◌*ℤ◌, neg_ℤ, unsigned_abs, Option, None, option_map}
+use Rattle.std.specs.Prelude.{ℕ, ◌*◌, ◌^◌, Bool, cond, ◌==◌, ℤ, pos, ◌+ℤ◌, ◌-ℤ◌, ◌*ℤ◌, neg_ℤ, unsigned_abs, Option, None}
+use Rattle.std.specs.Prelude.{option_map}
 use Rattle.std.specs.Int.{int_div_euclid}
 use Rattle.std.specs.Ordering.{int_cmp}
 use Rattle.std.specs.declared.cmp.Ordering.{Ordering}

@@ -1,6 +1,7 @@
 -- Words of the way: what `fit`, `floor_of`, `units` and `read_decimal` give, in terms of values. Calls promise it beside these
 -- words.
-use Rattle.std.specs.Prelude.{ℕ, ◌/◌, ◌^◌, ◌<◌, ◌≤◌, ◌≡◌, Bool, false, ℤ, pos, ◌+ℤ◌, ◌*ℤ◌, ◌≤ℤ◌, ◌<ℤ◌, List, ◌++◌, length, Option, MatchOption}
+use Rattle.std.specs.Prelude.{ℕ, ◌/◌, ◌^◌, ◌<◌, ◌≤◌, ◌≡◌, Bool, false, ℤ, pos, ◌+ℤ◌, ◌*ℤ◌, ◌≤ℤ◌, ◌<ℤ◌, List, ◌++◌, length}
+use Rattle.std.specs.Prelude.{Option, MatchOption}
 use Rattle.rsp_number.specs.Decimals.{Scaled, IsDecimal, cut, largest, most_digits, with_sign}
 use Rattle.rsp_number.specs.Numbers.{Fraction}
 use Rattle.rsp_number.specs.Texts.{is_negative, without_sign, before_point, behind_point, number_after, has_decimal_form}

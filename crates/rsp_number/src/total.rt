@@ -3,7 +3,8 @@
 ghost use Rattle.std.specs.Prelude.{◌≡◌, ◌≤◌, ◌+◌, ◌*◌, ◌^◌, unsigned_abs};
 ghost use Rattle.rsp_number.specs.Decimals.{largest};
 ghost use Rattle.rsp_number.specs.TallyBounds.{IsTally, IsWhole, IsWithin};
-ghost use Rattle.rsp_number.specs.Totals.{units, integers_of, decimals_of, empty_tally, after_taking, after_giving, value_of_total};
+ghost use Rattle.rsp_number.specs.Totals.{units, integers_of, decimals_of, empty_tally, after_taking, after_giving};
+ghost use Rattle.rsp_number.specs.Totals.{value_of_total};
 
 use crate::number::Number;
 use crate::sum::Sum;

@@ -3,7 +3,8 @@ use Rattle.std.specs.Prelude.{ℕ, ◌+◌, [], Option, None, length}
 use Rattle.rsp_query.specs.Groups.{Part}
 use Rattle.rsp_query.specs.Walks.{own_slashes}
 use Rattle.rsp_written.specs.Trees as written
-use Rattle.rsp_written.specs.Trees.{Verb, named, along, Node, described, Nodes, no_node, node_then, Properties, no_property, property_then, Element, Elements, no_element, element_then, Selected, selected}
+use Rattle.rsp_written.specs.Trees.{Verb, named, along, Node, described, Nodes, no_node, node_then, Properties, no_property}
+use Rattle.rsp_written.specs.Trees.{property_then, Element, Elements, no_element, element_then, Selected, selected}
 use Rattle.rsp_numbering.specs.declared.counts.Count.{Count}
 use Rattle.rsp_numbering.specs.declared.counts.Count.TheVariants as count
 use Rattle.rsp_numbering.specs.declared.limit.LimitName.{LimitName}

@@ -7,7 +7,9 @@ use Rattle.rsp_expr.specs.Formulas as formula
 use Rattle.rsp_functions.specs.declared.function.Sign.{Sign}
 use Rattle.rsp_functions.specs.declared.aggregate.Kind.{Kind}
 use Rattle.rsp_functions.specs.declared.aggregate.Kind.TheVariants as fold
-use Rattle.rsp_written.specs.Trees.{Expr, variable, iri, constant, any_of, all_of, compared, member, sum, product, signed, bound, call, count_rows, aggregate, Exprs, no_expr, expr_then, Operands, no_operand, operand_then}
+use Rattle.rsp_written.specs.Trees.{Expr, variable, iri, constant, any_of, all_of, compared, member, sum, product, signed}
+use Rattle.rsp_written.specs.Trees.{bound, call, count_rows, aggregate, Exprs, no_expr, expr_then, Operands, no_operand}
+use Rattle.rsp_written.specs.Trees.{operand_then}
 use Rattle.rsp_numbering.specs.Naming.{Scope, Before, number, behind, named}
 use Rattle.rsp_numbering.specs.Naming as naming
 use Rattle.rsp_numbering.specs.Expressions.{sign_of, function_of, fold_of, signed_formula}

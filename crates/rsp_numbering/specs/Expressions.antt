@@ -14,7 +14,9 @@ use Rattle.rsp_written.specs.declared.said.Keyword.TheVariants as keyword
 use Rattle.rsp_written.specs.declared.said.Symbol.TheVariants as symbol
 use Rattle.rsp_written.specs.declared.said.Kind.TheVariants as kind
 use Rattle.rsp_written.specs.declared.said.Kind as token
-use Rattle.rsp_written.specs.Trees.{Expr, variable, iri, constant, any_of, all_of, compared, member, sum, product, signed, bound, call, count_rows, aggregate, Exprs, no_expr, expr_then, Operands, no_operand, operand_then}
+use Rattle.rsp_written.specs.Trees.{Expr, variable, iri, constant, any_of, all_of, compared, member, sum, product, signed}
+use Rattle.rsp_written.specs.Trees.{bound, call, count_rows, aggregate, Exprs, no_expr, expr_then, Operands, no_operand}
+use Rattle.rsp_written.specs.Trees.{operand_then}
 use Rattle.rsp_numbering.specs.Naming.{Scope}
 use Rattle.rsp_numbering.specs.Naming as naming
 use Rattle.rsp_numbering.specs.Numbered.{Numbered, give, ◌>>=◌, making, counting, numbered, numbered_name, apart, put_aggregate}

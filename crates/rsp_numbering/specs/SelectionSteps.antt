@@ -5,10 +5,12 @@ use Rattle.rsp_terms.specs.declared.term.Term.TheVariants as term
 use Rattle.rsp_expr.specs.declared.slot.Slot.{Slot}
 use Rattle.rsp_expr.specs.declared.slot.Slot.TheVariants as slot
 use Rattle.rsp_expr.specs.Formulas.{Formula, Aggregation}
-use Rattle.rsp_query.specs.Groups.{Part, optional, minus, union, graph, window, filter, exists, bind, values, sub, Parts, parts_in, groups_in, Selection, selection}
+use Rattle.rsp_query.specs.Groups.{Part, optional, minus, union, graph, window, filter, exists, bind, values, sub, Parts}
+use Rattle.rsp_query.specs.Groups.{parts_in, groups_in, Selection, selection}
 use Rattle.rsp_query.specs.Groups as query
 use Rattle.rsp_written.specs.Trees as written
-use Rattle.rsp_written.specs.Trees.{Element, Elements, no_element, element_then, Item, shown, computed, Projection, Graph, graph_variable, graph_iri, Selected, selected}
+use Rattle.rsp_written.specs.Trees.{Element, Elements, no_element, element_then, Item, shown, computed, Projection, Graph}
+use Rattle.rsp_written.specs.Trees.{graph_variable, graph_iri, Selected, selected}
 use Rattle.rsp_numbering.specs.Naming.{Scope, Before, number, behind, behind_select, scope}
 use Rattle.rsp_numbering.specs.Naming as naming
 use Rattle.rsp_numbering.specs.Selections.{is_grouped, is_star, items_in}

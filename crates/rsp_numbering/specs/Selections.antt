@@ -4,12 +4,15 @@ use Rattle.rsp_terms.specs.declared.term.Term.TheVariants as term
 use Rattle.rsp_expr.specs.declared.slot.Slot.{Slot}
 use Rattle.rsp_expr.specs.declared.slot.Slot.TheVariants as slot
 use Rattle.rsp_expr.specs.Formulas.{Formula, Aggregation}
-use Rattle.rsp_query.specs.Groups.{Part, optional, minus, union, graph, window, filter, exists, bind, values, sub, Parts, parts_in, no_group, group_then, Selection, selection}
+use Rattle.rsp_query.specs.Groups.{Part, optional, minus, union, graph, window, filter, exists, bind, values, sub, Parts}
+use Rattle.rsp_query.specs.Groups.{parts_in, no_group, group_then, Selection, selection}
 use Rattle.rsp_query.specs.Groups as query
 use Rattle.rsp_written.specs.Trees as written
-use Rattle.rsp_written.specs.Trees.{Element, Elements, no_element, element_then, Item, shown, computed, Projection, every_name, these, Graph, graph_variable, graph_iri, Selected, selected}
+use Rattle.rsp_written.specs.Trees.{Element, Elements, no_element, element_then, Item, shown, computed, Projection, every_name}
+use Rattle.rsp_written.specs.Trees.{these, Graph, graph_variable, graph_iri, Selected, selected}
 use Rattle.rsp_numbering.specs.Naming.{Scope, scope}
-use Rattle.rsp_numbering.specs.Numbered.{Numbered, give, ◌>>=◌, making, each, maybe, numbered_name, opened, apart, aggregates_so_far}
+use Rattle.rsp_numbering.specs.Numbered.{Numbered, give, ◌>>=◌, making, each, maybe, numbered_name, opened, apart}
+use Rattle.rsp_numbering.specs.Numbered.{aggregates_so_far}
 use Rattle.rsp_numbering.specs.Expressions.{expression}
 use Rattle.rsp_numbering.specs.Triples.{triples}
 

@@ -6,7 +6,8 @@ use Rattle.rsp_expr.specs.declared.slot.Slot.TheVariants as slot
 use Rattle.rsp_query.specs.Paths.{Way}
 use Rattle.rsp_query.specs.Paths as path
 use Rattle.rsp_query.specs.Groups.{Part, triple}
-use Rattle.rsp_written.specs.Trees.{Verb, named, along, Node, variable_node, iri_node, constant_node, label_node, blank_node, described, Nodes, no_node, node_then, Properties, no_property, property_then}
+use Rattle.rsp_written.specs.Trees.{Verb, named, along, Node, variable_node, iri_node, constant_node, label_node, blank_node}
+use Rattle.rsp_written.specs.Trees.{described, Nodes, no_node, node_then, Properties, no_property, property_then}
 use Rattle.rsp_numbering.specs.Naming.{Scope, Before, number, behind, bracket}
 use Rattle.rsp_numbering.specs.Same.{label}
 use Rattle.rsp_numbering.specs.Naming as naming

@@ -8,7 +8,8 @@ use Rattle.rsp_query.specs.Paths.{Way, ways_in}
 use Rattle.rsp_query.specs.Paths as path
 use Rattle.rsp_query.specs.Groups.{Part, triple}
 use Rattle.rsp_written.specs.Trees as written
-use Rattle.rsp_written.specs.Trees.{Verb, named, along, Node, variable_node, iri_node, constant_node, label_node, blank_node, described, Nodes, no_node, node_then, Properties, no_property, property_then}
+use Rattle.rsp_written.specs.Trees.{Verb, named, along, Node, variable_node, iri_node, constant_node, label_node, blank_node}
+use Rattle.rsp_written.specs.Trees.{described, Nodes, no_node, node_then, Properties, no_property, property_then}
 use Rattle.rsp_numbering.specs.declared.variable.Variable.TheVariants as variable
 use Rattle.rsp_numbering.specs.Naming.{Scope, bracket}
 use Rattle.rsp_numbering.specs.Numbered.{Numbered, give, ◌>>=◌, making, numbered, numbered_name}

@@ -1,5 +1,6 @@
 -- Words of the way: functions on rows of tokens of the same shape as the rules, which the code is proved against.
-use Rattle.std.specs.Prelude.{ℕ, zero, suc, Bool, false, List, [], ◌∷◌, ◌++◌, length, ◌-◌, drop, map, cond, Option, None, Some, Result, Ok, Err}
+use Rattle.std.specs.Prelude.{ℕ, zero, suc, Bool, false, List, [], ◌∷◌, ◌++◌, length, ◌-◌, drop, map, cond, Option, None, Some}
+use Rattle.std.specs.Prelude.{Result, Ok, Err}
 use Rattle.std.specs.List.{list_any}
 use Rattle.rsp_phrases.specs.Languages.{has, listed, follows}
 
@@ -99,7 +100,8 @@ at_most_read kind kinds r (suc n) =
 abbrev pub many_read : {T A : Type 0} → (T → ℕ) → List ℕ → Reader T A → Reader T (List A)
 many_read kind kinds r ts = at_most_read kind kinds r (length ts) ts
 
-unfoldable pub follows_at_most_read : {T A B : Type 0} → (T → ℕ) → List ℕ → List ℕ → Reader T B → Reader T A → ℕ → Reader T (List A)
+unfoldable pub follows_at_most_read : {T A B : Type 0} → (T → ℕ) → List ℕ → List ℕ → Reader T B → Reader T A → ℕ
+    → Reader T (List A)
 follows_at_most_read kind marks kinds d r zero = nothing_read []
 follows_at_most_read kind marks kinds d r (suc n) =
     mapped_read follows (optional_read kind marks (second_read d (optional_read kind kinds
@@ -121,7 +123,8 @@ before v (Ok x) = Ok (v ∷ x.0, x.1)
 before v (Err left) = Err left
 
 -- one more of the tokens, where its value is there and new; `more` reads on
-abbrev pub distinct_at : {T A : Type 0} → (A → A → Bool) → List A → T → List T → Option A → (A → Reading T (List A)) → Reading T (List A)
+abbrev pub distinct_at : {T A : Type 0} → (A → A → Bool) → List A → T → List T → Option A → (A → Reading T (List A))
+    → Reading T (List A)
 distinct_at same there x ts None more = Ok ([], x ∷ ts)
 distinct_at same there x ts (Some v) more = cond (list_any (same v) there) (Ok ([], x ∷ ts)) (before v (more v))
 

@@ -1,6 +1,7 @@
 -- Words of the way: the sum over all parts of a group, as it is counted part by part.
 use Rattle.std.specs.Prelude.{ℕ, ◌+◌}
-use Rattle.rsp_query.specs.Groups.{Part, Parts, Groups, Selection, optional, minus, union, graph, window, exists, sub, no_part, part_then, no_group, group_then, selection}
+use Rattle.rsp_query.specs.Groups.{Part, Parts, Groups, Selection, optional, minus, union, graph, window, exists, sub, no_part}
+use Rattle.rsp_query.specs.Groups.{part_then, no_group, group_then, selection}
 
 abbrev mutual
   pub counted_below : (Part → ℕ) → Part → ℕ

@@ -15,7 +15,8 @@ use Rattle.rsp_query.specs.declared.select.Element.TheOpen.{Element-F, Select-F}
 use Rattle.rsp_query.specs.declared.select.Element.TheOpen as layer
 use Rattle.rsp_query.specs.declared.select.Element.TheFolds.{fold-Element, fold-Select}
 use Rattle.rsp_query.specs.Paths.{Way, step, inverse, sequence, choice, ways_in}
-use Rattle.rsp_query.specs.Groups.{Item, Part, triple, optional, minus, union, graph, window, filter, exists, bind, values, sub, Parts, parts_in, groups_in, Selection, selection}
+use Rattle.rsp_query.specs.Groups.{Item, Part, triple, optional, minus, union, graph, window, filter, exists, bind, values, sub}
+use Rattle.rsp_query.specs.Groups.{Parts, parts_in, groups_in, Selection, selection}
 use Rattle.rsp_query.specs.Queries.{Registered}
 
 -- ---- paths

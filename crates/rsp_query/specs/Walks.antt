@@ -2,7 +2,8 @@
 -- of an OPTIONAL.
 use Rattle.std.specs.Prelude.{ℕ, Bool, true, false, List, [], ◌∷◌, ◌++◌, sum_by}
 use Rattle.rsp_query.specs.Paths.{slashes}
-use Rattle.rsp_query.specs.Groups.{Part, Parts, Groups, triple, optional, minus, union, graph, window, exists, sub, no_part, part_then, no_group, group_then, selection}
+use Rattle.rsp_query.specs.Groups.{Part, Parts, Groups, triple, optional, minus, union, graph, window, exists, sub, no_part}
+use Rattle.rsp_query.specs.Groups.{part_then, no_group, group_then, selection}
 
 abbrev mutual
   -- of those of a group, which may be that of an OPTIONAL

@@ -10,7 +10,8 @@ use Rattle.rsp_written.specs.declared.said.Said.{Said}
 use Rattle.rsp_written.specs.declared.said.Symbol.TheVariants as symbol
 use Rattle.rsp_written.specs.Building.{aggregate_of}
 use Rattle.rsp_written.specs.Trees.{Expr, iri, variable, constant, count_rows}
-use Rattle.rsp_written.specs.Readings.{choice_read, maybe_read, maybe_distinct_read, sign_read, sign_kinds, word_read, word_kinds, iri_read, variable_read, unsigned_literal_read}
+use Rattle.rsp_written.specs.Readings.{choice_read, maybe_read, maybe_distinct_read, sign_read, sign_kinds, word_read}
+use Rattle.rsp_written.specs.Readings.{word_kinds, iri_read, variable_read, unsigned_literal_read}
 
 -- a name, a variable or a literal
 abbrev pub leaf_read : Reader Said Expr
@@ -25,5 +26,6 @@ maybe_word_read w = mapped_read is_some (maybe_read (word_kinds w) (word_read w)
 -- what stands in the parentheses of COUNT
 abbrev pub counted_read : Reader Said Expr
 counted_read =
-    choice_read (sign_kinds (symbol.Sign operator.Multiply)) (mapped_read (λ star. count_rows) (sign_read (symbol.Sign operator.Multiply)))
+    choice_read (sign_kinds (symbol.Sign operator.Multiply))
+    (mapped_read (λ star. count_rows) (sign_read (symbol.Sign operator.Multiply)))
     (mapped_read (aggregate_of (kind.Word (keyword.Fold fold.Count))) maybe_distinct_read)

@@ -3,7 +3,8 @@ use Rattle.std.specs.Prelude.{ℕ, List}
 use Rattle.rsp_phrases.specs.Readers.{Reader, nested_read}
 use Rattle.rsp_written.specs.declared.said.Said.{Said}
 use Rattle.rsp_written.specs.Trees.{Element}
-use Rattle.rsp_written.specs.GroupReadings.{group_rule_read, optional_rule_read, minus_rule_read, graph_rule_read, window_rule_read}
+use Rattle.rsp_written.specs.GroupReadings.{group_rule_read, optional_rule_read, minus_rule_read, graph_rule_read}
+use Rattle.rsp_written.specs.GroupReadings.{window_rule_read}
 use Rattle.rsp_read_queries.specs.declared.groups.Opening.{Opening}
 use Rattle.rsp_read_queries.specs.declared.groups.Opening.TheVariants as opening
 

@@ -5,7 +5,8 @@ ghost use Rattle.std.specs.Option.{ForSome};
 ghost use Rattle.rsp_spec.specs.Instants.{IsLeastIn};
 ghost use Rattle.rsp_spec.specs.Windows.{closes_at};
 ghost use Rattle.rsp_report.specs.Due.{IsWatched, is_due};
-ghost use Rattle.rsp_report.specs.Leaps.{AllHold, HasPeriod, HoldsByChange, HoldsByContent, HoldsByTime, asks, divides, some_window};
+ghost use Rattle.rsp_report.specs.Leaps.{AllHold, HasPeriod, HoldsByChange, HoldsByContent, HoldsByTime, asks, divides};
+ghost use Rattle.rsp_report.specs.Leaps.{some_window};
 
 use crate::chosen::Chosen;
 use crate::contents::Watched;

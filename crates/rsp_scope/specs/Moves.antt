@@ -1,5 +1,6 @@
 -- Words of the way: how a window's content and its counts follow the accepted items.
-use Rattle.std.specs.Prelude.{◌≡◌, ℕ, zero, suc, ⊤, ◌≤◌, Bool, true, false, ◌&&◌, ◌||◌, nat_lt, nat_le, Option, None, Some, List, length, bytes_eq, ℤ, pos, negsuc, ◌+ℤ◌}
+use Rattle.std.specs.Prelude.{◌≡◌, ℕ, zero, suc, ⊤, ◌≤◌, Bool, true, false, ◌&&◌, ◌||◌, nat_lt, nat_le, Option, None, Some}
+use Rattle.std.specs.Prelude.{List, length, bytes_eq, ℤ, pos, negsuc, ◌+ℤ◌}
 use Rattle.std.specs.Option.{option_map, option_map_or}
 use Rattle.rsp_spec.specs.Windows.{active_window, opening}
 use Rattle.rsp_multiset.specs.Weights.{sum_z, only, times, weight}

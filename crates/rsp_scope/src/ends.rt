@@ -35,7 +35,8 @@ impl Model for Run {
 }
 
 impl Run {
-    ghost use Rattle.std.specs.Prelude.{◌≡◌, ◌+◌, ◌++◌, ◌∷◌, ◌≤◌, ℕ, [], List, cond, IfOk, OnErr, drop, length, min, take, sum_by};
+    ghost use Rattle.std.specs.Prelude.{◌≡◌, ◌+◌, ◌++◌, ◌∷◌, ◌≤◌, ℕ, [], List, cond, IfOk, OnErr, drop, length, min, take};
+    ghost use Rattle.std.specs.Prelude.{sum_by};
     ghost use Rattle.rsp_scope.specs.Kept.{triples_of};
     ghost use Rattle.rsp_scope.specs.Runs.{ending_of, over_items, reaching, triples_in};
     ghost use Rattle.rsp_scope.specs.declared.ends.Ending.{Ending};

@@ -203,7 +203,8 @@ pub(crate) fn sum_since(
 // adds the piece if it is seen from the place
 fn add_seen(sum: &mut Changes<Fact>, piece: &Piece, place: u64) -> Result<(), AllocError>
     ensures { OnOk result ((q : Fact)
-        → weight fact_eq sum.new q ≡ weight fact_eq sum.old q +ℤ only (nat_lt place piece.now.end) (weight fact_eq piece.now.changes q)) }
+        → weight fact_eq sum.new q
+        ≡ weight fact_eq sum.old q +ℤ only (nat_lt place piece.now.end) (weight fact_eq piece.now.changes q)) }
 {
     if place < piece.end {
         return add_all(sum, &piece.changes);

@@ -45,7 +45,8 @@ impl Model for Streams {
 }
 
 impl Streams {
-    ghost use Rattle.std.specs.Prelude.{◌≡◌, ◌<◌, ◌≤◌, ◌+◌, ◌-◌, ◌^◌, ◌++◌, ◌∷◌, ℕ, false, None, [], drop, length, IfErr, OnOk, OnErr, slice_index_or};
+    ghost use Rattle.std.specs.Prelude.{◌≡◌, ◌<◌, ◌≤◌, ◌+◌, ◌-◌, ◌^◌, ◌++◌, ◌∷◌, ℕ, false, None, [], drop, length, IfErr, OnOk};
+    ghost use Rattle.std.specs.Prelude.{OnErr, slice_index_or};
     ghost use Rattle.rsp_scope.specs.Kept.{Kept, needed, shortened, taken, triples_of};
     ghost use Rattle.rsp_scope.specs.Moves.{Moves, TakesIn};
     ghost use Rattle.rsp_scope.specs.declared.item.Item.{Item};

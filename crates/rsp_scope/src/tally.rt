@@ -1,5 +1,6 @@
 // A window's content, and how often it lists each fact.
-ghost use Rattle.std.specs.Prelude.{◌≡◌, ◌<◌, ◌≤◌, ◌&&◌, ℕ, nat_le, ℤ, pos, negsuc, ◌+ℤ◌, [], false, true, drop, filter, length, slice_index_or, IfOk, OnOk};
+ghost use Rattle.std.specs.Prelude.{◌≡◌, ◌<◌, ◌≤◌, ◌&&◌, ℕ, nat_le, ℤ, pos, negsuc, ◌+ℤ◌, [], false, true, drop, filter};
+ghost use Rattle.std.specs.Prelude.{length, slice_index_or, IfOk, OnOk};
 ghost use Rattle.rsp_multiset.specs.Weights.{sum_z, only, weight};
 ghost use Rattle.rsp_terms.specs.declared.statement.Fact.{Fact};
 ghost use Rattle.rsp_terms.specs.Same.{fact_eq};

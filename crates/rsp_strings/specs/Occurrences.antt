@@ -1,7 +1,8 @@
 -- Definitions: where one text stands in another (SPARQL 1.1, sections 17.4.3.6 to 17.4.3.10).
 -- Texts are bytes in UTF-8, where no character begins within another: a text stands in another by its characters
 -- exactly where it does by its bytes.
-use Rattle.std.specs.Prelude.{ℕ, nat_eq, Bool, if◌then◌else◌, Option, Some, None, option_map, is_some, List, [], ◌∷◌, drop, length}
+use Rattle.std.specs.Prelude.{ℕ, nat_eq, Bool, if◌then◌else◌, Option, Some, None, option_map, is_some, List, [], ◌∷◌, drop}
+use Rattle.std.specs.Prelude.{length}
 use Rattle.std.specs.List.{starts_with, ends_with}
 
 -- STRSTARTS and STRENDS

@@ -1,5 +1,6 @@
 -- Definitions: spans of time as ISO 8601 writes them (XML Schema Part 2, section 3.2.6.1), in days, hours, minutes and seconds.
-use Rattle.std.specs.Prelude.{ℕ, ◌+◌, ◌*◌, Bool, not, ◌&&◌, ◌==◌, nat_le, nat_eq, if◌then◌else◌, Option, None, Some, List, [], ◌∷◌, length, drop, codes}
+use Rattle.std.specs.Prelude.{ℕ, ◌+◌, ◌*◌, Bool, not, ◌&&◌, ◌==◌, nat_le, nat_eq, if◌then◌else◌, Option, None, Some, List, []}
+use Rattle.std.specs.Prelude.{◌∷◌, length, drop, codes}
 use Rattle.std.specs.Bool.{then_some}
 use Rattle.std.specs.Cmp.Lexicographic.{pointwise}
 use Rattle.std.specs.List.{starts_with}
@@ -10,7 +11,8 @@ use Rattle.rsp_spec.specs.Limits.{last_instant}
 use Rattle.rsp_text.specs.Fronts.{leading_digits}
 use Rattle.rsp_text.specs.Digits.{fraction, thousandths}
 
--- the digits of a count with its unit, as `5H`, that the text begins with, and the text behind it; no digits where none stands there
+-- the digits of a count with its unit, as `5H`, that the text begins with, and the text behind it; no digits where none stands
+-- there
 abbrev pub count : ℕ → List ℕ → List ℕ × List ℕ
 count unit text =
     let digits = leading_digits text in

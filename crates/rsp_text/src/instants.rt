@@ -1,5 +1,6 @@
 // Instants, in milliseconds since 1970.
-ghost use Rattle.std.specs.Prelude.{◌≡◌, ◌+◌, ◌<◌, ◌≤◌, ◌*◌, ◌&&◌, ◌||◌, nat_le, Some, None, if◌then◌else◌, length, drop, pos, neg_ℤ, ◌+ℤ◌, ◌-ℤ◌, ◌*ℤ◌, IfSome, IsTrue, codes};
+ghost use Rattle.std.specs.Prelude.{◌≡◌, ◌+◌, ◌<◌, ◌≤◌, ◌*◌, ◌&&◌, ◌||◌, nat_le, Some, None, if◌then◌else◌, length, drop, pos};
+ghost use Rattle.std.specs.Prelude.{neg_ℤ, ◌+ℤ◌, ◌-ℤ◌, ◌*ℤ◌, IfSome, IsTrue, codes};
 ghost use Rattle.std.specs.Bool.{then_some};
 ghost use Rattle.std.specs.Char.{is_ascii_digit};
 ghost use Rattle.std.specs.List.{list_all};
@@ -118,7 +119,8 @@ fn seconds_of_day(hour: u32, minute: u32, second: u32) -> Option<u32>
     requires hour { hour < 100 }
     requires minute { minute < 100 }
     requires second { second < 100 }
-    ensures value { result ≡ then_some (nat_le hour 23 && (nat_le minute 59 && nat_le second 59)) ((hour * 60 + minute) * 60 + second) }
+    ensures value { result ≡ then_some (nat_le hour 23 && (nat_le minute 59 && nat_le second 59))
+        ((hour * 60 + minute) * 60 + second) }
     ensures bound { IfSome result (λ n. n < 86400) }
 {
     if 23 < hour || 59 < minute || 59 < second {

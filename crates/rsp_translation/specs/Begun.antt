@@ -2,7 +2,8 @@
 use Rattle.std.specs.Prelude.{ℕ, ◌+◌, Bool, cond, List, [], ◌∷◌, ◌++◌, Option, None, Some, map}
 use Rattle.std.specs.List.{fold}
 use Rattle.rsp_expr.specs.Formulas.{Formula, formulas_in, conjunction}
-use Rattle.rsp_query.specs.Groups.{Part, Parts, Groups, Selection, triple, optional, minus, union, graph, window, filter, exists, bind, values, sub, no_part, part_then, no_group, group_then, selection}
+use Rattle.rsp_query.specs.Groups.{Part, Parts, Groups, Selection, triple, optional, minus, union, graph, window, filter}
+use Rattle.rsp_query.specs.Groups.{exists, bind, values, sub, no_part, part_then, no_group, group_then, selection}
 use Rattle.rsp_query.specs.Paths.{slashes}
 use Rattle.rsp_algebra.specs.declared.tree.Place.{Place}
 use Rattle.rsp_algebra.specs.Nodes as node

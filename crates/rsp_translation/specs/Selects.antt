@@ -1,6 +1,7 @@
 -- Definitions: what the clauses of a SELECT make of the tree of its group (SPARQL 1.1 Query, sections 18.2.4 and 18.2.5).
 use Rattle.std.specs.Prelude.{ℕ, Bool, ◌&&◌, cond, List, [], ◌∷◌, Option, None, Some, length, filter}
 use Rattle.std.specs.List.{range_with_len}
+use Rattle.std.specs.Option.{option_map_or}
 use Rattle.rsp_expr.specs.Formulas.{Formula, Aggregation}
 use Rattle.rsp_query.specs.Groups.{Item, Parts, Selection, selection}
 use Rattle.rsp_algebra.specs.Nodes as node
@@ -18,8 +19,7 @@ projected names (selection distinct star items body grouped keys having aggregat
 
 -- with what one item computes
 abbrev pub with_item : Node → ℕ → Option Formula → Node
-with_item tree v None = tree
-with_item tree v (Some formula) = node.over (node.extend v formula) tree
+with_item tree v formula = option_map_or (λ made. node.over (node.extend v made) tree) formula tree
 
 abbrev pub with_items : Node → List Item → Node
 with_items tree [] = tree

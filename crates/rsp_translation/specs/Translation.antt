@@ -52,9 +52,7 @@ pub record IsTranslated (q : Registered) (made : Translated) : Type 0 where
 -- what the call answers; want of memory alone is free
 abbrev pub IsFault : Registered → Shape → Type 0
 IsFault q OutOfMemory = ⊤
-IsFault q (GraphShape at) = first_fault q ≡ Some (GraphShape at)
-IsFault q (ExistsShape at) = first_fault q ≡ Some (ExistsShape at)
-IsFault q (Scope variable) = first_fault q ≡ Some (Scope variable)
+IsFault q fault = first_fault q ≡ Some fault
 
 abbrev pub IsAnswer : Registered → Result Translated Shape → Type 0
 IsAnswer q (Ok made) = IsTranslated q made

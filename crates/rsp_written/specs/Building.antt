@@ -8,7 +8,11 @@ use Rattle.rsp_written.specs.declared.said.Kind.TheVariants as kind
 use Rattle.rsp_written.specs.declared.said.Said.{Said}
 use Rattle.rsp_written.specs.declared.literals.Suffix.{Suffix}
 use Rattle.rsp_written.specs.declared.literals.Suffix.TheVariants.{InLanguage, OfDatatype}
-use Rattle.rsp_written.specs.Trees.{Expr, Exprs, Operands, any_of, all_of, compared, member, sum, product, signed, call, aggregate, no_expr, expr_then, no_operand, operand_then, Way, Ways, inverse, sequence, choice, no_way, way_then, Verb, Node, Nodes, Properties, no_node, node_then, no_property, property_then, Element, Elements, Groups, no_element, element_then, no_group, group_then, triples, Item, Projection, sub_select, selected, Policy, no_policy, Window, Written}
+use Rattle.rsp_written.specs.Trees.{Expr, Exprs, Operands, any_of, all_of, compared, member, sum, product, signed, call}
+use Rattle.rsp_written.specs.Trees.{aggregate, no_expr, expr_then, no_operand, operand_then, Way, Ways, inverse, sequence}
+use Rattle.rsp_written.specs.Trees.{choice, no_way, way_then, Verb, Node, Nodes, Properties, no_node, node_then, no_property}
+use Rattle.rsp_written.specs.Trees.{property_then, Element, Elements, Groups, no_element, element_then, no_group, group_then}
+use Rattle.rsp_written.specs.Trees.{triples, Item, Projection, sub_select, selected, Policy, no_policy, Window, Written}
 
 -- ---- literals
 

@@ -6,7 +6,8 @@
 use Rattle.rsp_functions.specs.declared.function.Sign.TheVariants as operator
 use Rattle.rsp_functions.specs.Functions.{functions}
 use Rattle.rsp_functions.specs.declared.aggregate.Kind.TheVariants as fold
-use Rattle.std.specs.Prelude.{Bool, ℕ, zero, suc, List, [], ◌∷◌, ◌++◌, cond, map, length, Option, None, Some, is_some, codes, nat_le}
+use Rattle.std.specs.Prelude.{Bool, ℕ, zero, suc, List, [], ◌∷◌, ◌++◌, cond, map, length, Option, None, Some, is_some, codes}
+use Rattle.std.specs.Prelude.{nat_le}
 use Rattle.std.specs.List.{flat_map}
 use Rattle.std.specs.Str.{bytes_eq}
 use Rattle.std.specs.Str.Parse.{digits_value}
@@ -14,7 +15,8 @@ use Rattle.rsp_spec.specs.Limits.{last_instant}
 use Rattle.rsp_text.specs.Instants.{instant}
 use Rattle.rsp_terms.specs.declared.term.Term.TheVariants as term
 use Rattle.rsp_terms.specs.declared.term.Term.{Term}
-use Rattle.rsp_phrases.specs.Languages.{Language, has, among, token, mapped, tied, both, second_of, first_of_both, either, optional, many, dotted, distinct, within_itself, seen, listed, never}
+use Rattle.rsp_phrases.specs.Languages.{Language, has, among, token, mapped, tied, both, second_of, first_of_both, either}
+use Rattle.rsp_phrases.specs.Languages.{optional, many, dotted, distinct, within_itself, seen, listed, never}
 use Rattle.rsp_written.specs.declared.said.Keyword.{Keyword}
 use Rattle.rsp_written.specs.declared.said.Keyword.TheVariants as keyword
 use Rattle.rsp_written.specs.declared.said.Symbol.{Symbol}
@@ -26,8 +28,15 @@ use Rattle.rsp_functions.specs.declared.function.Arity.{Arity}
 use Rattle.rsp_functions.specs.declared.function.Arity.TheVariants as arity
 use Rattle.rsp_written.specs.Numbers.{number_of}
 use Rattle.rsp_written.specs.Arities.{arity_of}
-use Rattle.rsp_written.specs.Trees.{Expr, variable, iri, constant, bound, count_rows, Way, step, Verb, named, along, Node, variable_node, iri_node, constant_node, label_node, blank_node, described, Properties, Item, shown, computed, Projection, every_name, these, Graph, graph_variable, graph_iri, Element, optional_group, minus_group, union_of, graph_group, window_group, filter, exists, bind, values, Strategy, Policy, profile, reporting, Window, Written}
-use Rattle.rsp_written.specs.Building.{string_term, number_term, signed_term, boolean_term, signed_part, any_row, all_row, sum_row, product_row, Relation, compared_to, one_of, related, with_sign, call_of, aggregate_of, flagged, sequence_row, choice_row, turned, rdf_type, property_list, some_properties, elements_in, groups_in, run, sub_select_of, written_of, later, is_nil}
+use Rattle.rsp_written.specs.Trees.{Expr, variable, iri, constant, bound, count_rows, Way, step, Verb, named, along, Node}
+use Rattle.rsp_written.specs.Trees.{variable_node, iri_node, constant_node, label_node, blank_node, described, Properties, Item}
+use Rattle.rsp_written.specs.Trees.{shown, computed, Projection, every_name, these, Graph, graph_variable, graph_iri, Element}
+use Rattle.rsp_written.specs.Trees.{optional_group, minus_group, union_of, graph_group, window_group, filter, exists, bind}
+use Rattle.rsp_written.specs.Trees.{values, Strategy, Policy, profile, reporting, Window, Written}
+use Rattle.rsp_written.specs.Building.{string_term, number_term, signed_term, boolean_term, signed_part, any_row, all_row}
+use Rattle.rsp_written.specs.Building.{sum_row, product_row, Relation, compared_to, one_of, related, with_sign, call_of}
+use Rattle.rsp_written.specs.Building.{aggregate_of, flagged, sequence_row, choice_row, turned, rdf_type, property_list}
+use Rattle.rsp_written.specs.Building.{some_properties, elements_in, groups_in, run, sub_select_of, written_of, later, is_nil}
 use Rattle.rsp_written.specs.declared.literals.Suffix.{Suffix}
 use Rattle.rsp_written.specs.declared.literals.Suffix.TheVariants.{InLanguage, OfDatatype}
 

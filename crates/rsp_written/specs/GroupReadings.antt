@@ -2,16 +2,22 @@
 use Rattle.rsp_functions.specs.declared.function.Sign.TheVariants as operator
 use Rattle.std.specs.Prelude.{ℕ, List, [], ◌∷◌, ◌++◌, Option, None, Some, is_some}
 use Rattle.std.specs.List.{flat_map}
-use Rattle.rsp_phrases.specs.Readers.{Reader, token_read, mapped_read, tied_read, both_read, second_read, first_read, within_itself_read, seen_read}
+use Rattle.rsp_phrases.specs.Readers.{Reader, token_read, mapped_read, tied_read, both_read, second_read, first_read}
+use Rattle.rsp_phrases.specs.Readers.{within_itself_read, seen_read}
 use Rattle.rsp_written.specs.declared.said.Keyword.TheVariants as keyword
 use Rattle.rsp_written.specs.declared.said.Symbol.TheVariants as symbol
 use Rattle.rsp_written.specs.declared.said.Kind.{Kind}
 use Rattle.rsp_written.specs.declared.said.Kind.TheVariants as kind
 use Rattle.rsp_written.specs.declared.said.Said.{Said}
-use Rattle.rsp_written.specs.Trees.{Expr, Node, Properties, Item, shown, computed, Projection, every_name, these, Graph, graph_variable, graph_iri, Element, optional_group, minus_group, union_of, graph_group, window_group, filter, exists, bind, Strategy, Policy, profile, reporting, Window, Written}
+use Rattle.rsp_written.specs.Trees.{Expr, Node, Properties, Item, shown, computed, Projection, every_name, these, Graph}
+use Rattle.rsp_written.specs.Trees.{graph_variable, graph_iri, Element, optional_group, minus_group, union_of, graph_group}
+use Rattle.rsp_written.specs.Trees.{window_group, filter, exists, bind, Strategy, Policy, profile, reporting, Window, Written}
 use Rattle.rsp_written.specs.Building.{elements_in, groups_in, run, sub_select_of, written_of}
-use Rattle.rsp_written.specs.Grammar.{text_of, window_of, origin_of_kind, plain_strategies, profiles, ticks, operators, prefix_of_kind, resolved}
-use Rattle.rsp_written.specs.Readings.{one_read, word_read, sign_read, choice_read, maybe_read, repeated_read, word_kinds, sign_kinds, in_parens_read, iri_read, variable_read, call_first, call_read, expression_read, aggregate_expression_read}
+use Rattle.rsp_written.specs.Grammar.{text_of, window_of, origin_of_kind, plain_strategies, profiles, ticks, operators}
+use Rattle.rsp_written.specs.Grammar.{prefix_of_kind, resolved}
+use Rattle.rsp_written.specs.Readings.{one_read, word_read, sign_read, choice_read, maybe_read, repeated_read, word_kinds}
+use Rattle.rsp_written.specs.Readings.{sign_kinds, in_parens_read, iri_read, variable_read, call_first, call_read}
+use Rattle.rsp_written.specs.Readings.{expression_read, aggregate_expression_read}
 use Rattle.rsp_written.specs.TripleReadings.{same_first, triples_read, block_read}
 
 abbrev pub group_of_read : Reader Said (List Element) → Reader Said (List Element)
@@ -92,7 +98,8 @@ items_of_read r =
 
 unfoldable pub projection_read : Reader Said Projection
 projection_read =
-    choice_read (sign_kinds (symbol.Sign operator.Multiply)) (mapped_read (λ star. every_name) (sign_read (symbol.Sign operator.Multiply)))
+    choice_read (sign_kinds (symbol.Sign operator.Multiply))
+    (mapped_read (λ star. every_name) (sign_read (symbol.Sign operator.Multiply)))
     (mapped_read these (items_of_read aggregate_expression_read))
 
 unfoldable pub select_clause_read : Reader Said (Option Said × Projection)

@@ -19,7 +19,9 @@ use Rattle.rsp_written.specs.declared.node.Node.TheOpen as node_layer
 use Rattle.rsp_written.specs.declared.node.Node.TheFolds.{fold-Node, fold-Property}
 use Rattle.rsp_written.specs.declared.node.Subject.{Subject}
 use Rattle.rsp_written.specs.Trees as trees
-use Rattle.rsp_written.specs.Trees.{Expr, variable, iri, constant, any_of, all_of, compared, member, sum, product, signed, bound, call, count_rows, aggregate, Way, step, inverse, sequence, choice, named, along, variable_node, iri_node, constant_node, label_node, blank_node, described, Properties}
+use Rattle.rsp_written.specs.Trees.{Expr, variable, iri, constant, any_of, all_of, compared, member, sum, product, signed}
+use Rattle.rsp_written.specs.Trees.{bound, call, count_rows, aggregate, Way, step, inverse, sequence, choice, named, along}
+use Rattle.rsp_written.specs.Trees.{variable_node, iri_node, constant_node, label_node, blank_node, described, Properties}
 use Rattle.rsp_written.specs.Building.{exprs_in, operands_in, ways_in, properties_in}
 
 -- a node of the code's tree whose parts are trees already

@@ -4,7 +4,9 @@ use Rattle.rsp_functions.specs.declared.function.Sign.TheVariants as operator
 use Rattle.std.specs.Prelude.{ℕ, List, [], ◌∷◌, ◌++◌, Option, is_some, codes, true, false, Bool}
 use Rattle.rsp_terms.specs.declared.term.Term.{Term}
 use Rattle.rsp_phrases.specs.Languages.{listed}
-use Rattle.rsp_phrases.specs.Readers.{Reader, among_read, mapped_read, tied_read, both_read, second_read, first_read, either_read, optional_read, many_read, within_itself_read, never_read, closed_read, nested_read}
+use Rattle.rsp_phrases.specs.Readers.{Reader, among_read, mapped_read, tied_read, both_read, second_read, first_read}
+use Rattle.rsp_phrases.specs.Readers.{either_read, optional_read, many_read, within_itself_read, never_read, closed_read}
+use Rattle.rsp_phrases.specs.Readers.{nested_read}
 use Rattle.rsp_written.specs.declared.said.Keyword.{Keyword}
 use Rattle.rsp_written.specs.declared.said.Keyword.TheVariants as keyword
 use Rattle.rsp_written.specs.declared.said.Symbol.{Symbol}
@@ -16,10 +18,13 @@ use Rattle.rsp_functions.specs.declared.function.Arity.{Arity}
 use Rattle.rsp_functions.specs.declared.function.Arity.TheVariants as arity
 use Rattle.rsp_written.specs.Arities.{arity_of}
 use Rattle.rsp_written.specs.Trees.{Expr, variable, iri, constant, bound, count_rows}
-use Rattle.rsp_written.specs.Building.{string_term, number_term, signed_term, boolean_term, signed_part, any_row, all_row, sum_row, product_row, Relation, compared_to, one_of, related, with_sign, call_of, aggregate_of, flagged}
+use Rattle.rsp_written.specs.Building.{string_term, number_term, signed_term, boolean_term, signed_part, any_row, all_row}
+use Rattle.rsp_written.specs.Building.{sum_row, product_row, Relation, compared_to, one_of, related, with_sign, call_of}
+use Rattle.rsp_written.specs.Building.{aggregate_of, flagged}
 use Rattle.rsp_written.specs.declared.literals.Suffix.{Suffix}
 use Rattle.rsp_written.specs.declared.literals.Suffix.TheVariants.{InLanguage, OfDatatype}
-use Rattle.rsp_written.specs.Grammar.{kind_number, numbers, text_of, number_kinds, maybe_third, call_names, unary_signs, product_signs, sum_signs, comparisons, and_signs, or_signs, folds}
+use Rattle.rsp_written.specs.Grammar.{kind_number, numbers, text_of, number_kinds, maybe_third, call_names, unary_signs}
+use Rattle.rsp_written.specs.Grammar.{product_signs, sum_signs, comparisons, and_signs, or_signs, folds}
 
 abbrev pub one_read : List Kind → Reader Said Said
 one_read kinds = among_read kind_number (numbers kinds)
@@ -79,7 +84,9 @@ unsigned_number_read = mapped_read number_term (one_read number_kinds)
 
 unfoldable pub signed_number_read : Reader Said Term
 signed_number_read =
-    mapped_read signed_term (both_read (maybe_read (sign_kinds (symbol.Sign operator.Subtract)) (sign_read (symbol.Sign operator.Subtract))) (one_read number_kinds))
+    mapped_read signed_term
+    (both_read (maybe_read (sign_kinds (symbol.Sign operator.Subtract)) (sign_read (symbol.Sign operator.Subtract)))
+    (one_read number_kinds))
 
 unfoldable pub literal_read : Reader Said Term
 literal_read = choice_read (kind.String ∷ []) string_literal_read (choice_read signed_first signed_number_read boolean_read)
@@ -185,7 +192,8 @@ maybe_distinct_read =
 unfoldable pub count_read : Reader Said Expr
 count_read =
     second_read (word_read (keyword.Fold fold.Count)) (in_parens_read
-    (choice_read (sign_kinds (symbol.Sign operator.Multiply)) (mapped_read (λ star. count_rows) (sign_read (symbol.Sign operator.Multiply)))
+    (choice_read (sign_kinds (symbol.Sign operator.Multiply))
+    (mapped_read (λ star. count_rows) (sign_read (symbol.Sign operator.Multiply)))
     (mapped_read (aggregate_of (kind.Word (keyword.Fold fold.Count))) maybe_distinct_read)))
 
 abbrev pub aggregate_first : List Kind

@@ -4,16 +4,19 @@ use Rattle.std.specs.Prelude.{ℕ, zero, suc, List, [], ◌∷◌, ◌++◌, map
 use Rattle.std.specs.Str.{bytes_eq}
 use Rattle.rsp_terms.specs.declared.term.Term.{Term}
 use Rattle.rsp_terms.specs.declared.term.Term.TheVariants as term
-use Rattle.rsp_phrases.specs.Readers.{Reader, mapped_read, tied_read, both_read, second_read, first_read, dotted_read, distinct_read, within_itself_read}
+use Rattle.rsp_phrases.specs.Readers.{Reader, mapped_read, tied_read, both_read, second_read, first_read, dotted_read}
+use Rattle.rsp_phrases.specs.Readers.{distinct_read, within_itself_read}
 use Rattle.rsp_written.specs.declared.said.Keyword.TheVariants as keyword
 use Rattle.rsp_written.specs.declared.said.Symbol.TheVariants as symbol
 use Rattle.rsp_written.specs.declared.said.Kind.{Kind}
 use Rattle.rsp_written.specs.declared.said.Kind.TheVariants as kind
 use Rattle.rsp_written.specs.declared.said.Said.{Said}
-use Rattle.rsp_written.specs.Trees.{Way, step, Verb, named, along, Node, variable_node, iri_node, constant_node, label_node, blank_node, described, Properties, Element, values}
+use Rattle.rsp_written.specs.Trees.{Way, step, Verb, named, along, Node, variable_node, iri_node, constant_node, label_node}
+use Rattle.rsp_written.specs.Trees.{blank_node, described, Properties, Element, values}
 use Rattle.rsp_written.specs.Building.{sequence_row, choice_row, turned, rdf_type, property_list, some_properties}
 use Rattle.rsp_written.specs.Grammar.{kind_number, numbers, name_if_variable}
-use Rattle.rsp_written.specs.Readings.{one_read, word_read, sign_read, choice_read, maybe_read, repeated_read, word_kinds, sign_kinds, in_parens_read, iri_read, variable_read, signed_first, literal_read}
+use Rattle.rsp_written.specs.Readings.{one_read, word_read, sign_read, choice_read, maybe_read, repeated_read, word_kinds}
+use Rattle.rsp_written.specs.Readings.{sign_kinds, in_parens_read, iri_read, variable_read, signed_first, literal_read}
 
 -- ---- paths
 
@@ -32,7 +35,8 @@ part_read s =
 unfoldable pub sequence_read : Reader Said Way → Reader Said Way
 sequence_read s =
     mapped_read sequence_row (both_read (part_read s)
-    (repeated_read (sign_kinds (symbol.Sign operator.Divide)) (second_read (sign_read (symbol.Sign operator.Divide)) (part_read s))))
+    (repeated_read (sign_kinds (symbol.Sign operator.Divide))
+    (second_read (sign_read (symbol.Sign operator.Divide)) (part_read s))))
 
 unfoldable pub path_rule_read : Reader Said Way → Reader Said Way
 path_rule_read s =
