@@ -43,7 +43,8 @@ impl<V: Cell> Bag<V> {
     /// Puts the row in so many times more. Fails where memory is refused, the row's count is past 2^63 - 1 or the number
     /// of rows past 2^64 - 1, and then changes nothing.
     pub fn add(&mut self, row: Row<V>, times: u64) -> Result<(), AllocError>
-        ensures ok { OnOk result ((q : List (Option V)) → weight (row_eq V.eq) self.new q ≡ weight (row_eq V.eq) self.old q +ℤ only (row_eq V.eq q row) (pos times)) }
+        ensures ok { OnOk result ((q : List (Option V)) → weight (row_eq V.eq) self.new q
+            ≡ weight (row_eq V.eq) self.old q +ℤ only (row_eq V.eq q row) (pos times)) }
         ensures err { OnErr result (self.new ≡ self.old) }
     {
         self.alter(row, Count::of_many(times)?)
@@ -52,7 +53,8 @@ impl<V: Cell> Bag<V> {
     /// Puts the row in, or, below 0, takes it out, so many times; no oftener than it is there. Fails as [`Bag::add`] does.
     pub fn alter(&mut self, row: Row<V>, by: Count) -> Result<(), AllocError>
         requires { by <ℤ pos 0 → pos 0 ≤ℤ (weight (row_eq V.eq) self.old row +ℤ by) }
-        ensures ok { OnOk result ((q : List (Option V)) → weight (row_eq V.eq) self.new q ≡ weight (row_eq V.eq) self.old q +ℤ only (row_eq V.eq q row) by) }
+        ensures ok { OnOk result ((q : List (Option V)) → weight (row_eq V.eq) self.new q
+            ≡ weight (row_eq V.eq) self.old q +ℤ only (row_eq V.eq q row) by) }
         ensures err { OnErr result (self.new ≡ self.old) }
     {
         let rows = rows_after(self.rows, by)?;

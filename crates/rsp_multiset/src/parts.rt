@@ -10,7 +10,8 @@ use std::alloc::{AllocError, Global};
 /// is refused or a number is out of range; what is then left in the bag is only to be dropped.
 pub fn apply<V: Cell>(bag: &mut Bag<V>, changes: &Changes<Row<V>>) -> Result<(), AllocError>
     requires { (q : List (Option V)) → pos 0 ≤ℤ (weight (row_eq V.eq) bag.old q +ℤ weight (row_eq V.eq) changes.now q) }
-    ensures { OnOk result ((q : List (Option V)) → weight (row_eq V.eq) bag.new q ≡ weight (row_eq V.eq) bag.old q +ℤ weight (row_eq V.eq) changes.now q) }
+    ensures { OnOk result ((q : List (Option V)) → weight (row_eq V.eq) bag.new q
+        ≡ weight (row_eq V.eq) bag.old q +ℤ weight (row_eq V.eq) changes.now q) }
 {
     // in this order the number of rows isn't past its type on the way
     take_rows(bag, changes)?;
@@ -19,7 +20,8 @@ pub fn apply<V: Cell>(bag: &mut Bag<V>, changes: &Changes<Row<V>>) -> Result<(),
 
 /// The rows that the change brings in, each as often. Fails as [`Bag::add`] does.
 pub fn positive<V: Cell>(alloc: Global, changes: &Changes<Row<V>>) -> Result<Bag<V>, AllocError>
-    ensures { IfOk result (λ bag. (q : List (Option V)) → weight (row_eq V.eq) bag q ≡ above (weight (row_eq V.eq) changes.now q)) }
+    ensures { IfOk result (λ bag. (q : List (Option V)) → weight (row_eq V.eq) bag q
+        ≡ above (weight (row_eq V.eq) changes.now q)) }
 {
     let mut bag = Bag::new(alloc);
     add_rows(&mut bag, changes)?;
@@ -28,7 +30,8 @@ pub fn positive<V: Cell>(alloc: Global, changes: &Changes<Row<V>>) -> Result<Bag
 
 /// The rows that the change takes out, each as often. Fails as [`Bag::add`] does.
 pub fn negative<V: Cell>(alloc: Global, changes: &Changes<Row<V>>) -> Result<Bag<V>, AllocError>
-    ensures { IfOk result (λ bag. (q : List (Option V)) → weight (row_eq V.eq) bag q ≡ above (neg_ℤ (weight (row_eq V.eq) changes.now q))) }
+    ensures { IfOk result (λ bag. (q : List (Option V)) → weight (row_eq V.eq) bag q
+        ≡ above (neg_ℤ (weight (row_eq V.eq) changes.now q))) }
 {
     let mut bag = Bag::new(alloc);
     add_taken_rows(&mut bag, changes)?;
@@ -38,7 +41,8 @@ pub fn negative<V: Cell>(alloc: Global, changes: &Changes<Row<V>>) -> Result<Bag
 // takes out what the change takes out
 fn take_rows<V: Cell>(bag: &mut Bag<V>, changes: &Changes<Row<V>>) -> Result<(), AllocError>
     requires { (q : List (Option V)) → pos 0 ≤ℤ (weight (row_eq V.eq) bag.old q +ℤ weight (row_eq V.eq) changes.now q) }
-    ensures { OnOk result ((q : List (Option V)) → weight (row_eq V.eq) bag.new q ≡ weight (row_eq V.eq) bag.old q +ℤ below (weight (row_eq V.eq) changes.now q)) }
+    ensures { OnOk result ((q : List (Option V)) → weight (row_eq V.eq) bag.new q
+        ≡ weight (row_eq V.eq) bag.old q +ℤ below (weight (row_eq V.eq) changes.now q)) }
 {
     for index in 0..changes.distinct() {
         let (row, count) = changes.counted_at(index);
@@ -49,7 +53,8 @@ fn take_rows<V: Cell>(bag: &mut Bag<V>, changes: &Changes<Row<V>>) -> Result<(),
 
 // puts in what the change brings in
 fn add_rows<V: Cell>(bag: &mut Bag<V>, changes: &Changes<Row<V>>) -> Result<(), AllocError>
-    ensures { OnOk result ((q : List (Option V)) → weight (row_eq V.eq) bag.new q ≡ weight (row_eq V.eq) bag.old q +ℤ above (weight (row_eq V.eq) changes.now q)) }
+    ensures { OnOk result ((q : List (Option V)) → weight (row_eq V.eq) bag.new q
+        ≡ weight (row_eq V.eq) bag.old q +ℤ above (weight (row_eq V.eq) changes.now q)) }
 {
     for index in 0..changes.distinct() {
         let (row, count) = changes.counted_at(index);
@@ -60,7 +65,8 @@ fn add_rows<V: Cell>(bag: &mut Bag<V>, changes: &Changes<Row<V>>) -> Result<(), 
 
 // puts in what the change takes out
 fn add_taken_rows<V: Cell>(bag: &mut Bag<V>, changes: &Changes<Row<V>>) -> Result<(), AllocError>
-    ensures { OnOk result ((q : List (Option V)) → weight (row_eq V.eq) bag.new q ≡ weight (row_eq V.eq) bag.old q +ℤ above (neg_ℤ (weight (row_eq V.eq) changes.now q))) }
+    ensures { OnOk result ((q : List (Option V)) → weight (row_eq V.eq) bag.new q
+        ≡ weight (row_eq V.eq) bag.old q +ℤ above (neg_ℤ (weight (row_eq V.eq) changes.now q))) }
 {
     for index in 0..changes.distinct() {
         let (row, count) = changes.counted_at(index);
@@ -71,7 +77,8 @@ fn add_taken_rows<V: Cell>(bag: &mut Bag<V>, changes: &Changes<Row<V>>) -> Resul
 
 fn take_row<V: Cell>(bag: &mut Bag<V>, row: &Row<V>, count: Count) -> Result<(), AllocError>
     requires { count <ℤ pos 0 → pos 0 ≤ℤ (weight (row_eq V.eq) bag.old row.now +ℤ count) }
-    ensures { OnOk result ((q : List (Option V)) → weight (row_eq V.eq) bag.new q ≡ weight (row_eq V.eq) bag.old q +ℤ only (row_eq V.eq q row.now) (below count)) }
+    ensures { OnOk result ((q : List (Option V)) → weight (row_eq V.eq) bag.new q
+        ≡ weight (row_eq V.eq) bag.old q +ℤ only (row_eq V.eq q row.now) (below count)) }
 {
     if count.is_negative() {
         return bag.alter(row.share()?, count);
@@ -80,7 +87,8 @@ fn take_row<V: Cell>(bag: &mut Bag<V>, row: &Row<V>, count: Count) -> Result<(),
 }
 
 fn add_row<V: Cell>(bag: &mut Bag<V>, row: &Row<V>, count: Count) -> Result<(), AllocError>
-    ensures { OnOk result ((q : List (Option V)) → weight (row_eq V.eq) bag.new q ≡ weight (row_eq V.eq) bag.old q +ℤ only (row_eq V.eq q row.now) (above count)) }
+    ensures { OnOk result ((q : List (Option V)) → weight (row_eq V.eq) bag.new q
+        ≡ weight (row_eq V.eq) bag.old q +ℤ only (row_eq V.eq q row.now) (above count)) }
 {
     if count.is_negative() {
         return Ok(());

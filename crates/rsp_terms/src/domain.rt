@@ -30,7 +30,8 @@ pub trait Domain: Sized + Drop {
     /// A value that shows the term. Fails only where memory is refused, and then changes nothing.
     fn keep(&mut self, term: Term) -> Result<Self::Value, AllocError>
         ensures kept { IfOk result (λ value. knows self.new value × (shown self.new value ≡ term)) }
-        ensures known { (value : Self.Value) → knows self.old value → knows self.new value × (shown self.new value ≡ shown self.old value) }
+        ensures known { (value : Self.Value) → knows self.old value
+            → knows self.new value × (shown self.new value ≡ shown self.old value) }
         ensures err { OnErr result (self.new ≡ self.old) };
 
     ghost told_apart: { (domain : Self) → AreToldApart (knows domain) (shown domain) };
