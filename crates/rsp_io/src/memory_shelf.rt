@@ -27,8 +27,15 @@ impl Model for MemoryShelf {
 
     ghost Value = { MemoryShelfState };
 
-    ghost view = { λ s. record { files = s.files.files; left = s.files.left; given = s.given; faults = s.faults;
-        calls = s.calls.calls; failing = s.calls.failing; piece = s.piece } };
+    ghost view = { λ s. record {
+      files = s.files.files;
+      left = s.files.left;
+      given = s.given;
+      faults = s.faults;
+      calls = s.calls.calls;
+      failing = s.calls.failing;
+      piece = s.piece;
+    } };
 
     ghost invariant = { λ s. 1 ≤ s.piece };
 }

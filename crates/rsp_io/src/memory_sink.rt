@@ -26,8 +26,14 @@ impl Model for MemorySink {
 
     ghost Value = { MemorySinkState };
 
-    ghost view = { λ s. record { taken = s.reserve.taken; space = s.reserve.room; faults = s.faults;
-        calls = s.calls.calls; failing = s.calls.failing; piece = s.piece } };
+    ghost view = { λ s. record {
+      taken = s.reserve.taken;
+      space = s.reserve.room;
+      faults = s.faults;
+      calls = s.calls.calls;
+      failing = s.calls.failing;
+      piece = s.piece;
+    } };
 
     ghost invariant = { λ s. 1 ≤ s.piece };
 }

@@ -25,8 +25,14 @@ impl Model for MemorySource {
 
     ghost Value = { MemorySourceState };
 
-    ghost view = { λ s. record { left = s.rest; given = s.given; faults = s.faults;
-        calls = s.calls.calls; failing = s.calls.failing; piece = s.piece } };
+    ghost view = { λ s. record {
+      left = s.rest;
+      given = s.given;
+      faults = s.faults;
+      calls = s.calls.calls;
+      failing = s.calls.failing;
+      piece = s.piece;
+    } };
 
     ghost invariant = { λ s. 1 ≤ s.piece };
 }

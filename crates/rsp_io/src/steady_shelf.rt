@@ -25,8 +25,13 @@ impl Model for SteadyShelf {
 
     ghost Value = { SteadyShelfState };
 
-    ghost view = { λ s. record { files = s.files.files; left = s.files.left; given = s.given; faults = s.faults;
-        piece = s.piece } };
+    ghost view = { λ s. record {
+      files = s.files.files;
+      left = s.files.left;
+      given = s.given;
+      faults = s.faults;
+      piece = s.piece;
+    } };
 
     ghost invariant = { λ s. 1 ≤ s.piece };
 }

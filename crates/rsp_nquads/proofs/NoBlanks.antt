@@ -45,10 +45,11 @@ no_blank_from quad h =
     let s = is_blank_node quad.triple.subject in
     let o = is_blank_node quad.triple.object in
     let g = list_any is_blank_node (cons_option quad.graph []) in
-    let behind = second_false s (o || g) h in
-    (term_from quad.triple.subject (first_false s (o || g) h),
-    term_from quad.triple.object (first_false o g behind),
-    graph_from quad.graph (second_false o g behind))
+    let behind = second_false s (o || g) h in (
+      term_from quad.triple.subject (first_false s (o || g) h),
+      term_from quad.triple.object (first_false o g behind),
+      graph_from quad.graph (second_false o g behind),
+    )
 
 pub no_blank_to : (quad : Quad) → AreNotBlank quad → HasNoBlank quad
 no_blank_to quad h =
