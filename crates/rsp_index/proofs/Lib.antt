@@ -1,2 +1,4 @@
 pub mod Altering
 pub mod Flat
+pub mod OneFact
+pub mod Counts

@@ -8,8 +8,11 @@
 
 mod buckets;
 mod entries;
+mod facts;
 mod index;
 mod key;
+mod listing;
 
 pub use entries::Entries;
+pub use facts::FactStore;
 pub use index::Index;
