@@ -1,0 +1,3 @@
+pub mod Fitting
+pub mod Unions
+pub mod Filters

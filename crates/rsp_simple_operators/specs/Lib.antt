@@ -1,0 +1,1 @@
+-- Definitions: none of its own

@@ -1,0 +1,11 @@
+//! Operators on rows one by one: union, filter and projection (SPARQL 1.1 Query, section 18.5), as changes.
+//!
+//! Each takes the changes of its inputs and answers exactly how its value changes; its `value` is the definition of the
+//! algebra, over rows of terms. They keep nothing, so each stands for every input. Below: `rsp_operators`. Above: nothing yet.
+#![tactic(auto)]
+
+mod joining;
+mod select;
+
+pub use joining::Joining;
+pub use select::Select;
