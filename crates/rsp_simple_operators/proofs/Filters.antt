@@ -9,7 +9,7 @@ use Rattle.std.proofs.Math.IntN.{zero-*ℤ, *ℤ-zero}
 use Rattle.rsp_multiset.specs.Rows.{Cells, row_eq}
 use Rattle.rsp_multiset.specs.RowSame.{row_decides}
 use Rattle.rsp_multiset.specs.Shown.{shown_row}
-use Rattle.rsp_multiset.specs.Weights.{sum_z, only, weight, total, times}
+use Rattle.rsp_multiset.specs.Weights.{only, weight, total}
 use Rattle.rsp_multiset.proofs.Shown.{weight_shown-same, sum-changed_shown}
 use Rattle.rsp_multiset.proofs.Distincts.{weight-made}
 use Rattle.rsp_multiset.proofs.Sums.{sum_z-filter}

@@ -6,7 +6,7 @@ use Rattle.rsp_multiset.specs.Rows.{Cells, row_eq}
 use Rattle.rsp_multiset.specs.RowSame.{row_decides}
 use Rattle.rsp_multiset.specs.Shown.{IsKnown}
 use Rattle.rsp_multiset.specs.Weights.{only, weight}
-use Rattle.rsp_operators.specs.Laws.{Fits, ChangesFit, AnswersFit}
+use Rattle.rsp_operators.specs.Laws.{ChangesFit, AnswersFit}
 
 module _ {V : Type 0} {eq : V → V → Bool} (same : (x y : V) → Decides (eq x y) (x ≡ y)) where
   pub change-fits : (width : ℕ) (key : List ℕ) (knows : V → Type 0) (es : List (Cells V × ℤ)) → ChangesFit width key knows es → AnswersFit eq width knows es

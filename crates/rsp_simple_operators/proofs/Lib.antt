@@ -1,3 +1,4 @@
 pub mod Fitting
 pub mod Unions
 pub mod Filters
+pub mod Mapped

@@ -5,7 +5,9 @@
 #![tactic(auto)]
 
 mod joining;
+mod projecting;
 mod select;
 
 pub use joining::Joining;
+pub use projecting::Projecting;
 pub use select::Select;
