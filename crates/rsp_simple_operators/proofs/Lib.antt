@@ -2,3 +2,4 @@ pub mod Fitting
 pub mod Unions
 pub mod Filters
 pub mod Mapped
+pub mod Crossed

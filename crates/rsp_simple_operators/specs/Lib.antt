@@ -1,1 +1,2 @@
--- Definitions: none of its own
+-- Words of the way: they link code to definitions, and need no belief
+pub mod Carried

@@ -4,10 +4,12 @@
 //! algebra, over rows of terms. They keep nothing, so each stands for every input. Below: `rsp_operators`. Above: nothing yet.
 #![tactic(auto)]
 
+mod deduping;
 mod joining;
 mod projecting;
 mod select;
 
+pub use deduping::Deduping;
 pub use joining::Joining;
 pub use projecting::Projecting;
 pub use select::Select;
