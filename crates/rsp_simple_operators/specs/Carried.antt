@@ -17,7 +17,8 @@ StandsFor {V} knows shown kept rows =
     HoldsShown (row_eq term_eq) (shown_row shown) kept rows × AllByRecursion (λ (e : Cells V × ℤ). IsKnown knows e.0) kept
 
 module _ {V : Type 0} (shown : V → Term) (knows : V → Type 0) (shown' : V → Term) where
-  value_alike : (value : Option V) → IsKnown (IsShownAlike shown knows shown') (value ∷ []) → option_map shown' value ≡ option_map shown value
+  value_alike : (value : Option V) → IsKnown (IsShownAlike shown knows shown') (value ∷ [])
+      → option_map shown' value ≡ option_map shown value
   value_alike None alike = refl
   value_alike (Some v) alike = ap Some alike.0.1
 
@@ -33,15 +34,21 @@ module _ {V : Type 0} (shown : V → Term) (knows : V → Type 0) (shown' : V �
   row_known [] alike = tt
   row_known (value ∷ row) alike = ((value_known value (alike.0, tt)).0, row_known row alike.1)
 
-  pub weight-alike : (kept : List (Cells V × ℤ)) → AllByRecursion (IsKnown (IsShownAlike shown knows shown')) (keys_of kept) → (q : Cells Term)
+  pub weight-alike : (kept : List (Cells V × ℤ)) → AllByRecursion (IsKnown (IsShownAlike shown knows shown')) (keys_of kept)
+      → (q : Cells Term)
       → weight_shown (row_eq term_eq) (shown_row shown') kept q ≡ weight_shown (row_eq term_eq) (shown_row shown) kept q
   weight-alike [] alike q = refl
-  weight-alike (e ∷ kept) alike q = λ i. e.1 *ℤ only (row_eq term_eq q (row_alike e.0 alike.0 i)) (pos 1) +ℤ weight-alike kept alike.1 q i
+  weight-alike (e ∷ kept) alike q =
+      λ i. e.1 *ℤ only (row_eq term_eq q (row_alike e.0 alike.0 i)) (pos 1) +ℤ weight-alike kept alike.1 q i
 
-  known-alike : (kept : List (Cells V × ℤ)) → AllByRecursion (IsKnown (IsShownAlike shown knows shown')) (keys_of kept) → AllByRecursion (λ (e : Cells V × ℤ). IsKnown knows e.0) kept
+  known-alike : (kept : List (Cells V × ℤ)) → AllByRecursion (IsKnown (IsShownAlike shown knows shown')) (keys_of kept)
+      → AllByRecursion (λ (e : Cells V × ℤ). IsKnown knows e.0) kept
   known-alike [] alike = tt
   known-alike (e ∷ kept) alike = (row_known e.0 alike.0, known-alike kept alike.1)
 
-pub carried_kept : {V : Type 0} (before : V → Type 0) (shown : V → Term) (knows : V → Type 0) (shown' : V → Term) (kept : List (Cells V × ℤ)) (rows : List (Cells Term))
-    → AllByRecursion (IsKnown (IsShownAlike shown knows shown')) (keys_of kept) → StandsFor before shown kept rows → StandsFor knows shown' kept rows
-carried_kept before shown knows shown' kept rows alike stands = ((λ q. weight-alike shown knows shown' kept alike q ∙ stands.0 q), known-alike shown knows shown' kept alike)
+pub carried_kept : {V : Type 0} (before : V → Type 0) (shown : V → Term) (knows : V → Type 0) (shown' : V → Term)
+    (kept : List (Cells V × ℤ)) (rows : List (Cells Term))
+    → AllByRecursion (IsKnown (IsShownAlike shown knows shown')) (keys_of kept)
+    → StandsFor before shown kept rows → StandsFor knows shown' kept rows
+carried_kept before shown knows shown' kept rows alike stands =
+    ((λ q. weight-alike shown knows shown' kept alike q ∙ stands.0 q), known-alike shown knows shown' kept alike)

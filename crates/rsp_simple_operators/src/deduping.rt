@@ -49,7 +49,8 @@ impl<D: Domain> Unary<D> for Deduping<D> {
 
     ghost kept = { λ operator. keys_of operator.rows };
 
-    ghost carried = { λ operator before after rows alike stands. carried_kept (D.knows before) (D.shown before) (D.knows after) (D.shown after) operator.rows rows alike stands };
+    ghost carried = { λ operator before after rows alike stands.
+        carried_kept (D.knows before) (D.shown before) (D.knows after) (D.shown after) operator.rows rows alike stands };
 
     fn apply(
         &mut self,
@@ -70,7 +71,8 @@ fn deduped<V: Cell>(
     ensures change { AreChanges V.eq change.now }
     ensures changes { AreChanges V.eq kept.new }
     ensures kept { OnOk result ((q : V) → weight V.eq kept.new q ≡ weight V.eq kept.old q +ℤ weight V.eq change.now q) }
-    ensures net { IfOk result (λ net. (q : V) → weight V.eq net q ≡ crossing (weight V.eq kept.old q) (weight V.eq change.now q)) }
+    ensures net { IfOk result (λ net. (q : V) → weight V.eq net q
+        ≡ crossing (weight V.eq kept.old q) (weight V.eq change.now q)) }
 {
     let _before = kept.distinct();
     let mut net = Changes::new(alloc);
@@ -89,7 +91,8 @@ fn cross<V: Cell>(
 ) -> Result<(), AllocError>
     ensures changes { AreChanges V.eq kept.new }
     ensures kept { OnOk result ((q : V) → weight V.eq kept.new q ≡ weight V.eq kept.old q +ℤ only (V.eq q value.now) by) }
-    ensures net { OnOk result ((q : V) → weight V.eq net.new q ≡ weight V.eq net.old q +ℤ only (V.eq q value.now) (crossing (weight V.eq kept.old value.now) by)) }
+    ensures net { OnOk result ((q : V) → weight V.eq net.new q
+        ≡ weight V.eq net.old q +ℤ only (V.eq q value.now) (crossing (weight V.eq kept.old value.now) by)) }
 {
     let _before = kept.distinct();
     let before = kept.count(value);

@@ -1,7 +1,8 @@
-//! Operators on rows one by one: union, filter and projection (SPARQL 1.1 Query, section 18.5), as changes.
+//! Operators on rows one by one: union, filter, projection, and each row once (SPARQL 1.1 Query, section 18.5).
 //!
 //! Each takes the changes of its inputs and answers exactly how its value changes; its `value` is the definition of the
-//! algebra, over rows of terms. They keep nothing, so each stands for every input. Below: `rsp_operators`. Above: nothing yet.
+//! algebra, over rows of terms. Union, filter and projection keep nothing, so each stands for every input; `Deduping`
+//! keeps how often each row is there. Below: `rsp_operators`. Above: nothing yet.
 #![tactic(auto)]
 
 mod deduping;

@@ -81,7 +81,8 @@ fn add_where<V: Cell>(
     entry: &V,
     count: Count,
 ) -> Result<(), AllocError>
-    ensures { OnOk result ((q : V) → weight V.eq net.new q ≡ weight V.eq net.old q +ℤ only wanted (only (V.eq q entry.now) count)) }
+    ensures { OnOk result ((q : V) → weight V.eq net.new q
+        ≡ weight V.eq net.old q +ℤ only wanted (only (V.eq q entry.now) count)) }
 {
     if wanted {
         return net.add(entry.share()?, count);
