@@ -3,3 +3,4 @@ pub mod Unions
 pub mod Filters
 pub mod Mapped
 pub mod Crossed
+pub mod Extended

@@ -22,7 +22,7 @@ module _ {V : Type 0} (shown : V → Term) (knows : V → Type 0) (shown' : V �
   value_alike None alike = refl
   value_alike (Some v) alike = ap Some alike.0.1
 
-  row_alike : (row : Cells V) → IsKnown (IsShownAlike shown knows shown') row → shown_row shown' row ≡ shown_row shown row
+  pub row_alike : (row : Cells V) → IsKnown (IsShownAlike shown knows shown') row → shown_row shown' row ≡ shown_row shown row
   row_alike [] alike = refl
   row_alike (value ∷ row) alike = λ i. value_alike value (alike.0, tt) i ∷ row_alike row alike.1 i
 
@@ -30,7 +30,7 @@ module _ {V : Type 0} (shown : V → Term) (knows : V → Type 0) (shown' : V �
   value_known None alike = (tt, tt)
   value_known (Some v) alike = (alike.0.0, tt)
 
-  row_known : (row : Cells V) → IsKnown (IsShownAlike shown knows shown') row → IsKnown knows row
+  pub row_known : (row : Cells V) → IsKnown (IsShownAlike shown knows shown') row → IsKnown knows row
   row_known [] alike = tt
   row_known (value ∷ row) alike = ((value_known value (alike.0, tt)).0, row_known row alike.1)
 
