@@ -347,7 +347,7 @@ log_driven start before now s t after at_end taken reader given (Ok refused) doc
 log_driven start before now s t after at_end taken reader given (Err (halt.Stop why)) document came says =
     answers_stopped start before now s t after given at_end taken reader why document came says
 log_driven start before now s t after at_end taken reader given (Err (halt.Cut why)) document came says =
-    answers_cut start before now s t after given why (rw document at came) says
+    answers_cut start before now s t after given why (subst (λ d. LogEnded most_log_bytes d before now given (Some why)) document came) says
 
 pub log_answers : (start : Start) (before now : SourceSeen) (s t : SinkSeen) (after : Voice) (at_end : Bool) (most taken most_before document_before : ℕ) (reader : Reader) (l m : Option (List Given)) (engine engine' : State) (result : Result Bool Halt) (status : Status) → most ∷ reader.document ∷ [] ≡ most_before ∷ document_before ∷ [] → most_before ≡ most_log_bytes → document_before ≡ start.document → Stands engine start.world [] → Drove (LogGave at_end most taken reader before now) (LogEnded most reader.document before now) l m [] engine engine' (Writes start.form) after s t result → status ≡ status_of_drive result → AnswersLog start before now s t status
 log_answers start before now s t after at_end most taken most_before document_before reader l m engine engine' result status same is_most is_document stands drove is =

@@ -1,7 +1,7 @@
 -- The generator's events, one at a time; and the counts of what they say.
 use Rattle.std.proofs.Common.{◌≡◌, ℕ, zero, suc, ◌+◌, ◌-◌, ◌*◌, ◌<◌, ◌≤◌, Bool, true, false, Result, Ok, Err, IfOk, Option, Some, None, List, [], ◌∷◌, ◌++◌, drop, length, map, refl, subst, sym, ◌∙◌, ap, append-nil, codes, arith}
 use Rattle.std.specs.List.{range_with_len, slice_get}
-use Rattle.std.specs.Prelude.{OnOk}
+use Rattle.std.specs.Prelude.{OnOk, count_by, sum_by}
 use Rattle.rsp_events.specs.declared.event.Event as events
 use Rattle.rsp_events.specs.declared.event.Event.TheVariants.{Register, Tick}
 use Rattle.rsp_engine.specs.Stands.{State, Stands}
@@ -18,7 +18,7 @@ use Rattle.rsp_call.specs.declared.form.Form.TheVariants.{Table}
 use Rattle.rsp_call.specs.Feeds.{Drove, stop_of}
 use Rattle.rsp_call.specs.Generator.{generated, item, item_of, next_random, query_text, random}
 use Rattle.rsp_call.specs.Output.{Given, Saying, a_block, a_summary, run, text_of, text_of_saying}
-use Rattle.rsp_call.specs.Summaries.{counted, event_block, numbered, said_of, summary}
+use Rattle.rsp_call.specs.Summaries.{counted, event_block, is_report, numbered, rows_said, said_of, summary}
 use Rattle.rsp_call.specs.Tallies.{Counts, IsMaking, gen_left}
 use Rattle.rsp_call.specs.Sinks.{WrotePart}
 use Rattle.rsp_call.specs.Stops.{Ends}
@@ -123,7 +123,12 @@ pub summary_is : (count : ℕ) (tally now : Tally) (s t : SinkSeen) (refused : B
 unfolding said_of
 summary_is count tally now s t refused none says =
     let counts = rw none at says.0.1 in
-    (λ i. a_summary count (counts.reports i) (counts.rows i))
+    let many = counts.reports in
+    let rows = counts.rows in
+    let said = (run empty_world (map a_block (numbered 1 (generated count)))).said in
+    let reports' : now.reports ≡ count_by is_report said = omega (arith, many) in
+    let rows' : now.rows ≡ sum_by rows_said said = omega (arith, rows) in
+    (λ i. a_summary count (reports' i) (rows' i))
 
 pub summary_ends : (count : ℕ) (tally now : Tally) (s t u : SinkSeen) (refused : Bool) (result : Result Bool Stop) → tally ≡ record { reports = 0; rows = 0 } → Says (voices.Counts tally) (voices.Counts now) s t (run empty_world (map a_block (numbered 1 (generated count)))).said (Ok refused) → Ends t u (text_of_saying Table (a_summary count now.reports now.rows)) result → Ends s u (text_of Table (counted count [])) result
 summary_ends count tally now s t u refused result none says ends =

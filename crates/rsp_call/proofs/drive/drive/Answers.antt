@@ -21,7 +21,8 @@ pub returns-in-Err-work_off-clause-drove : goal.returns-in-Err-work_off-clause-d
 returns-in-Err-work_off-clause-drove g c start before gave =
     let given = rw c.in-Ok-Some.field-0-is at c.in-Ok-Some.ensures.given in
     let left = rw (c.in-Ok-Some.is, c.in-Ok-Some.field-0-is) at c.next.ensures.left in
-    driven_stops _ _ _
+    driven_stops _ _
+    (λ start given. g.F.Feed.gave c.next.new.self start (g.S.Source.seen c.next.new.from) given)
     (λ start given. g.F.Feed.ended c.next.new.self start (g.S.Source.seen c.next.new.from) given)
     _ _ _ _ _ _ _ _ _ _ _ _ _ c.in-Err-work_off.stop c.in-Ok-Some.batch start before
     c.batches.invariant.3

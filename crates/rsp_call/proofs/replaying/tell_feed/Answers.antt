@@ -6,4 +6,4 @@ pub returns : goal.returns
 returns g c =
     rw
     c.stop_of.ensures
-    (run_says _ _ _ _ _ _ _ _ _ _ c.drive.result (c.drive.ensures.drove _ [] refl) c.drive.ensures.none c.requires.new)
+    (run_says _ _ _ _ _ _ _ _ _ _ c.drive-driven.result (c.drive-driven.ensures.drove _ [] refl) c.drive-driven.ensures.none c.requires.new)

@@ -6,11 +6,11 @@ use Rattle.rsp_call.proofs.top.events.Goals as goal
 pub returns : goal.returns
 returns g c =
     record {
-      log = log_answers (start_of c.args.form) _ _ _ _ _ _ _ _ _ _ _ _ _ _ _ c.drive.result _
-          c.drive.ensures.settings
+      log = log_answers (start_of c.args.form) _ _ _ _ _ _ _ _ _ _ _ _ _ _ _ c.drive-driven.result _
+          c.drive-driven.ensures.settings
           c.new-log.ensures.most
           c.new-log.ensures.document
-          c.new_engine.ensures.stands
-          (c.drive.ensures.drove _ [] (c.new-log.ensures.gave _))
+          c.new_engine-engine.ensures.stands
+          (c.drive-driven.ensures.drove _ [] (c.new-log.ensures.gave _))
           c.status_of_drive.ensures;
     }

@@ -25,7 +25,7 @@ returns-in-Err-last-clause-ended g c start before gave =
     let none = first_none c.read.new.buf c.in-Ok-eq0.field-0 c.in-Ok-eq0.field-0-test in
     let read = c.in-Ok-eq0.ensures.bytes in
     let rises = rw c.in-Ok-eq0.field-0-test at c.in-Ok-eq0.ensures.given in
-    ended_last_lacks _ _ _ _ c.args.self.now.blocks _ start _ _ before c.in-Err-last.cut
+    ended_last_lacks _ _ _ _ c.args.self.now.blocks c.last.new.self.blocks start _ _ before c.in-Err-last.cut
     c.in-Err-last.ensures.cut
     c.if-self.false
     c.last.ensures.most
@@ -53,7 +53,7 @@ returns-in-Ok-piece-clause-given g c start before gave =
 pub returns-in-Err-piece-clause-ended : goal.returns-in-Err-piece-clause-ended
 returns-in-Err-piece-clause-ended g c start before gave =
     let low : c.in-Ok.read ≤ length c.read.new.buf = search rules in
-    ended_refused _ _ _ _ c.in-Ok.read c.args.self.now.blocks _ start _ _ before (take c.in-Ok.read c.read.new.buf) c.in-Err-piece.cut
+    ended_refused _ _ _ _ c.in-Ok.read c.args.self.now.blocks c.piece.new.self.blocks start _ _ before (take c.in-Ok.read c.read.new.buf) c.in-Err-piece.cut
     c.if-self.false
     c.piece.ensures.most
     c.piece.ensures.document
