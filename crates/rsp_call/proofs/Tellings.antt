@@ -1,4 +1,4 @@
--- The reports of an event, written one behind another.
+-- The text of a report, and of a refusal.
 use Rattle.std.proofs.Common.{◌≡◌, ℕ, suc, true, false, IsTrue, Ok, Option, Some, None, List, [], ◌∷◌, ◌++◌, length, map, refl, subst, sym, ◌∙◌, ap, append_assoc}
 use Rattle.std.specs.List.{list_any}
 use Rattle.std.specs.Option.{is_some, option_map}
@@ -31,7 +31,6 @@ use Rattle.std.specs.Fmt.{decimal}
 use Rattle.std.specs.Prelude.{codes}
 use Rattle.rsp_call.specs.Reasons.{details, event_reason, kind}
 use Rattle.rsp_call.specs.Refusals.{Reason, place_text, refusal_line}
-use Rattle.rsp_call.specs.Runs.{event_refused, event_text, event_world, reports_text}
 use Rattle.rsp_call.specs.Sinks.{Wrote, WrotePart}
 use Rattle.rsp_call.specs.Stops.{IsLineOf, Stops}
 use Rattle.rsp_call.proofs.Naming.{refuses_as}

@@ -86,10 +86,6 @@ says_both a b c s t u xs ys x y first second = (
   rw (first.1, second.1) (sym (list_any-append is_refusal xs ys)),
 )
 
--- all reports are said, and none is a refusal
-pub tells_says : (a b : Voice) (s t : SinkSeen) (said : List Saying) → Said a b s t said → list_any is_refusal said ≡ false → Says a b s t said (Ok false)
-tells_says a b s t said told none = (told, sym none)
-
 -- ---- one saying
 
 -- a text that was written whole, or of which nothing was

@@ -14,7 +14,7 @@ ghost use Rattle.rsp_call.specs.Stops.{Ends};
 ghost use Rattle.rsp_call.specs.Summaries.{counted, numbered};
 ghost use Rattle.rsp_call.specs.Tallies.{IsMaking, gen_left};
 
-use crate::drive::drive;
+use crate::drive::{drive, stop_of};
 use crate::feed::{Batch, Cut, Feed};
 use crate::generating::{STEP, item, next_random, registration};
 use crate::status::Status;
@@ -149,9 +149,9 @@ fn tell_summary<A: Answer, K: Sink, L: Ledger>(
         out,
         steps,
     );
-    match (driven, voice) {
-        (Ok(_), Voice::Counts(tally)) => write_summary(alloc, count, tally, out),
-        _ => Err(Stop::Memory),
+    match stop_of(driven) {
+        Ok(_) => write_summary(alloc, count, voice.tally(), out),
+        Err(stop) => Err(stop),
     }
 }
 

@@ -25,7 +25,7 @@ use crate::faults::text_in;
 use crate::feed::{Batch, Cut, Feed};
 use crate::form::Form;
 use crate::reading::read_files;
-use crate::recordings::{StreamFiles, RefusedLines, blocks_of, recordings};
+use crate::recordings::{RefusedLines, StreamFiles, blocks_of, recordings};
 use crate::refusing::{Answered, Place};
 use crate::replay::{Replay, Stream};
 use crate::status::Status;

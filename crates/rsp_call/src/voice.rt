@@ -2,6 +2,8 @@
 ghost use Rattle.std.specs.Prelude.{◌≡◌, ◌+◌, ◌∷◌, [], IfOk, OnOk, true, is_some};
 ghost use Rattle.rsp_engine.specs.declared.report.Report as reported;
 ghost use Rattle.rsp_engine.specs.Reports.{IsReport};
+ghost use Rattle.rsp_call.specs.declared.voice.Tally as counts;
+ghost use Rattle.rsp_call.specs.declared.voice.Voice.TheVariants.{Counts};
 ghost use Rattle.rsp_call.specs.Output.{a_report};
 ghost use Rattle.rsp_call.specs.Reasons.{reason_of};
 ghost use Rattle.rsp_call.specs.Summaries.{rows_in};
@@ -32,6 +34,19 @@ pub(crate) enum Voice {
 }
 
 impl Voice {
+    /// What was counted; nothing by a voice that writes.
+    pub(crate) fn tally(self) -> Tally
+        ensures { (tally : counts.Tally) → self ≡ Counts tally → result ≡ tally }
+    {
+        match self {
+            Voice::Writes(_) => Tally {
+                reports: 0,
+                rows: 0,
+            },
+            Voice::Counts(tally) => tally,
+        }
+    }
+
     /// Says a report.
     pub(crate) fn report<K: Sink>(
         &mut self,
