@@ -1,4 +1,4 @@
--- The reports of an event, written one behind another.
+-- The text of a report, and of a refusal.
 use Rattle.std.proofs.Common.{◌≡◌, ℕ, suc, true, false, IsTrue, Ok, Option, Some, None, List, [], ◌∷◌, ◌++◌, length, map, refl, subst, sym, ◌∙◌, ap, append_assoc}
 use Rattle.std.specs.List.{list_any}
 use Rattle.std.specs.Option.{is_some, option_map}
@@ -31,7 +31,6 @@ use Rattle.std.specs.Fmt.{decimal}
 use Rattle.std.specs.Prelude.{codes}
 use Rattle.rsp_call.specs.Reasons.{details, event_reason, kind}
 use Rattle.rsp_call.specs.Refusals.{Reason, place_text, refusal_line}
-use Rattle.rsp_call.specs.Runs.{event_refused, event_text, event_world, reports_text}
 use Rattle.rsp_call.specs.Sinks.{Wrote, WrotePart}
 use Rattle.rsp_call.specs.Stops.{IsLineOf, Stops}
 use Rattle.rsp_call.proofs.Naming.{refuses_as}
@@ -86,97 +85,7 @@ json_told form report rows name variables given text is outcome query shown same
     let apart : IsTold form report.outcome = subst (λ o. IsTold form o) (sym outcome) (subst (λ f. IsTold f (Rows rows)) (sym is) none) in
     whole ∙ same_report form report wanted apart same
 
--- ---- the reports of an event
-
--- some reports are written, and the engine stands for the world and the moments behind them
-pub record Told (form : Form) (world : World) (left : List Moment) (engine : State) (before now : SinkSeen) : Type 0 where
-  pub here : World
-  pub rest : List Moment
-  pub done : List ℕ
-  pub stands : Stands engine here rest
-  pub all : reports_text form (reports world left) ≡ done ++ reports_text form (reports here rest)
-  pub leads : world_behind world left ≡ world_behind here rest
-  pub wrote : Wrote before now done
-
-abbrev pub Telling : Form → State → SinkSeen → State → SinkSeen → Type 0
-Telling form engine_before before engine now = (world : World) (left : List Moment) → Stands engine_before world left → Told form world left engine before now
-
--- the text that a report begins
-given_text : (form : Form) (world : World) (rest : List Moment) (report : Report) (new : State) → (gives : GivesOf world rest report new)
-    → reports_text form (reports world rest) ≡ text_of_report form gives.step.report ++ reports_text form (reports gives.step.after gives.step.left)
-given_text form world rest report new gives = ap (reports_text form) (reports_step world rest gives.step gives.is_next)
-
--- one report more
-told_more : (form : Form) (world : World) (left : List Moment) (engine after : State) (before mid now : SinkSeen) (report : Report) → Told form world left engine before mid → GivesFirst engine report after → ((wanted : Report) → IsReport report wanted → Wrote mid now (text_of_report form wanted)) → Told form world left after before now
-told_more form world left engine after before mid now report told gives wrote =
-    let first = gives.gives told.here told.rest told.stands in
-    record {
-      here = first.step.after;
-      rest = first.step.left;
-      done = told.done ++ text_of_report form first.step.report;
-      stands = first.stands;
-      all =
-          told.all
-          ∙ (ap (λ text. told.done ++ text) (given_text form told.here told.rest report after first)
-          ∙ sym (append_assoc told.done (text_of_report form first.step.report) (reports_text form (reports first.step.after first.step.left))));
-      leads = told.leads ∙ world_step told.here told.rest first.step first.is_next;
-      wrote = wrote_more before mid now _ _ told.wrote (wrote first.step.report first.is_report);
-    }
-
--- no report is left
-pub told_all : (form : Form) (world : World) (left : List Moment) (engine after : State) (before now : SinkSeen) → Told form world left engine before now → HasNone engine after → Wrote before now (reports_text form (reports world left)) × Stands after (world_behind world left) []
-told_all form world left engine after before now told none =
-    let ended : told.rest ≡ [] = none.none told.here told.rest told.stands in
-    let all : reports_text form (reports world left) ≡ told.done = told.all ∙ (rw ended (append-nil told.done)) in
-    let led : world_behind world left ≡ told.here = told.leads ∙ rw ended refl in
-    (rw all told.wrote, rw (led, none.unchanged, ← ended) told.stands)
-
--- a report that stopped stops them all
-pub told_stops : (form : Form) (world : World) (left : List Moment) (engine after : State) (before mid now : SinkSeen) (report : Report) (why : Stop) → Told form world left engine before mid → GivesFirst engine report after → ((wanted : Report) → IsReport report wanted → Stops mid now (text_of_report form wanted) why) → Stops before now (reports_text form (reports world left)) why
-told_stops form world left engine after before mid now report why told gives stops =
-    let first = gives.gives told.here told.rest told.stands in
-    let all = told.all ∙ ap (λ text. told.done ++ text) (given_text form told.here told.rest report after first) in
-    rw all (stops_behind before mid now told.done _ why told.wrote (stops_before_more mid now _ _ why (stops first.step.report first.is_report)))
-
--- memory was refused between two reports
-pub told_part : (form : Form) (world : World) (left : List Moment) (engine : State) (before now : SinkSeen) → Told form world left engine before now → WrotePart before now (reports_text form (reports world left))
-told_part form world left engine before now told = rw told.all (wrote_part before now told.done _ told.wrote)
-
-pub telling_more : (form : Form) (engine_before : State) (before : SinkSeen) (engine : State) (mid : SinkSeen) (after : State) (now : SinkSeen) (report : Report) → Telling form engine_before before engine mid → GivesFirst engine report after → ((wanted : Report) → IsReport report wanted → Wrote mid now (text_of_report form wanted)) → Telling form engine_before before after now
-telling_more form engine_before before engine mid after now report telling gives wrote =
-    λ world left stands. told_more form world left engine after before mid now report (telling world left stands) gives wrote
-
 -- ---- what an event says
-
-reports_said : (form : Form) (reports : List Report) → text_of form (map a_report reports) ≡ reports_text form reports
-reports_said form [] = refl
-reports_said form (report ∷ reports) = ap (λ text. text_of_report form report ++ text) (reports_said form reports)
-
-no_refusal : (reports : List Report) → list_any is_refusal (map a_report reports) ≡ false
-no_refusal [] = refl
-no_refusal (report ∷ reports) = no_refusal reports
-
--- an accepted event says its reports
-pub accepted_text : (form : Form) (world : World) (place : Place) (event : Event) (after : World) → accept world event ≡ Ok after → event_text form world place event ≡ reports_text form (reports after (moments world event after))
-accepted_text form world place event after is = ap (λ answer. text_of form (answer_step world place event answer).said) is ∙ reports_said form (reports after (moments world event after))
-
-pub accepted_stands : (world : World) (place : Place) (event : Event) (after : World) (engine : State) → accept world event ≡ Ok after → Stands engine (world_behind after (moments world event after)) []
-    → (false ≡ event_refused world place event) × Stands engine (event_world world place event) []
-accepted_stands world place event after engine is stands = (
-  sym (ap (λ answer. list_any is_refusal (answer_step world place event answer).said) is ∙ no_refusal (reports after (moments world event after))),
-  rw (ap (λ answer. (answer_step world place event answer).after) is) stands,
-)
-
--- a refused event says its refusal
-pub refused_text : (form : Form) (old new : State) (event : Event) (why : Refused) (place : Place) (world : World) → Refuses old event why new → Stands old world []
-    → IsLineOf place (event_reason why) (event_text form world place event)
-refused_text form old new event why place world refuses stands = by (event_reason why) refl
-  where
-    by : (o : Option Reason) → event_reason why ≡ o → IsLineOf place o (event_text form world place event)
-    by None is = tt
-    by (Some reason) is =
-        let named = refuses_as old new event why reason refuses is in
-        rw named.1 (ap (λ answer. text_of form (answer_step world place event answer).said) (named.0.refused world stands) ∙ append-nil _)
 
 some_reason : (o : Option Reason) → is_some o ≡ true → (reason : Reason) × (o ≡ Some reason)
 some_reason None some = cc
@@ -185,19 +94,6 @@ some_reason (Some reason) some = (reason, refl)
 -- the definition's refusal, where there is one
 pub named_refusal : (old new : State) (event : Event) (why : Refused) → Refuses old event why new → is_some (event_reason why) ≡ true → RefusesAs old event why new
 named_refusal old new event why refuses some = let found = some_reason (event_reason why) some in (refuses_as old new event why found.0 refuses found.1).0
-
--- and leaves the world
-pub refused_stands : (old new : State) (event : Event) (why : Refused) (place : Place) (world : World) → Refuses old event why new → is_some (event_reason why) ≡ true → Stands old world []
-    → (true ≡ event_refused world place event) × Stands new (event_world world place event) []
-refused_stands old new event why place world refuses some stands =
-    let answers = named_refusal old new event why refuses some in (
-      sym (ap (λ answer. list_any is_refusal (answer_step world place event answer).said) (answers.refused world stands)),
-      rw (ap (λ answer. (answer_step world place event answer).after) (answers.refused world stands), answers.unchanged) stands,
-    )
-
--- the engine stays idle
-pub refused_idle : (old new : State) (event : Event) (why : Refused) → Refuses old event why new → is_some (event_reason why) ≡ true → IsTrue (is_idle old) → IsTrue (is_idle new)
-refused_idle old new event why refuses some idle = let answers = named_refusal old new event why refuses some in rw answers.unchanged idle
 
 -- ---- the line of a refusal
 

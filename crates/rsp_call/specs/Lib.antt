@@ -16,7 +16,6 @@ pub mod Answers
 -- Words of the way
 pub mod Asked
 pub mod Reasons
-pub mod Played
 pub mod Apart
 pub mod Tallies
 pub mod Readings
@@ -24,4 +23,7 @@ pub mod Runs
 pub mod Stops
 pub mod Sayings
 pub mod Playing
-pub mod Sessions
+pub mod Voices
+pub mod Feeds
+pub mod Logs
+pub mod Feeding

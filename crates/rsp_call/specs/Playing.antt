@@ -4,7 +4,7 @@ use Rattle.std.specs.Prelude.{ℕ, Option, None, Some, List, ◌++◌, map, opti
 use Rattle.std.specs.Borrow.{Bor}
 use Rattle.std.specs.List.{AllByRecursion}
 use Rattle.rsp_events.specs.Instants.{IsInstant}
-use Rattle.rsp_events.specs.declared.recording.RecordedItems.{RecordedItems}
+use Rattle.rsp_events.specs.declared.event.Event.{Event}
 use Rattle.rsp_call.specs.declared.form.Form.{Form}
 use Rattle.rsp_call.specs.declared.form.Form.TheVariants.{Table, Json}
 use Rattle.rsp_call.specs.declared.options.Options as options_read
@@ -78,5 +78,5 @@ replay_for replay = record {
 -- ---- what the streams' files hold
 
 -- all items have a time that is an instant
-abbrev pub AreTimed : List RecordedItems → Type 0
-AreTimed reads = AllByRecursion (λ (read : RecordedItems). AllByRecursion IsInstant read.items) reads
+abbrev pub AreTimed : List (List Event) → Type 0
+AreTimed lists = AllByRecursion (λ events. AllByRecursion IsInstant events) lists

@@ -20,8 +20,11 @@ use Rattle.rsp_call.specs.Summaries.{event_block, numbered}
 use Rattle.rsp_call.specs.Words.{Replay, Stream}
 
 -- the refused lines of a file, by its name
+abbrev pub line_given : List ℕ → LineRefused → Given
+line_given file refused = a_refused (Line file refused.line) (of_line refused.fault)
+
 abbrev pub lines_given : List ℕ → List LineRefused → List Given
-lines_given file refused = map (λ (line : LineRefused). a_refused (Line file line.line) (of_line line.fault)) refused
+lines_given file refused = map (line_given file) refused
 
 abbrev pub all_lines_given : List Stream → List RecordedItems → List Given
 all_lines_given streams reads = flat_map (λ x. lines_given x.0.file x.1.refused) (zip streams reads)

@@ -28,3 +28,11 @@ status_of (Ok false) = Done
 status_of (Ok true) = DoneWithRefusals
 status_of (Err Memory) = OutOfMemory
 status_of (Err Write) = WriteFault
+
+-- nothing was written where memory was refused
+abbrev pub StaysAt : Stop → SinkSeen → SinkSeen → Type 0
+StaysAt Memory before now = now ≡ before
+StaysAt Write before now = ⊤
+
+abbrev pub Stays : {T : Type 0} → SinkSeen → SinkSeen → Result T Stop → Type 0
+Stays before now result = MatchResult result (λ _. ⊤) (λ why. StaysAt why before now)

@@ -1,61 +1,129 @@
 // Working off the generator's events, of which only the reports and their rows are counted.
-ghost use Rattle.std.specs.Prelude.{◌≡◌, ◌≤◌, ◌+◌, IsTrue, IfOk, OnOk, List, [], false, is_some};
+ghost use Rattle.std.specs.Prelude.{◌≡◌, ◌+◌, ◌≤◌, IfOk, IfSome, IsTrue, [], false, map};
+ghost use Rattle.std.specs.List.{slice_get};
 ghost use Rattle.rsp_events.specs.Instants.{IsInstant};
-ghost use Rattle.rsp_engine.specs.Moments.{Moment};
-ghost use Rattle.rsp_call.specs.Reasons.{event_reason};
-ghost use Rattle.rsp_engine.specs.Reports.{reports, world_behind};
-ghost use Rattle.rsp_engine.specs.World.{World, empty_world};
+ghost use Rattle.rsp_engine.specs.World.{empty_world};
 ghost use Rattle.rsp_engine.specs.Stands.{Stands, is_idle};
 ghost use Rattle.rsp_spec.specs.Limits.{most_file_bytes};
 ghost use Rattle.rsp_call.specs.FileAnswers.{AnswersFiles};
 ghost use Rattle.rsp_call.specs.declared.form.Form.TheVariants.{Table};
-ghost use Rattle.rsp_call.specs.Output.{a_summary, text_of, text_of_saying};
-ghost use Rattle.rsp_call.specs.Runs.{event_step, event_world, run_blocks, world_from};
+ghost use Rattle.rsp_call.specs.Generator.{generated};
+ghost use Rattle.rsp_call.specs.Output.{a_block, a_summary, text_of, text_of_saying};
 ghost use Rattle.rsp_call.specs.Shelves.{ShelfSeen};
 ghost use Rattle.rsp_call.specs.Stops.{Ends};
-ghost use Rattle.rsp_call.specs.Summaries.{counted, rows_in, said_of};
-ghost use Rattle.rsp_call.specs.Tallies.{Counts, CountsReports, items_from};
-ghost use Rattle.rsp_call.specs.declared.refusing.Place.{Place};
+ghost use Rattle.rsp_call.specs.Summaries.{counted, numbered};
+ghost use Rattle.rsp_call.specs.Tallies.{IsMaking, gen_left};
 
+use crate::drive::{drive, stop_of};
+use crate::feed::{Batch, Cut, Feed};
 use crate::generating::{STEP, item, next_random, registration};
 use crate::status::Status;
 use crate::stop::{Stop, status_of};
+use crate::voice::{Tally, Voice};
 use crate::writing::write_all;
-use rsp_engine::{Engine, Outcome, Refused, Report};
-use rsp_eval::Plain;
-use rsp_events::Event;
-use rsp_io::Sink;
+use rsp_algebra::Answer;
+use rsp_engine::Engine;
+use rsp_events::{Block, Content, Event};
+use rsp_io::{Sink, Source, SteadySource};
 use rsp_steps::Steps;
 use std::alloc::{AllocError, Global};
 use std::sync::ledger::Ledger;
 
-/// How many reports came, and how many rows they have in all.
-#[derive(Clone, Copy)]
-pub(crate) struct Tally {
-    pub reports: u64,
-    pub rows: u64,
+// The generator's events as a feed: for so many items, how many events were given, and the pseudo-random number of this place.
+#[derive(Drop)]
+struct GenFeed {
+    alloc: Global,
+    count: u64,
+    given: u64,
+    x: u64,
+}
+
+impl GenFeed {
+    fn new(alloc: Global, count: u64) -> GenFeed
+        requires { count ≤ 1000000 }
+        ensures fits { IsMaking result.count result.given result.x }
+        ensures left { gen_left result.count result.given ≡ map a_block (numbered 1 (generated count)) }
+    {
+        GenFeed {
+            alloc,
+            count,
+            given: 0,
+            x: 1,
+        }
+    }
+
+    // the event behind those that were given; none behind the last
+    fn event(&self) -> Result<Option<Event>, AllocError>
+        requires { IsMaking self.now.count self.now.given self.now.x }
+        ensures event { IfOk result (λ event. event ≡ slice_get (generated self.now.count) self.now.given) }
+        ensures within { IfOk result (λ event. IfSome event (λ _. self.now.given ≤ self.now.count + 1)) }
+        ensures instant { IfOk result (λ event. IfSome event IsInstant) }
+    {
+        if self.count + 1 < self.given {
+            return Ok(None);
+        }
+        if self.given == 0 {
+            return Ok(Some(registration(self.alloc)?));
+        }
+        if self.count < self.given {
+            let time = STEP * self.count;
+            return Ok(Some(Event::Tick { time }));
+        }
+        Ok(Some(item(self.alloc, self.given, self.x)?))
+    }
+}
+
+impl<S: Source> Feed<S> for GenFeed {
+    ghost use Rattle.std.specs.Prelude.{◌≡◌, ◌+◌, ◌-◌, Some, []};
+    ghost use Rattle.rsp_call.specs.Feeds.{LacksMemory};
+    ghost use Rattle.rsp_call.specs.Tallies.{IsMaking, gen_left};
+
+    ghost fits = { λ feed. IsMaking feed.count feed.given feed.x };
+
+    ghost gave = { λ _ start now _. now ≡ start };
+
+    ghost ended = { λ _ start now _ cut. (now ≡ start) × LacksMemory cut };
+
+    ghost left = { λ feed. Some (gen_left feed.count feed.given) };
+
+    ghost settings = { λ _. [] };
+
+    ghost turns = { λ feed. feed.count + 2 - feed.given };
+
+    fn next(&mut self, _from: &mut S) -> Result<Option<Batch>, Cut> {
+        match self.event() {
+            Ok(Some(event)) => {
+                self.given += 1;
+                self.x = next_random(self.x);
+                let (number, content) = (self.given, Content::Event(event));
+                Ok(Some(Batch::Block(Block { number, content })))
+            }
+            Ok(None) => Ok(None),
+            Err(AllocError) => Err(Cut::Memory),
+        }
+    }
 }
 
 /// Works off so many items of the generator, 1 to 1,000,000, one at a time, and writes what they gave.
-pub(crate) fn generate<K: Sink, L: Ledger>(
+pub(crate) fn generate<A: Answer, K: Sink, L: Ledger>(
     alloc: Global,
+    engine: &mut Engine<A>,
     count: u64,
     out: &mut K,
     steps: &mut Steps<L>,
 ) -> Status
-    requires { count ≤ 1000000 }
+    requires idle { IsTrue (is_idle engine.old) }
+    requires new { Stands engine.old empty_world [] }
+    requires count { count ≤ 1000000 }
     ensures text { (shelf : ShelfSeen) → AnswersFiles most_file_bytes Table [] (counted count) shelf shelf (K.seen out.old) (K.seen out.new) result }
 {
-    let mut engine = Engine::new(alloc);
-    // a new engine has no report left, so it is idle
-    let _is_idle = engine.is_idle();
-    status_of(tell_summary(alloc, &mut engine, count, out, steps))
+    status_of(tell_summary(alloc, engine, count, out, steps))
 }
 
 // writes the summary; nothing of it is a refusal
-fn tell_summary<K: Sink, L: Ledger>(
+fn tell_summary<A: Answer, K: Sink, L: Ledger>(
     alloc: Global,
-    engine: &mut Engine<Plain>,
+    engine: &mut Engine<A>,
     count: u64,
     out: &mut K,
     steps: &mut Steps<L>,
@@ -66,9 +134,24 @@ fn tell_summary<K: Sink, L: Ledger>(
     ensures text { Ends (K.seen out.old) (K.seen out.new) (text_of Table (counted count [])) result }
     ensures refused { IfOk result (λ refused. refused ≡ false) }
 {
-    match tally_of(alloc, engine, count, steps) {
-        Ok(tally) => write_summary(alloc, count, tally, out),
-        Err(AllocError) => Err(Stop::Memory),
+    let mut feed = GenFeed::new(alloc, count);
+    let mut nothing = SteadySource::new(Vec::new(alloc), 1);
+    let mut voice = Voice::Counts(Tally {
+        reports: 0,
+        rows: 0,
+    });
+    let driven = drive(
+        alloc,
+        engine,
+        &mut feed,
+        &mut nothing,
+        &mut voice,
+        out,
+        steps,
+    );
+    match stop_of(driven) {
+        Ok(_) => write_summary(alloc, count, voice.tally(), out),
+        Err(stop) => Err(stop),
     }
 }
 
@@ -88,123 +171,5 @@ fn write_summary<K: Sink>(
             Ok(false)
         }
         Err(AllocError) => Err(Stop::Memory),
-    }
-}
-
-// what the events give to a new engine
-fn tally_of<L: Ledger>(
-    alloc: Global,
-    engine: &mut Engine<Plain>,
-    count: u64,
-    steps: &mut Steps<L>,
-) -> Result<Tally, AllocError>
-    requires idle { IsTrue (is_idle engine.old) }
-    requires new { Stands engine.old empty_world [] }
-    requires count { count ≤ 1000000 }
-    ensures { IfOk result (λ tally. Counts (record { reports = 0; rows = 0 }) tally (said_of count)) }
-{
-    let mut tally = Tally {
-        reports: 0,
-        rows: 0,
-    };
-    count_event(engine, registration(alloc)?, &mut tally, steps)?;
-    count_items(alloc, engine, count, &mut tally, steps)?;
-    let time = STEP * count;
-    count_event(engine, Event::Tick { time }, &mut tally, steps)?;
-    Ok(tally)
-}
-
-// counts what the items from the first to this one give
-fn count_items<L: Ledger>(
-    alloc: Global,
-    engine: &mut Engine<Plain>,
-    count: u64,
-    tally: &mut Tally,
-    steps: &mut Steps<L>,
-) -> Result<(), AllocError>
-    requires idle { IsTrue (is_idle engine.old) }
-    requires count { count ≤ 1000000 }
-    ensures idle { OnOk result (IsTrue (is_idle engine.new)) }
-    ensures counts { OnOk result ((world : World) → Stands engine.old world []
-        → Counts tally.old tally.new (run_blocks world (items_from 1 count)).said
-        × Stands engine.new (world_from world (items_from 1 count)) []) }
-{
-    let mut x = 1;
-    let mut made = 0;
-    'items: while made < count {
-        made += 1;
-        x = next_random(x);
-        count_event(engine, item(alloc, made, x)?, tally, steps)?;
-    }
-    Ok(())
-}
-
-// Counts what an event gives; one that is refused gives nothing.
-fn count_event<L: Ledger>(
-    engine: &mut Engine<Plain>,
-    event: Event,
-    tally: &mut Tally,
-    steps: &mut Steps<L>,
-) -> Result<(), AllocError>
-    requires idle { IsTrue (is_idle engine.old) }
-    requires instant { IsInstant event }
-    ensures idle { OnOk result (IsTrue (is_idle engine.new)) }
-    ensures counts { OnOk result ((world : World) (place : Place) → Stands engine.old world []
-        → Counts tally.old tally.new (event_step world place event).said
-        × Stands engine.new (event_world world place event) []) }
-{
-    match engine.offer(event) {
-        Ok(()) => count_reports(engine, tally, steps),
-        Err(why) if is_refusal(&why) => Ok(()),
-        Err(_) => Err(AllocError),
-    }
-}
-
-// whether this isn't for want of memory
-fn is_refusal(why: &Refused) -> bool
-    ensures { result ≡ is_some (event_reason why.now) }
-{
-    !matches!(why, Refused::Broken | Refused::OutOfMemory)
-}
-
-// counts each report that is left
-fn count_reports<L: Ledger>(
-    engine: &mut Engine<Plain>,
-    tally: &mut Tally,
-    steps: &mut Steps<L>,
-) -> Result<(), AllocError>
-    ensures idle { OnOk result (IsTrue (is_idle engine.new)) }
-    ensures counts { OnOk result ((world : World) (left : List Moment) → Stands engine.old world left
-        → CountsReports tally.old tally.new (reports world left)
-        × Stands engine.new (world_behind world left) []) }
-{
-    'reports: loop {
-        match engine.next_report(steps) {
-            Ok(Some(report)) => *tally = one_more(*tally, &report)?,
-            Ok(None) => return Ok(()),
-            Err(_) => return Err(AllocError),
-        }
-    }
-}
-
-// with a report; where a count stands at its type's end, as if memory were wanting
-fn one_more(tally: Tally, report: &Report) -> Result<Tally, AllocError>
-    ensures reports { IfOk result (λ now. now.reports ≡ tally.reports + 1) }
-    ensures rows { IfOk result (λ now. now.rows ≡ tally.rows + rows_in report.now.outcome) }
-{
-    let reports = tally.reports.checked_add(1);
-    let rows = tally.rows.checked_add(rows_in(&report.outcome));
-    match (reports, rows) {
-        (Some(reports), Some(rows)) => Ok(Tally { reports, rows }),
-        _ => Err(AllocError),
-    }
-}
-
-fn rows_in(outcome: &Outcome) -> u64
-    ensures { result ≡ rows_in outcome.now }
-{
-    match outcome {
-        Outcome::Rows(rows) => rows.as_slice().len() as u64,
-        Outcome::Overfull => 0,
     }
 }

@@ -6,23 +6,26 @@
 #![tactic(auto)]
 
 mod apart;
+mod blocks;
 mod checking;
 mod counting;
+mod drive;
 mod faults;
+mod feed;
 mod form;
 mod generating;
+mod log;
 mod options;
 mod reading;
 mod recordings;
 mod refusing;
 mod replay;
 mod replaying;
-mod session;
 mod status;
 mod stop;
-mod taking;
 mod telling;
 mod top;
+mod voice;
 mod words;
 mod writing;
 

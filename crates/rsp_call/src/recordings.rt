@@ -1,39 +1,70 @@
 // The files of recorded streams as blocks of events.
-ghost use Rattle.std.specs.Prelude.{◌≡◌, ◌+◌, ◌-◌, IfOk, length, map, option_map, slice_get};
+ghost use Rattle.std.specs.Prelude.{◌≡◌, ◌+◌, ◌++◌, ◌-◌, IfOk, length, map, option_map, slice_get};
 ghost use Rattle.std.specs.List.{AllByRecursion};
 ghost use Rattle.rsp_events.specs.Instants.{AllTimed, IsInstant};
 ghost use Rattle.rsp_events.specs.Recorded.{recorded};
-ghost use Rattle.rsp_events.specs.Merged.{item_time};
+ghost use Rattle.rsp_events.specs.Merged.{item_time, merged};
 ghost use Rattle.rsp_call.specs.Playing.{AreTimed, stream_for};
+ghost use Rattle.rsp_call.specs.Feeding.{files_given};
 ghost use Rattle.rsp_call.specs.Recordings as replays;
+ghost use Rattle.rsp_call.specs.Replays.{all_lines_given};
 ghost use Rattle.rsp_call.specs.Summaries.{numbered};
 
 use crate::replay::Stream;
-use rsp_events::{Block, Content, Event, RecordedItems, merge, recorded};
+use rsp_events::{Block, Content, Event, LineRefused, RecordedItems, merge, recorded};
 use rsp_terms::{Listed, Text};
 use std::alloc::{AllocError, Global};
 
-/// What the files of the streams hold, each as a document, of which the first has this number.
-pub(crate) fn recordings(
+/// The refused lines of a file, by its name.
+#[derive(Drop)]
+pub(crate) struct RefusedLines<'a> {
+    pub file: &'a str,
+    pub lines: Listed<LineRefused>,
+}
+
+/// What the files of streams hold: their refused lines, and the items of each.
+#[derive(Drop)]
+pub(crate) struct StreamFiles<'a> {
+    pub lines: Listed<RefusedLines<'a>>,
+    pub items: Listed<Listed<Event>>,
+}
+
+/// What the files of the streams hold, each as a document, of which the first has this number; their refused lines stand behind
+/// these.
+pub(crate) fn recordings<'a>(
     alloc: Global,
     first: u32,
-    streams: &[Stream<'_>],
+    streams: &[Stream<'a>],
     files: &[Listed<u8>],
-) -> Result<Listed<RecordedItems>, AllocError>
-    ensures value { IfOk result (λ reads. reads ≡ replays.recordings first (map stream_for streams.now) files.now) }
-    ensures timed { IfOk result AreTimed }
+    before: Listed<RefusedLines<'a>>,
+) -> Result<StreamFiles<'a>, AllocError>
+    ensures lines { IfOk result (λ found. files_given found.lines ≡ files_given before.entry
+        ++ all_lines_given (map stream_for streams.now) (replays.recordings first (map stream_for streams.now) files.now)) }
+    ensures items { IfOk result (λ found.
+        found.items ≡ replays.items_of (replays.recordings first (map stream_for streams.now) files.now)) }
+    ensures timed { IfOk result (λ found. AreTimed found.items) }
 {
-    let mut reads = Listed::new(alloc);
+    let mut lines = before;
+    let mut lists = Listed::new(alloc);
     let mut document = first;
     let mut place = 0;
     'files: loop {
         match (streams.get(place), files.get(place)) {
             (Some(stream), Some(file)) => {
-                reads.push(recording(alloc, document, stream, file.as_slice())?)?;
+                let read = recording(alloc, document, stream, file.as_slice())?;
+                let RecordedItems { items, refused } = read;
+                lines.push(RefusedLines {
+                    file: stream.file,
+                    lines: refused,
+                })?;
+                lists.push(items)?;
                 document = next_document(document)?;
                 place += 1;
             }
-            _ => return Ok(reads),
+            _ => return Ok(StreamFiles {
+                lines,
+                items: lists,
+            }),
         }
     }
 }
@@ -65,29 +96,14 @@ fn next_document(document: u32) -> Result<u32, AllocError>
 pub(crate) fn blocks_of(
     alloc: Global,
     first: u64,
-    reads: Listed<RecordedItems>,
+    lists: Listed<Listed<Event>>,
 ) -> Result<Listed<Block>, AllocError>
-    requires { AreTimed reads }
-    ensures value { IfOk result (λ blocks. blocks ≡ numbered first (replays.events_of reads)) }
+    requires { AreTimed lists }
+    ensures value { IfOk result (λ blocks. blocks ≡ numbered first (replays.with_tick (merged lists))) }
     ensures timed { IfOk result AllTimed }
 {
-    let lists = items_of(alloc, reads)?;
     let items = merge(alloc, lists)?;
     numbered(alloc, first, with_tick(items)?)
-}
-
-fn items_of(
-    alloc: Global,
-    reads: Listed<RecordedItems>,
-) -> Result<Listed<Listed<Event>>, AllocError>
-    ensures { IfOk result (λ lists. lists ≡ replays.items_of reads) }
-{
-    let mut lists = Listed::new(alloc);
-    for read in reads.into_vec() {
-        let RecordedItems { items, refused: _ } = read;
-        lists.push(items)?;
-    }
-    Ok(lists)
 }
 
 fn with_tick(items: Listed<Event>) -> Result<Listed<Event>, AllocError>

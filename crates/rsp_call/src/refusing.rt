@@ -3,7 +3,7 @@ ghost use Rattle.std.specs.Prelude.{◌≡◌, List, ℕ, Some, true, IfOk, IsSo
 ghost use Rattle.rsp_call.specs.Reasons.{details, kind, reason_of};
 ghost use Rattle.rsp_call.specs.Refusals.{Reason, limit_word, of_event, place_text, refusal_line};
 ghost use Rattle.rsp_engine.specs.declared.refused.Refused.TheVariants as refused;
-ghost use Rattle.rsp_call.specs.Stops.{Ends, IsLineOf};
+ghost use Rattle.rsp_call.specs.Stops.{Ends, IsLineOf, Stays};
 
 use crate::stop::Stop;
 use crate::writing::write_all;
@@ -42,6 +42,7 @@ pub(crate) fn refuse<K: Sink>(
     ensures text { (text : List ℕ) → IsLineOf place (reason_of answered) text
         → Ends (K.seen out.old) (K.seen out.new) text result }
     ensures refused { IfOk result (λ refused. (refused ≡ true) × (is_some (reason_of answered) ≡ true)) }
+    ensures stays { Stays (K.seen out.old) (K.seen out.new) result }
 {
     write_line(alloc, place, &answered, out)
 }
@@ -56,6 +57,7 @@ fn write_line<K: Sink>(
     ensures text { (text : List ℕ) → IsLineOf place (reason_of answered.now) text
         → Ends (K.seen out.old) (K.seen out.new) text result }
     ensures refused { IfOk result (λ refused. (refused ≡ true) × (is_some (reason_of answered.now) ≡ true)) }
+    ensures stays { Stays (K.seen out.old) (K.seen out.new) result }
 {
     match line(alloc, place, answered) {
         Ok(Some(line)) => {

@@ -1,60 +1,34 @@
-// Writing the reports of an event.
-ghost use Rattle.std.specs.Prelude.{◌≡◌, IsTrue, IfOk, OnOk, List, [], false};
-ghost use Rattle.rsp_engine.specs.World.{World};
-ghost use Rattle.rsp_engine.specs.Moments.{Moment};
+// Writing a report.
+ghost use Rattle.std.specs.Prelude.{◌≡◌, IfOk, false};
 ghost use Rattle.rsp_engine.specs.declared.report.Report.{Report};
-ghost use Rattle.rsp_engine.specs.Reports.{IsReport, reports, world_behind};
-ghost use Rattle.rsp_engine.specs.Stands.{Stands, is_idle};
+ghost use Rattle.rsp_engine.specs.Reports.{IsReport};
 ghost use Rattle.rsp_streams_out.specs.Json.{report_json};
 ghost use Rattle.rsp_streams_out.specs.Reports.{overfull_text, report_text};
 ghost use Rattle.rsp_call.specs.Apart.{have_tab};
 ghost use Rattle.rsp_call.specs.Output.{text_of_report};
-ghost use Rattle.rsp_call.specs.Runs.{reports_text};
-ghost use Rattle.rsp_call.specs.Stops.{Ends};
+ghost use Rattle.rsp_call.specs.Stops.{Ends, Stays};
 
 use crate::apart::have_tab;
 use crate::form::Form;
 use crate::stop::Stop;
 use crate::writing::write_all;
-use rsp_engine::{Engine, Outcome, Report};
-use rsp_eval::Plain;
+use rsp_engine::{Outcome, Report};
 use rsp_io::Sink;
 use rsp_multiset::Row;
-use rsp_steps::Steps;
 use rsp_streams_out::{overfull_text, report_json, report_text};
 use rsp_terms::{Term, Text};
 use std::alloc::{AllocError, Global};
-use std::sync::ledger::Ledger;
 
-/// Writes each report that is left.
-pub(crate) fn tell_reports<K: Sink, L: Ledger>(
+/// Writes a report: the one that is wanted, but for the order of rows of equal texts.
+pub(crate) fn tell<K: Sink>(
     alloc: Global,
-    engine: &mut Engine<Plain>,
+    report: &Report,
     form: Form,
     out: &mut K,
-    steps: &mut Steps<L>,
 ) -> Result<(), Stop>
-    ensures idle { OnOk result (IsTrue (is_idle engine.new)) }
-    ensures text { (world : World) (left : List Moment) → Stands engine.old world left
-        → Ends (K.seen out.old) (K.seen out.new) (reports_text form (reports world left)) result }
-    ensures stands { OnOk result ((world : World) (left : List Moment) → Stands engine.old world left
-        → Stands engine.new (world_behind world left) []) }
-{
-    'reports: loop {
-        match engine.next_report(steps) {
-            Ok(Some(report)) => match tell(alloc, &report, form, out) {
-                Ok(()) => {}
-                Err(stop) => return Err(stop),
-            },
-            Ok(None) => return Ok(()),
-            Err(_) => return Err(Stop::Memory),
-        }
-    }
-}
-
-fn tell<K: Sink>(alloc: Global, report: &Report, form: Form, out: &mut K) -> Result<(), Stop>
     ensures text { (wanted : Report) → IsReport report.now wanted
         → Ends (K.seen out.old) (K.seen out.new) (text_of_report form wanted) result }
+    ensures stays { Stays (K.seen out.old) (K.seen out.new) result }
 {
     match text_of(alloc, report, form) {
         Ok(text) => write_all(out, text.as_slice()),

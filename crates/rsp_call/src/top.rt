@@ -1,31 +1,30 @@
 // The top call.
-ghost use Rattle.std.specs.Prelude.{◌≡◌, ◌++◌, IsTrue, List, ℕ, [], false};
-ghost use Rattle.rsp_events.specs.declared.event.Block.{Block};
-ghost use Rattle.rsp_engine.specs.Stands.{is_idle};
-ghost use Rattle.rsp_call.specs.Sessions.{IsAt, log_blocks, log_whole_blocks, start_of};
+ghost use Rattle.std.specs.Prelude.{◌≡◌, IsTrue, [], false};
+ghost use Rattle.rsp_engine.specs.Stands.{Stands, is_idle};
+ghost use Rattle.rsp_engine.specs.World.{empty_world};
+ghost use Rattle.rsp_call.specs.Logs.{start_of};
 ghost use Rattle.rsp_call.specs.Words.{mode_of};
 ghost use Rattle.rsp_call.specs.Shelves.{shelf_seen};
-ghost use Rattle.rsp_call.specs.Stops.{status_of};
 ghost use Rattle.rsp_call.specs.Answers.{Answers, AnswersLog, AnswersUsage, reads_shelf, reads_source};
 
 use crate::checking::check;
 use crate::counting::generate;
+use crate::drive::{drive, status_of_drive};
 use crate::form::Form;
+use crate::log::LogFeed;
 use crate::replaying::replay;
-use crate::session::Session;
 use crate::status::Status;
-use crate::stop::status_of;
+use crate::voice::Voice;
 use crate::words::{Mode, mode_of};
 use crate::writing::write_whole;
+use rsp_engine::Engine;
+use rsp_eval::Plain;
 use rsp_io::{Failed, Shelf, Sink, Source};
 use rsp_spec::limits::MOST_LOG_BYTES;
 use rsp_steps::Steps;
 use rsp_terms::Text;
 use std::alloc::Global;
 use std::sync::ledger::Ledger;
-
-// The bytes of one read.
-const READ_BYTES: usize = 1 << 14;
 
 const USAGE: &str =
     "usage: rsp events [--json] | run [--json] [--store FILE] QUERY STREAM=FILE.. | check QUERY | gen COUNT\n";
@@ -54,9 +53,11 @@ pub fn rsp<S: Source, H: Shelf, K: Sink, L: Ledger>(
 {
     match mode_of(words) {
         Some(Mode::Events(form)) => events(alloc, form, input, out, steps),
-        Some(Mode::Run(asked)) => replay(alloc, &asked, shelf, out, steps),
+        Some(Mode::Run(asked)) => replay(alloc, &mut new_engine(alloc), &asked, shelf, out, steps),
         Some(Mode::Check(query)) => check(alloc, query, shelf, out),
-        Some(Mode::Generate(count)) => generate(alloc, count, out, steps),
+        Some(Mode::Generate(count)) => {
+            generate(alloc, &mut new_engine(alloc), count, out, steps)
+        }
         None => usage(out),
     }
 }
@@ -71,6 +72,19 @@ fn usage<K: Sink>(out: &mut K) -> Status
     }
 }
 
+// The log's document number.
+const LOG: u32 = 1;
+
+// an engine of the empty world, with no report left; of all answers the plain one is taken here alone
+fn new_engine(alloc: Global) -> Engine<Plain>
+    ensures stands { Stands result empty_world [] }
+    ensures idle { IsTrue (is_idle result) }
+{
+    let engine = Engine::new(alloc);
+    let _is_idle = engine.is_idle();
+    engine
+}
+
 // Reads the log to its end and works it off.
 fn events<S: Source, K: Sink, L: Ledger>(
     alloc: Global,
@@ -81,40 +95,9 @@ fn events<S: Source, K: Sink, L: Ledger>(
 ) -> Status
     ensures log { AnswersLog (start_of form) (S.seen input.old) (S.seen input.new) (K.seen out.old) (K.seen out.new) result }
 {
-    let mut session = Session::new(alloc);
-    read_log(&mut session, form, input, out, steps)
-}
-
-// Works off the log a piece at a time. The session is the caller's, so that no return here drops it.
-fn read_log<S: Source, K: Sink, L: Ledger>(
-    session: &mut Session,
-    form: Form,
-    input: &mut S,
-    out: &mut K,
-    steps: &mut Steps<L>,
-) -> Status
-    requires at { IsAt session.old.blocks session.old.engine session.old.refused [] }
-    requires idle { IsTrue (is_idle session.old.engine) }
-    requires prefix { (bytes more : List ℕ) → (rest : List Block)
-        × (log_blocks (bytes ++ more) ≡ log_whole_blocks bytes ++ rest) }
-    ensures log { AnswersLog (start_of form) (S.seen input.old) (S.seen input.new) (K.seen out.old) (K.seen out.new) result }
-{
-    let mut buffer = [0u8; READ_BYTES];
-    let mut taken = 0;
-    'reads: loop {
-        match input.read(&mut buffer[..]) {
-            Ok(0) => return status_of(session.finish(form, out, steps)),
-            Ok(read) => {
-                taken += read as u64;
-                if MOST_LOG_BYTES < taken {
-                    return Status::TooLong;
-                }
-                match session.work(buffer.split_at(read).0, form, out, steps) {
-                    Ok(()) => {}
-                    Err(stop) => return status_of(Err(stop)),
-                }
-            }
-            Err(Failed) => return Status::ReadFault,
-        }
-    }
+    let mut engine = new_engine(alloc);
+    let mut log = LogFeed::new(alloc, LOG, MOST_LOG_BYTES);
+    let mut voice = Voice::Writes(form);
+    let driven = drive(alloc, &mut engine, &mut log, input, &mut voice, out, steps);
+    status_of_drive(driven)
 }

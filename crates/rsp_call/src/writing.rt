@@ -1,7 +1,7 @@
 // Writing a text to a sink, whole.
 ghost use Rattle.std.specs.Prelude.{MatchResult};
 ghost use Rattle.rsp_call.specs.Sinks.{Wrote, WriteFailed};
-ghost use Rattle.rsp_call.specs.Stops.{Ends};
+ghost use Rattle.rsp_call.specs.Stops.{Ends, Stays};
 
 use crate::stop::Stop;
 use rsp_io::{Failed, Sink};
@@ -25,6 +25,7 @@ pub(crate) fn write_whole<K: Sink>(out: &mut K, text: &[u8]) -> Result<(), Faile
 /// Writes a text of a log's work, whole. Stops where a write fails.
 pub(crate) fn write_all<K: Sink>(out: &mut K, text: &[u8]) -> Result<(), Stop>
     ensures text { Ends (K.seen out.old) (K.seen out.new) text.now result }
+    ensures stays { Stays (K.seen out.old) (K.seen out.new) result }
 {
     match write_whole(out, text) {
         Ok(()) => Ok(()),

@@ -3,8 +3,8 @@ use Rattle.rsp_call.specs.Words.{generate, mode_of}
 use Rattle.rsp_call.proofs.Generated.{few_asked}
 use Rattle.rsp_call.proofs.top.rsp.Goals as goal
 
-pub generate-requires : goal.generate-requires
-generate-requires g c =
+pub generate-requires-clause-count : goal.generate-requires-clause-count
+generate-requires-clause-count g c =
     let asked : mode_of c.args.words.now ≡ Some (generate c.in-Some-Generate.count) = search rules in
     few_asked c.args.words.now c.in-Some-Generate.count asked
 

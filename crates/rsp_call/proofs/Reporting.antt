@@ -1,0 +1,120 @@
+-- The reports of an event, said one behind another; and what an event says.
+use Rattle.std.proofs.Common.{◌≡◌, true, false, IsTrue, Bool, Ok, Err, Result, Option, Some, None, List, [], ◌∷◌, ◌++◌, map, refl, sym, ◌∙◌, ap, append_assoc}
+use Rattle.std.proofs.lemmas.List.{append-nil, map-append}
+use Rattle.std.specs.List.{list_any}
+use Rattle.std.specs.Prelude.{OnOk}
+use Rattle.std.specs.Option.{is_some}
+use Rattle.rsp_events.specs.declared.event.Event.{Event}
+use Rattle.rsp_engine.specs.declared.refused.Refused.{Refused}
+use Rattle.rsp_engine.specs.declared.report.Report.{Report}
+use Rattle.rsp_engine.specs.Accept.{accept}
+use Rattle.rsp_engine.specs.Moments.{Moment, moments}
+use Rattle.rsp_engine.specs.Offers.{GivesFirst, HasNone, Refuses}
+use Rattle.rsp_engine.specs.Reports.{IsReport, reports, world_behind}
+use Rattle.rsp_engine.specs.Stands.{State, Stands}
+use Rattle.rsp_engine.specs.World.{World}
+use Rattle.rsp_engine.proofs.ReportSteps.{reports_step, world_step}
+use Rattle.rsp_io.specs.Seen.{SinkSeen}
+use Rattle.rsp_call.specs.declared.refusing.Place.{Place}
+use Rattle.rsp_call.specs.declared.stop.Stop.{Stop}
+use Rattle.rsp_call.specs.declared.voice.Voice.{Voice}
+use Rattle.rsp_call.specs.Output.{Saying, a_report, answer_step, is_refusal}
+use Rattle.rsp_call.specs.Reasons.{event_reason}
+use Rattle.rsp_call.specs.Refusals.{Reason}
+use Rattle.rsp_call.specs.Runs.{event_step}
+use Rattle.rsp_call.specs.Voices.{Said, SaidFront, Says, StopsSaying, Tells, refusal_said}
+use Rattle.rsp_call.proofs.Naming.{refuses_as}
+use Rattle.rsp_call.proofs.Tellings.{named_refusal}
+use Rattle.rsp_call.proofs.Voicing.{said_more, said_nothing, stops_before_more, stops_behind}
+
+-- some are said, and the engine stands for the world and the moments behind them
+pub record Reported (world : World) (left : List Moment) (engine : State) (voice voice' : Voice) (sink sink' : SinkSeen) : Type 0 where
+  pub here : World
+  pub rest : List Moment
+  pub done : List Saying
+  pub stands : Stands engine here rest
+  pub all : map a_report (reports world left) ≡ done ++ map a_report (reports here rest)
+  pub leads : world_behind world left ≡ world_behind here rest
+  pub told : Said voice voice' sink sink' done
+
+abbrev pub Reporting : State → State → Voice → Voice → SinkSeen → SinkSeen → Type 0
+Reporting before engine voice voice' sink sink' =
+    (world : World) (left : List Moment) → Stands before world left → Reported world left engine voice voice' sink sink'
+
+pub reporting_nothing : (engine : State) (voice : Voice) (sink : SinkSeen) → Reporting engine engine voice voice sink sink
+reporting_nothing engine voice sink =
+    λ world left stands.
+    record { here = world; rest = left; done = []; stands = stands; all = refl; leads = refl; told = said_nothing voice sink }
+
+reported_more : (world : World) (left : List Moment) (engine after : State) (a b c : Voice) (s t u : SinkSeen) (report : Report) → Reported world left engine a b s t → GivesFirst engine report after → ((wanted : Report) → IsReport report wanted → Said b c t u (a_report wanted ∷ [])) → Reported world left after a c s u
+reported_more world left engine after a b c s t u report told gives says =
+    let first = gives.gives told.here told.rest told.stands in
+    record {
+      here = first.step.after;
+      rest = first.step.left;
+      done = told.done ++ a_report first.step.report ∷ [];
+      stands = first.stands;
+      all =
+          told.all
+          ∙ (ap (λ rs. told.done ++ map a_report rs) (reports_step told.here told.rest first.step first.is_next)
+          ∙ sym (append_assoc told.done (a_report first.step.report ∷ []) (map a_report (reports first.step.after first.step.left))));
+      leads = told.leads ∙ world_step told.here told.rest first.step first.is_next;
+      told = said_more a b c s t u told.done _ told.told (says first.step.report first.is_report);
+    }
+
+pub reporting_more : (before engine after : State) (a b c : Voice) (s t u : SinkSeen) (report : Report) → Reporting before engine a b s t → GivesFirst engine report after → ((wanted : Report) → IsReport report wanted → Said b c t u (a_report wanted ∷ [])) → Reporting before after a c s u
+reporting_more before engine after a b c s t u report reporting gives says =
+    λ world left stands. reported_more world left engine after a b c s t u report (reporting world left stands) gives says
+
+-- no report is left
+pub reported_all : (world : World) (left : List Moment) (engine after : State) (a b : Voice) (s t : SinkSeen) → Reported world left engine a b s t → HasNone engine after → Said a b s t (map a_report (reports world left)) × Stands after (world_behind world left) []
+reported_all world left engine after a b s t told none =
+    let ended : told.rest ≡ [] = none.none told.here told.rest told.stands in
+    let all : map a_report (reports world left) ≡ told.done = told.all ∙ rw ended (append-nil told.done) in
+    let led : world_behind world left ≡ told.here = told.leads ∙ rw ended refl in
+    (rw all told.told, rw (led, none.unchanged, ← ended) told.stands)
+
+pub reported_stops : (world : World) (left : List Moment) (engine after : State) (a b c : Voice) (s t u : SinkSeen) (report : Report) (why : Stop) → Reported world left engine a b s t → GivesFirst engine report after → ((wanted : Report) → IsReport report wanted → StopsSaying why b c t u (a_report wanted ∷ [])) → StopsSaying why a c s u (map a_report (reports world left))
+reported_stops world left engine after a b c s t u report why told gives stops =
+    let first = gives.gives told.here told.rest told.stands in
+    let all = told.all ∙ ap (λ rs. told.done ++ map a_report rs) (reports_step told.here told.rest first.step first.is_next) in
+    rw all
+    (stops_behind a b c s t u told.done _ why told.told
+    (stops_before_more b c t u (a_report first.step.report ∷ []) _ why (stops first.step.report first.is_report)))
+
+-- memory was refused between two reports
+pub reported_part : (world : World) (left : List Moment) (engine : State) (a b : Voice) (s t : SinkSeen) → Reported world left engine a b s t → SaidFront a b s t (map a_report (reports world left))
+reported_part world left engine a b s t told = record { front = told.done; rest = map a_report (reports told.here told.rest); whole = told.all; told = told.told }
+
+-- ---- what an event says
+
+no_refusal : (reports : List Report) → list_any is_refusal (map a_report reports) ≡ false
+no_refusal [] = refl
+no_refusal (report ∷ reports) = no_refusal reports
+
+pub accepted_says : (world : World) (place : Place) (event : Event) (after : World) (a b : Voice) (s t : SinkSeen) → accept world event ≡ Ok after → Said a b s t (map a_report (reports after (moments world event after))) → Says a b s t (event_step world place event).said (Ok false)
+accepted_says world place event after a b s t is said =
+    rw (ap (λ answer. (answer_step world place event answer).said) is) (said, sym (no_refusal (reports after (moments world event after))))
+
+pub accepted_stops : (world : World) (place : Place) (event : Event) (after : World) (a b : Voice) (s t : SinkSeen) (why : Stop) → accept world event ≡ Ok after → StopsSaying why a b s t (map a_report (reports after (moments world event after))) → Says a b s t (event_step world place event).said (Err why)
+accepted_stops world place event after a b s t why is stops =
+    rw (ap (λ answer. (answer_step world place event answer).said) is) stops
+
+pub accepted_stands : (world : World) (place : Place) (event : Event) (after : World) (engine : State) → accept world event ≡ Ok after → Stands engine (world_behind after (moments world event after)) [] → Stands engine (event_step world place event).after []
+accepted_stands world place event after engine is stands = rw (ap (λ answer. (answer_step world place event answer).after) is) stands
+
+-- a refused event says its refusal; want of memory says nothing
+pub refused_says : (old new : State) (event : Event) (why : Refused) (place : Place) (world : World) (a b : Voice) (s t : SinkSeen) (result : Result Bool Stop) → Refuses old event why new → Stands old world [] → Says a b s t (refusal_said place (event_reason why)) result → OnOk result (is_some (event_reason why) ≡ true) → Says a b s t (event_step world place event).said result
+refused_says old new event why place world a b s t result refuses stands = by (event_reason why) refl result
+  where
+    by : (o : Option Reason) → event_reason why ≡ o → (result : Result Bool Stop) → Says a b s t (refusal_said place o) result → OnOk result (is_some o ≡ true) → Says a b s t (event_step world place event).said result
+    by None is (Ok refused) says some = cc
+    by None is (Err stop) says some = stops_before_more a b s t [] (event_step world place event).said stop says
+    by (Some reason) is result says some =
+        let named = refuses_as old new event why reason refuses is in
+        rw (ap (λ answer. (answer_step world place event answer).said) (named.0.refused world stands), ← named.1) says
+
+pub refused_stands : (old new : State) (event : Event) (why : Refused) (place : Place) (world : World) → Refuses old event why new → is_some (event_reason why) ≡ true → Stands old world [] → Stands new (event_step world place event).after []
+refused_stands old new event why place world refuses some stands =
+    let answers = named_refusal old new event why refuses some in
+    rw (ap (λ answer. (answer_step world place event answer).after) (answers.refused world stands), answers.unchanged) stands

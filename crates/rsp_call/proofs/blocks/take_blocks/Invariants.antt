@@ -1,0 +1,16 @@
+use Rattle.std.specs.Vec.Iter.{into_iter_items}
+use Rattle.rsp_call.proofs.Driving.{Working}
+use Rattle.rsp_call.proofs.blocks.take_blocks.Given as goal
+
+abbrev pub invariant-loop-block : goal.invariant-loop-block
+invariant-loop-block g l =
+    Working
+    l.initial.engine
+    l.engine
+    l.fn.blocks
+    (into_iter_items l.block-iterator)
+    l.initial.voice
+    l.voice
+    (g.K.Sink.seen l.initial.out)
+    (g.K.Sink.seen l.out)
+    l.refused

@@ -1,0 +1,166 @@
+// Working off a batch.
+ghost use Rattle.std.specs.Prelude.{◌≡◌, ◌||◌, IsTrue, OnOk, List, [], map};
+ghost use Rattle.rsp_events.specs.Instants.{AllTimed, IsInstant, IsTimed};
+ghost use Rattle.rsp_engine.specs.Moments.{Moment};
+ghost use Rattle.rsp_engine.specs.Reports.{reports, world_behind};
+ghost use Rattle.rsp_engine.specs.Stands.{Stands, is_idle};
+ghost use Rattle.rsp_engine.specs.World.{World};
+ghost use Rattle.rsp_call.specs.Feeds.{IsTimedBatch, given_in};
+ghost use Rattle.rsp_call.specs.Output.{a_block, a_report, run, step};
+ghost use Rattle.rsp_call.specs.Runs.{event_step, run_blocks};
+ghost use Rattle.rsp_call.specs.Voices.{Says, Tells};
+
+use crate::feed::Batch;
+use crate::refusing::{Answered, Place};
+use crate::stop::Stop;
+use crate::voice::Voice;
+use rsp_algebra::Answer;
+use rsp_engine::Engine;
+use rsp_events::{Block, Content, Event};
+use rsp_io::Sink;
+use rsp_steps::Steps;
+use rsp_terms::Listed;
+use std::alloc::Global;
+use std::sync::ledger::Ledger;
+
+/// Whether one of the two holds.
+pub(crate) fn either(a: bool, b: bool) -> bool
+    ensures { result ≡ (a || b) }
+{
+    a || b
+}
+
+/// Works off a batch, and says what it gives. The answer is whether something of it was refused.
+pub(crate) fn work_off<A: Answer, K: Sink, L: Ledger>(
+    alloc: Global,
+    engine: &mut Engine<A>,
+    batch: Batch,
+    voice: &mut Voice,
+    out: &mut K,
+    steps: &mut Steps<L>,
+) -> Result<bool, Stop>
+    requires idle { IsTrue (is_idle engine.old) }
+    requires timed { IsTimedBatch batch }
+    ensures idle { OnOk result (IsTrue (is_idle engine.new)) }
+    ensures says { (world : World) → Stands engine.old world []
+        → Says voice.old voice.new (K.seen out.old) (K.seen out.new) (run world (given_in batch)).said result }
+    ensures stands { OnOk result ((world : World) → Stands engine.old world []
+        → Stands engine.new (run world (given_in batch)).after []) }
+{
+    match batch {
+        Batch::Blocks(blocks) => take_blocks(alloc, engine, blocks, voice, out, steps),
+        Batch::Block(block) => take_block(alloc, engine, block, voice, out, steps),
+        Batch::Refused(place, answered) => {
+            let refused = voice.refusal(alloc, place, answered, out);
+            refused
+        }
+    }
+}
+
+fn take_blocks<A: Answer, K: Sink, L: Ledger>(
+    alloc: Global,
+    engine: &mut Engine<A>,
+    blocks: Listed<Block>,
+    voice: &mut Voice,
+    out: &mut K,
+    steps: &mut Steps<L>,
+) -> Result<bool, Stop>
+    requires idle { IsTrue (is_idle engine.old) }
+    requires instants { AllTimed blocks }
+    ensures idle { OnOk result (IsTrue (is_idle engine.new)) }
+    ensures says { (world : World) → Stands engine.old world []
+        → Says voice.old voice.new (K.seen out.old) (K.seen out.new) (run_blocks world blocks).said result }
+    ensures stands { OnOk result ((world : World) → Stands engine.old world []
+        → Stands engine.new (run_blocks world blocks).after []) }
+{
+    let mut refused = false;
+    for block in blocks.into_vec() {
+        match take_block(alloc, engine, block, voice, out, steps) {
+            Ok(this) => refused = either(refused, this),
+            Err(stop) => return Err(stop),
+        }
+    }
+    Ok(refused)
+}
+
+fn take_block<A: Answer, K: Sink, L: Ledger>(
+    alloc: Global,
+    engine: &mut Engine<A>,
+    block: Block,
+    voice: &mut Voice,
+    out: &mut K,
+    steps: &mut Steps<L>,
+) -> Result<bool, Stop>
+    requires idle { IsTrue (is_idle engine.old) }
+    requires instant { IsTimed block.content }
+    ensures idle { OnOk result (IsTrue (is_idle engine.new)) }
+    ensures says { (world : World) → Stands engine.old world []
+        → Says voice.old voice.new (K.seen out.old) (K.seen out.new) (step world (a_block block)).said result }
+    ensures stands { OnOk result ((world : World) → Stands engine.old world []
+        → Stands engine.new (step world (a_block block)).after []) }
+{
+    let Block { number, content } = block;
+    let place = Place::Block(number);
+    match content {
+        Content::Event(event) => take_event(alloc, engine, place, event, voice, out, steps),
+        Content::Fault(fault) => {
+            let refused = voice.refusal(alloc, place, Answered::Fault(fault), out);
+            refused
+        }
+    }
+}
+
+fn take_event<A: Answer, K: Sink, L: Ledger>(
+    alloc: Global,
+    engine: &mut Engine<A>,
+    place: Place,
+    event: Event,
+    voice: &mut Voice,
+    out: &mut K,
+    steps: &mut Steps<L>,
+) -> Result<bool, Stop>
+    requires idle { IsTrue (is_idle engine.old) }
+    requires instant { IsInstant event }
+    ensures idle { OnOk result (IsTrue (is_idle engine.new)) }
+    ensures says { (world : World) → Stands engine.old world []
+        → Says voice.old voice.new (K.seen out.old) (K.seen out.new) (event_step world place event).said result }
+    ensures stands { OnOk result ((world : World) → Stands engine.old world []
+        → Stands engine.new (event_step world place event).after []) }
+{
+    match engine.offer(event) {
+        Ok(()) => match say_reports(alloc, engine, voice, out, steps) {
+            Ok(()) => Ok(false),
+            Err(stop) => Err(stop),
+        },
+        Err(why) => {
+            let refused = voice.refusal(alloc, place, Answered::Event(why), out);
+            refused
+        }
+    }
+}
+
+// says each report that is left, as it comes
+fn say_reports<A: Answer, K: Sink, L: Ledger>(
+    alloc: Global,
+    engine: &mut Engine<A>,
+    voice: &mut Voice,
+    out: &mut K,
+    steps: &mut Steps<L>,
+) -> Result<(), Stop>
+    ensures idle { OnOk result (IsTrue (is_idle engine.new)) }
+    ensures says { (world : World) (left : List Moment) → Stands engine.old world left
+        → Tells voice.old voice.new (K.seen out.old) (K.seen out.new) (map a_report (reports world left)) result }
+    ensures stands { OnOk result ((world : World) (left : List Moment) → Stands engine.old world left
+        → Stands engine.new (world_behind world left) []) }
+{
+    'reports: loop {
+        match engine.next_report(steps) {
+            Ok(Some(report)) => match voice.report(alloc, &report, out) {
+                Ok(()) => {}
+                Err(stop) => return Err(stop),
+            },
+            Ok(None) => return Ok(()),
+            Err(_) => return Err(Stop::Memory),
+        }
+    }
+}
