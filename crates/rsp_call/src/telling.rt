@@ -15,7 +15,7 @@ use crate::writing::write_all;
 use rsp_engine::{Outcome, Report};
 use rsp_io::Sink;
 use rsp_multiset::Row;
-use rsp_streams_out::{overfull_text, report_json, report_text};
+use rsp_streams_out::{PrintedRows, overfull_text, printed_text, report_json};
 use rsp_terms::{Term, Text};
 use std::alloc::{AllocError, Global};
 
@@ -45,7 +45,7 @@ fn text_of(alloc: Global, report: &Report, form: Form) -> Result<Vec<u8>, AllocE
         Outcome::Rows(rows) => {
             let variables = report.variables.as_slice();
             match form {
-                Form::Table => table(alloc, name, report.at, variables, rows.as_slice()),
+                Form::Table => table(alloc, name, report.at, variables, rows),
                 Form::Json => json(alloc, name, report.at, variables, rows.as_slice()),
             }
         }
@@ -58,12 +58,12 @@ fn table(
     name: &str,
     at: u64,
     variables: &[Text],
-    rows: &[Row<Term>],
+    rows: &PrintedRows,
 ) -> Result<Vec<u8>, AllocError>
     ensures { IfOk result (λ text. text.items ≡ report_text name.now at variables.now rows.now) }
 {
     let mut text = Vec::new(alloc);
-    report_text(alloc, name, at, variables, rows, &mut text)?;
+    printed_text(alloc, name, at, variables, rows, &mut text)?;
     Ok(text)
 }
 
