@@ -1,10 +1,10 @@
 -- Words of the way: what a feed gives, and how the work ends that it is driven through.
-use Rattle.std.specs.Prelude.{◌≡◌, ℕ, Bool, Option, None, Some, Result, Ok, Err, OnOk, List, [], ◌∷◌, ◌++◌, ⊤, map, option_map, option_to_list}
+use Rattle.std.specs.Prelude.{◌≡◌, Bool, Option, None, Some, Result, Ok, Err, OnOk, List, [], ◌∷◌, ◌++◌, ⊤, map, option_map, option_to_list}
 use Rattle.std.specs.List.{list_any}
 use Rattle.rsp_events.specs.Instants.{AllTimed, IsTimed}
 use Rattle.rsp_engine.specs.Stands.{State, Stands}
 use Rattle.rsp_engine.specs.World.{World}
-use Rattle.rsp_io.specs.Seen.{SinkSeen, SourceSeen}
+use Rattle.rsp_io.specs.Seen.{SinkSeen}
 use Rattle.rsp_call.specs.declared.feed.Batch.{Batch}
 use Rattle.rsp_call.specs.declared.feed.Batch.TheVariants as batch
 use Rattle.rsp_call.specs.declared.feed.Cut.{Cut}
