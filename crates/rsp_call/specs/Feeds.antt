@@ -85,7 +85,9 @@ SaysAll voice after sink sink' said (Err (halt.Cut why)) = Said voice after sink
 SaysAll voice after sink sink' said (Err (halt.Stop why)) = StopsSaying why voice after sink sink' said
 
 -- what a feed gave was worked off
-pub record Drove (Gave : List Given → Type 0) (Ended : List Given → Option Cut → Type 0) (left left' : Option (List Given)) (before : List Given) (engine engine' : State) (voice voice' : Voice) (sink sink' : SinkSeen) (result : Result Bool Halt) : Type 0 where
+pub record Drove (Gave : List Given → Type 0) (Ended : List Given → Option Cut → Type 0) (left left' : Option (List Given))
+    (before : List Given) (engine engine' : State) (voice voice' : Voice) (sink sink' : SinkSeen) (result : Result Bool Halt)
+    : Type 0 where
   pub given : List Given
   pub came : Came Gave Ended (before ++ given) result
   pub taken : Takes left left' given
