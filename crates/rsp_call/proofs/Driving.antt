@@ -14,8 +14,8 @@ use Rattle.rsp_call.specs.declared.drive.Halt.TheVariants as halt
 use Rattle.rsp_call.specs.declared.stop.Stop.{Stop}
 use Rattle.rsp_call.specs.declared.voice.Voice.{Voice}
 use Rattle.rsp_call.specs.Feeds.{Drove, Takes, given_in, stop_of}
-use Rattle.rsp_call.specs.Output.{Given, Saying, Step, a_block, followed_by, run, step}
-use Rattle.rsp_call.specs.Voices.{Said, Says, StopsSaying}
+use Rattle.rsp_call.specs.Output.{Given, Saying, Step, a_block, run, step}
+use Rattle.rsp_call.specs.Voices.{Says}
 use Rattle.rsp_call.proofs.Folding.{run-append}
 use Rattle.rsp_call.proofs.Voicing.{said_nothing, says_both, stops_before_more, stops_behind}
 

@@ -1,5 +1,5 @@
 -- The fold over what is worked off, cut in two.
-use Rattle.std.proofs.Common.{◌≡◌, Bool, true, false, ◌||◌, List, [], ◌∷◌, ◌++◌, refl, sym, ◌∙◌, ap, append_assoc}
+use Rattle.std.proofs.Common.{◌≡◌, List, [], ◌∷◌, ◌++◌, refl, sym, ◌∙◌, ap, append_assoc}
 use Rattle.rsp_engine.specs.World.{World}
 use Rattle.rsp_call.specs.Output.{Given, followed_by, run, step}
 

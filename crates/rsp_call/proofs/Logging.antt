@@ -1,9 +1,7 @@
 -- A log that is read a piece at a time: its turns, and the answers of its ends.
-use Rattle.std.proofs.Common.{◌≡◌, ℕ, suc, ◌+◌, ◌-◌, ◌^◌, ◌<◌, ◌≤◌, Bool, true, false, IsTrue, List, [], ◌∷◌, ◌++◌, length, length-append, map, get_or, Result, Ok, Err, Option, Some, None, IfSome, refl, subst, sym, true≢false, ◌∙◌, ap, append_assoc, arith}
-use Rattle.std.specs.Prelude.{option_to_list}
+use Rattle.std.proofs.Common.{◌≡◌, ℕ, ◌+◌, ◌-◌, ◌^◌, ◌<◌, ◌≤◌, Bool, true, false, IsTrue, List, [], ◌∷◌, ◌++◌, length, length-append, map, get_or, Result, Ok, Err, Option, Some, None, IfSome, refl, subst, sym, true≢false, ◌∙◌, ap, append_assoc, arith}
 use Rattle.std.proofs.lemmas.List.{append-nil, map-append}
 use Rattle.std.specs.Io.KnownBytes.{Consumes, IsAtEnd}
-use Rattle.std.specs.List.{list_any}
 use Rattle.rsp_spec.specs.Faults.{Rose}
 use Rattle.rsp_spec.specs.Limits.{most_log_bytes}
 use Rattle.rsp_io.specs.Seen.{SinkSeen, SourceSeen}
@@ -16,7 +14,6 @@ use Rattle.rsp_call.specs.declared.drive.Halt.{Halt}
 use Rattle.rsp_call.specs.declared.drive.Halt.TheVariants as halt
 use Rattle.rsp_call.specs.declared.feed.Cut.{Cut}
 use Rattle.rsp_call.specs.declared.feed.Cut.TheVariants as cut
-use Rattle.rsp_call.specs.declared.form.Form.{Form}
 use Rattle.rsp_call.specs.declared.status.Status.{Status}
 use Rattle.rsp_call.specs.declared.status.Status.TheVariants.{Done, DoneWithRefusals}
 use Rattle.rsp_call.specs.declared.stop.Stop.{Stop}
@@ -27,7 +24,7 @@ use Rattle.rsp_call.specs.Answers.{AnswersLog}
 use Rattle.rsp_call.specs.Feeds.{Came, Drove, SaysAll, status_of_drive}
 use Rattle.rsp_call.specs.FileAnswers.{Told}
 use Rattle.rsp_call.specs.Logs.{Begins, CantGoOn, Finishes, GoesTooFar, LacksMemory, LogEnded, LogGave, Reads, RefusesPiece, TakesPiece, log_turns}
-use Rattle.rsp_call.specs.Output.{Given, Saying, Start, Step, a_block, followed_by, has_refusal, is_refusal, output, run, text_of, text_of_saying, whole_text}
+use Rattle.rsp_call.specs.Output.{Given, Start, Step, a_block, has_refusal, output, run, text_of, whole_text}
 use Rattle.rsp_call.specs.Sinks.{Wrote, WrotePart}
 use Rattle.rsp_call.specs.Sources.{Took}
 use Rattle.rsp_call.specs.Stops.{Stops, status_of}

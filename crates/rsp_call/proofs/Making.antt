@@ -1,11 +1,11 @@
 -- The generator's events, one at a time; and the counts of what they say.
-use Rattle.std.proofs.Common.{◌≡◌, ℕ, zero, suc, ◌+◌, ◌-◌, ◌*◌, ◌<◌, ◌≤◌, Bool, true, false, Result, Ok, Err, IfOk, Option, Some, None, List, [], ◌∷◌, ◌++◌, drop, length, map, refl, subst, sym, ◌∙◌, ap, append-nil, codes, arith}
+use Rattle.std.proofs.Common.{◌≡◌, ℕ, zero, suc, ◌+◌, ◌*◌, ◌<◌, ◌≤◌, Bool, Result, Ok, Err, Option, Some, None, List, [], ◌∷◌, ◌++◌, drop, map, refl, subst, sym, ◌∙◌, ap, append-nil, codes, arith}
 use Rattle.std.specs.List.{range_with_len, slice_get}
 use Rattle.std.specs.Prelude.{OnOk, count_by, sum_by}
 use Rattle.rsp_events.specs.declared.event.Event as events
 use Rattle.rsp_events.specs.declared.event.Event.TheVariants.{Register, Tick}
 use Rattle.rsp_engine.specs.Stands.{State, Stands}
-use Rattle.rsp_engine.specs.World.{World, empty_world}
+use Rattle.rsp_engine.specs.World.{empty_world}
 use Rattle.rsp_io.specs.Seen.{SinkSeen}
 use Rattle.rsp_call.specs.declared.drive.Halt.{Halt}
 use Rattle.rsp_call.specs.declared.feed.Cut.{Cut}
@@ -20,7 +20,7 @@ use Rattle.rsp_call.specs.Generator.{generated, item, item_of, next_random, quer
 use Rattle.rsp_call.specs.Output.{Given, Saying, a_block, a_summary, run, text_of, text_of_saying}
 use Rattle.rsp_call.specs.Summaries.{event_block, is_report, numbered, rows_said, said_of, summary}
 use Rattle.rsp_call.specs.Summaries as summaries
-use Rattle.rsp_call.specs.Tallies.{Counts, IsMaking, gen_left}
+use Rattle.rsp_call.specs.Tallies.{IsMaking, gen_left}
 use Rattle.rsp_call.specs.Stops.{Ends, Stops}
 use Rattle.rsp_call.specs.Voices.{Says}
 use Rattle.rsp_call.proofs.Driving.{all_driven}

@@ -1,6 +1,5 @@
 -- What the engine's answers to an event are that name a reason.
-use Rattle.std.proofs.Common.{◌≡◌, true, Some, None, refl}
-use Rattle.std.specs.Option.{is_some}
+use Rattle.std.proofs.Common.{◌≡◌, Some}
 use Rattle.rsp_events.specs.declared.event.Event.{Event}
 use Rattle.rsp_engine.specs.declared.refused.Refused.{Refused}
 use Rattle.rsp_engine.specs.declared.refused.Refused.TheVariants as refused

@@ -1,6 +1,6 @@
 -- The reports of an event, said one behind another; and what an event says.
-use Rattle.std.proofs.Common.{◌≡◌, true, false, IsTrue, Bool, Ok, Err, Result, Option, Some, None, List, [], ◌∷◌, ◌++◌, map, refl, sym, ◌∙◌, ap, append_assoc}
-use Rattle.std.proofs.lemmas.List.{append-nil, map-append}
+use Rattle.std.proofs.Common.{◌≡◌, true, false, Bool, Ok, Err, Result, Option, Some, None, List, [], ◌∷◌, ◌++◌, map, refl, sym, ◌∙◌, ap, append_assoc}
+use Rattle.std.proofs.lemmas.List.{append-nil}
 use Rattle.std.specs.List.{list_any}
 use Rattle.std.specs.Prelude.{OnOk}
 use Rattle.std.specs.Option.{is_some}
@@ -22,7 +22,7 @@ use Rattle.rsp_call.specs.Output.{Saying, a_report, answer_step, is_refusal}
 use Rattle.rsp_call.specs.Reasons.{event_reason}
 use Rattle.rsp_call.specs.Refusals.{Reason}
 use Rattle.rsp_call.specs.Runs.{event_step}
-use Rattle.rsp_call.specs.Voices.{Said, SaidFront, Says, StopsSaying, Tells, refusal_said}
+use Rattle.rsp_call.specs.Voices.{Said, SaidFront, Says, StopsSaying, refusal_said}
 use Rattle.rsp_call.proofs.Naming.{refuses_as}
 use Rattle.rsp_call.proofs.Tellings.{named_refusal}
 use Rattle.rsp_call.proofs.Voicing.{said_more, said_nothing, stops_before_more, stops_behind}

@@ -1,16 +1,14 @@
 -- What recorded streams give, a turn at a time; and that it is what they are defined to give.
-use Rattle.std.proofs.Common.{◌≡◌, ℕ, Bool, zero, suc, ◌+◌, ◌-◌, ◌<◌, List, [], ◌∷◌, ◌++◌, drop, length, map, Option, None, Some, Result, Ok, Err, refl, subst, sym, ◌∙◌, ap, append_assoc, append-nil, arith}
+use Rattle.std.proofs.Common.{◌≡◌, ℕ, Bool, zero, suc, ◌+◌, ◌<◌, List, [], ◌∷◌, ◌++◌, drop, length, Option, None, Some, Result, refl, subst, sym, ◌∙◌, ap, append_assoc, append-nil, arith}
 use Rattle.std.specs.Prelude.{OnOk}
-use Rattle.std.specs.List.{AllByRecursion, slice_get}
+use Rattle.std.specs.List.{slice_get}
 use Rattle.std.proofs.lemmas.Grind.{flat_map-append}
 use Rattle.rsp_io.specs.Seen.{SinkSeen}
-use Rattle.rsp_events.specs.declared.event.Block.{Block}
 use Rattle.rsp_events.specs.declared.refused.LineRefused.{LineRefused}
 use Rattle.rsp_engine.specs.Stands.{State, Stands}
 use Rattle.rsp_engine.specs.World.{empty_world}
 use Rattle.rsp_call.specs.declared.drive.Halt.{Halt}
 use Rattle.rsp_call.specs.declared.feed.Batch.{Batch}
-use Rattle.rsp_call.specs.declared.feed.Batch.TheVariants as batch
 use Rattle.rsp_call.specs.declared.feed.Cut.{Cut}
 use Rattle.rsp_call.specs.declared.form.Form.{Form}
 use Rattle.rsp_call.specs.declared.recordings.RefusedLines.{RefusedLines}
@@ -18,7 +16,7 @@ use Rattle.rsp_call.specs.declared.voice.Voice.{Voice}
 use Rattle.rsp_call.specs.declared.voice.Voice.TheVariants.{Writes}
 use Rattle.rsp_call.specs.Feeding.{AreTimedBatches, batches_given, files_given, given_of, lines_left, run_left, run_turns}
 use Rattle.rsp_call.specs.Feeds.{Drove, IsTimedBatch, given_in, stop_of}
-use Rattle.rsp_call.specs.Output.{Given, Saying, a_block, run}
+use Rattle.rsp_call.specs.Output.{Given, run}
 use Rattle.rsp_call.specs.Replays.{line_given, replayed}
 use Rattle.rsp_call.specs.Sayings.{Says}
 use Rattle.rsp_call.specs.Words.{Replay}

@@ -1,8 +1,6 @@
 -- The text of a report, and of a refusal.
-use Rattle.std.proofs.Common.{◌≡◌, ℕ, suc, true, false, IsTrue, Ok, Option, Some, None, List, [], ◌∷◌, ◌++◌, length, map, refl, subst, sym, ◌∙◌, ap, append_assoc}
-use Rattle.std.specs.List.{list_any}
+use Rattle.std.proofs.Common.{◌≡◌, ℕ, suc, true, false, Option, Some, None, List, [], ◌∷◌, ◌++◌, length, map, refl, subst, sym, ◌∙◌, ap}
 use Rattle.std.specs.Option.{is_some, option_map}
-use Rattle.std.proofs.lemmas.List.{append-nil}
 use Rattle.rsp_multiset.specs.Rows.{Cells}
 use Rattle.rsp_terms.specs.declared.term.Term.{Term}
 use Rattle.rsp_streams_out.specs.Rows.{AreRows, row_text}
@@ -13,29 +11,21 @@ use Rattle.rsp_engine.specs.declared.report.Outcome.{Outcome}
 use Rattle.rsp_engine.specs.declared.report.Outcome.TheVariants.{Rows, Overfull}
 use Rattle.rsp_events.specs.declared.event.Event.{Event}
 use Rattle.rsp_engine.specs.declared.refused.Refused.{Refused}
-use Rattle.rsp_engine.specs.World.{World}
-use Rattle.rsp_engine.specs.Accept.{accept}
-use Rattle.rsp_engine.specs.Moments.{Moment, moments}
-use Rattle.rsp_engine.specs.Reports.{IsOutcome, IsReport, reports, world_behind}
-use Rattle.rsp_engine.specs.Stands.{State, Stands, is_idle}
-use Rattle.rsp_engine.specs.Offers.{GivesFirst, GivesOf, HasNone, Refuses, RefusesAs}
-use Rattle.rsp_engine.proofs.ReportSteps.{reports_step, world_step}
-use Rattle.rsp_io.specs.Seen.{SinkSeen}
+use Rattle.rsp_engine.specs.Reports.{IsOutcome, IsReport}
+use Rattle.rsp_engine.specs.Stands.{State}
+use Rattle.rsp_engine.specs.Offers.{Refuses, RefusesAs}
 use Rattle.rsp_call.specs.declared.form.Form.{Form}
 use Rattle.rsp_call.specs.declared.form.Form.TheVariants.{Table, Json}
-use Rattle.rsp_call.specs.declared.stop.Stop.{Stop}
 use Rattle.rsp_call.specs.declared.refusing.Place.{Place}
 use Rattle.rsp_call.specs.Apart.{IsTold, have_tab}
-use Rattle.rsp_call.specs.Output.{a_report, answer_step, is_refusal, outcome_text, text_of, text_of_report}
+use Rattle.rsp_call.specs.Output.{outcome_text, text_of_report}
 use Rattle.std.specs.Fmt.{decimal}
 use Rattle.std.specs.Prelude.{codes}
 use Rattle.rsp_call.specs.Reasons.{details, event_reason, kind}
 use Rattle.rsp_call.specs.Refusals.{Reason, place_text, refusal_line}
-use Rattle.rsp_call.specs.Sinks.{Wrote, WrotePart}
-use Rattle.rsp_call.specs.Stops.{IsLineOf, Stops}
+use Rattle.rsp_call.specs.Stops.{IsLineOf}
 use Rattle.rsp_call.proofs.Naming.{refuses_as}
 use Rattle.rsp_call.proofs.Tabless.{same_json}
-use Rattle.rsp_call.proofs.Writings.{wrote_more, wrote_part, stops_behind, stops_before_more}
 
 -- ---- a report's text as a table depends on the texts of its rows alone
 

@@ -1,9 +1,7 @@
 -- What is said, told by a voice: one saying behind another.
-use Rattle.std.proofs.Common.{◌≡◌, ℕ, ◌+◌, Bool, true, false, ◌||◌, Option, Some, None, Result, Ok, Err, IfOk, List, [], ◌∷◌, ◌++◌, refl, sym, ◌∙◌, ap, append_assoc, append-nil, arith}
+use Rattle.std.proofs.Common.{◌≡◌, ℕ, ◌+◌, Bool, true, ◌||◌, Option, Some, None, Result, Ok, Err, IfOk, List, [], ◌∷◌, ◌++◌, refl, sym, ◌∙◌, ap, append_assoc, append-nil}
 use Rattle.std.proofs.lemmas.Grind.{flat_map-append}
 use Rattle.std.proofs.lemmas.List.Folds.{list_any-append}
-use Rattle.std.specs.List.{list_any}
-use Rattle.std.specs.Prelude.{OnOk}
 use Rattle.std.specs.Option.{is_some}
 use Rattle.rsp_io.specs.Seen.{SinkSeen}
 use Rattle.rsp_engine.specs.declared.report.Report.{Report}
@@ -14,13 +12,12 @@ use Rattle.rsp_call.specs.declared.stop.Stop.TheVariants.{Memory, Write}
 use Rattle.rsp_call.specs.declared.voice.Tally.{Tally}
 use Rattle.rsp_call.specs.declared.voice.Voice.{Voice}
 use Rattle.rsp_call.specs.declared.voice.Voice.TheVariants.{Writes, Counts}
-use Rattle.rsp_call.specs.Output.{Saying, a_refusal, a_report, is_refusal, text_of, text_of_report, text_of_saying}
+use Rattle.rsp_call.specs.Output.{Saying, a_report, is_refusal, text_of, text_of_report, text_of_saying}
 use Rattle.rsp_call.specs.Refusals.{Reason, refusal_line}
 use Rattle.rsp_call.specs.Sayings as sayings
 use Rattle.rsp_call.specs.Sinks.{Wrote}
 use Rattle.rsp_call.specs.Stops.{Ends, IsLineOf, Stays, Stops}
 use Rattle.rsp_call.specs.Summaries.{rows_in}
-use Rattle.rsp_call.specs.Tallies as tallies
 use Rattle.rsp_call.specs.Voices.{FailsToSay, Said, SaidFront, Says, StopsSaying, Tells, refusal_said}
 use Rattle.rsp_call.proofs.Counted.{counts_more, counts_none, counts_report, counts_refusal}
 use Rattle.rsp_call.proofs.Writings as writings

@@ -1,10 +1,10 @@
 -- Words of the way: what a feed gives, and how the work ends that it is driven through.
-use Rattle.std.specs.Prelude.{◌≡◌, ℕ, Bool, Option, None, Some, Result, Ok, Err, OnOk, List, [], ◌∷◌, ◌++◌, ⊤, map, option_map, option_to_list}
+use Rattle.std.specs.Prelude.{◌≡◌, Bool, Option, None, Some, Result, Ok, Err, OnOk, List, [], ◌∷◌, ◌++◌, ⊤, map, option_map, option_to_list}
 use Rattle.std.specs.List.{list_any}
 use Rattle.rsp_events.specs.Instants.{AllTimed, IsTimed}
 use Rattle.rsp_engine.specs.Stands.{State, Stands}
 use Rattle.rsp_engine.specs.World.{World}
-use Rattle.rsp_io.specs.Seen.{SinkSeen, SourceSeen}
+use Rattle.rsp_io.specs.Seen.{SinkSeen}
 use Rattle.rsp_call.specs.declared.feed.Batch.{Batch}
 use Rattle.rsp_call.specs.declared.feed.Batch.TheVariants as batch
 use Rattle.rsp_call.specs.declared.feed.Cut.{Cut}
@@ -85,7 +85,9 @@ SaysAll voice after sink sink' said (Err (halt.Cut why)) = Said voice after sink
 SaysAll voice after sink sink' said (Err (halt.Stop why)) = StopsSaying why voice after sink sink' said
 
 -- what a feed gave was worked off
-pub record Drove (Gave : List Given → Type 0) (Ended : List Given → Option Cut → Type 0) (left left' : Option (List Given)) (before : List Given) (engine engine' : State) (voice voice' : Voice) (sink sink' : SinkSeen) (result : Result Bool Halt) : Type 0 where
+pub record Drove (Gave : List Given → Type 0) (Ended : List Given → Option Cut → Type 0) (left left' : Option (List Given))
+    (before : List Given) (engine engine' : State) (voice voice' : Voice) (sink sink' : SinkSeen) (result : Result Bool Halt)
+    : Type 0 where
   pub given : List Given
   pub came : Came Gave Ended (before ++ given) result
   pub taken : Takes left left' given

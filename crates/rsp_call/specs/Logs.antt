@@ -19,7 +19,8 @@ start_of form = record { form = form; world = empty_world; document = 1 }
 
 -- however a document goes on, its blocks begin with those that have ended
 abbrev pub Begins : ℕ → Type 0
-Begins document = (bytes more : List ℕ) → (rest : List Block) × (blocks document (bytes ++ more) ≡ whole_blocks document bytes ++ rest)
+Begins document =
+    (bytes more : List ℕ) → (rest : List Block) × (blocks document (bytes ++ more) ≡ whole_blocks document bytes ++ rest)
 
 -- ---- what was given
 

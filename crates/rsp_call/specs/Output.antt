@@ -7,8 +7,6 @@ use Rattle.rsp_events.specs.declared.event.Block.{Block}
 use Rattle.rsp_events.specs.declared.event.Content.{Content}
 use Rattle.rsp_events.specs.declared.event.Content.TheVariants as content
 use Rattle.rsp_events.specs.Blocks.{blocks, whole_blocks}
-use Rattle.rsp_terms.specs.declared.term.Term.{Term}
-use Rattle.rsp_multiset.specs.Rows.{Cells}
 use Rattle.rsp_streams_out.specs.Json.{report_json}
 use Rattle.rsp_streams_out.specs.Reports.{overfull_text, report_text}
 use Rattle.rsp_engine.specs.declared.report.Report.{Report}

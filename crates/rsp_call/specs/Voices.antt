@@ -1,5 +1,5 @@
 -- Words of the way: how what is said is told: written in a form, or counted.
-use Rattle.std.specs.Prelude.{◌≡◌, Bool, Option, None, Some, Result, Ok, Err, MatchResult, List, [], ◌∷◌, ◌++◌, option_map, option_to_list}
+use Rattle.std.specs.Prelude.{◌≡◌, Bool, Option, Result, Ok, Err, MatchResult, List, ◌++◌, option_map, option_to_list}
 use Rattle.std.specs.List.{list_any}
 use Rattle.rsp_io.specs.Seen.{SinkSeen}
 use Rattle.rsp_call.specs.declared.refusing.Place.{Place}

@@ -115,7 +115,8 @@ pub(crate) fn generate<A: Answer, K: Sink, L: Ledger>(
     requires idle { IsTrue (is_idle engine.old) }
     requires new { Stands engine.old empty_world [] }
     requires count { count ≤ 1000000 }
-    ensures text { (shelf : ShelfSeen) → AnswersFiles most_file_bytes Table [] (counted count) shelf shelf (K.seen out.old) (K.seen out.new) result }
+    ensures text { (shelf : ShelfSeen) → AnswersFiles most_file_bytes Table [] (counted count) shelf shelf
+        (K.seen out.old) (K.seen out.new) result }
 {
     status_of(tell_summary(alloc, engine, count, out, steps))
 }
@@ -161,7 +162,8 @@ fn write_summary<K: Sink>(
     tally: Tally,
     out: &mut K,
 ) -> Result<bool, Stop>
-    ensures text { Ends (K.seen out.old) (K.seen out.new) (text_of_saying Table (a_summary count tally.reports tally.rows)) result }
+    ensures text { Ends (K.seen out.old) (K.seen out.new)
+        (text_of_saying Table (a_summary count tally.reports tally.rows)) result }
     ensures refused { IfOk result (λ refused. refused ≡ false) }
 {
     let Tally { reports, rows } = tally;

@@ -28,8 +28,9 @@ pub(crate) enum Cut {
 
 /// What gives batches, one in each turn.
 ///
-/// Contracts see what `fits` a feed, at each turn; what it `gave` since the source was seen in a state, and how it `ended`: None at its end, else by what cut it;
-/// what is `left` to give, where it is told; its `settings`, which no turn changes; and a bound of the `turns` to come.
+/// Contracts see that a feed `fits`, at each turn; what it `gave` since the source was seen in a state, and how it `ended`:
+/// None at its end, else by what cut it; what is `left` to give, where it is told; its `settings`, which no turn changes; and a
+/// bound of the `turns` to come.
 pub(crate) trait Feed<S: Source> {
     ghost use Rattle.std.specs.Prelude.{◌≡◌, ◌<◌, ◌++◌, ℕ, IfOk, IfSome, List, Option};
     ghost use Rattle.rsp_io.specs.Seen.{SourceSeen};

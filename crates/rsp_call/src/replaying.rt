@@ -53,7 +53,8 @@ pub(crate) fn replay<A: Answer, H: Shelf, K: Sink, L: Ledger>(
 ) -> Status
     requires idle { IsTrue (is_idle engine.old) }
     requires new { Stands engine.old empty_world [] }
-    ensures files { AnswersFiles most_file_bytes replay.now.form (names_of (replay_for replay.now)) (replayed (replay_for replay.now))
+    ensures files { AnswersFiles most_file_bytes replay.now.form
+        (names_of (replay_for replay.now)) (replayed (replay_for replay.now))
         (shelf_seen (H.files shelf.old) (H.seen shelf.old))
         (shelf_seen (H.files shelf.new) (H.seen shelf.new)) (K.seen out.old) (K.seen out.new) result }
 {
@@ -79,7 +80,8 @@ fn tell_feed<A: Answer, K: Sink, L: Ledger>(
     requires new { Stands engine.old empty_world [] }
     requires timed { AreTimedBatches (into_iter_items feed.batches) }
     ensures { Says form (K.seen out.old) (K.seen out.new)
-        (run empty_world (run_left feed.entry.files feed.entry.file feed.entry.line (into_iter_items feed.entry.batches))).said result }
+        (run empty_world (run_left feed.entry.files feed.entry.file feed.entry.line
+        (into_iter_items feed.entry.batches))).said result }
 {
     let mut feed = feed;
     let mut nothing = SteadySource::new(Vec::new(alloc), 1);

@@ -1,5 +1,5 @@
 use Rattle.std.proofs.Common.{refl, ◌∙◌}
-use Rattle.rsp_call.proofs.Driving.{driven_all, driven_cut, driven_more, driven_nothing, driven_stops}
+use Rattle.rsp_call.proofs.Driving.{driven_more, driven_nothing, driven_stops}
 use Rattle.rsp_call.proofs.drive.drive.Goals as goal
 
 pub batches-init : goal.batches-init

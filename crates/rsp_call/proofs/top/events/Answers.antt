@@ -1,4 +1,4 @@
-use Rattle.std.proofs.Common.{[], refl}
+use Rattle.std.proofs.Common.{[]}
 use Rattle.rsp_call.specs.Logs.{start_of}
 use Rattle.rsp_call.proofs.Logging.{log_answers}
 use Rattle.rsp_call.proofs.top.events.Goals as goal
