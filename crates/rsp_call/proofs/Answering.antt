@@ -5,7 +5,7 @@ use Rattle.rsp_io.specs.Seen.{SinkSeen}
 use Rattle.rsp_spec.specs.Limits.{most_file_bytes}
 use Rattle.rsp_call.specs.declared.reading.Unread.{Unread}
 use Rattle.rsp_call.specs.declared.reading.Unread.TheVariants as unread
-use Rattle.rsp_call.specs.declared.form.Form.{Form}
+use Rattle.rsp_words.specs.declared.form.Form.{Form}
 use Rattle.rsp_call.specs.declared.status.Status.{Status}
 use Rattle.rsp_call.specs.declared.stop.Stop.{Stop}
 use Rattle.rsp_call.specs.declared.stop.Stop.TheVariants.{Memory, Write}

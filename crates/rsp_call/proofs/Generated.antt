@@ -8,13 +8,13 @@ use Rattle.std.proofs.lemmas.Bool.{leb-true}
 use Rattle.rsp_text.specs.Digits.{read_u64}
 use Rattle.rsp_io.specs.Seen.{SinkSeen}
 use Rattle.rsp_spec.specs.Limits.{most_file_bytes}
-use Rattle.rsp_call.specs.declared.form.Form.{Form}
+use Rattle.rsp_words.specs.declared.form.Form.{Form}
 use Rattle.rsp_call.specs.declared.stop.Stop.{Stop}
 use Rattle.rsp_call.specs.FileAnswers.{AnswersFiles, SayingOf}
 use Rattle.rsp_call.specs.Output.{is_refusal, text_of}
 use Rattle.rsp_call.specs.Shelves.{ShelfSeen}
 use Rattle.rsp_call.specs.Stops.{Ends, status_of}
-use Rattle.rsp_call.specs.Words.{Mode, Replay, check, check_of, events_of, form_of, generate, generate_of, is_count, is_file, mode_of, run, run_of, values, without_json}
+use Rattle.rsp_words.specs.Words.{Mode, Replay, check, check_of, events_of, form_of, generate, generate_of, is_count, is_file, mode_of, run, run_of, values, without_json}
 use Rattle.rsp_call.proofs.Answering.{told}
 
 -- ---- at most a million items

@@ -3,16 +3,11 @@ pub mod Tabless
 pub mod Naming
 pub mod Tellings
 pub mod Folding
-pub mod WordLists
-pub mod WordTables
 pub mod Consuming
 pub mod Files
 pub mod Making
 pub mod Answering
 pub mod FileFaults
-pub mod WordRows
-pub mod Optional
-pub mod Cutting
 pub mod Filed
 pub mod Recorded
 pub mod Generated
@@ -22,3 +17,4 @@ pub mod Reporting
 pub mod Driving
 pub mod Logging
 pub mod Streamed
+mod GeneratorRows

@@ -14,7 +14,7 @@ use Rattle.rsp_call.specs.declared.stop.Stop.TheVariants.{Memory, Write}
 use Rattle.rsp_call.specs.declared.voice.Tally.{Tally}
 use Rattle.rsp_call.specs.declared.voice.Voice.{Voice}
 use Rattle.rsp_call.specs.declared.voice.Voice.TheVariants as voices
-use Rattle.rsp_call.specs.declared.form.Form.TheVariants.{Table}
+use Rattle.rsp_words.specs.declared.form.Form.TheVariants.{Table}
 use Rattle.rsp_call.specs.Feeds.{Drove, stop_of}
 use Rattle.rsp_call.specs.Generator.{generated, item, item_of, next_random, query_text, random}
 use Rattle.rsp_call.specs.Output.{Given, Saying, a_block, a_summary, run, text_of, text_of_saying}

@@ -9,15 +9,15 @@ use Rattle.rsp_events.specs.declared.recording.RecordedItems.{RecordedItems}
 use Rattle.rsp_events.specs.Instants.{AllTimed, IsInstant}
 use Rattle.rsp_events.specs.Merged.{item_time}
 use Rattle.rsp_events.specs.Recorded.{recorded}
-use Rattle.rsp_call.specs.declared.replay.Stream as stream_read
-use Rattle.rsp_call.specs.Playing.{AreTimed, stream_for}
+use Rattle.rsp_words.specs.declared.replay.Stream as stream_read
+use Rattle.rsp_words.specs.Playing.{stream_for}
 use Rattle.rsp_call.specs.declared.recordings.RefusedLines.{RefusedLines}
-use Rattle.rsp_call.specs.Feeding.{files_given}
+use Rattle.rsp_call.specs.Feeding.{AreTimed, files_given}
 use Rattle.rsp_call.specs.Recordings.{items_of, last_tick, recordings, with_tick}
 use Rattle.rsp_call.specs.Replays.{all_lines_given, lines_given}
 use Rattle.std.proofs.lemmas.Grind.{flat_map-append}
 use Rattle.rsp_call.specs.Summaries.{numbered}
-use Rattle.rsp_call.proofs.Filed.{behind_place}
+use Rattle.rsp_words.proofs.Places.{behind_place}
 
 -- ---- the files
 

@@ -10,18 +10,18 @@ use Rattle.rsp_engine.specs.World.{empty_world}
 use Rattle.rsp_call.specs.declared.drive.Halt.{Halt}
 use Rattle.rsp_call.specs.declared.feed.Batch.{Batch}
 use Rattle.rsp_call.specs.declared.feed.Cut.{Cut}
-use Rattle.rsp_call.specs.declared.form.Form.{Form}
+use Rattle.rsp_words.specs.declared.form.Form.{Form}
 use Rattle.rsp_call.specs.declared.recordings.RefusedLines.{RefusedLines}
 use Rattle.rsp_call.specs.declared.voice.Voice.{Voice}
 use Rattle.rsp_call.specs.declared.voice.Voice.TheVariants.{Writes}
-use Rattle.rsp_call.specs.Feeding.{AreTimedBatches, batches_given, files_given, given_of, lines_left, run_left, run_turns}
+use Rattle.rsp_call.specs.Feeding.{AreTimed, AreTimedBatches, batches_given, files_given, given_of, lines_left, run_left, run_turns}
 use Rattle.rsp_call.specs.Feeds.{Drove, IsTimedBatch, given_in, stop_of}
 use Rattle.rsp_call.specs.Output.{Given, run}
 use Rattle.rsp_call.specs.Replays.{line_given, replayed}
 use Rattle.rsp_call.specs.Sayings.{Says}
-use Rattle.rsp_call.specs.Words.{Replay}
+use Rattle.rsp_words.specs.Words.{Replay}
 use Rattle.rsp_call.proofs.Driving.{all_driven}
-use Rattle.rsp_call.proofs.Filed.{behind_place}
+use Rattle.rsp_words.proofs.Places.{behind_place}
 use Rattle.rsp_call.proofs.Voicing.{written_says}
 
 none_behind : {X : Type 0} (xs : List X) (place : ℕ) → slice_get xs place ≡ None → drop place xs ≡ []

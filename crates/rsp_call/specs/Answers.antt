@@ -6,10 +6,10 @@ use Rattle.rsp_spec.specs.Faults.{Rose}
 use Rattle.rsp_spec.specs.Limits.{most_file_bytes, most_log_bytes}
 use Rattle.rsp_io.specs.Seen.{SinkSeen, SourceSeen}
 use Rattle.rsp_engine.specs.World.{empty_world}
-use Rattle.rsp_call.specs.declared.form.Form.TheVariants.{Table}
+use Rattle.rsp_words.specs.declared.form.Form.TheVariants.{Table}
 use Rattle.rsp_call.specs.declared.status.Status.{Status}
 use Rattle.rsp_call.specs.declared.status.Status.TheVariants.{Done, DoneWithRefusals, Usage, ReadFault, WriteFault, TooLong}
-use Rattle.rsp_call.specs.Words.{Mode, events, run, check, generate, names_of}
+use Rattle.rsp_words.specs.Words.{Mode, events, run, check, generate, names_of}
 use Rattle.rsp_call.specs.Output.{Start, output, has_refusal, usage_text, whole_text}
 use Rattle.rsp_call.specs.Sources.{Took}
 use Rattle.rsp_call.specs.Shelves.{ShelfSeen}

@@ -6,8 +6,8 @@ use Rattle.rsp_multiset.specs.Rows.{Cells}
 use Rattle.rsp_streams_out.specs.Rows.{cell_text}
 use Rattle.rsp_engine.specs.declared.report.Outcome.{Outcome}
 use Rattle.rsp_engine.specs.declared.report.Outcome.TheVariants.{Rows, Overfull}
-use Rattle.rsp_call.specs.declared.form.Form.{Form}
-use Rattle.rsp_call.specs.declared.form.Form.TheVariants.{Table, Json}
+use Rattle.rsp_words.specs.declared.form.Form.{Form}
+use Rattle.rsp_words.specs.declared.form.Form.TheVariants.{Table, Json}
 
 abbrev pub has_tab : List ℕ → Bool
 has_tab text = list_any (λ b. b == 9) text

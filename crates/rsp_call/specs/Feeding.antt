@@ -6,7 +6,7 @@ use Rattle.rsp_call.specs.declared.recordings.RefusedLines.{RefusedLines}
 use Rattle.rsp_call.specs.Feeds.{IsTimedBatch, given_in}
 use Rattle.rsp_call.specs.Output.{Given}
 use Rattle.rsp_call.specs.Replays.{given_by, lines_given}
-use Rattle.rsp_call.specs.Words.{Replay}
+use Rattle.rsp_words.specs.Words.{Replay}
 
 abbrev pub files_given : List RefusedLines → List Given
 files_given files = flat_map (λ (read : RefusedLines). lines_given read.file.now read.lines) files
@@ -34,3 +34,7 @@ AreTimedBatches batches = AllByRecursion IsTimedBatch batches
 abbrev pub given_of : Replay → List (List ℕ) → List Given
 given_of replay [] = []
 given_of replay (query ∷ files) = given_by replay.streams query replay.store files
+
+-- all items have a time that is an instant
+abbrev pub AreTimed : List (List Event) → Type 0
+AreTimed lists = AllByRecursion (λ events. AllByRecursion IsInstant events) lists

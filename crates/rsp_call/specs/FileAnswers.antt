@@ -2,7 +2,7 @@
 use Rattle.std.specs.Prelude.{◌≡◌, ◌⊎◌, ℕ, Bool, true, false, List, []}
 use Rattle.std.specs.List.{list_any}
 use Rattle.rsp_io.specs.Seen.{SinkSeen}
-use Rattle.rsp_call.specs.declared.form.Form.{Form}
+use Rattle.rsp_words.specs.declared.form.Form.{Form}
 use Rattle.rsp_call.specs.declared.status.Status.{Status}
 use Rattle.rsp_call.specs.declared.status.Status.TheVariants.{Done, DoneWithRefusals, ReadFault, WriteFault, OutOfMemory, TooLong}
 use Rattle.rsp_call.specs.Output.{Saying, is_refusal, text_of}

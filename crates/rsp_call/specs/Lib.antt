@@ -1,5 +1,4 @@
 -- Definitions
-pub mod Words
 pub mod Refusals
 pub mod Output
 pub mod Checks
@@ -14,7 +13,6 @@ pub mod Statuses
 pub mod FileAnswers
 pub mod Answers
 -- Words of the way
-pub mod Asked
 pub mod Reasons
 pub mod Apart
 pub mod Tallies
@@ -22,7 +20,6 @@ pub mod Readings
 pub mod Runs
 pub mod Stops
 pub mod Sayings
-pub mod Playing
 pub mod Voices
 pub mod Feeds
 pub mod Logs

@@ -9,7 +9,7 @@ use Rattle.rsp_events.specs.Reader.{Reader, HasRead}
 use Rattle.rsp_engine.specs.World.{empty_world}
 use Rattle.rsp_call.specs.declared.feed.Cut.{Cut}
 use Rattle.rsp_call.specs.declared.feed.Cut.TheVariants.{Failed, TooLong, Memory}
-use Rattle.rsp_call.specs.declared.form.Form.{Form}
+use Rattle.rsp_words.specs.declared.form.Form.{Form}
 use Rattle.rsp_call.specs.Output.{Given, Start, a_block}
 use Rattle.rsp_call.specs.Sources.{Took}
 

@@ -6,7 +6,7 @@ use Rattle.rsp_events.specs.declared.event.Event.TheVariants.{Tick}
 use Rattle.rsp_events.specs.declared.recording.RecordedItems.{RecordedItems}
 use Rattle.rsp_events.specs.Merged.{item_time, merged}
 use Rattle.rsp_events.specs.Recorded.{recorded}
-use Rattle.rsp_call.specs.Words.{Stream}
+use Rattle.rsp_words.specs.Words.{Stream}
 
 -- each file is a document, of which the first has this number
 abbrev pub recordings : ℕ → List Stream → List (List ℕ) → List RecordedItems

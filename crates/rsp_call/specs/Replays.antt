@@ -17,7 +17,7 @@ use Rattle.rsp_call.specs.Output.{Given, Saying, a_block, a_refused, run}
 use Rattle.rsp_call.specs.Recordings.{events_of, recordings}
 use Rattle.rsp_call.specs.Refusals.{of_event, of_line}
 use Rattle.rsp_call.specs.Summaries.{event_block, numbered}
-use Rattle.rsp_call.specs.Words.{Replay, Stream}
+use Rattle.rsp_words.specs.Words.{Replay, Stream}
 
 -- the refused lines of a file, by its name
 abbrev pub line_given : List ℕ → LineRefused → Given

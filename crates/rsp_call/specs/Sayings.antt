@@ -2,7 +2,7 @@
 use Rattle.std.specs.Prelude.{◌≡◌, Bool, Result, Ok, Err, List}
 use Rattle.std.specs.List.{list_any}
 use Rattle.rsp_io.specs.Seen.{SinkSeen}
-use Rattle.rsp_call.specs.declared.form.Form.{Form}
+use Rattle.rsp_words.specs.declared.form.Form.{Form}
 use Rattle.rsp_call.specs.declared.stop.Stop.{Stop}
 use Rattle.rsp_call.specs.Output.{Saying, is_refusal, text_of}
 use Rattle.rsp_call.specs.Sinks.{Wrote}

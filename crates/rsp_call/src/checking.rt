@@ -4,7 +4,7 @@ ghost use Rattle.std.specs.List.{list_any};
 ghost use Rattle.rsp_spec.specs.Limits.{most_file_bytes};
 ghost use Rattle.rsp_call.specs.Checks.{checked};
 ghost use Rattle.rsp_call.specs.FileAnswers.{AnswersFiles};
-ghost use Rattle.rsp_call.specs.declared.form.Form.TheVariants.{Table};
+ghost use Rattle.rsp_words.specs.declared.form.Form.TheVariants.{Table};
 ghost use Rattle.rsp_call.specs.Output.{is_refusal, text_of};
 ghost use Rattle.rsp_call.specs.Shelves.{shelf_seen};
 ghost use Rattle.rsp_call.specs.Stops.{Ends};

@@ -6,7 +6,7 @@ ghost use Rattle.rsp_engine.specs.World.{empty_world};
 ghost use Rattle.rsp_engine.specs.Stands.{Stands, is_idle};
 ghost use Rattle.rsp_spec.specs.Limits.{most_file_bytes};
 ghost use Rattle.rsp_call.specs.FileAnswers.{AnswersFiles};
-ghost use Rattle.rsp_call.specs.declared.form.Form.TheVariants.{Table};
+ghost use Rattle.rsp_words.specs.declared.form.Form.TheVariants.{Table};
 ghost use Rattle.rsp_call.specs.Generator.{generated};
 ghost use Rattle.rsp_call.specs.Output.{a_block, a_summary, text_of, text_of_saying};
 ghost use Rattle.rsp_call.specs.Shelves.{ShelfSeen};

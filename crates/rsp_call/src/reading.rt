@@ -1,12 +1,12 @@
 // Reading a named file whole.
 ghost use Rattle.std.specs.Prelude.{◌≡◌, MatchResult};
 ghost use Rattle.rsp_spec.specs.Limits.{most_file_bytes};
-ghost use Rattle.rsp_call.specs.Playing.{replay_for};
+ghost use Rattle.rsp_words.specs.Playing.{replay_for};
 ghost use Rattle.rsp_call.specs.Shelves.{ReadsWhole, shelf_seen};
 ghost use Rattle.rsp_call.specs.Readings.{Ends, Reads, ReadsFiles, ReadsPicked};
-ghost use Rattle.rsp_call.specs.Words.{names_of};
+ghost use Rattle.rsp_words.specs.Words.{names_of};
 
-use crate::replay::{Replay, name_at};
+use rsp_words::{Replay, name_at};
 use rsp_io::{Failed, Shelf};
 use rsp_spec::limits::MOST_FILE_BYTES;
 use rsp_terms::Listed;

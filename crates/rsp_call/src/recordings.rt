@@ -4,13 +4,13 @@ ghost use Rattle.std.specs.List.{AllByRecursion};
 ghost use Rattle.rsp_events.specs.Instants.{AllTimed, IsInstant};
 ghost use Rattle.rsp_events.specs.Recorded.{recorded};
 ghost use Rattle.rsp_events.specs.Merged.{item_time, merged};
-ghost use Rattle.rsp_call.specs.Playing.{AreTimed, stream_for};
-ghost use Rattle.rsp_call.specs.Feeding.{files_given};
+ghost use Rattle.rsp_words.specs.Playing.{stream_for};
+ghost use Rattle.rsp_call.specs.Feeding.{AreTimed, files_given};
 ghost use Rattle.rsp_call.specs.Recordings as replays;
 ghost use Rattle.rsp_call.specs.Replays.{all_lines_given};
 ghost use Rattle.rsp_call.specs.Summaries.{numbered};
 
-use crate::replay::Stream;
+use rsp_words::Stream;
 use rsp_events::{Block, Content, Event, LineRefused, RecordedItems, merge, recorded};
 use rsp_terms::{Listed, Text};
 use std::alloc::{AllocError, Global};

@@ -9,7 +9,7 @@ ghost use Rattle.rsp_call.specs.Output.{text_of_report};
 ghost use Rattle.rsp_call.specs.Stops.{Ends, Stays};
 
 use crate::apart::have_tab;
-use crate::form::Form;
+use rsp_words::Form;
 use crate::stop::Stop;
 use crate::writing::write_all;
 use rsp_engine::{Outcome, Report};

@@ -9,7 +9,7 @@ ghost use Rattle.rsp_call.specs.Reasons.{reason_of};
 ghost use Rattle.rsp_call.specs.Summaries.{rows_in};
 ghost use Rattle.rsp_call.specs.Voices.{Says, Tells, refusal_said};
 
-use crate::form::Form;
+use rsp_words::Form;
 use crate::refusing::{Answered, Place, refuse};
 use crate::stop::Stop;
 use crate::telling::tell;

@@ -1,6 +1,6 @@
 use Rattle.rsp_call.specs.Checks.{checked}
 use Rattle.rsp_call.proofs.Answering.{not_read, told_one}
-use Rattle.rsp_call.specs.declared.form.Form.TheVariants.{Table}
+use Rattle.rsp_words.specs.declared.form.Form.TheVariants.{Table}
 use Rattle.rsp_call.proofs.checking.check.Goals as goal
 
 pub returns-in-Ok : goal.returns-in-Ok

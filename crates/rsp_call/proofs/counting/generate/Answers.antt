@@ -1,5 +1,5 @@
 use Rattle.std.proofs.Common.{refl}
-use Rattle.rsp_call.specs.declared.form.Form.TheVariants.{Table}
+use Rattle.rsp_words.specs.declared.form.Form.TheVariants.{Table}
 use Rattle.rsp_call.specs.Summaries.{counted}
 use Rattle.rsp_call.proofs.Generated.{none_read}
 use Rattle.rsp_call.proofs.counting.generate.Goals as goal

@@ -1,10 +1,10 @@
 use Rattle.std.proofs.Common.{◌≡◌, Some, length, rules}
 use Rattle.std.specs.List.{slice_get}
 use Rattle.rsp_spec.specs.Limits.{most_file_bytes}
-use Rattle.rsp_call.specs.Playing.{replay_for}
+use Rattle.rsp_words.specs.Playing.{replay_for}
 use Rattle.rsp_call.specs.Readings.{Ends}
 use Rattle.rsp_call.specs.Shelves.{LacksMemory}
-use Rattle.rsp_call.specs.Words.{names_of}
+use Rattle.rsp_words.specs.Words.{names_of}
 use Rattle.rsp_call.proofs.Filed.{read_all, read_lacks, read_on, read_stopped}
 use Rattle.rsp_call.proofs.reading.read_files.Goals as goal
 

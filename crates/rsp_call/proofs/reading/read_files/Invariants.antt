@@ -1,8 +1,8 @@
 use Rattle.std.proofs.Common.{◌-◌, length}
 use Rattle.rsp_spec.specs.Limits.{most_file_bytes}
-use Rattle.rsp_call.specs.Playing.{replay_for}
+use Rattle.rsp_words.specs.Playing.{replay_for}
 use Rattle.rsp_call.specs.Shelves.{shelf_seen}
-use Rattle.rsp_call.specs.Words.{names_of}
+use Rattle.rsp_words.specs.Words.{names_of}
 use Rattle.rsp_call.proofs.Filed.{ReadSome}
 use Rattle.rsp_call.proofs.reading.read_files.Given as goal
 

@@ -2,9 +2,9 @@ use Rattle.std.proofs.Common.{◌∙◌, ap, refl, Err}
 use Rattle.rsp_engine.specs.World.{empty_world}
 use Rattle.rsp_call.specs.declared.stop.Stop.TheVariants.{Memory}
 use Rattle.rsp_call.specs.Output.{run}
-use Rattle.rsp_call.specs.Playing.{replay_for}
+use Rattle.rsp_words.specs.Playing.{replay_for}
 use Rattle.rsp_call.specs.Replays.{replayed}
-use Rattle.rsp_call.specs.Words.{names_of}
+use Rattle.rsp_words.specs.Words.{names_of}
 use Rattle.rsp_call.proofs.Answering.{files_told, files_unread}
 use Rattle.rsp_call.proofs.Streamed.{replayed_is}
 use Rattle.rsp_call.proofs.Writings.{stopped_at_once}

@@ -1,5 +1,5 @@
 use Rattle.std.proofs.Common.{◌≡◌, Some, rules}
-use Rattle.rsp_call.specs.Words.{generate, mode_of}
+use Rattle.rsp_words.specs.Words.{generate, mode_of}
 use Rattle.rsp_call.proofs.Generated.{few_asked}
 use Rattle.rsp_call.proofs.top.rsp.Goals as goal
 

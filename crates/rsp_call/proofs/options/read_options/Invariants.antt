@@ -1,9 +1,0 @@
-use Rattle.std.proofs.Common.{◌≡◌, length}
-use Rattle.rsp_call.specs.Playing.{options, options_of}
-use Rattle.rsp_call.proofs.options.read_options.Given as goal
-
-abbrev pub invariant-words : goal.invariant-words
-invariant-words l = options l.so_far l.rest ≡ options_of l.words
-
-abbrev pub decreases-words : goal.decreases-words
-decreases-words l = length l.rest

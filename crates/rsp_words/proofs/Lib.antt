@@ -1,0 +1,6 @@
+pub mod WordLists
+pub mod WordTables
+mod WordRows
+pub mod Optional
+pub mod Cutting
+pub mod Places

@@ -1,0 +1,5 @@
+use Rattle.rsp_words.proofs.WordTables.{too_many_for_one}
+use Rattle.rsp_words.proofs.words.only_value.Goals as goal
+
+pub returns-in-len3-up : goal.returns-in-len3-up
+returns-in-len3-up c = too_many_for_one c.args.more.now c.in-len3-up.len_at_least

@@ -1,0 +1,5 @@
+-- Definitions
+pub mod Words
+-- Words of the way
+pub mod Asked
+pub mod Playing

@@ -1,0 +1,184 @@
+// The program's words.
+ghost use Rattle.std.specs.Prelude.{◌≡◌, ◌∷◌, ◌||◌, ◌&&◌, [], IfOk, drop, map, bytes_eq, option_map, string_bytes};
+ghost use Rattle.std.specs.Vec.Iter.{into_iter_items};
+ghost use Rattle.std.specs.Map.{lookup};
+ghost use Rattle.std.specs.Option.{option_and_then};
+ghost use Rattle.rsp_words.specs.Asked.{mode_for, only_value};
+ghost use Rattle.rsp_words.specs.Words.{check_of, events_of, form_of, generate_of, is_dashes, is_file, is_json, mode_of, run_of, table, values, without_json};
+
+use crate::form::Form;
+use crate::options::read_options;
+use crate::replay::{Replay, replay_of};
+use rsp_terms::{Listed, Text};
+use rsp_text::read_u64;
+use std::alloc::{AllocError, Global};
+use std::vec::IntoIter;
+
+// The most items of the generator.
+const MOST_ITEMS: u64 = 1_000_000;
+
+/// What the words ask for.
+#[derive(Drop)]
+pub enum Mode<'a> {
+    /// To work off the log on standard input, with reports in this form.
+    Events(Form),
+    /// To replay recorded streams for a query.
+    Run(Replay<'a>),
+    /// To check the query in the file of this name.
+    Check(&'a str),
+    /// To work off so many items of the generator, 1 to 1,000,000.
+    Generate(u64),
+}
+
+/// What the words, without the program's name, ask for; None where they are in no row of the table. Takes no memory.
+pub fn mode_of(words: &[Text]) -> Option<Mode<'_>>
+    ensures { option_map mode_for result ≡ mode_of words.now }
+{
+    match words {
+        [] => None,
+        [word, more @ ..] => mode_in_table(word.as_str(), more),
+    }
+}
+
+fn mode_in_table<'a>(word: &str, more: &'a [Text]) -> Option<Mode<'a>>
+    ensures { option_map mode_for result ≡ option_and_then (λ row. row more.now) (lookup (bytes_eq word.now) table) }
+{
+    match word {
+        "events" => events_of(more),
+        "run" => run_of(more),
+        "check" => check_of(more),
+        "gen" => generate_of(more),
+        _ => None,
+    }
+}
+
+fn events_of(more: &[Text]) -> Option<Mode<'static>>
+    ensures { option_map mode_for result ≡ events_of (form_of more.now) (values (without_json more.now)) }
+{
+    let form = form_of(more);
+    match more {
+        [] => Some(Mode::Events(form)),
+        [word] => is_option(word).then_some(Mode::Events(form)),
+        [first, second] => is_json_and_dashes(first, second).then_some(Mode::Events(form)),
+        [_, _, _, ..] => None,
+    }
+}
+
+fn run_of(more: &[Text]) -> Option<Mode<'_>>
+    ensures { option_map mode_for result ≡ run_of more.now }
+{
+    match replay_of(read_options(more)?) {
+        Some(asked) => Some(Mode::Run(asked)),
+        None => None,
+    }
+}
+
+fn check_of(more: &[Text]) -> Option<Mode<'_>>
+    ensures { option_map mode_for result ≡ check_of (values more.now) }
+{
+    match only_value(more) {
+        Some(query) if is_file(query.as_bytes()) => Some(Mode::Check(query)),
+        _ => None,
+    }
+}
+
+fn generate_of(more: &[Text]) -> Option<Mode<'static>>
+    ensures { option_map mode_for result ≡ generate_of (values more.now) }
+{
+    match read_u64(only_value(more)?.as_bytes()) {
+        Some(count) if 1 <= count && count <= MOST_ITEMS => Some(Mode::Generate(count)),
+        _ => None,
+    }
+}
+
+// the value behind a mode, where there is one alone
+fn only_value(more: &[Text]) -> Option<&str>
+    ensures { option_map (λ v. v.now) result ≡ only_value (values more.now) }
+{
+    match more {
+        [] => None,
+        [word] => (!is_dashes(word)).then_some(word.as_str()),
+        [first, second] => value_of_two(first, second),
+        [_, _, _, ..] => None,
+    }
+}
+
+// the one of two words that isn't `--`, where the other is
+fn value_of_two<'a>(first: &'a Text, second: &'a Text) -> Option<&'a str>
+    ensures { option_map (λ v. v.now) result ≡ only_value (values (first.now ∷ second.now ∷ [])) }
+{
+    if is_dashes(first) {
+        return Some(second.as_str());
+    }
+    is_dashes(second).then_some(first.as_str())
+}
+
+// the form that the option `--json` asks for
+fn form_of(more: &[Text]) -> Form
+    ensures { result ≡ form_of more.now }
+{
+    for word in more {
+        if is_dashes(word) {
+            return Form::Table;
+        }
+        if is_json(word) {
+            return Form::Json;
+        }
+    }
+    Form::Table
+}
+
+fn is_option(word: &Text) -> bool
+    ensures { result ≡ (is_dashes word.now || is_json word.now) }
+{
+    is_dashes(word) || is_json(word)
+}
+
+fn is_json_and_dashes(first: &Text, second: &Text) -> bool
+    ensures { result ≡ (is_json first.now && is_dashes second.now) }
+{
+    is_json(first) && is_dashes(second)
+}
+
+/// Whether a word is the option of JSON.
+pub(crate) fn is_json(word: &Text) -> bool
+    ensures { result ≡ is_json word.now }
+{
+    word.as_str() == "--json"
+}
+
+/// Whether a word ends the options.
+pub(crate) fn is_dashes(word: &Text) -> bool
+    ensures { result ≡ is_dashes word.now }
+{
+    word.as_str() == "--"
+}
+
+/// Whether this can be a file's name on the command line.
+pub(crate) fn is_file(name: &[u8]) -> bool
+    ensures { result ≡ is_file name.now }
+{
+    match name {
+        [] => false,
+        [first, ..] => *first != b'-',
+    }
+}
+
+/// The words of a command line, behind the program's name.
+pub fn words_behind_name(alloc: Global, line: IntoIter<String>) -> Result<Listed<Text>, AllocError>
+    ensures { IfOk result (λ words. words ≡ map string_bytes (drop 1 (into_iter_items line))) }
+{
+    let mut line = line;
+    let _name = line.next();
+    words_of(alloc, line)
+}
+
+fn words_of(alloc: Global, line: IntoIter<String>) -> Result<Listed<Text>, AllocError>
+    ensures { IfOk result (λ words. words ≡ map string_bytes (into_iter_items line)) }
+{
+    let mut words = Listed::new(alloc);
+    for word in line {
+        words.push(Text::new(alloc, word.as_str())?)?;
+    }
+    Ok(words)
+}
