@@ -6,7 +6,7 @@ use Rattle.rsp_engine.specs.declared.report.Outcome.TheVariants.{Rows, Overfull}
 use Rattle.rsp_engine.specs.declared.report.Report.{Report}
 use Rattle.rsp_engine.specs.Reports.{IsOutcome}
 use Rattle.rsp_call.specs.declared.voice.Tally.{Tally}
-use Rattle.rsp_call.specs.declared.refusing.Place.{Place}
+use Rattle.rsp_call.specs.declared.refusals.Place.{Place}
 use Rattle.rsp_call.specs.Output.{Saying, a_refusal, a_report}
 use Rattle.rsp_call.specs.Refusals.{Reason}
 use Rattle.rsp_call.specs.Summaries.{is_report, rows_in, rows_said}

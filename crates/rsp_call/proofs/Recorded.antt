@@ -11,7 +11,7 @@ use Rattle.rsp_events.specs.Merged.{item_time}
 use Rattle.rsp_events.specs.Recorded.{recorded}
 use Rattle.rsp_words.specs.declared.replay.Stream as stream_read
 use Rattle.rsp_words.specs.Playing.{stream_for}
-use Rattle.rsp_call.specs.declared.recordings.RefusedLines.{RefusedLines}
+use Rattle.rsp_call.specs.declared.run.RefusedLines.{RefusedLines}
 use Rattle.rsp_call.specs.Feeding.{AreTimed, files_given}
 use Rattle.rsp_call.specs.Recordings.{items_of, last_tick, recordings, with_tick}
 use Rattle.rsp_call.specs.Replays.{all_lines_given, lines_given}

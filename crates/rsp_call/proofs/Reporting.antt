@@ -15,7 +15,7 @@ use Rattle.rsp_engine.specs.Stands.{State, Stands}
 use Rattle.rsp_engine.specs.World.{World}
 use Rattle.rsp_engine.proofs.ReportSteps.{reports_step, world_step}
 use Rattle.rsp_io.specs.Seen.{SinkSeen}
-use Rattle.rsp_call.specs.declared.refusing.Place.{Place}
+use Rattle.rsp_call.specs.declared.refusals.Place.{Place}
 use Rattle.rsp_call.specs.declared.stop.Stop.{Stop}
 use Rattle.rsp_call.specs.declared.voice.Voice.{Voice}
 use Rattle.rsp_call.specs.Output.{Saying, a_report, answer_step, is_refusal}

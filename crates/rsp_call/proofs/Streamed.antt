@@ -11,7 +11,7 @@ use Rattle.rsp_call.specs.declared.drive.Halt.{Halt}
 use Rattle.rsp_call.specs.declared.feed.Batch.{Batch}
 use Rattle.rsp_call.specs.declared.feed.Cut.{Cut}
 use Rattle.rsp_words.specs.declared.form.Form.{Form}
-use Rattle.rsp_call.specs.declared.recordings.RefusedLines.{RefusedLines}
+use Rattle.rsp_call.specs.declared.run.RefusedLines.{RefusedLines}
 use Rattle.rsp_call.specs.declared.voice.Voice.{Voice}
 use Rattle.rsp_call.specs.declared.voice.Voice.TheVariants.{Writes}
 use Rattle.rsp_call.specs.Feeding.{AreTimed, AreTimedBatches, batches_given, files_given, given_of, lines_left, run_left, run_turns}

@@ -16,7 +16,7 @@ use Rattle.rsp_engine.specs.Stands.{State}
 use Rattle.rsp_engine.specs.Offers.{Refuses, RefusesAs}
 use Rattle.rsp_words.specs.declared.form.Form.{Form}
 use Rattle.rsp_words.specs.declared.form.Form.TheVariants.{Table, Json}
-use Rattle.rsp_call.specs.declared.refusing.Place.{Place}
+use Rattle.rsp_call.specs.declared.refusals.Place.{Place}
 use Rattle.rsp_call.specs.Apart.{IsTold, have_tab}
 use Rattle.rsp_call.specs.Output.{outcome_text, text_of_report}
 use Rattle.std.specs.Fmt.{decimal}

@@ -6,7 +6,7 @@ use Rattle.std.specs.Option.{is_some}
 use Rattle.rsp_io.specs.Seen.{SinkSeen}
 use Rattle.rsp_engine.specs.declared.report.Report.{Report}
 use Rattle.rsp_words.specs.declared.form.Form.{Form}
-use Rattle.rsp_call.specs.declared.refusing.Place.{Place}
+use Rattle.rsp_call.specs.declared.refusals.Place.{Place}
 use Rattle.rsp_call.specs.declared.stop.Stop.{Stop}
 use Rattle.rsp_call.specs.declared.stop.Stop.TheVariants.{Memory, Write}
 use Rattle.rsp_call.specs.declared.voice.Tally.{Tally}

@@ -10,7 +10,7 @@ use Rattle.rsp_engine.specs.declared.refused.Refused.TheVariants.{Text}
 use Rattle.rsp_engine.specs.declared.refused.TextFault.{TextFault}
 use Rattle.rsp_engine.specs.declared.refused.TextFault.TheVariants.{Syntax}
 use Rattle.rsp_engine.specs.Refusals.{text_fault}
-use Rattle.rsp_call.specs.declared.refusing.Place.TheVariants.{Query}
+use Rattle.rsp_call.specs.declared.refusals.Place.TheVariants.{Query}
 use Rattle.rsp_call.specs.Refusals.{of_event}
 use Rattle.rsp_call.specs.Output.{Saying, a_refusal, no_fault}
 

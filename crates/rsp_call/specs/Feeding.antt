@@ -2,7 +2,7 @@
 use Rattle.std.specs.Prelude.{ℕ, ◌+◌, ◌-◌, List, [], ◌∷◌, ◌++◌, drop, length}
 use Rattle.std.specs.List.{AllByRecursion, flat_map}
 use Rattle.rsp_call.specs.declared.feed.Batch.{Batch}
-use Rattle.rsp_call.specs.declared.recordings.RefusedLines.{RefusedLines}
+use Rattle.rsp_call.specs.declared.run.RefusedLines.{RefusedLines}
 use Rattle.rsp_call.specs.Feeds.{IsTimedBatch, given_in}
 use Rattle.rsp_call.specs.Output.{Given}
 use Rattle.rsp_call.specs.Replays.{given_by, lines_given}

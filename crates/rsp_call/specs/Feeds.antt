@@ -11,7 +11,7 @@ use Rattle.rsp_call.specs.declared.feed.Cut.{Cut}
 use Rattle.rsp_call.specs.declared.feed.Cut.TheVariants as cut
 use Rattle.rsp_call.specs.declared.drive.Halt.{Halt}
 use Rattle.rsp_call.specs.declared.drive.Halt.TheVariants as halt
-use Rattle.rsp_call.specs.declared.refusing.Place.{Place}
+use Rattle.rsp_call.specs.declared.refusals.Place.{Place}
 use Rattle.rsp_call.specs.declared.status.Status.{Status}
 use Rattle.rsp_call.specs.declared.stop.Stop.{Stop}
 use Rattle.rsp_call.specs.declared.stop.Stop.TheVariants.{Memory}

@@ -19,8 +19,8 @@ use Rattle.rsp_engine.specs.Moments.{moments}
 use Rattle.rsp_engine.specs.Reports.{reports, world_behind}
 use Rattle.rsp_words.specs.declared.form.Form.{Form}
 use Rattle.rsp_words.specs.declared.form.Form.TheVariants.{Table, Json}
-use Rattle.rsp_call.specs.declared.refusing.Place.{Place}
-use Rattle.rsp_call.specs.declared.refusing.Place.TheVariants as place
+use Rattle.rsp_call.specs.declared.refusals.Place.{Place}
+use Rattle.rsp_call.specs.declared.refusals.Place.TheVariants as place
 use Rattle.rsp_call.specs.Refusals.{Reason, of_block, of_event, refusal_line}
 
 -- ---- what is said

@@ -2,8 +2,8 @@
 use Rattle.std.specs.Prelude.{ℕ, Option, None, Some, List}
 use Rattle.rsp_engine.specs.declared.refused.Refused.{Refused}
 use Rattle.rsp_engine.specs.declared.refused.Refused.TheVariants.{Broken, OutOfMemory}
-use Rattle.rsp_call.specs.declared.refusing.Answered.{Answered}
-use Rattle.rsp_call.specs.declared.refusing.Answered.TheVariants as answered
+use Rattle.rsp_call.specs.declared.refusals.Answered.{Answered}
+use Rattle.rsp_call.specs.declared.refusals.Answered.TheVariants as answered
 use Rattle.rsp_call.specs.Refusals.{Reason, of_block, of_event, of_line, row}
 
 -- want of memory is none

@@ -12,8 +12,8 @@ use Rattle.rsp_translation.specs.declared.shape.Shape.TheVariants as shape
 use Rattle.rsp_engine.specs.declared.refused.TextFault.TheVariants.{Syntax, Shape, Policy}
 use Rattle.rsp_engine.specs.declared.refused.Refused.{Refused}
 use Rattle.rsp_engine.specs.declared.refused.Refused.TheVariants.{Text, Late, NameTaken, NoQuery, QueriesFull, HeldFull, StoreFull, ItemTooLarge, StartOverfull}
-use Rattle.rsp_call.specs.declared.refusing.Place.{Place}
-use Rattle.rsp_call.specs.declared.refusing.Place.TheVariants.{Block, Query, Line}
+use Rattle.rsp_call.specs.declared.refusals.Place.{Place}
+use Rattle.rsp_call.specs.declared.refusals.Place.TheVariants.{Block, Query, Line}
 
 -- why: a line of a file isn't taken, a block is no event, or its event is refused
 pub data Reason : Type 0 where

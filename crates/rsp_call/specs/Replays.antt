@@ -11,7 +11,7 @@ use Rattle.rsp_events.specs.declared.refused.LineRefused.{LineRefused}
 use Rattle.rsp_events.specs.Files.{loaded}
 use Rattle.rsp_engine.specs.declared.refused.Refused.TheVariants.{Text}
 use Rattle.rsp_engine.specs.World.{empty_world}
-use Rattle.rsp_call.specs.declared.refusing.Place.TheVariants.{Block, Line}
+use Rattle.rsp_call.specs.declared.refusals.Place.TheVariants.{Block, Line}
 use Rattle.rsp_call.specs.Checks.{bytes_fault}
 use Rattle.rsp_call.specs.Output.{Given, Saying, a_block, a_refused, run}
 use Rattle.rsp_call.specs.Recordings.{events_of, recordings}

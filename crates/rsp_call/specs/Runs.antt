@@ -4,7 +4,7 @@ use Rattle.rsp_events.specs.declared.event.Event.{Event}
 use Rattle.rsp_events.specs.declared.event.Block.{Block}
 use Rattle.rsp_events.specs.declared.event.Content.TheVariants as content
 use Rattle.rsp_engine.specs.World.{World}
-use Rattle.rsp_call.specs.declared.refusing.Place.{Place}
+use Rattle.rsp_call.specs.declared.refusals.Place.{Place}
 use Rattle.rsp_call.specs.Output.{Step, a_block, content_step, run}
 
 abbrev pub event_step : World → Place → Event → Step

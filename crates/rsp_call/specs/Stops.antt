@@ -5,7 +5,7 @@ use Rattle.rsp_call.specs.declared.status.Status.{Status}
 use Rattle.rsp_call.specs.declared.status.Status.TheVariants.{Done, DoneWithRefusals, WriteFault, OutOfMemory}
 use Rattle.rsp_call.specs.declared.stop.Stop.{Stop}
 use Rattle.rsp_call.specs.declared.stop.Stop.TheVariants.{Memory, Write}
-use Rattle.rsp_call.specs.declared.refusing.Place.{Place}
+use Rattle.rsp_call.specs.declared.refusals.Place.{Place}
 use Rattle.rsp_call.specs.Sinks.{Wrote, WrotePart, WriteFailed}
 use Rattle.rsp_call.specs.Refusals.{Reason, refusal_line}
 

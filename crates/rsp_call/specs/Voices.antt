@@ -2,7 +2,7 @@
 use Rattle.std.specs.Prelude.{◌≡◌, Bool, Option, Result, Ok, Err, MatchResult, List, ◌++◌, option_map, option_to_list}
 use Rattle.std.specs.List.{list_any}
 use Rattle.rsp_io.specs.Seen.{SinkSeen}
-use Rattle.rsp_call.specs.declared.refusing.Place.{Place}
+use Rattle.rsp_call.specs.declared.refusals.Place.{Place}
 use Rattle.rsp_call.specs.declared.stop.Stop.{Stop}
 use Rattle.rsp_call.specs.declared.stop.Stop.TheVariants.{Memory, Write}
 use Rattle.rsp_call.specs.declared.voice.Voice.{Voice}

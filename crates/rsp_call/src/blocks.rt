@@ -11,7 +11,7 @@ ghost use Rattle.rsp_call.specs.Runs.{event_step, run_blocks};
 ghost use Rattle.rsp_call.specs.Voices.{Says, Tells};
 
 use crate::feed::Batch;
-use crate::refusing::{Answered, Place};
+use crate::refusals::{Answered, Place};
 use crate::stop::Stop;
 use crate::voice::Voice;
 use rsp_algebra::Answer;

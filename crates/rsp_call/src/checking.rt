@@ -12,7 +12,7 @@ ghost use Rattle.rsp_call.specs.Readings.{status_of_unread};
 
 use crate::faults::file_fault;
 use crate::reading::{Unread, read_named};
-use crate::refusing::{Answered, Place, refuse};
+use crate::refusals::{Answered, Place, refuse};
 use crate::status::Status;
 use crate::stop::{Stop, status_of};
 use crate::writing::write_all;

@@ -1,5 +1,5 @@
 // Feeds: what is worked off, a batch at a time.
-use crate::refusing::{Answered, Place};
+use crate::refusals::{Answered, Place};
 use rsp_events::Block;
 use rsp_io::Source;
 use rsp_terms::Listed;

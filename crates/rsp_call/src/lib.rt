@@ -5,22 +5,20 @@
 //! the real objects and calls it. Below: the engine, the event log, the readers of queries, reports and io.
 #![tactic(auto)]
 
-mod apart;
 mod blocks;
 mod checking;
-mod counting;
 mod drive;
 mod faults;
 mod feed;
-mod generating;
+mod gen;
 mod log;
 mod reading;
-mod recordings;
-mod refusing;
-mod replaying;
+mod refusals;
+mod reports;
+mod run;
 mod status;
 mod stop;
-mod telling;
+mod tabs;
 mod top;
 mod voice;
 mod writing;

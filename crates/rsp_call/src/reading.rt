@@ -6,10 +6,10 @@ ghost use Rattle.rsp_call.specs.Shelves.{ReadsWhole, shelf_seen};
 ghost use Rattle.rsp_call.specs.Readings.{Ends, Reads, ReadsFiles, ReadsPicked};
 ghost use Rattle.rsp_words.specs.Words.{names_of};
 
-use rsp_words::{Replay, name_at};
 use rsp_io::{Failed, Shelf};
 use rsp_spec::limits::MOST_FILE_BYTES;
 use rsp_terms::Listed;
+use rsp_words::{Replay, name_at};
 use std::alloc::{AllocError, Global};
 
 // The bytes of one read.

@@ -8,11 +8,11 @@ ghost use Rattle.rsp_call.specs.Shelves.{shelf_seen};
 ghost use Rattle.rsp_call.specs.Answers.{Answers, AnswersLog, AnswersUsage, reads_shelf, reads_source};
 
 use crate::checking::check;
-use crate::counting::generate;
+use crate::gen::generate;
 use crate::drive::{drive, status_of_drive};
 use rsp_words::Form;
 use crate::log::LogFeed;
-use crate::replaying::replay;
+use crate::run::replay;
 use crate::status::Status;
 use crate::voice::Voice;
 use rsp_words::{Mode, mode_of};

@@ -9,12 +9,12 @@ ghost use Rattle.rsp_call.specs.Reasons.{reason_of};
 ghost use Rattle.rsp_call.specs.Summaries.{rows_in};
 ghost use Rattle.rsp_call.specs.Voices.{Says, Tells, refusal_said};
 
-use rsp_words::Form;
-use crate::refusing::{Answered, Place, refuse};
+use crate::refusals::{Answered, Place, refuse};
+use crate::reports::tell;
 use crate::stop::Stop;
-use crate::telling::tell;
 use rsp_engine::{Outcome, Refused, Report};
 use rsp_io::Sink;
+use rsp_words::Form;
 use std::alloc::{AllocError, Global};
 
 /// How many reports came, and how many rows they have in all.

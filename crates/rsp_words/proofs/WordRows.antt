@@ -1,7 +1,7 @@
 -- Rows of the table of words, worked out by hand.
-use Rattle.std.proofs.Common.{◌≡◌, ℕ, Option, Some, None, List, [], ◌∷◌, ◌++◌, length, refl}
+use Rattle.std.proofs.Common.{◌≡◌, ℕ, Option, Some, None, List, [], ◌∷◌, refl}
 use Rattle.std.specs.Path.{rsplit_once}
-use Rattle.std.specs.Prelude.{codes, decimal, map, replicate}
+use Rattle.std.specs.Prelude.{codes, map, replicate}
 use Rattle.std.specs.Str.{chars}
 use Rattle.rsp_text.specs.Digits.{read_u64}
 use Rattle.rsp_words.specs.declared.form.Form.{Form}
