@@ -10,7 +10,7 @@ mod checking;
 mod drive;
 mod faults;
 mod feed;
-mod gen;
+mod generator;
 mod log;
 mod reading;
 mod refusals;
@@ -23,6 +23,6 @@ mod top;
 mod voice;
 mod writing;
 
+pub use rsp_words::words_behind_name;
 pub use status::Status;
 pub use top::rsp;
-pub use rsp_words::words_behind_name;

@@ -8,14 +8,12 @@ ghost use Rattle.rsp_call.specs.Shelves.{shelf_seen};
 ghost use Rattle.rsp_call.specs.Answers.{Answers, AnswersLog, AnswersUsage, reads_shelf, reads_source};
 
 use crate::checking::check;
-use crate::gen::generate;
 use crate::drive::{drive, status_of_drive};
-use rsp_words::Form;
+use crate::generator::generate;
 use crate::log::LogFeed;
 use crate::run::replay;
 use crate::status::Status;
 use crate::voice::Voice;
-use rsp_words::{Mode, mode_of};
 use crate::writing::write_whole;
 use rsp_engine::Engine;
 use rsp_eval::Plain;
@@ -23,6 +21,7 @@ use rsp_io::{Failed, Shelf, Sink, Source};
 use rsp_spec::limits::MOST_LOG_BYTES;
 use rsp_steps::Steps;
 use rsp_terms::Text;
+use rsp_words::{Form, Mode, mode_of};
 use std::alloc::Global;
 use std::sync::ledger::Ledger;
 

@@ -1,6 +1,6 @@
 use Rattle.std.proofs.Common.{refl}
 use Rattle.rsp_call.proofs.Making.{making_more, nothing_left, takes_event}
-use Rattle.rsp_call.proofs.gen.GenFeedFeed.next.Goals as goal
+use Rattle.rsp_call.proofs.generator.GenFeedFeed.next.Goals as goal
 
 pub returns-in-Ok-Some-clause-fits : goal.returns-in-Ok-Some-clause-fits
 returns-in-Ok-Some-clause-fits g c =

@@ -1,6 +1,6 @@
 use Rattle.std.proofs.Common.{◌≡◌, ◌≤◌, ◌+◌, refl}
 use Rattle.rsp_call.proofs.Making.{item_event, last_event, no_event}
-use Rattle.rsp_call.proofs.gen.GenFeed.event.Goals as goal
+use Rattle.rsp_call.proofs.generator.GenFeed.event.Goals as goal
 
 pub returns-then-self-clause-event : goal.returns-then-self-clause-event
 returns-then-self-clause-event c = no_event c.args.self.now.count c.args.self.now.given c.if-self.true

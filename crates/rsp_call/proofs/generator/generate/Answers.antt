@@ -2,7 +2,7 @@ use Rattle.std.proofs.Common.{refl}
 use Rattle.rsp_words.specs.declared.form.Form.TheVariants.{Table}
 use Rattle.rsp_call.specs.Summaries.{counted}
 use Rattle.rsp_call.proofs.Generated.{none_read}
-use Rattle.rsp_call.proofs.gen.generate.Goals as goal
+use Rattle.rsp_call.proofs.generator.generate.Goals as goal
 
 pub returns : goal.returns
 returns g c = record {

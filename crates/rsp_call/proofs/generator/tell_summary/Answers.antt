@@ -1,6 +1,6 @@
 use Rattle.std.proofs.Common.{[], refl, sym, ◌∙◌}
 use Rattle.rsp_call.proofs.Making.{gen_says, no_summary, summary_told}
-use Rattle.rsp_call.proofs.gen.tell_summary.Goals as goal
+use Rattle.rsp_call.proofs.generator.tell_summary.Goals as goal
 
 pub returns-in-Ok-clause-text : goal.returns-in-Ok-clause-text
 returns-in-Ok-clause-text g c =
