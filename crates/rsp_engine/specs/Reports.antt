@@ -1,10 +1,11 @@
 -- Definitions: what is reported at a moment (RSP-QL), and working off the moments of an event.
-use Rattle.std.specs.Prelude.{◌≡◌, ℕ, Bool, if◌then◌else◌, Option, None, Some, List, [], ◌∷◌, ◌++◌, map, slice_index_or}
+use Rattle.std.specs.Prelude.{◌≡◌, ℕ, Bool, if◌then◌else◌, Option, None, Some, List, [], ◌∷◌, ◌++◌, map}
 use Rattle.std.specs.List.{find}
 use Rattle.std.specs.Option.{option_map_or}
 use Rattle.rsp_terms.specs.declared.term.Term.{Term}
 use Rattle.rsp_terms.specs.declared.statement.Fact.{Fact}
 use Rattle.rsp_multiset.specs.Rows.{Cells}
+use Rattle.rsp_multiset.specs.Variables as variables
 use Rattle.rsp_algebra.specs.Solutions.{eval}
 use Rattle.rsp_algebra.specs.Overfull.{overfull}
 use Rattle.rsp_streams_out.specs.Rows.{AreRows}
@@ -23,7 +24,7 @@ facts world query t = world.stored ++ facts_over world.items query.first query.r
 
 -- the cells of a row at these places, in their order
 abbrev pub cells_at : List ℕ → Cells Term → Cells Term
-cells_at places row = map (λ place. slice_index_or row place None) places
+cells_at = variables.cells_at
 
 -- the rows of a query over some facts: its solutions, each with its shown variables alone
 abbrev pub rows_over : Reading → List Fact → List (Cells Term)

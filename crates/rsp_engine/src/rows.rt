@@ -1,5 +1,5 @@
 // The rows of a report.
-ghost use Rattle.std.specs.Prelude.{◌≡◌, ◌≢◌, List, IfOk, map, pos, slice_index_or};
+ghost use Rattle.std.specs.Prelude.{◌≡◌, ◌≢◌, List, IfOk, map, pos};
 ghost use Rattle.rsp_terms.specs.Same.{term_eq};
 ghost use Rattle.rsp_multiset.specs.Weights.{IsChanged, IsSameMultiset, only, times, total, weight};
 ghost use Rattle.rsp_multiset.specs.Rows.{Cells, row_eq};
@@ -61,7 +61,7 @@ fn change_cut(
     let mut cut = Changes::new(alloc);
     for index in 0..net.distinct() {
         let (row, count) = net.counted_at(index);
-        cut.add(row_cut(alloc, row, shown)?, count)?;
+        cut.add(row.cells_at(shown)?, count)?;
     }
     Ok(cut)
 }
@@ -75,27 +75,7 @@ fn all_cut(
 {
     let mut all = Listed::new(alloc);
     for row in rows {
-        all.push(row_cut(alloc, row, shown)?)?;
+        all.push(row.cells_at(shown)?)?;
     }
     Ok(all)
-}
-
-// the cells of a row at these places
-fn row_cut(alloc: Global, row: &Row<Term>, shown: &[usize]) -> Result<Row<Term>, AllocError>
-    ensures { IfOk result (λ shown_row. shown_row ≡ cells_at shown.now row.now) }
-{
-    let mut cells = Vec::new(alloc);
-    for place in shown {
-        cells.push(cell(row.cells(), *place)?)?;
-    }
-    Ok(Row::new(cells))
-}
-
-fn cell(cells: &[Option<Term>], place: usize) -> Result<Option<Term>, AllocError>
-    ensures { IfOk result (λ cell. cell ≡ slice_index_or cells.now place None) }
-{
-    match cells.get(place) {
-        Some(Some(term)) => Ok(Some(term.share()?)),
-        _ => Ok(None),
-    }
 }

@@ -7,10 +7,9 @@ ghost use Rattle.rsp_algebra.specs.Solutions.{projection, group_keys, group_of, 
 ghost use Rattle.rsp_eval.specs.Keys.{bucket_of};
 
 use crate::expressions::aggregate_value;
-use crate::extending::extend_row;
 use crate::filtering::distinct_rows;
 use crate::keys::{Buckets, add_row, rows_of_key};
-use crate::projecting::{project_row, project_rows, unit_rows};
+use crate::projecting::{project_rows, unit_rows};
 use indexmap::IndexMap;
 use rsp_expr::Aggregate;
 use rsp_multiset::Row;
@@ -43,7 +42,7 @@ fn in_groups(
 {
     let mut buckets = IndexMap::new(alloc);
     for row in rows {
-        let key = project_row(alloc, width, keys, &row)?;
+        let key = row.projected(width, keys)?;
         add_row(alloc, &mut buckets, key, row)?;
     }
     Ok(buckets)
@@ -63,7 +62,7 @@ fn aggregate_row(
     for entry in aggregates {
         let (variable, aggregate) = entry;
         let term = aggregate_value(alloc, aggregate, rows)?;
-        row = extend_row(alloc, width, *variable, &term, &row)?;
+        row = row.extended(width, *variable, &term)?;
     }
     Ok(row)
 }

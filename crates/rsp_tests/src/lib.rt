@@ -10,6 +10,8 @@
 #[cfg(test)]
 mod call;
 #[cfg(test)]
+mod cells;
+#[cfg(test)]
 mod engine;
 #[cfg(test)]
 mod events;
