@@ -1,5 +1,5 @@
 // A set of facts.
-ghost use Rattle.std.specs.Prelude.{◌≡◌, ◌+◌, ◌≤◌, [], pos, ◌+ℤ◌, length, true, false, negsuc, OnOk, IfOk};
+ghost use Rattle.std.specs.Prelude.{◌≡◌, ◌+◌, ◌≤◌, [], pos, ◌+ℤ◌, length, true, false, negsuc, OnOk, OnErr, IfOk};
 ghost use Rattle.std.specs.List.{IsDistinct, list_any};
 ghost use Rattle.rsp_multiset.specs.Weights.{only, times};
 ghost use Rattle.rsp_terms.specs.declared.statement.Fact.{Fact};
@@ -46,6 +46,7 @@ impl FactStore {
     pub fn alter(&mut self, fact: &Fact, by: i64) -> Result<(), AllocError>
         ensures facts { OnOk result ((q : Fact) → times fact_eq self.new q ≡ times fact_eq self.old q
             +ℤ only (fact_eq q fact.now) by) }
+        ensures err { OnErr result (self.new ≡ self.old) }
     {
         alter_fact(&mut self.facts, fact, by)
     }
@@ -70,6 +71,7 @@ fn alter_fact(facts: &mut IndexSet<Fact>, fact: &Fact, by: i64) -> Result<(), Al
     ensures set { IsDistinct fact_eq facts.new.keys }
     ensures changed { OnOk result ((q : Fact) → times fact_eq facts.new.keys q ≡ times fact_eq facts.old.keys q
         +ℤ only (fact_eq q fact.now) by) }
+    ensures err { OnErr result (facts.new.keys ≡ facts.old.keys) }
 {
     match (by, facts.contains(fact)) {
         (0, _) => Ok(()),
@@ -88,6 +90,7 @@ fn add_fact(facts: &mut IndexSet<Fact>, fact: &Fact) -> Result<(), AllocError>
     ensures set { IsDistinct fact_eq facts.new.keys }
     ensures changed { OnOk result ((q : Fact) → times fact_eq facts.new.keys q ≡ times fact_eq facts.old.keys q
         +ℤ only (fact_eq q fact.now) (pos 1)) }
+    ensures err { OnErr result (facts.new.keys ≡ facts.old.keys) }
 {
     facts.insert(fact.share()?)?;
     Ok(())
