@@ -39,7 +39,8 @@ pub trait Binary<D: Domain> {
         domain: &mut D,
         steps: &mut Steps<L>,
     ) -> Result<Changes<Row<D::Value>>, AllocError>
-        requires { MayBothBeGiven (width self.old) (key self.old) (D.knows domain.old) (D.shown domain.old) (stands self.old domain.old) left.now right.now }
+        requires { MayBothBeGiven (width self.old) (key self.old) (D.knows domain.old) (D.shown domain.old)
+            (stands self.old domain.old) left.now right.now }
         ensures width { width self.new ≡ width self.old }
         ensures key { key self.new ≡ key self.old }
         ensures factor { factor self.new ≡ factor self.old }

@@ -30,7 +30,8 @@ pub trait Unary<D: Domain> {
         change: &Changes<Row<D::Value>>,
         domain: &mut D,
     ) -> Result<Changes<Row<D::Value>>, AllocError>
-        requires { MayBeGiven (width self.old) (key self.old) (D.knows domain.old) (D.shown domain.old) (stands self.old domain.old) change.now }
+        requires { MayBeGiven (width self.old) (key self.old) (D.knows domain.old) (D.shown domain.old)
+            (stands self.old domain.old) change.now }
         ensures width { width self.new ≡ width self.old }
         ensures key { key self.new ≡ key self.old }
         ensures value { value self.new ≡ value self.old }

@@ -1,2 +1,3 @@
 -- Words of the way: they link code to definitions, and need no belief
 pub mod Carried
+pub mod Presence

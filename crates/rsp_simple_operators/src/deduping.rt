@@ -1,7 +1,7 @@
 // Each row once.
 ghost use Rattle.std.specs.Prelude.{◌≡◌, ◌+ℤ◌, neg_ℤ, IfOk, OnOk};
 ghost use Rattle.rsp_multiset.specs.Weights.{only, weight, AreChanges};
-ghost use Rattle.rsp_multiset.proofs.Distincts.{presence, crossing};
+ghost use Rattle.rsp_simple_operators.specs.Presence.{presence, crossing};
 
 use rsp_multiset::{Cell, Changes, Count, Row};
 use rsp_operators::Unary;
