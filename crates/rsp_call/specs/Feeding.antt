@@ -1,6 +1,8 @@
 -- Words of the way: what is left of what recorded streams give.
 use Rattle.std.specs.Prelude.{ℕ, ◌+◌, ◌-◌, List, [], ◌∷◌, ◌++◌, drop, length}
 use Rattle.std.specs.List.{AllByRecursion, flat_map}
+use Rattle.rsp_events.specs.Instants.{IsInstant}
+use Rattle.rsp_events.specs.declared.event.Event.{Event}
 use Rattle.rsp_call.specs.declared.feed.Batch.{Batch}
 use Rattle.rsp_call.specs.declared.run.RefusedLines.{RefusedLines}
 use Rattle.rsp_call.specs.Feeds.{IsTimedBatch, given_in}
