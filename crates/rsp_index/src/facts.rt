@@ -44,7 +44,8 @@ impl FactStore {
     /// Puts the fact in, or, below 0, takes it out. Fails where memory is refused, and where the fact would be there more
     /// than once, or less than not at all; then it changes nothing.
     pub fn alter(&mut self, fact: &Fact, by: i64) -> Result<(), AllocError>
-        ensures facts { OnOk result ((q : Fact) → times fact_eq self.new q ≡ times fact_eq self.old q +ℤ only (fact_eq q fact.now) by) }
+        ensures facts { OnOk result ((q : Fact) → times fact_eq self.new q ≡ times fact_eq self.old q
+            +ℤ only (fact_eq q fact.now) by) }
     {
         alter_fact(&mut self.facts, fact, by)
     }
@@ -67,7 +68,8 @@ impl FactStore {
 fn alter_fact(facts: &mut IndexSet<Fact>, fact: &Fact, by: i64) -> Result<(), AllocError>
     requires { IsDistinct fact_eq facts.old.keys }
     ensures set { IsDistinct fact_eq facts.new.keys }
-    ensures changed { OnOk result ((q : Fact) → times fact_eq facts.new.keys q ≡ times fact_eq facts.old.keys q +ℤ only (fact_eq q fact.now) by) }
+    ensures changed { OnOk result ((q : Fact) → times fact_eq facts.new.keys q ≡ times fact_eq facts.old.keys q
+        +ℤ only (fact_eq q fact.now) by) }
 {
     match (by, facts.contains(fact)) {
         (0, _) => Ok(()),
@@ -84,7 +86,8 @@ fn add_fact(facts: &mut IndexSet<Fact>, fact: &Fact) -> Result<(), AllocError>
     requires set { IsDistinct fact_eq facts.old.keys }
     requires absent { list_any (fact_eq fact.now) facts.old.keys ≡ false }
     ensures set { IsDistinct fact_eq facts.new.keys }
-    ensures changed { OnOk result ((q : Fact) → times fact_eq facts.new.keys q ≡ times fact_eq facts.old.keys q +ℤ only (fact_eq q fact.now) (pos 1)) }
+    ensures changed { OnOk result ((q : Fact) → times fact_eq facts.new.keys q ≡ times fact_eq facts.old.keys q
+        +ℤ only (fact_eq q fact.now) (pos 1)) }
 {
     facts.insert(fact.share()?)?;
     Ok(())
@@ -94,7 +97,8 @@ fn remove_fact(facts: &mut IndexSet<Fact>, fact: &Fact)
     requires set { IsDistinct fact_eq facts.old.keys }
     requires there { list_any (fact_eq fact.now) facts.old.keys ≡ true }
     ensures set { IsDistinct fact_eq facts.new.keys }
-    ensures changed { (q : Fact) → times fact_eq facts.new.keys q ≡ times fact_eq facts.old.keys q +ℤ only (fact_eq q fact.now) (negsuc 0) }
+    ensures changed { (q : Fact) → times fact_eq facts.new.keys q ≡ times fact_eq facts.old.keys q
+        +ℤ only (fact_eq q fact.now) (negsuc 0) }
 {
     facts.swap_remove(fact);
 }

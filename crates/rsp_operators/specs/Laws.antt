@@ -1,5 +1,5 @@
 -- Definitions: what an operator is given, what it answers, and how its state is carried from one domain to another.
-use Rattle.std.specs.Prelude.{◌≡◌, ◌≢◌, ℕ, Bool, List, Option, IsSome, IfSome, ℤ, pos, length}
+use Rattle.std.specs.Prelude.{◌≡◌, ◌≢◌, ℕ, Bool, List, IsSome, ℤ, pos, length}
 use Rattle.std.specs.List.{AllByRecursion}
 use Rattle.rsp_multiset.specs.Rows.{Cells, row_eq}
 use Rattle.rsp_multiset.specs.Shown.{shown_row, IsKnown, IsChangedShown}

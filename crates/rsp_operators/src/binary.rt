@@ -44,15 +44,19 @@ pub trait Binary<D: Domain> {
         ensures key { key self.new ≡ key self.old }
         ensures factor { factor self.new ≡ factor self.old }
         ensures value { value self.new ≡ value self.old }
-        ensures known { (v : D.Value) → D.knows domain.old v → IsShownAlike (D.shown domain.old) (D.knows domain.new) (D.shown domain.new) v }
+        ensures known { (v : D.Value) → D.knows domain.old v
+            → IsShownAlike (D.shown domain.old) (D.knows domain.new) (D.shown domain.new) v }
         ensures rows { IfOk result (λ net. AnswersFit D.Value.eq (width self.old) (D.knows domain.new) net) }
-        ensures law { IfOk result (λ net. (lefts lefts' rights rights' : List (Cells Term)) → stands self.old domain.old lefts rights
+        ensures law { IfOk result (λ net. (lefts lefts' rights rights' : List (Cells Term))
+            → stands self.old domain.old lefts rights
             → Leads (D.shown domain.old) lefts left.now lefts' → Leads (D.shown domain.old) rights right.now rights'
-            → stands self.new domain.new lefts' rights' × Leads (D.shown domain.new) (value self.old lefts rights) net (value self.old lefts' rights')) }
+            → stands self.new domain.new lefts' rights'
+            × Leads (D.shown domain.new) (value self.old lefts rights) net (value self.old lefts' rights')) }
         ensures cost { (lefts lefts' rights rights' : List (Cells Term)) → stands self.old domain.old lefts rights
             → Leads (D.shown domain.old) lefts left.now lefts' → Leads (D.shown domain.old) rights right.now rights'
             → steps.new ≤ steps.old + matching_part term_eq (factor self.old) (key self.old) lefts lefts' rights rights' };
 
-    ghost carried: { (self : Self) (d d' : D) (lefts rights : List (Cells Term)) → AllByRecursion (IsKnown (IsShownAlike (D.shown d) (D.knows d') (D.shown d'))) (kept self)
+    ghost carried: { (self : Self) (d d' : D) (lefts rights : List (Cells Term))
+        → AllByRecursion (IsKnown (IsShownAlike (D.shown d) (D.knows d') (D.shown d'))) (kept self)
         → stands self d lefts rights → stands self d' lefts rights };
 }

@@ -34,13 +34,11 @@ pub trait Computed<D: Domain> {
     ghost of: { Self → Cells Term → Option Term };
 
     /// The row's value; None exactly on an error. Fails only where memory is refused.
-    fn value(
-        &self,
-        row: &Row<D::Value>,
-        domain: &mut D,
-    ) -> Result<Option<D::Value>, AllocError>
+    fn value(&self, row: &Row<D::Value>, domain: &mut D) -> Result<Option<D::Value>, AllocError>
         requires { IsKnown (D.knows domain.old) row.now }
-        ensures value { IfOk result (λ value. option_map (D.shown domain.new) value ≡ of self.now (shown_row (D.shown domain.old) row.now)) }
+        ensures value { IfOk result (λ value. option_map (D.shown domain.new) value
+            ≡ of self.now (shown_row (D.shown domain.old) row.now)) }
         ensures knows { IfOk result (λ value. IfSome value (D.knows domain.new)) }
-        ensures known { (v : D.Value) → D.knows domain.old v → IsShownAlike (D.shown domain.old) (D.knows domain.new) (D.shown domain.new) v };
+        ensures known { (v : D.Value) → D.knows domain.old v
+            → IsShownAlike (D.shown domain.old) (D.knows domain.new) (D.shown domain.new) v };
 }

@@ -1,4 +1,9 @@
-//! Operators that take changes of their inputs, and answer exactly how their value changes.
+//! What an operator is that takes the changes of its inputs, and answers exactly how its value changes.
+//!
+//! An operator's value is a function of lists of rows of terms. Its state, of rows of cells, stands for a list by what the
+//! cells show. The law of `apply`: for every input that the state stands for, and every one to which the change leads, it
+//! stands for that afterwards, and the answer leads from the one value to the other. So no law needs to keep cells apart.
+//! Below: the index, rows, terms and the counter of steps. Above: the operators.
 #![tactic(auto)]
 
 mod binary;

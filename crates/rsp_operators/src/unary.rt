@@ -34,11 +34,14 @@ pub trait Unary<D: Domain> {
         ensures width { width self.new ≡ width self.old }
         ensures key { key self.new ≡ key self.old }
         ensures value { value self.new ≡ value self.old }
-        ensures known { (v : D.Value) → D.knows domain.old v → IsShownAlike (D.shown domain.old) (D.knows domain.new) (D.shown domain.new) v }
+        ensures known { (v : D.Value) → D.knows domain.old v
+            → IsShownAlike (D.shown domain.old) (D.knows domain.new) (D.shown domain.new) v }
         ensures rows { IfOk result (λ net. AnswersFit D.Value.eq (width self.old) (D.knows domain.new) net) }
-        ensures law { IfOk result (λ net. (before after : List (Cells Term)) → stands self.old domain.old before → Leads (D.shown domain.old) before change.now after
+        ensures law { IfOk result (λ net. (before after : List (Cells Term)) → stands self.old domain.old before
+            → Leads (D.shown domain.old) before change.now after
             → stands self.new domain.new after × Leads (D.shown domain.new) (value self.old before) net (value self.old after)) };
 
-    ghost carried: { (self : Self) (d d' : D) (rows : List (Cells Term)) → AllByRecursion (IsKnown (IsShownAlike (D.shown d) (D.knows d') (D.shown d'))) (kept self)
+    ghost carried: { (self : Self) (d d' : D) (rows : List (Cells Term))
+        → AllByRecursion (IsKnown (IsShownAlike (D.shown d) (D.knows d') (D.shown d'))) (kept self)
         → stands self d rows → stands self d' rows };
 }
