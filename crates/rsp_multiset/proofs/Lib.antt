@@ -10,6 +10,7 @@ pub mod Whole
 mod WorkedRows
 pub mod Counting
 pub mod Columns
+mod FirstCells
 pub mod Distincts
 pub mod Between
 pub mod KeySets
