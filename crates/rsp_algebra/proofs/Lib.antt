@@ -9,3 +9,6 @@ pub mod Bindings
 pub mod PatternRows
 pub mod BasicLaw
 pub mod Spines
+pub mod FactsRead
+pub mod Flat
+pub mod SameWork

@@ -10,3 +10,5 @@ pub mod Changing
 pub mod Fitting
 pub mod Spines
 pub mod Meanings
+pub mod Reading
+pub mod Flat

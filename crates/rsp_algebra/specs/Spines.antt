@@ -24,6 +24,16 @@ first_of (Project' _ child variables) = Some child
 first_of (Distinct' _ child) = Some child
 first_of (Group' _ child keys aggregates) = Some child
 
+-- the right one of two children
+abbrev pub second_of : Tree → Option Tree
+second_of (Join' _ left _ right) = Some right
+second_of (LeftJoin' _ left _ right condition) = Some right
+second_of (Union' _ left _ right) = Some right
+second_of (Minus' _ left _ right) = Some right
+second_of (Exists' _ left _ right condition) = Some right
+second_of (NotExists' _ left _ right condition) = Some right
+second_of _ = None
+
 -- from a tree down these nodes, each the first child of the one before, to a tree of which P holds
 abbrev pub Leads : Option Tree → List (Bor Tree) → (Tree → Type 0) → Type 0
 Leads tree [] P = IsSomeAnd tree P

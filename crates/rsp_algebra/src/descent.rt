@@ -3,13 +3,13 @@
 ghost use Rattle.std.specs.Prelude.{◌≡◌, ◌<◌, None, Some, IfOk, IfSome};
 ghost use Rattle.std.specs.Option.{option_copied};
 ghost use Rattle.rsp_algebra.specs.declared.tree.Tree.{size-Tree};
-ghost use Rattle.rsp_algebra.specs.Spines.{first_of, Leads, AreNoDeeper};
+ghost use Rattle.rsp_algebra.specs.Spines.{first_of, second_of, Leads, AreNoDeeper};
 
 use crate::Tree;
 use std::alloc::{AllocError, Global};
 
-// the left one of two children, or the only one
-fn first_child(tree: &Tree) -> Option<&Tree>
+/// The left one of two children, or the only one.
+pub(crate) fn first_child(tree: &Tree) -> Option<&Tree>
     ensures child { option_copied result ≡ first_of tree.now }
     ensures smaller { IfSome result (λ child. size-Tree child.now < size-Tree tree.now) }
 {
@@ -28,6 +28,22 @@ fn first_child(tree: &Tree) -> Option<&Tree>
         Tree::Project { child, .. } => Some(child),
         Tree::Distinct { child } => Some(child),
         Tree::Group { child, .. } => Some(child),
+    }
+}
+
+/// The right one of two children.
+pub fn second_child(tree: &Tree) -> Option<&Tree>
+    ensures child { option_copied result ≡ second_of tree.now }
+    ensures smaller { IfSome result (λ child. size-Tree child.now < size-Tree tree.now) }
+{
+    match tree {
+        Tree::Join { right, .. } => Some(right),
+        Tree::LeftJoin { right, .. } => Some(right),
+        Tree::Union { right, .. } => Some(right),
+        Tree::Minus { right, .. } => Some(right),
+        Tree::Exists { right, .. } => Some(right),
+        Tree::NotExists { right, .. } => Some(right),
+        _ => None,
     }
 }
 

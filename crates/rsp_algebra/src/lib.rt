@@ -11,9 +11,10 @@ mod answer;
 mod building;
 mod descent;
 pub mod nodes;
+mod reading;
 mod tree;
 
 pub use answer::{Answer, Turn};
 pub use building::basic_pattern;
-pub use descent::spine;
+pub use descent::{second_child, spine};
 pub use tree::{Place, Translated, Tree, TriplePattern};

@@ -1,3 +1,5 @@
 pub mod Rows
 pub mod Aggregated
 pub mod Law
+pub mod Below
+pub mod Keyed

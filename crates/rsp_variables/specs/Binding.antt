@@ -1,8 +1,7 @@
 -- Words of the way: what a node's rows bind a variable in, from what those of its children do.
-use Rattle.std.specs.Prelude.{◌≡◌, ℕ, Bool, false, not, ◌&&◌, ◌||◌, nat_eq, Option, None, Some}
+use Rattle.std.specs.Prelude.{◌≡◌, ℕ, Bool, false, not, ◌&&◌, ◌||◌, nat_eq}
 use Rattle.std.specs.List.{flat_map}
 use Rattle.rsp_algebra.specs.declared.tree.Tree.{Tree}
-use Rattle.rsp_algebra.specs.declared.tree.Tree.TheVariants.{Join', LeftJoin', Union', Minus', Exists', NotExists'}
 use Rattle.rsp_algebra.specs.Meanings.{node_of}
 use Rattle.rsp_algebra.specs.Nodes as node
 use Rattle.rsp_algebra.specs.Nodes.{Node, Single, Double, pattern_variables}
@@ -50,16 +49,6 @@ is_possible v (node.pattern place triple) = among (pattern_variables place tripl
 is_possible v (node.values rows) = among (flat_map bound_variables rows) v
 is_possible v (node.over single child) = possible_over v single (is_possible v child)
 is_possible v (node.of_two double left right) = possible_of double (is_possible v left) (is_possible v right)
-
--- the right one of two children
-abbrev pub second_of : Tree → Option Tree
-second_of (Join' _ left _ right) = Some right
-second_of (LeftJoin' _ left _ right condition) = Some right
-second_of (Union' _ left _ right) = Some right
-second_of (Minus' _ left _ right) = Some right
-second_of (Exists' _ left _ right condition) = Some right
-second_of (NotExists' _ left _ right condition) = Some right
-second_of _ = None
 
 -- what the tree's rows bind the variable in
 abbrev pub Binds : ℕ → Binding → Tree → Type 0

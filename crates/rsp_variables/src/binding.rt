@@ -1,14 +1,13 @@
 // Whether the rows of a node bind a variable.
-ghost use Rattle.std.specs.Prelude.{◌≡◌, ◌||◌, ◌&&◌, ◌<◌, None, is_some, IfSome};
-ghost use Rattle.std.specs.List.{flat_map};
-ghost use Rattle.std.specs.Option.{IsSomeAnd, option_copied};
-ghost use Rattle.rsp_algebra.specs.declared.tree.Tree.{size-Tree};
+ghost use Rattle.std.specs.Prelude.{◌≡◌, ◌||◌, ◌&&◌, not, None, is_some};
+ghost use Rattle.std.specs.List.{flat_map, list_all};
+ghost use Rattle.std.specs.Option.{IsSomeAnd};
 ghost use Rattle.rsp_algebra.specs.Meanings.{aggregations_of};
 ghost use Rattle.rsp_algebra.specs.Nodes.{slot_variables, place_variables};
 ghost use Rattle.rsp_algebra.specs.Patterns.{cell as cell_of, among};
-ghost use Rattle.rsp_algebra.specs.Spines.{first_of};
+ghost use Rattle.rsp_algebra.specs.Spines.{first_of, second_of};
 ghost use Rattle.rsp_algebra.specs.Work.{bound_in_all, group_variables};
-ghost use Rattle.rsp_variables.specs.Binding.{Binds, second_of};
+ghost use Rattle.rsp_variables.specs.Binding.{Binds};
 ghost use Rattle.rsp_variables.specs.Possible.{bound_variables};
 
 use rsp_algebra::{Place, Tree};
@@ -23,22 +22,6 @@ pub struct Binding {
     pub certain: bool,
     /// No row binds it, whatever the facts, where this is false.
     pub possible: bool,
-}
-
-/// The right one of two children.
-pub(crate) fn second_child(tree: &Tree) -> Option<&Tree>
-    ensures child { option_copied result ≡ second_of tree.now }
-    ensures smaller { IfSome result (λ child. size-Tree child.now < size-Tree tree.now) }
-{
-    match tree {
-        Tree::Join { right, .. } => Some(right),
-        Tree::LeftJoin { right, .. } => Some(right),
-        Tree::Union { right, .. } => Some(right),
-        Tree::Minus { right, .. } => Some(right),
-        Tree::Exists { right, .. } => Some(right),
-        Tree::NotExists { right, .. } => Some(right),
-        _ => None,
-    }
 }
 
 fn slot_has(slot: &Slot, variable: usize) -> bool
@@ -86,7 +69,7 @@ fn row_binds(row: &Row<Term>, variable: usize) -> bool
 }
 
 fn all_bind(rows: &[Row<Term>], variable: usize) -> bool
-    ensures { result ≡ all_bind rows.now variable }
+    ensures { result ≡ list_all (λ row. is_some (cell_of row variable)) rows.now }
 {
     for row in rows {
         if !row_binds(row, variable) {
@@ -96,8 +79,15 @@ fn all_bind(rows: &[Row<Term>], variable: usize) -> bool
     true
 }
 
+// whether each of the rows binds the variable, and there are rows
+fn given_bind(rows: &[Row<Term>], variable: usize) -> bool
+    ensures { result ≡ among (bound_in_all rows.now) variable }
+{
+    !rows.is_empty() && all_bind(rows, variable)
+}
+
 fn some_binds(rows: &[Row<Term>], variable: usize) -> bool
-    ensures { result ≡ some_binds rows.now variable }
+    ensures { result ≡ among (flat_map bound_variables rows.now) variable }
 {
     for row in rows {
         if row_binds(row, variable) {
@@ -105,4 +95,119 @@ fn some_binds(rows: &[Row<Term>], variable: usize) -> bool
         }
     }
     false
+}
+
+fn is_aggregate(aggregates: &[(usize, Aggregate)], variable: usize) -> bool
+    ensures { result ≡ among (group_variables (aggregations_of aggregates.now)) variable }
+{
+    for entry in aggregates {
+        if variable == entry.0 {
+            return true;
+        }
+    }
+    false
+}
+
+fn in_group(
+    keys: &[usize],
+    aggregates: &[(usize, Aggregate)],
+    variable: usize,
+    child: Binding,
+) -> Binding
+    ensures certain { result.certain ≡ (among keys.now variable
+        && (child.certain && not (among (group_variables (aggregations_of aggregates.now)) variable))) }
+    ensures possible { result.possible ≡ ((among keys.now variable && child.possible)
+        || among (group_variables (aggregations_of aggregates.now)) variable) }
+{
+    let is_key = keys.contains(&variable);
+    let is_aggregate = is_aggregate(aggregates, variable);
+    Binding {
+        certain: is_key && child.certain && !is_aggregate,
+        possible: is_key && child.possible || is_aggregate,
+    }
+}
+
+fn among_shown(variables: &[usize], variable: usize, child: Binding) -> Binding
+    ensures certain { result.certain ≡ (child.certain && among variables.now variable) }
+    ensures possible { result.possible ≡ (child.possible && among variables.now variable) }
+{
+    let is_shown = variables.contains(&variable);
+    Binding {
+        certain: child.certain && is_shown,
+        possible: child.possible && is_shown,
+    }
+}
+
+/// What the rows of a tree without children bind the variable in.
+pub(crate) fn leaf_binding(leaf: &Tree, variable: usize) -> Binding
+    requires { first_of leaf.now ≡ None }
+    ensures { Binds variable result leaf.now }
+{
+    match leaf {
+        Tree::Pattern {
+            place,
+            subject,
+            predicate,
+            object,
+        } => {
+            let bound = pattern_has(place, subject, predicate, object, variable);
+            Binding {
+                certain: bound,
+                possible: bound,
+            }
+        }
+        Tree::Values { rows } => Binding {
+            certain: given_bind(rows, variable),
+            possible: some_binds(rows, variable),
+        },
+        _ => Binding {
+            certain: false,
+            possible: false,
+        },
+    }
+}
+
+/// What the rows of a tree with one child bind the variable in.
+pub(crate) fn binding_over(tree: &Tree, variable: usize, child: Binding) -> Binding
+    requires one { second_of tree.now ≡ None }
+    requires child { IsSomeAnd (first_of tree.now) (Binds variable child) }
+    ensures { Binds variable result tree.now }
+{
+    match tree {
+        Tree::Extend { variable: made, .. } => Binding {
+            certain: child.certain && variable != *made,
+            possible: variable == *made || child.possible,
+        },
+        Tree::Project { variables, .. } => among_shown(variables, variable, child),
+        Tree::Group { keys, aggregates, .. } => in_group(keys, aggregates, variable, child),
+        _ => child,
+    }
+}
+
+/// What the rows of a tree with two children bind the variable in.
+pub(crate) fn binding_of_pair(
+    tree: &Tree,
+    variable: usize,
+    left: Binding,
+    right: Binding,
+) -> Binding
+    requires left { IsSomeAnd (first_of tree.now) (Binds variable left) }
+    requires right { IsSomeAnd (second_of tree.now) (Binds variable right) }
+    ensures { Binds variable result tree.now }
+{
+    match tree {
+        Tree::Join { .. } => Binding {
+            certain: left.certain || right.certain,
+            possible: left.possible || right.possible,
+        },
+        Tree::LeftJoin { .. } => Binding {
+            certain: left.certain,
+            possible: left.possible || right.possible,
+        },
+        Tree::Union { .. } => Binding {
+            certain: left.certain && right.certain,
+            possible: left.possible || right.possible,
+        },
+        _ => left,
+    }
 }

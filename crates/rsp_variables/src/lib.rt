@@ -4,3 +4,11 @@
 //! Of the first are made the keys by which partners are looked up. Of both it is told where a key decides alone which rows are
 //! compatible. Below: the algebra. Above: nothing yet.
 #![tactic(auto)]
+
+mod binding;
+mod tree;
+mod variables;
+
+pub use binding::Binding;
+pub use tree::binding;
+pub use variables::{certain, key, key_decides, possible};
