@@ -1,9 +1,8 @@
 // Which facts a tree reads.
 ghost use Rattle.std.specs.Prelude.{◌≡◌, ◌||◌, None, IfSome};
-ghost use Rattle.std.specs.Option.{IsSomeAnd};
 ghost use Rattle.rsp_algebra.specs.Meanings.{node_of};
 ghost use Rattle.rsp_algebra.specs.Reading.{stands_for, has_graph, reads as is_read};
-ghost use Rattle.rsp_algebra.specs.Spines.{first_of, second_of};
+ghost use Rattle.rsp_algebra.specs.Spines.{first_of};
 
 use crate::descent::{first_child, second_child};
 use crate::{Place, Tree};
@@ -79,7 +78,7 @@ fn tree_reads(tree: &Tree, fact: &Fact) -> bool
 // whether the right child reads it, if there is one
 #[cycle(reads)]
 fn second_reads(tree: &Tree, fact: &Fact) -> bool
-    ensures { IsSomeAnd (first_of tree.now) (λ first. is_read (node_of tree.now) fact.now
+    ensures { IfSome (first_of tree.now) (λ first. is_read (node_of tree.now) fact.now
         ≡ (is_read (node_of first) fact.now || result)) }
 {
     match second_child(tree) {
