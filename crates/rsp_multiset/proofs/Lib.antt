@@ -10,7 +10,6 @@ pub mod Whole
 mod WorkedRows
 pub mod Counting
 pub mod Columns
-mod FirstCells
 pub mod Distincts
 pub mod Between
 pub mod KeySets

@@ -86,15 +86,6 @@ impl<V: Cell> Bag<V> {
         self.counts.distinct()
     }
 
-    /// The rows, each with how often it is there. Takes no memory.
-    pub fn into_counts(self) -> Changes<Row<V>>
-        ensures value { result ≡ self }
-        ensures counts { AreCounts (row_eq V.eq) result }
-    {
-        let Bag { counts, rows: _ } = self;
-        counts
-    }
-
     /// The row at this index, with how often it is there.
     pub fn entry_at(&self, index: usize) -> (&Row<V>, u64)
         requires { index < length self.now }

@@ -1,6 +1,5 @@
 // Rows by their variables.
-ghost use Rattle.std.specs.Prelude.{◌≡◌, ◌≤◌, true, nat_eq, if◌then◌else◌, None, IfOk, length, take};
-ghost use Rattle.std.specs.List.{range_with_len};
+ghost use Rattle.std.specs.Prelude.{◌≡◌, nat_eq, if◌then◌else◌, None, IfOk};
 ghost use Rattle.rsp_multiset.specs.Variables.{row_by, cell, among, extension, projection, cells_at};
 
 use crate::row::share_cell;
@@ -55,43 +54,6 @@ impl<V: Cell> Row<V> {
         let cells = chosen_cells(*self.cells.allocator(), variables, self.cells())?;
         Ok(Row { cells })
     }
-
-    /// The same cells of a row that is no longer needed: where they are its first, they aren't copied. Fails only where memory is
-    /// refused.
-    pub fn into_cells_at(self, variables: &[usize]) -> Result<Row<V>, AllocError>
-        ensures { IfOk result (λ row. row ≡ cells_at variables.now self) }
-    {
-        if are_first(variables, self.cells.len()) {
-            Ok(Row {
-                cells: first_cells(self.cells, variables.len()),
-            })
-        } else {
-            self.cells_at(variables)
-        }
-    }
-}
-
-// whether these are the variables from 0 on, all below the width
-fn are_first(variables: &[usize], width: usize) -> bool
-    ensures { result ≡ true → (length variables.now ≤ width) × (variables.now ≡ range_with_len 0 (length variables.now)) }
-{
-    if width < variables.len() {
-        return false;
-    }
-    for place in 0..variables.len() {
-        if variables[place] != place {
-            return false;
-        }
-    }
-    true
-}
-
-fn first_cells<V: Cell>(cells: Vec<Option<V>>, count: usize) -> Vec<Option<V>>
-    ensures { result.items ≡ take count cells.items }
-{
-    let mut cells = cells;
-    cells.truncate(count);
-    cells
 }
 
 fn unbound_cells<V: Cell>(alloc: Global, width: usize) -> Result<Vec<Option<V>>, AllocError>
