@@ -12,3 +12,4 @@ pub mod Spines
 pub mod FactsRead
 pub mod Flat
 pub mod SameWork
+pub mod Ranges

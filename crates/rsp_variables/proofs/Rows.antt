@@ -1,14 +1,13 @@
 -- What all rows of a list bind or leave unbound, and the lists that are made of it.
-use Rattle.std.proofs.Common.{◌≡◌, ℕ, ◌<◌, ◌≤◌, ◌+◌, Bool, true, false, true≢false, not, cond, ◌&&◌, ◌||◌, nat_eq, Option, None, Some, is_some, if◌then◌else◌, List, [], ◌∷◌, ◌++◌, map, filter, length, refl, sym, ap, subst, ◌∙◌, arith}
+use Rattle.std.proofs.Common.{◌≡◌, ℕ, ◌<◌, Bool, true, false, true≢false, not, cond, ◌&&◌, ◌||◌, nat_eq, Option, None, Some, is_some, if◌then◌else◌, List, [], ◌∷◌, map, filter, length, refl, sym, ap, ◌∙◌}
+use Rattle.std.specs.Prelude.{⊤}
 use Rattle.std.specs.Bool.{then_some}
 use Rattle.std.specs.Cmp.{unsigned_Decides}
-use Rattle.std.specs.List.{AllByRecursion, filter_map, cons_option, list_any, list_all, range_with_len}
-use Rattle.std.proofs.lemmas.Bool.Decides.{nat_tests}
-use Rattle.rsp_spec.proofs.Truths.{both_are}
+use Rattle.std.specs.List.{AllByRecursion, filter_map, cons_option}
 use Rattle.rsp_multiset.specs.RowLists.{merged_pair, merged_pairs, each_once}
 use Rattle.rsp_multiset.specs.Rows.{Cells, bound_in_either, merge}
 use Rattle.rsp_terms.specs.declared.term.Term.{Term}
-use Rattle.rsp_algebra.specs.Patterns.{row_by, cell, among}
+use Rattle.rsp_algebra.specs.Patterns.{cell, among}
 use Rattle.rsp_algebra.specs.Solutions.{projection, extension}
 use Rattle.rsp_algebra.proofs.Widths.{AllHave, all-append, all-filter}
 use Rattle.rsp_algebra.proofs.Bindings.{row_by-cell, merged-cell}
@@ -16,19 +15,21 @@ use Rattle.rsp_variables.specs.Sets.{AllBind}
 
 -- ---- membership
 
+with_false : (a b : Bool) → b ≡ false → (a && b) ≡ false
+with_false true b h = h
+with_false false b h = refl
+
 pub among-filter : (p : ℕ → Bool) (xs : List ℕ) (v : ℕ) → among (filter p xs) v ≡ (among xs v && p v)
 among-filter p [] v = refl
-among-filter p (x ∷ xs) v = by (p x) refl (nat_eq v x) refl
+among-filter p (x ∷ xs) v = by (p x) refl (nat_eq v x) refl (among-filter p xs v)
   where
-    by : (b : Bool) → p x ≡ b → (c : Bool) → nat_eq v x ≡ c → among (cond b (x ∷ filter p xs) (filter p xs)) v ≡ ((nat_eq v x || among xs v) && p v)
-    by true passes true is = (λ i. is i || among (filter p xs) v) ∙ sym ((λ i. (is i || among xs v) && p v) ∙ (ap p ((unsigned_Decides v x).0 is) ∙ passes))
-    by true passes false is = (λ i. is i || among (filter p xs) v) ∙ (among-filter p xs v ∙ sym (λ i. (is i || among xs v) && p v))
-    by false fails true is = among-filter p xs v ∙ (with_false (among xs v) (p v) (ap p ((unsigned_Decides v x).0 is) ∙ fails) ∙ sym ((λ i. (is i || among xs v) && p v) ∙ (ap p ((unsigned_Decides v x).0 is) ∙ fails)))
-      where
-        with_false : (a b : Bool) → b ≡ false → (a && b) ≡ false
-        with_false true b h = h
-        with_false false b h = refl
-    by false fails false is = among-filter p xs v ∙ sym (λ i. (is i || among xs v) && p v)
+    by : (b : Bool) → p x ≡ b → (c : Bool) → nat_eq v x ≡ c → among (filter p xs) v ≡ (among xs v && p v) → among (cond b (x ∷ filter p xs) (filter p xs)) v ≡ ((nat_eq v x || among xs v) && p v)
+    by true passes true is rest = (λ i. is i || among (filter p xs) v) ∙ sym ((λ i. (is i || among xs v) && p v) ∙ (ap p ((unsigned_Decides v x).0 is) ∙ passes))
+    by true passes false is rest = (λ i. is i || among (filter p xs) v) ∙ (rest ∙ sym (λ i. (is i || among xs v) && p v))
+    by false fails true is rest =
+        rest
+        ∙ (with_false (among xs v) (p v) (ap p ((unsigned_Decides v x).0 is) ∙ fails) ∙ sym ((λ i. (is i || among xs v) && p v) ∙ (ap p ((unsigned_Decides v x).0 is) ∙ fails)))
+    by false fails false is rest = rest ∙ sym (λ i. (is i || among xs v) && p v)
 
 pub either_is : (a b : Bool) → (a || b) ≡ false → (a ≡ false) × (b ≡ false)
 either_is true b h = absurd (true≢false h)

@@ -7,7 +7,7 @@ use Rattle.rsp_algebra.specs.Nodes as node
 use Rattle.rsp_algebra.specs.Nodes.{Node, Single, Double, pattern_variables}
 use Rattle.rsp_algebra.specs.Patterns.{among}
 use Rattle.rsp_algebra.specs.Work.{bound_in_all, group_variables}
-use Rattle.rsp_variables.specs.declared.binding.Binding.{Binding}
+use Rattle.rsp_variables.specs.declared.nodes.Binding.{Binding}
 use Rattle.rsp_variables.specs.Possible.{bound_variables}
 
 -- by the one child

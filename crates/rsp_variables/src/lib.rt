@@ -5,10 +5,10 @@
 //! compatible. Below: the algebra. Above: nothing yet.
 #![tactic(auto)]
 
-mod binding;
+mod nodes;
 mod tree;
 mod variables;
 
-pub use binding::Binding;
-pub use tree::binding;
+pub use nodes::Binding;
+pub use tree::binding_of;
 pub use variables::{certain, key, key_decides, possible};

@@ -8,21 +8,21 @@ ghost use Rattle.rsp_algebra.specs.Work.{certain_variables};
 ghost use Rattle.rsp_variables.specs.Binding.{Binds};
 ghost use Rattle.rsp_variables.specs.Possible.{possible_variables};
 
-use crate::binding::{binding_of_pair, binding_over, leaf_binding};
 use crate::Binding;
+use crate::nodes::{binding_of_pair, binding_over, leaf_binding};
 use rsp_algebra::{Tree, second_child, spine};
 use std::alloc::{AllocError, Global};
 
 /// What the rows of the tree bind the variable in. Along first children it goes by a loop, since a union in a text has
 /// thousands of groups. Fails only where memory is refused.
-pub fn binding(alloc: Global, tree: &Tree, variable: usize) -> Result<Binding, AllocError>
+pub fn binding_of(alloc: Global, tree: &Tree, variable: usize) -> Result<Binding, AllocError>
     ensures certain { IfOk result (λ found. found.certain ≡ among (certain_variables (node_of tree.now)) variable) }
     ensures possible { IfOk result (λ found. found.possible ≡ among (possible_variables (node_of tree.now)) variable) }
 {
     found_binding(alloc, tree, variable)
 }
 
-#[cycle(binding)]
+#[cycle(bindings)]
 fn found_binding(alloc: Global, tree: &Tree, variable: usize) -> Result<Binding, AllocError>
     ensures { IfOk result (λ found. Binds variable found tree.now) }
 {
@@ -35,7 +35,7 @@ fn found_binding(alloc: Global, tree: &Tree, variable: usize) -> Result<Binding,
 }
 
 // of a tree from its first child
-#[cycle(binding)]
+#[cycle(bindings)]
 fn binding_above(
     alloc: Global,
     tree: &Tree,

@@ -1,6 +1,6 @@
 // Whether the rows of a node bind a variable.
 ghost use Rattle.std.specs.Prelude.{◌≡◌, ◌||◌, ◌&&◌, not, None, is_some};
-ghost use Rattle.std.specs.List.{flat_map, list_all};
+ghost use Rattle.std.specs.List.{flat_map, list_all, list_any};
 ghost use Rattle.std.specs.Option.{IsSomeAnd};
 ghost use Rattle.rsp_algebra.specs.Meanings.{aggregations_of};
 ghost use Rattle.rsp_algebra.specs.Nodes.{slot_variables, place_variables};
@@ -80,14 +80,24 @@ fn all_bind(rows: &[Row<Term>], variable: usize) -> bool
 }
 
 // whether each of the rows binds the variable, and there are rows
-fn given_bind(rows: &[Row<Term>], variable: usize) -> bool
+fn given_certain(rows: &[Row<Term>], variable: usize) -> bool
     ensures { result ≡ among (bound_in_all rows.now) variable }
 {
-    !rows.is_empty() && all_bind(rows, variable)
+    if rows.is_empty() {
+        return false;
+    }
+    all_bind(rows, variable)
+}
+
+// whether some row binds the variable
+fn given_possible(rows: &[Row<Term>], variable: usize) -> bool
+    ensures { result ≡ among (flat_map bound_variables rows.now) variable }
+{
+    some_binds(rows, variable)
 }
 
 fn some_binds(rows: &[Row<Term>], variable: usize) -> bool
-    ensures { result ≡ among (flat_map bound_variables rows.now) variable }
+    ensures { result ≡ list_any (λ row. is_some (cell_of row variable)) rows.now }
 {
     for row in rows {
         if row_binds(row, variable) {
@@ -157,8 +167,8 @@ pub(crate) fn leaf_binding(leaf: &Tree, variable: usize) -> Binding
             }
         }
         Tree::Values { rows } => Binding {
-            certain: given_bind(rows, variable),
-            possible: some_binds(rows, variable),
+            certain: given_certain(rows, variable),
+            possible: given_possible(rows, variable),
         },
         _ => Binding {
             certain: false,
@@ -179,7 +189,11 @@ pub(crate) fn binding_over(tree: &Tree, variable: usize, child: Binding) -> Bind
             possible: variable == *made || child.possible,
         },
         Tree::Project { variables, .. } => among_shown(variables, variable, child),
-        Tree::Group { keys, aggregates, .. } => in_group(keys, aggregates, variable, child),
+        Tree::Group {
+            keys,
+            aggregates,
+            ..
+        } => in_group(keys, aggregates, variable, child),
         _ => child,
     }
 }
