@@ -1,0 +1,8 @@
+mod Bare
+mod Buckets
+mod Lonely
+mod Moving
+mod There
+mod Together
+mod Firsts
+mod Rest
