@@ -6,3 +6,4 @@ mod There
 mod Together
 mod Firsts
 mod Rest
+mod Parts
