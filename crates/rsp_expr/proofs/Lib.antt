@@ -1,5 +1,6 @@
 pub mod FormRows
 pub mod LiteralRows
+pub mod NumberRange
 pub mod BooleanRows
 pub mod ComparingRows
 pub mod FunctionRows

@@ -60,7 +60,7 @@ map-reordered f left right (onward xs ys zs first second) =
 
 -- ---- lists that may be missing
 
-abbrev AreReordered : {A : Type 0} → Option (List A) → Option (List A) → Type 0
+abbrev pub AreReordered : {A : Type 0} → Option (List A) → Option (List A) → Type 0
 AreReordered None None = ⊤
 AreReordered None (Some ys) = ⊥
 AreReordered (Some xs) None = ⊥
@@ -99,7 +99,7 @@ first_values : {A : Type 0} (x : Option A) (xs ys : List (Option A)) → AreReor
 first_values None xs ys same = tt
 first_values (Some x) xs ys same = both_behind x (all_values xs) (all_values ys) same
 
-all_values-reordered : {A : Type 0} (xs ys : List (Option A)) → IsReordered xs ys → AreReordered (all_values xs) (all_values ys)
+pub all_values-reordered : {A : Type 0} (xs ys : List (Option A)) → IsReordered xs ys → AreReordered (all_values xs) (all_values ys)
 all_values-reordered left right nothing = nothing
 all_values-reordered left right (behind x xs ys same) = first_values x xs ys (all_values-reordered xs ys same)
 all_values-reordered left right (exchanged x y xs) = exchanged_values x y xs
@@ -121,10 +121,10 @@ given_all-reordered f alike xs ys same = given_both f alike (all_values xs) (all
 
 -- ---- from how often a list holds each value
 
-counted_in_turn : (a b n : ℤ) → a +ℤ (b +ℤ n) ≡ b +ℤ (a +ℤ n)
+pub counted_in_turn : (a b n : ℤ) → a +ℤ (b +ℤ n) ≡ b +ℤ (a +ℤ n)
 counted_in_turn a b n = omega (arith, ints)
 
-times-reordered : {E : Type 0} (eq : E → E → Bool) (q : E) (xs ys : List E) → IsReordered xs ys → times eq xs q ≡ times eq ys q
+pub times-reordered : {E : Type 0} (eq : E → E → Bool) (q : E) (xs ys : List E) → IsReordered xs ys → times eq xs q ≡ times eq ys q
 times-reordered eq q left right nothing = refl
 times-reordered eq q left right (behind x xs ys same) = ap (λ n. only (eq q x) (pos 1) +ℤ n) (times-reordered eq q xs ys same)
 times-reordered eq q left right (exchanged x y xs) =
@@ -137,11 +137,11 @@ equal_rest a m n same = omega (arith, ints, same)
 
 module _ {E : Type 0} {eq : E → E → Bool} (same : (x y : E) → Decides (eq x y) (x ≡ y)) where
   -- the list without the first element that is x
-  abbrev without_one : E → List E → List E
+  abbrev pub without_one : E → List E → List E
   without_one x [] = []
   without_one x (y ∷ ys) = cond (eq x y) ys (y ∷ without_one x ys)
 
-  taken_out : (x : E) (ys : List E) → list_any (eq x) ys ≡ true → IsReordered (x ∷ without_one x ys) ys
+  pub taken_out : (x : E) (ys : List E) → list_any (eq x) ys ≡ true → IsReordered (x ∷ without_one x ys) ys
   taken_out x [] there = absurd (true≢false (sym there))
   taken_out x (y ∷ ys) there = by (eq x y) refl there (taken_out x ys)
     where

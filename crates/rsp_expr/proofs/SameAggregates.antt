@@ -1,5 +1,5 @@
 -- The value of an aggregate depends on how often each row stands in the group alone, and not on their order.
-use Rattle.std.proofs.Common.{◌≡◌, ℕ, ◌+◌, Bool, true, false, List, ◌∷◌, ℤ, pos, ◌+ℤ◌, ◌*ℤ◌, Option, Some, None, is_some, length, map, refl, ap, ◌∙◌, arith}
+use Rattle.std.proofs.Common.{◌≡◌, ℕ, Bool, true, false, List, ◌∷◌, ℤ, pos, ◌+ℤ◌, ◌*ℤ◌, Option, Some, None, is_some, length, map, refl, ap, ◌∙◌, arith}
 use Rattle.std.specs.Option.{option_and_then, option_eq}
 use Rattle.std.specs.Ordering.{ord_min, ord_max}
 use Rattle.std.proofs.lemmas.Int.{ints}
@@ -32,7 +32,7 @@ use Rattle.rsp_expr.proofs.TermOrder.{term_order_total, same_in_order}
 summed_in_turn : (a b c : ℤ) → (a +ℤ b) +ℤ c ≡ (a +ℤ c) +ℤ b
 summed_in_turn a b c = omega (arith, ints)
 
-taken_in_turn : (tally : Tally) (first second : Number)
+pub taken_in_turn : (tally : Tally) (first second : Number)
     → after_taking (after_taking tally first 1) second 1 ≡ after_taking (after_taking tally second 1) first 1
 taken_in_turn tally first second =
     λ i. record {
@@ -41,11 +41,11 @@ taken_in_turn tally first second =
       decimals = added_in_turn tally.decimals (decimals_of first 1) (decimals_of second 1) i;
     }
 
-same_total : (numbers others : List Number) → IsReordered numbers others → total_of numbers ≡ total_of others
+pub same_total : (numbers others : List Number) → IsReordered numbers others → total_of numbers ≡ total_of others
 same_total numbers others same =
     fold-reordered (λ tally number. after_taking tally number 1) taken_in_turn empty_tally numbers others same
 
-same_sum : (numbers others : List Number) → IsReordered numbers others → sum_of numbers ≡ sum_of others
+pub same_sum : (numbers others : List Number) → IsReordered numbers others → sum_of numbers ≡ sum_of others
 same_sum numbers others same = ap value_of_total (same_total numbers others same)
 
 -- ---- averages
@@ -53,7 +53,7 @@ same_sum numbers others same = ap value_of_total (same_total numbers others same
 abbrev average_by : Tally → ℕ → Option Number
 average_by tally count = value_of_both quotient (value_of_total tally) (integer_result (pos count))
 
-same_average : (numbers others : List Number) → IsReordered numbers others → average_of numbers ≡ average_of others
+pub same_average : (numbers others : List Number) → IsReordered numbers others → average_of numbers ≡ average_of others
 same_average left right nothing = refl
 same_average left right (behind x xs ys same) =
     (λ i. average_by (same_total (x ∷ xs) (x ∷ ys) (behind x xs ys same) i)
@@ -64,12 +64,12 @@ same_average left right (onward xs ys zs first second) = same_average xs ys firs
 
 -- ---- the least and the greatest
 
-same_least : (terms others : List Term) → IsReordered terms others → least_of terms ≡ least_of others
+pub same_least : (terms others : List Term) → IsReordered terms others → least_of terms ≡ least_of others
 same_least terms others same =
     reduce-reordered (ord_min term_order) (min_commutes term_order_total same_in_order) (min_turns term_order_total same_in_order)
     terms others same
 
-same_greatest : (terms others : List Term) → IsReordered terms others → greatest_of terms ≡ greatest_of others
+pub same_greatest : (terms others : List Term) → IsReordered terms others → greatest_of terms ≡ greatest_of others
 same_greatest terms others same =
     reduce-reordered (ord_max term_order) (max_commutes term_order_total same_in_order) (max_turns term_order_total same_in_order)
     terms others same
@@ -85,7 +85,7 @@ same_of_numbers f alike values others same =
     (given_all-reordered f alike (map (option_and_then number_of) values) (map (option_and_then number_of) others)
     (map-reordered (option_and_then number_of) values others same))
 
-same_aggregate_of : (kind : Kind) (values others : List (Option Term)) → IsReordered values others
+pub same_aggregate_of : (kind : Kind) (values others : List (Option Term)) → IsReordered values others
     → aggregate_of kind values ≡ aggregate_of kind others
 same_aggregate_of Count values others same =
     ap (λ n. numeral_result (integer_result (pos n))) (count_by-reordered is_some values others same)
@@ -94,10 +94,17 @@ same_aggregate_of Avg values others same = same_of_numbers average_of same_avera
 same_aggregate_of Min values others same = given_all-reordered least_of same_least values others same
 same_aggregate_of Max values others same = given_all-reordered greatest_of same_greatest values others same
 
-same_counted : (distinct : Bool) (values others : List (Option Term)) → IsSameMultiset (option_eq term_eq) values others
+pub same_counted : (distinct : Bool) (values others : List (Option Term)) → IsSameMultiset (option_eq term_eq) values others
     → IsSameMultiset (option_eq term_eq) (counted_values distinct values) (counted_values distinct others)
 same_counted true values others same = same-once (cell_decides term_same) values others same
 same_counted false values others same = same
+
+pub same_aggregate : (kind : Kind) (distinct : Bool) (values others : List (Option Term)) → IsSameMultiset (option_eq term_eq) values others
+    → aggregate_of kind (counted_values distinct values) ≡ aggregate_of kind (counted_values distinct others)
+same_aggregate kind distinct values others same =
+    same_aggregate_of kind (counted_values distinct values) (counted_values distinct others)
+    (reordered (cell_decides term_same) (counted_values distinct values) (counted_values distinct others)
+    (same_counted distinct values others same))
 
 same_value_over : (argument : Option Formula) (kind : Kind) (distinct : Bool) (rows others : List (Cells Term))
     → IsSameMultiset (row_eq term_eq) rows others
@@ -105,12 +112,8 @@ same_value_over : (argument : Option Formula) (kind : Kind) (distinct : Bool) (r
 same_value_over None kind distinct rows others same =
     ap (λ n. numeral_result (integer_result (pos n))) (length-same (row_decides term_same) rows others same)
 same_value_over (Some argument) kind distinct rows others same =
-    let values = map (value argument) rows in
-    let other_values = map (value argument) others in
-    same_aggregate_of kind (counted_values distinct values) (counted_values distinct other_values)
-    (reordered (cell_decides term_same) (counted_values distinct values) (counted_values distinct other_values)
-    (same_counted distinct values other_values
-    (same-map (row_decides term_same) (option_eq term_eq) (value argument) rows others same)))
+    same_aggregate kind distinct (map (value argument) rows) (map (value argument) others)
+    (same-map (row_decides term_same) (option_eq term_eq) (value argument) rows others same)
 
 pub same_aggregate_value : (aggregation : Aggregation) (rows others : List (Cells Term))
     → IsSameMultiset (row_eq term_eq) rows others

@@ -8,7 +8,7 @@ use Rattle.std.proofs.Common.{ap, sym, ◌∙◌, subst, true≢false}
 use Rattle.rsp_number.specs.Texts.{read_decimal}
 use Rattle.rsp_number.specs.declared.number.Number.TheVariants as number
 use Rattle.rsp_expr.specs.BooleanValues.{boolean_reading, is_filled, numeric_value, xsd_boolean}
-use Rattle.rsp_expr.specs.CodeTypes.{known_whole_types, other_types, type_in, datatype_among, datatype_of, bounds_of, typed_reading, typed_boolean, typed_value, typed_string, is_floating}
+use Rattle.rsp_expr.specs.CodeTypes.{known_whole_types, type_in, datatype_among, datatype_of, bounds_of, typed_reading, typed_boolean, typed_value, typed_string, is_floating}
 use Rattle.rsp_expr.specs.Datatypes.{range_of}
 use Rattle.rsp_expr.specs.Forms.{numeric_reading, reading_map, whole_reading}
 use Rattle.rsp_expr.specs.declared.datatypes.WholeType.{WholeType}

@@ -1,5 +1,5 @@
 -- Definitions: what a literal of a numeric type reads as.
-use Rattle.std.specs.Prelude.{ℕ, ℤ, Bool, ◌&&◌, if◌then◌else◌, Option, None, Some, option_map, List, codes}
+use Rattle.std.specs.Prelude.{ℕ, ℤ, ◌&&◌, if◌then◌else◌, Option, None, Some, option_map, List, codes}
 use Rattle.std.specs.Str.{bytes_eq}
 use Rattle.rsp_number.specs.Decimals.{integer_in_range, with_sign}
 use Rattle.rsp_number.specs.Texts.{is_negative, without_sign, number_after, has_integer_form, value_or_beyond, read_decimal}

@@ -12,6 +12,7 @@ pub mod Functions
 pub mod Values
 pub mod Order
 pub mod Aggregates
+pub mod Groups
 -- Words of the way:
 pub mod CodeTypes
 pub mod Meanings

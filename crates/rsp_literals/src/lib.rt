@@ -8,6 +8,7 @@
 #![tactic(auto)]
 
 mod booleans;
+mod counts;
 mod datatypes;
 mod forms;
 mod numerals;
@@ -15,6 +16,7 @@ mod same;
 mod strings;
 
 pub use booleans::{boolean_of, boolean_term, boolean_value};
+pub use counts::{integer_of, literal_of, quotient_of};
 pub use datatypes::{RDF_LANG_STRING, XSD_BOOLEAN, XSD_DECIMAL, XSD_INTEGER, datatype_of};
 pub use forms::number_of;
 pub use numerals::term_of;

@@ -5,5 +5,6 @@ pub mod Laws
 pub mod Powers
 pub mod Shortest
 pub mod Summing
+pub mod Tallied
 pub mod Tallying
 pub mod Writing

@@ -2,6 +2,8 @@
 use Rattle.std.specs.Prelude.{ℕ, ◌+◌, ◌*◌, ◌%◌, ◌^◌, ◌≤◌, ℤ, unsigned_abs, ◌≡◌}
 use Rattle.rsp_number.specs.Decimals.{largest}
 use Rattle.rsp_number.specs.Tallies.{Tally}
+use Rattle.rsp_number.specs.Totals.{units}
+use Rattle.rsp_number.specs.declared.number.Number.{Number}
 
 -- a sum in units of 10^-18 is a whole number
 abbrev pub IsWhole : ℤ → Type 0
@@ -16,3 +18,7 @@ pub record IsTally (tally : Tally) : Type 0 where
   pub few : tally.integers + tally.decimals ≤ 2 ^ 32
   pub within : IsWithin tally.sum (tally.integers + tally.decimals)
   pub whole : tally.decimals ≡ 0 → IsWhole tally.sum
+
+-- the number is at most 2^63 - 1 in size
+abbrev pub IsSmall : Number → Type 0
+IsSmall number = unsigned_abs (units number) ≤ largest * 10 ^ 18

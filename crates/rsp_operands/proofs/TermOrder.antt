@@ -49,3 +49,10 @@ pub same_in_rank : {E : Type 0} (a b : Term) (found : Result Ordering E) → Has
 same_in_rank a b (Ok found) first second is =
     λ same. same_from_printed a b first second (same_texts (term_text a) (term_text b) (last_equal _ _ (sym is ∙ same)))
 same_in_rank a b (Err e) first second is = is
+
+-- by rank, then by numbers and texts: the order
+pub ordered_by_keys : (a b : Term) → HasShortNumber a → HasShortNumber b
+    → ordering_then (nat_cmp (term_rank a) (term_rank b)) (by_numbers_and_texts a b) ≡ term_order a b
+ordered_by_keys a b first second =
+    ap (λ rest. ordering_then (nat_cmp (term_rank a) (term_rank b)) (ordering_then (option_cmp comparison (number_of a) (number_of b)) rest))
+    (numbers_by_texts a b first second (slice_cmp nat_cmp (term_text a) (term_text b)) refl)

@@ -1,2 +1,3 @@
 -- Words of the way:
 pub mod Operands
+pub mod Keys

@@ -9,6 +9,7 @@
 mod comparing;
 mod functions;
 mod joining;
+mod key;
 mod literals;
 mod operand;
 mod order;
@@ -20,5 +21,6 @@ pub use functions::{
     arithmetic, binary_value, ternary_value, unary_minus, unary_plus, unary_value,
 };
 pub use joining::concatenation;
+pub use key::TermKey;
 pub use operand::Operand;
 pub use order::compare_terms;

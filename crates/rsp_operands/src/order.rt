@@ -43,7 +43,7 @@ fn compare_within_rank(alloc: Global, left: &Term, right: &Term) -> Result<Order
 }
 
 // blank nodes, IRIs, literals that have a number, other literals
-fn rank(term: &Term) -> u8
+pub(crate) fn rank(term: &Term) -> u8
     ensures value { result ≡ term_rank term.now }
     ensures numbered { HasShortNumber term.now }
 {
@@ -64,7 +64,7 @@ fn rank_of_literal(number: Option<Number>) -> u8
     if number.is_some() { 3 } else { 4 }
 }
 
-fn compare_numbers(left: Option<Number>, right: Option<Number>) -> Ordering
+pub(crate) fn compare_numbers(left: Option<Number>, right: Option<Number>) -> Ordering
     ensures { result ≡ option_cmp comparison left right }
 {
     match (left, right) {

@@ -13,12 +13,11 @@ ghost use Rattle.rsp_values.specs.Extremes.{better};
 
 use crate::evaluation::value;
 use crate::extremes::greatest_or_least;
-use crate::sums::{average_of, numbers_in, sum_of, whole};
+use crate::sums::{average_of, numbers_in, sum_of};
 use indexmap::IndexSet;
 use rsp_expr::{Aggregate, Expression, Kind};
-use rsp_literals::term_of;
+use rsp_literals::{integer_of, literal_of};
 use rsp_multiset::Row;
-use rsp_number::Number;
 use rsp_terms::Term;
 use std::alloc::{AllocError, Global};
 
@@ -33,7 +32,7 @@ pub fn aggregate_value(
     ensures { IfOk result (λ term. term ≡ aggregates.aggregate_value (aggregation_of aggregate.now) rows.now) }
 {
     match &aggregate.argument {
-        None => numeral(alloc, whole(rows.len())),
+        None => literal_of(alloc, integer_of(rows.len() as u64)),
         Some(argument) => {
             let values = argument_values(alloc, argument, rows)?;
             aggregate_of_counted(alloc, aggregate.kind, aggregate.distinct, values)
@@ -79,7 +78,7 @@ fn aggregate_of(
     ensures { IfOk result (λ term. term ≡ aggregates.aggregate_of kind values.items) }
 {
     match kind {
-        Kind::Count => numeral(alloc, whole(count_of(&values))),
+        Kind::Count => literal_of(alloc, integer_of(count_of(&values) as u64)),
         Kind::Sum => sum(alloc, &values),
         Kind::Avg => average(alloc, &values),
         Kind::Min => extreme(alloc, false, values),
@@ -141,7 +140,7 @@ fn sum(alloc: Global, values: &[Option<Term>]) -> Result<Option<Term>, AllocErro
 {
     match numbers_in(alloc, values)? {
         None => Ok(None),
-        Some(numbers) => numeral(alloc, sum_of(&numbers)?),
+        Some(numbers) => literal_of(alloc, sum_of(&numbers)?),
     }
 }
 
@@ -151,17 +150,7 @@ fn average(alloc: Global, values: &[Option<Term>]) -> Result<Option<Term>, Alloc
 {
     match numbers_in(alloc, values)? {
         None => Ok(None),
-        Some(numbers) => numeral(alloc, average_of(&numbers)?),
-    }
-}
-
-// the literal of a number
-fn numeral(alloc: Global, number: Option<Number>) -> Result<Option<Term>, AllocError>
-    ensures { IfOk result (λ term. term ≡ numeral_result number) }
-{
-    match number {
-        None => Ok(None),
-        Some(number) => Ok(Some(term_of(alloc, &number)?)),
+        Some(numbers) => literal_of(alloc, average_of(&numbers)?),
     }
 }
 

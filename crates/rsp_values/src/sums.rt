@@ -1,14 +1,12 @@
 // Sums and averages of numbers.
-ghost use Rattle.std.specs.Prelude.{◌≡◌, ◌≤◌, ◌+◌, ◌^◌, IfOk, OkIff, length, option_map, pos};
+ghost use Rattle.std.specs.Prelude.{◌≡◌, ◌≤◌, ◌+◌, ◌^◌, IfOk, OkIff, length, option_map};
 ghost use Rattle.std.specs.Option.{option_and_then};
-ghost use Rattle.rsp_number.specs.Numbers.{integer_result, quotient};
 ghost use Rattle.rsp_number.specs.Totals.{after_taking};
 ghost use Rattle.rsp_expr.specs.Aggregates as aggregates;
-ghost use Rattle.rsp_expr.specs.Errors.{value_of_both};
 ghost use Rattle.rsp_expr.specs.Forms as forms;
 
-use rsp_literals::number_of;
-use rsp_number::{IntegerNumber, Number, Total, div};
+use rsp_literals::{integer_of, number_of, quotient_of};
+use rsp_number::{Number, Total};
 use rsp_terms::Term;
 use std::alloc::{AllocError, Global};
 
@@ -75,29 +73,7 @@ pub(crate) fn average_of(numbers: &[Number]) -> Result<Option<Number>, AllocErro
     ensures { OkIff result (length numbers.now ≤ 2 ^ 32) (aggregates.average_of numbers.now) }
 {
     if numbers.is_empty() {
-        return Ok(whole(0));
+        return Ok(integer_of(0));
     }
-    Ok(quotient_of(sum_of(numbers)?, whole(numbers.len())))
-}
-
-fn quotient_of(sum: Option<Number>, count: Option<Number>) -> Option<Number>
-    ensures { result ≡ value_of_both quotient sum count }
-{
-    match sum {
-        None => None,
-        Some(sum) => match count {
-            None => None,
-            Some(count) => div(&sum, &count),
-        },
-    }
-}
-
-/// The integer; None exactly where it is past 2^63 - 1.
-pub(crate) fn whole(count: usize) -> Option<Number>
-    ensures { result ≡ integer_result (pos count) }
-{
-    match i64::try_from(count) {
-        Err(_) => None,
-        Ok(count) => IntegerNumber::new(count).map(Number::Integer),
-    }
+    Ok(quotient_of(sum_of(numbers)?, numbers.len() as u64))
 }
