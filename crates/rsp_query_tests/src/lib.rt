@@ -29,4 +29,6 @@ mod tokens;
 #[cfg(test)]
 mod translations;
 #[cfg(test)]
+mod variables;
+#[cfg(test)]
 mod written;
