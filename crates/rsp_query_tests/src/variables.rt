@@ -10,7 +10,10 @@ use rsp_variables::{certain, key, key_decides, possible};
 use std::alloc::{AllocError, Global};
 use std::test::Fail;
 
+// each stands before a select and a body
 const FRONT: &str = "REGISTER RSTREAM <q:o> AS SELECT ";
+
+const WINDOW: &str = " FROM NAMED WINDOW <w:1> ON <s:a> [RANGE PT1S] WHERE { ";
 
 const CASES: [(&str, &str, &str); 9] = [
     ("?s", "?s <p:v> ?o", "[0] [0] [0] true"),
@@ -45,7 +48,7 @@ const CASES: [(&str, &str, &str); 9] = [
 ];
 
 fn query_of(alloc: Global, select: &str, body: &str) -> Result<Box<Query>, Fail> {
-    let text = format!(in alloc; "{FRONT}{select} WHERE {{ {body} }}")?;
+    let text = format!(in alloc; "{FRONT}{select}{WINDOW}{body} }}")?;
     let query = parse(alloc, text.as_str())?;
     Ok(Box::new(alloc, query)?)
 }
