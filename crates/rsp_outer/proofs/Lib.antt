@@ -7,3 +7,4 @@ mod Together
 mod Firsts
 mod Rest
 mod Parts
+mod Keys

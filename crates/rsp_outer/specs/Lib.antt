@@ -4,3 +4,4 @@ pub mod Tests
 pub mod Partners
 pub mod Standing
 pub mod Truths
+pub mod ByKey

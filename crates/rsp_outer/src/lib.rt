@@ -9,8 +9,10 @@
 
 mod answer;
 mod anti;
+mod by_key;
 mod copies;
 mod counting;
+mod keyed;
 mod left_join;
 mod merging;
 mod pairings;
@@ -21,6 +23,7 @@ mod shifting;
 mod sides;
 
 pub use anti::AntiOp;
+pub use keyed::{KeyedAntiOp, KeyedSemiOp};
 pub use left_join::LeftJoinOp;
 pub use pairings::{CompatibleSharing, CompatibleWhere};
 pub use semi::SemiOp;
