@@ -22,12 +22,12 @@ use Rattle.rsp_simple_operators.specs.Carried.{row_alike, weight-alike}
 use Rattle.rsp_simple_operators.proofs.Crossed.{entries-have}
 use Rattle.rsp_simple_operators.proofs.Mapped.{known-cell, known-row_by, row_by-long}
 
-known-weaker : {V : Type 0} {P Q : V → Type 0} → ((v : V) → P v → Q v) → (row : Cells V) → IsKnown P row → IsKnown Q row
+pub known-weaker : {V : Type 0} {P Q : V → Type 0} → ((v : V) → P v → Q v) → (row : Cells V) → IsKnown P row → IsKnown Q row
 known-weaker f [] known = tt
 known-weaker f (None ∷ row) known = (tt, known-weaker f row known.1)
 known-weaker f (Some v ∷ row) known = (f v known.0, known-weaker f row known.1)
 
-keys-have : {E : Type 0} (P : E → Type 0) (es : List (E × ℤ)) → AllByRecursion (λ (e : E × ℤ). P e.0) es → AllByRecursion P (keys_of es)
+pub keys-have : {E : Type 0} (P : E → Type 0) (es : List (E × ℤ)) → AllByRecursion (λ (e : E × ℤ). P e.0) es → AllByRecursion P (keys_of es)
 keys-have P [] have = tt
 keys-have P (e ∷ es) have = (have.0, keys-have P es have.1)
 

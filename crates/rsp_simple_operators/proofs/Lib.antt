@@ -4,3 +4,4 @@ pub mod Filters
 pub mod Mapped
 pub mod Crossed
 pub mod Extended
+pub mod Learning

@@ -1,3 +1,4 @@
 -- Words of the way: they link code to definitions, and need no belief
 pub mod Carried
 pub mod Presence
+pub mod Scanned
