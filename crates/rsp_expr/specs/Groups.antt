@@ -19,11 +19,15 @@ abbrev pub group_of : ℕ → List ℕ → List (Cells Term) → Cells Term → 
 group_of width keys rows key = of_key (row_eq term_eq) (projection width keys) rows key
 
 -- the row with each aggregate's value over a group's rows for its variable; an error leaves it unbound
-abbrev pub with_values : {A : Type 0} → (A → List (Cells Term) → Option Term) → ℕ → List (ℕ × A) → List (Cells Term) → Cells Term → Cells Term
+abbrev pub with_values :
+    {A : Type 0} → (A → List (Cells Term) → Option Term) → ℕ → List (ℕ × A) → List (Cells Term) → Cells Term →
+    Cells Term
 with_values valued width aggregates rows key =
     fold (λ row aggregate. extension width aggregate.0 (valued aggregate.1 rows) row) key aggregates
 
 -- one row per group
-abbrev pub grouped_by : {A : Type 0} → (A → List (Cells Term) → Option Term) → ℕ → List ℕ → List (ℕ × A) → List (Cells Term) → List (Cells Term)
+abbrev pub grouped_by :
+    {A : Type 0} → (A → List (Cells Term) → Option Term) → ℕ → List ℕ → List (ℕ × A) → List (Cells Term) →
+    List (Cells Term)
 grouped_by valued width keys aggregates rows =
     map (λ key. with_values valued width aggregates (group_of width keys rows key) key) (group_keys width keys rows)
