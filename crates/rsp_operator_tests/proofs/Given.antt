@@ -12,15 +12,15 @@ use Rattle.rsp_terms.specs.declared.term.Term.{Term}
 use Rattle.rsp_terms.specs.Same.{term_eq}
 use Rattle.rsp_operators.specs.Laws.{Fits, AllFit, ChangesFit, Leads, MayBeGiven}
 
-abbrev copies : {X : Type 0} → ℕ → X → List X → List X
+abbrev pub copies : {X : Type 0} → ℕ → X → List X → List X
 copies zero x xs = xs
 copies (suc n) x xs = x ∷ copies n x xs
 
-abbrev coming : {X : Type 0} → ℤ → X → List X → List X
+abbrev pub coming : {X : Type 0} → ℤ → X → List X → List X
 coming (pos n) x xs = copies n x xs
 coming (negsuc n) x xs = xs
 
-abbrev going : {X : Type 0} → ℤ → X → List X → List X
+abbrev pub going : {X : Type 0} → ℤ → X → List X → List X
 going (pos n) x xs = xs
 going (negsuc n) x xs = copies (suc n) x xs
 
@@ -52,15 +52,15 @@ one-leads (negsuc n) w x q cs gs h =
     opposite true = omega (arith, ints)
     opposite false = refl
 
-abbrev came : List (Cells Term × ℤ) → List (Cells Term)
+abbrev pub came : List (Cells Term × ℤ) → List (Cells Term)
 came [] = []
 came (e ∷ es) = coming e.1 (shown_row (λ v. v) e.0) (came es)
 
-abbrev gone : List (Cells Term × ℤ) → List (Cells Term)
+abbrev pub gone : List (Cells Term × ℤ) → List (Cells Term)
 gone [] = []
 gone (e ∷ es) = going e.1 (shown_row (λ v. v) e.0) (gone es)
 
-leads : (es : List (Cells Term × ℤ)) → Leads (λ v. v) (gone es) es (came es)
+pub leads : (es : List (Cells Term × ℤ)) → Leads (λ v. v) (gone es) es (came es)
 leads [] q = refl
 leads (e ∷ es) q = one-leads e.1 (weight_shown (row_eq term_eq) (shown_row (λ v. v)) es q) (shown_row (λ v. v) e.0) q (came es) (gone es) (leads es q)
 

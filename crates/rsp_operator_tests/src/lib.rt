@@ -7,6 +7,8 @@
 #[cfg(test)]
 mod facts;
 #[cfg(test)]
+mod joins;
+#[cfg(test)]
 mod operators;
 #[cfg(test)]
 mod rows;
