@@ -1,0 +1,2 @@
+-- Definitions: what a reader must believe
+pub mod Copies

@@ -1,0 +1,59 @@
+// A group of rows.
+ghost use Rattle.std.specs.Prelude.{◌≡◌, ◌≤◌, ◌^◌, [], List, Option, length, map, IfOk, OnOk};
+ghost use Rattle.rsp_multiset.specs.Rows.{Cells};
+ghost use Rattle.rsp_terms.specs.declared.term.Term.{Term};
+ghost use Rattle.rsp_groups.specs.Moves.{Moved, MovedCount, values_in};
+ghost use Rattle.rsp_groups.specs.Standing.{GroupStands};
+
+use crate::folds::move_values;
+use rsp_folds::Fold;
+use rsp_terms::Term;
+use std::alloc::{AllocError, Global};
+
+/// How many rows a group has, and what its aggregates hold of them.
+#[derive(Drop)]
+pub struct Group<F: Drop> {
+    pub(crate) rows: u64,
+    pub(crate) folds: Vec<F>,
+}
+
+// so many rows a group can have
+const MOST_ROWS: u64 = 4_294_967_296;
+
+// so many more, or less, where that is at most 2^32
+fn moved_count(rows: u64, times: u64, out: bool) -> Result<u64, AllocError>
+    ensures { IfOk result (λ count. MovedCount out times rows count × (count ≤ 2 ^ 32)) }
+{
+    let moved = if out {
+        rows.checked_sub(times)
+    } else {
+        rows.checked_add(times)
+    };
+    match moved {
+        Some(count) if count <= MOST_ROWS => Ok(count),
+        _ => Err(AllocError),
+    }
+}
+
+/// Takes copies of a row with these values of the arguments into the group, or gives them back. Fails where memory is
+/// refused, and past 2^32 rows.
+pub(crate) fn move_row<F: Fold>(
+    alloc: Global,
+    group: &mut Group<F>,
+    values: &[Option<Term>],
+    times: u64,
+    out: bool,
+) -> Result<(), AllocError>
+    requires { (arguments : List (Cells Term → Option Term)) × ((aggregates : List (List (Option Term) → Option Term))
+        × ((row : Cells Term) × ((before : List (Cells Term)) × ((after : List (Cells Term))
+        × ((values.now ≡ values_in arguments row) × (Moved out times row before after
+        × GroupStands F.stands F.aggregate arguments aggregates group.old.rows group.old.folds.items before)))))) }
+    ensures { OnOk result ((arguments : List (Cells Term → Option Term)) (aggregates : List (List (Option Term) → Option Term))
+        (row : Cells Term) (before after : List (Cells Term)) → values.now ≡ values_in arguments row
+        → Moved out times row before after
+        → GroupStands F.stands F.aggregate arguments aggregates group.old.rows group.old.folds.items before
+        → GroupStands F.stands F.aggregate arguments aggregates group.new.rows group.new.folds.items after) }
+{
+    group.rows = moved_count(group.rows, times, out)?;
+    move_values(alloc, &mut group.folds, values, times, out)
+}
