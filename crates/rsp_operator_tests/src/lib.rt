@@ -12,3 +12,5 @@ mod joins;
 mod operators;
 #[cfg(test)]
 mod rows;
+#[cfg(test)]
+mod scans;
