@@ -1,31 +1,32 @@
 -- What the parts of a change need of one another.
-use Rattle.std.proofs.Common.{◌≡◌, ◌≢◌, ℕ, zero, suc, Bool, true, false, List, [], ◌∷◌, ◌++◌, ℤ, pos, negsuc, ◌+ℤ◌, neg_ℤ, length, map, filter, refl, sym, ap, subst, ◌∙◌, arith, Decides}
+use Rattle.std.proofs.Common.{◌≡◌, ◌≢◌, ℕ, zero, suc, Bool, true, false, cond, List, [], ◌∷◌, ◌++◌, ℤ, pos, negsuc, ◌+ℤ◌, neg_ℤ, length, map, filter, refl, sym, ap, subst, ◌∙◌, arith, Decides}
 use Rattle.std.specs.Prelude.{Option, Some, None, IsSome}
 use Rattle.std.specs.Bool.{then_some}
 use Rattle.std.specs.Cmp.{decided}
 use Rattle.std.specs.List.{AllByRecursion, AllZip, cons_option}
 use Rattle.std.specs.Map.{keys_of, lookup}
-use Rattle.std.specs.Option.{option_eq}
+use Rattle.std.specs.Option.{option_eq, option_map, option_to_list}
 use Rattle.std.proofs.lemmas.Int.{ints}
-use Rattle.std.proofs.lemmas.List.{length-map}
+use Rattle.std.proofs.lemmas.List.{length-map, append-nil}
 use Rattle.std.proofs.lemmas.List.Elements.{recursion_from_All}
 use Rattle.std.proofs.lemmas.Map.Views.{All-keys_from_lookup}
-use Rattle.rsp_expr.specs.Groups.{group_of, with_values, grouped_by}
+use Rattle.rsp_expr.specs.Groups.{group_of, group_keys, with_values, grouped_by}
 use Rattle.rsp_groups.specs.Answers.{is_group, answers_over, paired, with_cells, MayTouch, IsRow, MayAnswer}
 use Rattle.rsp_groups.specs.Carrying.{row_alike}
 use Rattle.rsp_groups.specs.Moves.{columns, results_over, values_in}
 use Rattle.rsp_groups.specs.Standing.{IsEntry}
 use Rattle.rsp_groups.specs.Values.{by_variable}
-use Rattle.rsp_groups.proofs.Turning.{shown_change, entries-read}
+use Rattle.rsp_groups.proofs.Turning.{shown_change, entries-read, known-unbound, row_by-long}
+use Rattle.rsp_groups.proofs.Answering.{answer-next, unbound-shown}
 use Rattle.rsp_groups.proofs.Concluding.{items-have, net-shown, touched-may, groups-changed, rows-answered}
 use Rattle.rsp_groups.proofs.Walking.{known-weaker}
 use Rattle.rsp_multiset.specs.Rows.{Cells, row_eq}
 use Rattle.rsp_multiset.specs.RowSame.{row_decides}
 use Rattle.rsp_multiset.specs.Shown.{shown_row, IsKnown, AreToldApart}
-use Rattle.rsp_multiset.specs.Variables.{projection}
+use Rattle.rsp_multiset.specs.Variables.{projection, row_by}
 use Rattle.rsp_multiset.specs.Weights.{weight, times, AreChanges, IsSameMultiset}
 use Rattle.rsp_terms.specs.declared.term.Term.{Term}
-use Rattle.rsp_terms.specs.Same.{term_eq}
+use Rattle.rsp_terms.specs.Same.{term_eq, term_same}
 use Rattle.rsp_operators.specs.Laws.{ChangesFit, AnswersFit, IsShownAlike, Leads}
 
 abbrev same_row : Cells Term → Cells Term → Bool
@@ -207,3 +208,56 @@ module _ {V X A : Type 0} (knows1 : V → Type 0) (shown1 : V → Term) (width :
   answers-fit touch =
       answers-may knows1 shown1 width keys (map of aggregates) (map aggregate aggregates) rows (length aggregates)
       (length-map aggregates of ∙ sym (length-map aggregates aggregate)) (length-map aggregates aggregate) qs touch key results answers is
+
+-- ---- groups of no rows
+
+pub group-nothing : (width : ℕ) (keys : List ℕ) (key : Cells Term) → key ≡ row_by width (λ _. None)
+    → filter (is_group width keys []) (key ∷ []) ≡ group_keys width keys []
+group-nothing width [] key is =
+    let there : same_row key (row_by width (λ _. None)) ≡ true = (row_decides term_same key (row_by width (λ _. None))).1 is in
+    (λ i. cond (there i) (key ∷ []) []) ∙ ap (λ k. k ∷ []) is
+group-nothing width (v ∷ vs) key is = refl
+
+pub nothing-touched : {V : Type 0} (knows : V → Type 0) (width : ℕ) (keys : List ℕ) (key : Cells V) → key ≡ row_by width (λ _. None) → MayTouch knows width keys key
+nothing-touched knows width keys key is = record {
+  known = subst (IsKnown knows) (sym is) (known-unbound knows width);
+  long = ap length is ∙ row_by-long width _;
+  keyless = λ none. is;
+}
+
+module _ {V X A : Type 0} (knows : V → Type 0) (shown : V → Term) (width : ℕ) (keys : List ℕ) (variable : A → ℕ) (of : A → Cells Term → Option Term)
+    (aggregate : A → List (Option Term) → Option Term) (aggregates : List A) (key : X → Cells V) (results : X → List (Option Term)) (unbound : Cells V)
+    (unbound_is : unbound ≡ row_by width (λ _. None)) (none made : List X) {R : Type 0} (items : R → List (Option Term)) (found : Option R) (empty : none ≡ [])
+    (pushed : map (λ a. paired (key a) (results a)) made ≡ map (λ a. paired (key a) (results a)) none ++ option_to_list (option_map (λ r. paired unbound (items r)) found))
+    (is : option_map items found
+    ≡ then_some (is_group width keys [] (shown_row shown unbound)) (results_over (map aggregate aggregates) (columns (map of aggregates) (group_of width keys [] (shown_row shown unbound))))) where
+  nothing-answered : map (λ a. paired (key a) (results a)) made ≡ answers_over shown width keys (map of aggregates) (map aggregate aggregates) [] (unbound ∷ [])
+  nothing-answered =
+      sym (append-nil (map (λ a. paired (key a) (results a)) made))
+      ∙ answer-next shown width keys (map of aggregates) (map aggregate aggregates) [] ((unbound, pos 1) ∷ []) [] unbound (pos 1) refl items found
+      [] (map (λ a. paired (key a) (results a)) made)
+      (pushed ∙ ap (λ xs. map (λ a. paired (key a) (results a)) xs ++ option_to_list (option_map (λ r. paired unbound (items r)) found)) empty) is refl
+
+  pub nothing-fits : AllByRecursion (λ a. MayAnswer width knows (length aggregates) (key a) (results a)) made
+  nothing-fits =
+      answers-fit knows shown width keys variable of aggregate aggregates key results [] (unbound ∷ []) made nothing-answered (nothing-touched knows width keys unbound unbound_is, tt)
+
+  pub nothing-made : map (λ a. with_cells width (map variable aggregates) (results a) (shown_row shown (key a))) made
+      ≡ grouped_by (λ a group. aggregate a (map (of a) group)) width keys (by_variable variable aggregates) []
+  nothing-made =
+      rows-made knows shown width keys variable of aggregate aggregates key results [] (unbound ∷ []) made nothing-answered
+      ∙ ap (map (λ k. with_values (λ a group. aggregate a (map (of a) group)) width (by_variable variable aggregates) (group_of width keys [] k) k))
+      (group-nothing width keys (shown_row shown unbound) (ap (shown_row shown) unbound_is ∙ unbound-shown shown width))
+
+module _ {V : Type 0} {test : V → V → Bool} (same : (x y : V) → Decides (test x y) (x ≡ y)) (net : List (Cells V × ℤ)) (befores afters : List (Cells V)) (none : befores ≡ [])
+    (made : (x : Cells V) → weight (row_eq test) net x ≡ times (row_eq test) afters x +ℤ neg_ℤ (times (row_eq test) befores x)) where
+  pub net-fits-from_nothing : (width : ℕ) (knows : V → Type 0) → AllByRecursion (IsRow width knows) afters → AnswersFit test width knows net
+  net-fits-from_nothing width knows rows =
+      net-fits same net [] afters (λ x. made x ∙ ap (λ xs. times (row_eq test) afters x +ℤ neg_ℤ (times (row_eq test) xs x)) none) width knows tt rows
+
+  pub net-leads-from_nothing : (shown : V → Term) (whole : List (Cells Term)) → map (shown_row shown) afters ≡ whole → Leads shown [] net whole
+  net-leads-from_nothing shown whole is q =
+      let shows = net-shown same shown net befores afters made q in
+      let one = ap (λ rows. times same_row rows q) is in
+      let zero = ap (λ xs. times same_row (map (shown_row shown) xs) q) none in
+      omega (arith, ints, shows, one, zero)

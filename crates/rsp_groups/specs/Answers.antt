@@ -53,6 +53,7 @@ pub record IsRow {V : Type 0} (width : ℕ) (knows : V → Type 0) (row : Cells 
   pub known : IsKnown knows row
 
 -- so is a key, beside as many aggregates as there are
-pub record MayAnswer {V : Type 0} (width : ℕ) (knows : V → Type 0) (number : ℕ) (key : Cells V) (results : List (Option Term)) : Type 0 where
+pub record MayAnswer {V : Type 0} (width : ℕ) (knows : V → Type 0) (number : ℕ) (key : Cells V)
+    (results : List (Option Term)) : Type 0 where
   pub row : IsRow width knows key
   pub long : length results ≡ number

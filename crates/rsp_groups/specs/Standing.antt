@@ -41,11 +41,13 @@ pub record MayMoveRow {V : Type 0} (shown : V → Term) (width : ℕ) (keys : Li
 -- the rows come in, or go out, one entry after the other
 abbrev pub Steps : Bool → List (Cells Term × ℤ) → List (Cells Term) → List (Cells Term) → Type 0
 Steps out [] before after = before ≡ after
-Steps out (e ∷ es) before after = (middle : List (Cells Term)) × (Moved out (part out e.1) e.0 before middle × Steps out es middle after)
+Steps out (e ∷ es) before after =
+    (middle : List (Cells Term)) × (Moved out (part out e.1) e.0 before middle × Steps out es middle after)
 
 -- what is said of a changed row
 pub record IsEntry {V : Type 0} (knows : V → Type 0) (shown : V → Term) (width : ℕ) (keys : List ℕ)
-    (arguments : List (Cells Term → Option Term)) (at : Cells V) (given : List (Option Term)) (by : ℤ) (row : Cells Term × ℤ) : Type 0 where
+    (arguments : List (Cells Term → Option Term)) (at : Cells V) (given : List (Option Term)) (by : ℤ)
+    (row : Cells Term × ℤ) : Type 0 where
   pub known : IsKnown knows at
   pub key : projection width keys row.0 ≡ shown_row shown at
   pub values : given ≡ values_in arguments row.0
@@ -60,7 +62,8 @@ pub record MayMoveEntry (Is : Cells Term × ℤ → Type 0) (Stands : List (Cell
   pub moved : Moved out (part out row.1) row.0 before after
   pub stands : Stands before
 
-pub record MayStep {X : Type 0} (Is : X → Cells Term × ℤ → Type 0) (Stands : List (Cells Term) → Type 0) (out : Bool) (entries : List X) : Type 0 where
+pub record MayStep {X : Type 0} (Is : X → Cells Term × ℤ → Type 0) (Stands : List (Cells Term) → Type 0) (out : Bool)
+    (entries : List X) : Type 0 where
   pub rows : List (Cells Term × ℤ)
   pub before : List (Cells Term)
   pub after : List (Cells Term)

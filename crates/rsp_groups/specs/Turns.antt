@@ -14,7 +14,8 @@ pub record Turn (rows : List (Cells Term × ℤ)) (before after : List (Cells Te
   pub same : IsSameMultiset (row_eq term_eq) come going
   pub goes : Steps true rows going after
 
-pub record MayTurn {X : Type 0} (Is : X → Cells Term × ℤ → Type 0) (Stands : List (Cells Term) → Type 0) (entries : List X) : Type 0 where
+pub record MayTurn {X : Type 0} (Is : X → Cells Term × ℤ → Type 0) (Stands : List (Cells Term) → Type 0)
+    (entries : List X) : Type 0 where
   pub rows : List (Cells Term × ℤ)
   pub before : List (Cells Term)
   pub after : List (Cells Term)

@@ -71,8 +71,8 @@ fn results_in<F: Fold>(
     }
 }
 
-// the aggregates of the key's group
-fn results_at<D: Domain, F: Fold>(
+/// The aggregates of the key's group, if it has a row in the value.
+pub(crate) fn results_at<D: Domain, F: Fold>(
     alloc: Global,
     groups: &Groups<D::Value, F>,
     key: &Row<D::Value>,
@@ -93,8 +93,8 @@ fn results_at<D: Domain, F: Fold>(
     }
 }
 
-// puts the aggregates behind the others, if there are some
-fn push_answer<V: Cell>(
+/// Puts the aggregates behind the others, if there are some.
+pub(crate) fn push_answer<V: Cell>(
     answers: &mut Vec<Answer<V>>,
     key: &Row<V>,
     found: Option<Vec<Option<Term>>>,

@@ -56,7 +56,8 @@ pub(crate) fn open_group<D: Domain, C, F: Fold>(
     aggregates: &[Aggregated<C, F>],
 ) -> Result<(), AllocError>
     ensures { OnOk result ((domain : D) (width : ℕ) (keys : List ℕ)
-        (arguments : List (Cells Term → Option Term)) (rows : List (Cells Term)) → IsKnown (D.knows domain) key.now → length arguments ≡ length aggregates.now
+        (arguments : List (Cells Term → Option Term)) (rows : List (Cells Term))
+        → IsKnown (D.knows domain) key.now → length arguments ≡ length aggregates.now
         → GroupsStand D.Value.eq (D.knows domain) (D.shown domain) width keys (λ g. GroupStands F.stands F.aggregate arguments
         (map (λ a. F.aggregate a.fold) aggregates.now) g.rows g.folds.items) groups.old.entries rows
         → GroupsStand D.Value.eq (D.knows domain) (D.shown domain) width keys (λ g. GroupStands F.stands F.aggregate arguments
@@ -81,17 +82,18 @@ pub(crate) fn move_in_group<D: Domain, F: Fold>(
 ) -> Result<(), AllocError>
     requires { (domain : D) × ((width : ℕ) × ((keys : List ℕ)
         × ((arguments : List (Cells Term → Option Term)) × ((aggregates : List (List (Option Term) → Option Term))
-        × MayMoveRow (D.shown domain) width keys arguments (GroupsStand D.Value.eq (D.knows domain) (D.shown domain) width keys (λ g. GroupStands F.stands F.aggregate
-        arguments aggregates g.rows g.folds.items) groups.old.entries) out times key.now values.now)))) }
+        × MayMoveRow (D.shown domain) width keys arguments (GroupsStand D.Value.eq (D.knows domain) (D.shown domain)
+        width keys (λ g. GroupStands F.stands F.aggregate arguments aggregates g.rows g.folds.items) groups.old.entries) out
+        times key.now values.now)))) }
     ensures { OnOk result ((domain : D) (width : ℕ) (keys : List ℕ)
         (arguments : List (Cells Term → Option Term)) (aggregates : List (List (Option Term) → Option Term))
         (row : Cells Term) (before after : List (Cells Term)) → IsKnown (D.knows domain) key.now
         → projection width keys row ≡ shown_row (D.shown domain) key.now → values.now ≡ values_in arguments row
         → Moved out times row before after
-        → GroupsStand D.Value.eq (D.knows domain) (D.shown domain) width keys (λ g. GroupStands F.stands F.aggregate arguments aggregates g.rows
-        g.folds.items) groups.old.entries before
-        → GroupsStand D.Value.eq (D.knows domain) (D.shown domain) width keys (λ g. GroupStands F.stands F.aggregate arguments aggregates g.rows
-        g.folds.items) groups.new.entries after) }
+        → GroupsStand D.Value.eq (D.knows domain) (D.shown domain) width keys
+        (λ g. GroupStands F.stands F.aggregate arguments aggregates g.rows g.folds.items) groups.old.entries before
+        → GroupsStand D.Value.eq (D.knows domain) (D.shown domain) width keys
+        (λ g. GroupStands F.stands F.aggregate arguments aggregates g.rows g.folds.items) groups.new.entries after) }
 {
     match groups.get_mut(key) {
         Some(group) => move_row(alloc, group, values, times, out),
@@ -104,10 +106,10 @@ pub(crate) fn close_group<D: Domain, F: Fold>(groups: &mut Groups<D::Value, F>, 
     ensures { (domain : D) (width : ℕ) (keys : List ℕ)
         (arguments : List (Cells Term → Option Term)) (aggregates : List (List (Option Term) → Option Term))
         (rows : List (Cells Term)) → (keys ≡ [] → ⊥)
-        → GroupsStand D.Value.eq (D.knows domain) (D.shown domain) width keys (λ g. GroupStands F.stands F.aggregate arguments aggregates g.rows
-        g.folds.items) groups.old.entries rows
-        → GroupsStand D.Value.eq (D.knows domain) (D.shown domain) width keys (λ g. GroupStands F.stands F.aggregate arguments aggregates g.rows
-        g.folds.items) groups.new.entries rows }
+        → GroupsStand D.Value.eq (D.knows domain) (D.shown domain) width keys
+        (λ g. GroupStands F.stands F.aggregate arguments aggregates g.rows g.folds.items) groups.old.entries rows
+        → GroupsStand D.Value.eq (D.knows domain) (D.shown domain) width keys
+        (λ g. GroupStands F.stands F.aggregate arguments aggregates g.rows g.folds.items) groups.new.entries rows }
 {
     if is_empty_group(groups, key) {
         groups.swap_remove(key);

@@ -8,7 +8,7 @@ ghost use Rattle.rsp_groups.specs.Standing.{GroupStands, GroupsStand};
 ghost use Rattle.rsp_groups.specs.Values.{by_variable};
 
 use crate::aggregated::Grouping;
-use crate::answers::touched_keys;
+use crate::answers::{push_answer, results_at, touched_keys};
 use crate::entries::read_entries;
 use crate::groups::{Groups, fresh_group};
 use crate::rows::{difference, rows_of_answers};
@@ -31,7 +31,10 @@ pub struct GroupOp<D: Domain, C, F: Fold> {
 
 impl<D: Domain, C: Computed<D> + Drop, F: Fold> GroupOp<D, C, F> {
     ghost use Rattle.std.specs.Prelude.{◌≡◌, [], map, IfOk};
+    ghost use Rattle.rsp_expr.specs.Groups.{grouped_by};
+    ghost use Rattle.rsp_operators.specs.Laws.{Leads, AnswersFit, IsShownAlike};
     ghost use Rattle.rsp_groups.specs.Standing.{GroupStands, GroupsStand};
+    ghost use Rattle.rsp_groups.specs.Values.{by_variable};
 
     /// The operator over no rows. Fails only where memory is refused.
     pub fn new(alloc: Global, grouping: Grouping<C, F>) -> Result<GroupOp<D, C, F>, AllocError>
@@ -43,6 +46,22 @@ impl<D: Domain, C: Computed<D> + Drop, F: Fold> GroupOp<D, C, F> {
     {
         let groups = first_groups::<D, C, F>(alloc, &grouping)?;
         Ok(GroupOp { grouping, groups })
+    }
+
+    /// The value over no rows, as a change from no row: one row without keys, else none. Fails only where memory is refused.
+    pub fn over_nothing(
+        &self,
+        alloc: Global,
+        domain: &mut D,
+    ) -> Result<Changes<Row<D::Value>>, AllocError>
+        ensures known { (v : D.Value) → D.knows domain.old v
+            → IsShownAlike (D.shown domain.old) (D.knows domain.new) (D.shown domain.new) v }
+        ensures rows { IfOk result (λ net. AnswersFit D.Value.eq self.now.grouping.width (D.knows domain.new) net) }
+        ensures leads { IfOk result (λ net. Leads (D.shown domain.new) [] net
+            (grouped_by (λ a group. F.aggregate a.fold (map (C.of a.argument) group)) self.now.grouping.width
+            self.now.grouping.keys.items (by_variable (λ a. a.variable) self.now.grouping.aggregates.items) [])) }
+    {
+        nothing_grouped(alloc, &self.grouping, domain)
     }
 }
 
@@ -105,6 +124,30 @@ fn first_groups<D: Domain, C, F: Fold>(
         return Ok(groups);
     }
     Ok(groups)
+}
+
+// the rows of the groups of no rows
+fn nothing_grouped<D: Domain, C: Computed<D>, F: Fold>(
+    alloc: Global,
+    grouping: &Grouping<C, F>,
+    domain: &mut D,
+) -> Result<Changes<Row<D::Value>>, AllocError>
+    ensures known { (v : D.Value) → D.knows domain.old v
+        → IsShownAlike (D.shown domain.old) (D.knows domain.new) (D.shown domain.new) v }
+    ensures rows { IfOk result (λ net. AnswersFit D.Value.eq grouping.now.width (D.knows domain.new) net) }
+    ensures leads { IfOk result (λ net. Leads (D.shown domain.new) [] net
+        (grouped_by (λ a group. F.aggregate a.fold (map (C.of a.argument) group)) grouping.now.width grouping.now.keys.items
+        (by_variable (λ a. a.variable) grouping.now.aggregates.items) [])) }
+{
+    let groups = first_groups::<D, C, F>(alloc, grouping)?;
+    let key = Row::unbound(alloc, grouping.width)?;
+    let keyless = is_keyless(grouping.keys.as_slice());
+    let found = results_at::<D, F>(alloc, &groups, &key, keyless)?;
+    let mut made = Vec::new(alloc);
+    push_answer(&mut made, &key, found)?;
+    let rows = rows_of_answers(alloc, grouping, made.as_slice(), domain)?;
+    let none = Vec::new(alloc);
+    difference(alloc, none.as_slice(), rows.as_slice())
 }
 
 fn apply_change<D: Domain, C: Computed<D>, F: Fold>(

@@ -90,7 +90,8 @@ pub(crate) fn rows_of_answers<D: Domain, C, F>(
     answers: &[Answer<D::Value>],
     domain: &mut D,
 ) -> Result<Vec<Row<D::Value>>, AllocError>
-    requires { AllByRecursion (λ a. MayAnswer grouping.now.width (D.knows domain.old) (length grouping.now.aggregates.items) a.key a.results.items) answers.now }
+    requires { AllByRecursion (λ a. MayAnswer grouping.now.width (D.knows domain.old) (length grouping.now.aggregates.items)
+        a.key a.results.items) answers.now }
     ensures shown { IfOk result (λ rows. map (shown_row (D.shown domain.new)) rows.items
         ≡ map (λ a. with_cells grouping.now.width (map (λ b. b.variable) grouping.now.aggregates.items) a.results.items
         (shown_row (D.shown domain.old) a.key)) answers.now) }
