@@ -29,6 +29,4 @@ mod tokens;
 #[cfg(test)]
 mod translations;
 #[cfg(test)]
-mod variables;
-#[cfg(test)]
 mod written;
