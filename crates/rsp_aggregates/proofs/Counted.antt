@@ -1,6 +1,6 @@
 -- Counts of values of which copies come or go.
-use Rattle.std.proofs.Common.{◌≡◌, ℕ, zero, suc, ◌+◌, ◌-◌, ◌≤◌, Bool, true, false, true≢false, cond, List, [], ◌∷◌, ◌++◌, length, refl, sym, ap, subst, ◌∙◌, arith, length-append}
-use Rattle.std.specs.Prelude.{Option, Some, None, is_some, pos}
+use Rattle.std.proofs.Common.{◌≡◌, ℕ, zero, suc, ◌+◌, ◌-◌, ◌≤◌, Bool, true, false, cond, List, [], ◌∷◌, ◌++◌, length, refl, sym, ap, subst, ◌∙◌, arith, length-append}
+use Rattle.std.specs.Prelude.{Option, is_some, pos}
 use Rattle.std.specs.List.{count_by, fold}
 use Rattle.rsp_aggregates.specs.Counts.{counted, counted_aggregate, Stands}
 use Rattle.rsp_expr.specs.Functions.{numeral_result}

@@ -1,8 +1,8 @@
 -- Words of the way: counts of values.
-use Rattle.std.specs.Prelude.{◌≡◌, ℕ, ◌≤◌, ◌^◌, Bool, true, false, cond, List, length, Option, is_some, pos}
+use Rattle.std.specs.Prelude.{◌≡◌, ℕ, ◌≤◌, ◌^◌, Bool, true, false, List, length, Option, is_some, pos}
 use Rattle.std.specs.List.{count_by}
 use Rattle.std.specs.Option.{option_eq}
-use Rattle.std.proofs.Common.{ap, sym, subst, ◌∙◌}
+use Rattle.std.proofs.Common.{ap, subst, ◌∙◌}
 use Rattle.rsp_expr.specs.Aggregates.{aggregate_of}
 use Rattle.rsp_expr.specs.Functions.{numeral_result}
 use Rattle.rsp_expr.proofs.Reordered.{count_by-reordered, reordered}
@@ -28,11 +28,14 @@ pub record Stands (rows : Bool) (count : ℕ) (values : List (Option Term)) : Ty
   pub counts : count ≡ counted rows values
   pub short : length values ≤ 2 ^ 32
 
-counted_alike : (rows : Bool) (values others : List (Option Term)) → IsSameMultiset (option_eq term_eq) values others → counted rows values ≡ counted rows others
+counted_alike : (rows : Bool) (values others : List (Option Term)) → IsSameMultiset (option_eq term_eq) values others
+    → counted rows values ≡ counted rows others
 counted_alike true values others same = length-same (cell_decides term_same) values others same
-counted_alike false values others same = count_by-reordered is_some values others (reordered (cell_decides term_same) values others same)
+counted_alike false values others same =
+    count_by-reordered is_some values others (reordered (cell_decides term_same) values others same)
 
-pub stands_alike : (rows : Bool) (count : ℕ) (values others : List (Option Term)) → IsSameMultiset (option_eq term_eq) values others
+pub stands_alike : (rows : Bool) (count : ℕ) (values others : List (Option Term))
+    → IsSameMultiset (option_eq term_eq) values others
     → Stands rows count values → Stands rows count others
 stands_alike rows count values others same stands = record {
   counts = stands.counts ∙ counted_alike rows values others same;
@@ -43,4 +46,5 @@ pub aggregates_alike : (rows : Bool) (values others : List (Option Term)) → Is
     → counted_aggregate rows values ≡ counted_aggregate rows others
 aggregates_alike true values others same =
     ap (λ n. numeral_result (integer_result (pos n))) (length-same (cell_decides term_same) values others same)
-aggregates_alike false values others same = same_aggregate_of Count values others (reordered (cell_decides term_same) values others same)
+aggregates_alike false values others same =
+    same_aggregate_of Count values others (reordered (cell_decides term_same) values others same)

@@ -1,17 +1,13 @@
 -- Counts of what is said.
-use Rattle.std.proofs.Common.{◌≡◌, ℕ, ◌+◌, cond, List, [], ◌∷◌, ◌++◌, sym, ap, ◌∙◌, arith, length}
+use Rattle.std.proofs.Common.{◌≡◌, ℕ, ◌+◌, cond, List, [], ◌∷◌, ◌++◌, arith}
 use Rattle.std.proofs.lemmas.List.Sums.{sum_by-append}
-use Rattle.rsp_engine.specs.declared.report.Outcome.{Outcome}
-use Rattle.rsp_engine.specs.declared.report.Outcome.TheVariants.{Rows, Overfull}
 use Rattle.rsp_engine.specs.declared.report.Report.{Report}
-use Rattle.rsp_engine.specs.Reports.{IsOutcome}
 use Rattle.rsp_call.specs.declared.voice.Tally.{Tally}
 use Rattle.rsp_call.specs.declared.refusals.Place.{Place}
 use Rattle.rsp_call.specs.Output.{Saying, a_refusal, a_report}
 use Rattle.rsp_call.specs.Refusals.{Reason}
 use Rattle.rsp_call.specs.Summaries.{is_report, rows_in, rows_said}
 use Rattle.rsp_call.specs.Tallies.{Counts}
-use Rattle.rsp_call.proofs.Tellings.{counted}
 
 one_and_one : (before mid now a b all : ℕ) → mid ≡ before + a → now ≡ mid + b → all ≡ a + b → now ≡ before + all
 one_and_one before mid now a b all first second is = omega (arith, first, second, is)
@@ -31,8 +27,3 @@ counts_report before now report reports rows = record { reports = omega (arith, 
 
 pub counts_refusal : (tally : Tally) (place : Place) (reason : Reason) → Counts tally tally (a_refusal place reason ∷ [])
 counts_refusal tally place reason = record { reports = omega arith; rows = omega arith }
-
-pub as_many_rows : (given wanted : Outcome) → IsOutcome given wanted → rows_in given ≡ rows_in wanted
-as_many_rows Overfull wanted is = ap rows_in (sym is)
-as_many_rows (Rows rows) Overfull is = absurd is
-as_many_rows (Rows rows) (Rows wanted) is = counted rows ∙ (ap length is.texts ∙ sym (counted wanted))

@@ -11,9 +11,9 @@ use Rattle.rsp_spec.specs.Limits.{most_file_bytes}
 use Rattle.rsp_words.specs.declared.form.Form.{Form}
 use Rattle.rsp_call.specs.declared.stop.Stop.{Stop}
 use Rattle.rsp_call.specs.FileAnswers.{AnswersFiles, SayingOf}
-use Rattle.rsp_call.specs.Output.{is_refusal, text_of}
 use Rattle.rsp_call.specs.Shelves.{ShelfSeen}
-use Rattle.rsp_call.specs.Stops.{Ends, status_of}
+use Rattle.rsp_call.specs.Sayings.{Says}
+use Rattle.rsp_call.specs.Stops.{status_of}
 use Rattle.rsp_words.specs.Words.{Mode, Replay, check, check_of, events_of, form_of, generate, generate_of, is_count, is_file, mode_of, run, run_of, values, without_json}
 use Rattle.rsp_call.proofs.Answering.{told}
 
@@ -81,9 +81,7 @@ few_asked (word ∷ more) count is =
     (few_generated (values more) count)
     is
 
--- ---- the answer, where no file is read and nothing is refused
+-- ---- the answer, where no file is read
 
-pub none_read : (form : Form) (said : SayingOf) (shelf : ShelfSeen) (sink sink' : SinkSeen) (result : Result Bool Stop) → Ends sink sink' (text_of form (said [])) result
-    → IfOk result (λ refused. refused ≡ false) → list_any is_refusal (said []) ≡ false → AnswersFiles most_file_bytes form [] said shelf shelf sink sink' (status_of result)
-none_read form said shelf sink sink' (Ok refused) ends is none = told form [] said shelf shelf sink sink' [] (Ok refused) refl ends (is ∙ sym none)
-none_read form said shelf sink sink' (Err why) ends is none = told form [] said shelf shelf sink sink' [] (Err why) refl ends tt
+pub none_read : (form : Form) (said : SayingOf) (shelf : ShelfSeen) (sink sink' : SinkSeen) (result : Result Bool Stop) → Says form sink sink' (said []) result → AnswersFiles most_file_bytes form [] said shelf shelf sink sink' (status_of result)
+none_read form said shelf sink sink' result says = told form [] said shelf shelf sink sink' [] result refl says

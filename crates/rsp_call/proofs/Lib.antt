@@ -1,5 +1,4 @@
 pub mod Writings
-pub mod Tabless
 pub mod Naming
 pub mod Tellings
 pub mod Folding

@@ -2,6 +2,7 @@
 use Rattle.std.proofs.Common.{◌≡◌, ℕ, ◌+◌, ◌-◌, ◌^◌, ◌<◌, ◌≤◌, Bool, true, false, IsTrue, List, [], ◌∷◌, ◌++◌, length, length-append, map, get_or, Result, Ok, Err, Option, Some, None, IfSome, refl, subst, sym, true≢false, ◌∙◌, ap, append_assoc, arith}
 use Rattle.std.proofs.lemmas.List.{append-nil, map-append}
 use Rattle.std.specs.Io.KnownBytes.{Consumes, IsAtEnd}
+use Rattle.std.specs.List.{list_any}
 use Rattle.rsp_spec.specs.Faults.{Rose}
 use Rattle.rsp_spec.specs.Limits.{most_log_bytes}
 use Rattle.rsp_io.specs.Seen.{SinkSeen, SourceSeen}
@@ -22,16 +23,18 @@ use Rattle.rsp_call.specs.declared.voice.Voice.{Voice}
 use Rattle.rsp_call.specs.declared.voice.Voice.TheVariants.{Writes}
 use Rattle.rsp_call.specs.Answers.{AnswersLog}
 use Rattle.rsp_call.specs.Feeds.{Came, Drove, SaysAll, status_of_drive}
-use Rattle.rsp_call.specs.FileAnswers.{Told}
+use Rattle.rsp_call.specs.FileAnswers.{Told, WroteFront}
 use Rattle.rsp_call.specs.Logs.{Begins, CantGoOn, Finishes, GoesTooFar, LacksMemory, LogEnded, LogGave, Reads, RefusesPiece, TakesPiece, log_turns}
-use Rattle.rsp_call.specs.Output.{Given, Start, Step, a_block, has_refusal, output, run, text_of, whole_text}
+use Rattle.rsp_call.specs.Output.{Given, Saying, Start, Step, a_block, is_refusal, log_said, output, run, text_of, whole_text}
 use Rattle.rsp_call.specs.Sinks.{Wrote, WrotePart}
 use Rattle.rsp_call.specs.Sources.{Took}
-use Rattle.rsp_call.specs.Stops.{Stops, status_of}
+use Rattle.rsp_call.specs.Sayings.{Says}
+use Rattle.rsp_call.specs.Stops.{status_of}
 use Rattle.rsp_call.proofs.Consuming.{consumed_more, consumed_nothing}
 use Rattle.rsp_call.proofs.Folding.{run-append}
 use Rattle.rsp_call.proofs.Voicing.{stops_of, text_of-append, wrote_of}
 use Rattle.rsp_call.proofs.Writings.{stops_before_more, wrote_part}
+use Rattle.rsp_words.specs.declared.form.Form.{Form}
 
 -- ---- bytes that are taken
 
@@ -166,26 +169,25 @@ lacks most taken document n reader start source source' given piece same size lo
       blocks = rw same reads.blocks;
     }
 
-goes_too_far : (most taken document n : ℕ) (reader : Reader) (start source source' : SourceSeen) (given : List Given) (piece : List ℕ) → document ≡ reader.document → n ≡ length piece → most - taken < n → Consumes source.left source'.left piece → source'.given ≡ given_after source.given n → source'.faults ≡ source.faults → Reads most taken reader start source given → GoesTooFar most document start source' given
-goes_too_far most taken document n reader start source source' given piece same size low consumed rises faultless reads =
+goes_too_far : (most taken document n : ℕ) (reader : Reader) (start source source' : SourceSeen) (given : List Given) (piece : List ℕ) → document ≡ reader.document → n ≡ length piece → taken ≡ most → 0 < n → Consumes source.left source'.left piece → source'.given ≡ given_after source.given n → source'.faults ≡ source.faults → Reads most taken reader start source given → GoesTooFar most document start source' given
+goes_too_far most taken document n reader start source source' given piece same size full some consumed rises faultless reads =
     let count = reads.count in
-    let short = reads.short in
-    let long : length (reads.bytes ++ piece) ≡ taken + n = length-append reads.bytes piece ∙ rw (count, size) refl in
     record {
       bytes = reads.bytes;
       last = piece;
-      long = omega (arith, long, low, short);
+      whole = omega (arith, count, full);
+      more = omega (arith, some, size);
       took = took_more start source source' reads.bytes piece reads.took consumed (rw size at rises);
       faultless = faultless ∙ reads.faultless;
       begins = rw same reads.begins;
       blocks = rw same reads.blocks;
     }
 
-pub ended_refused : (at_end : Bool) (most most' taken n : ℕ) (reader reader' : Reader) (start source source' : SourceSeen) (given : List Given) (piece : List ℕ) (why : Cut) → at_end ≡ false → most' ≡ most → reader'.document ≡ reader.document → n ≡ length piece → RefusesPiece why most taken n → Consumes source.left source'.left piece → source'.given ≡ given_after source.given n → source'.faults ≡ source.faults → LogGave at_end most taken reader start source given → LogEnded most' reader'.document start source' given (Some why)
-ended_refused at_end most most' taken n reader reader' start source source' given piece cut.Failed going same_most document size refuses consumed rises faultless gave = absurd refuses
-ended_refused at_end most most' taken n reader reader' start source source' given piece cut.TooLong going same_most document size refuses consumed rises faultless gave =
-    rw same_most (goes_too_far most taken reader'.document n reader start source source' given piece document size refuses consumed rises faultless (reads_of at_end most taken reader start source given going gave))
-ended_refused at_end most most' taken n reader reader' start source source' given piece cut.Memory going same_most document size refuses consumed rises faultless gave =
+pub ended_refused : (at_end : Bool) (most most' taken n : ℕ) (reader reader' : Reader) (start source source' : SourceSeen) (given : List Given) (piece : List ℕ) (why : Cut) → at_end ≡ false → most' ≡ most → reader'.document ≡ reader.document → n ≡ length piece → (why ≡ cut.TooLong → 0 < n) → RefusesPiece why most taken n → Consumes source.left source'.left piece → source'.given ≡ given_after source.given n → source'.faults ≡ source.faults → LogGave at_end most taken reader start source given → LogEnded most' reader'.document start source' given (Some why)
+ended_refused at_end most most' taken n reader reader' start source source' given piece cut.Failed going same_most document size some refuses consumed rises faultless gave = absurd refuses
+ended_refused at_end most most' taken n reader reader' start source source' given piece cut.TooLong going same_most document size some refuses consumed rises faultless gave =
+    rw same_most (goes_too_far most taken reader'.document n reader start source source' given piece document size refuses (some refl) consumed rises faultless (reads_of at_end most taken reader start source given going gave))
+ended_refused at_end most most' taken n reader reader' start source source' given piece cut.Memory going same_most document size some refuses consumed rises faultless gave =
     rw same_most (lacks most taken reader'.document n reader start source source' given piece document size refuses consumed rises faultless (reads_of at_end most taken reader start source given going gave))
 
 -- memory was refused for the block that the end ends
@@ -193,7 +195,7 @@ pub ended_last_lacks : (at_end : Bool) (most most' taken : ℕ) (reader reader' 
 ended_last_lacks at_end most most' taken reader reader' start source source' given why is going same_most document consumed rises faultless gave =
     let low : 0 ≤ most - taken = omega arith in
     rw is
-    (ended_refused at_end most most' taken 0 reader reader' start source source' given [] cut.Memory going same_most document refl low consumed rises faultless gave)
+    (ended_refused at_end most most' taken 0 reader reader' start source source' given [] cut.Memory going same_most document refl (λ is. cc) low consumed rises faultless gave)
 
 pub ended_failed : (at_end : Bool) (most taken : ℕ) (reader : Reader) (start source source' : SourceSeen) (given : List Given) → at_end ≡ false → source'.left ≡ source.left → source'.given ≡ source.given → Rose source.faults source'.faults → (IsTrue source.sure → ⊥) → LogGave at_end most taken reader start source given → CantGoOn most reader.document start source' given
 ended_failed at_end most taken reader start source source' given going left rises rose unsure gave =
@@ -221,17 +223,29 @@ last_turn false true most most' taken taken' going done = omega arith
 
 -- ---- what was said of the bytes
 
--- the text of what blocks give, with more behind them
-text_ahead : (start : Start) (xs ys : List Given) → text_of start.form (run start.world (xs ++ ys)).said ≡ text_of start.form (run start.world xs).said ++ text_of start.form (run (run start.world xs).after ys).said
-text_ahead start xs ys =
-    ap (λ (s : Step). text_of start.form s.said) (run-append start.world xs ys) ∙ text_of-append start.form (run start.world xs).said _
+-- what blocks say, with more behind them
+said_ahead : (start : Start) (xs ys : List Given) → (run start.world (xs ++ ys)).said ≡ (run start.world xs).said ++ (run (run start.world xs).after ys).said
+said_ahead start xs ys = ap (λ (s : Step). s.said) (run-append start.world xs ys)
+
+-- what the blocks say that have ended in the bytes
+abbrev whole_said : Start → List ℕ → List Saying
+whole_said start bytes = (run start.world (map a_block (whole_blocks start.document bytes))).said
+
+abbrev said_later : Start → List ℕ → List Block → List Saying
+said_later start bytes rest = (run (run start.world (map a_block (whole_blocks start.document bytes))).after (map a_block rest)).said
+
+said_behind : (start : Start) (bytes more : List ℕ) (rest : List Block) → blocks start.document (bytes ++ more) ≡ whole_blocks start.document bytes ++ rest
+    → log_said start (bytes ++ more) ≡ whole_said start bytes ++ said_later start bytes rest
+said_behind start bytes more rest is =
+    ap (λ bs. (run start.world (map a_block bs)).said) is
+    ∙ (ap (λ g. (run start.world g).said) (map-append a_block (whole_blocks start.document bytes) rest)
+    ∙ said_ahead start (map a_block (whole_blocks start.document bytes)) (map a_block rest))
 
 behind : (start : Start) (bytes more : List ℕ) (rest : List Block) → blocks start.document (bytes ++ more) ≡ whole_blocks start.document bytes ++ rest
-    → output start (bytes ++ more) ≡ whole_text start bytes ++ text_of start.form (run (run start.world (map a_block (whole_blocks start.document bytes))).after (map a_block rest)).said
+    → output start (bytes ++ more) ≡ whole_text start bytes ++ text_of start.form (said_later start bytes rest)
 behind start bytes more rest is =
-    ap (λ bs. text_of start.form (run start.world (map a_block bs)).said) is
-    ∙ (ap (λ g. text_of start.form (run start.world g).said) (map-append a_block (whole_blocks start.document bytes) rest)
-    ∙ text_ahead start (map a_block (whole_blocks start.document bytes)) (map a_block rest))
+    ap (text_of start.form) (said_behind start bytes more rest is)
+    ∙ text_of-append start.form (whole_said start bytes) (said_later start bytes rest)
 
 -- what was written is how the log's text begins
 log_begins : (start : Start) → Begins start.document → (s t : SinkSeen) (bytes more : List ℕ) → Wrote s t (whole_text start bytes) → WrotePart s t (output start (bytes ++ more))
@@ -239,26 +253,39 @@ log_begins start law s t bytes more wrote =
     let rest = law bytes more in
     rw (behind start bytes more rest.0 rest.1) (wrote_part s t (whole_text start bytes) _ wrote)
 
-log_stops : (start : Start) → Begins start.document → (s t : SinkSeen) (bytes more : List ℕ) (why : Stop) → Stops s t (whole_text start bytes) why → Stops s t (output start (bytes ++ more)) why
+-- and the things said of the bytes are the first of those of the log, each whole
+log_front : (start : Start) → Begins start.document → (s t : SinkSeen) (bytes more : List ℕ) → Wrote s t (whole_text start bytes) → WroteFront start.form (log_said start (bytes ++ more)) s t
+log_front start law s t bytes more wrote =
+    let rest = law bytes more in
+    record { front = whole_said start bytes; rest = said_later start bytes rest.0; whole = said_behind start bytes more rest.0 rest.1; written = wrote }
+
+-- what stopped before some is said stops before more
+stopped_before : (form : Form) (s t : SinkSeen) (xs ys : List Saying) (why : Stop) → Says form s t xs (Err why) → Says form s t (xs ++ ys) (Err why)
+stopped_before form s t xs ys Memory says =
+    record { front = says.front; rest = says.rest ++ ys; whole = ap (λ l. l ++ ys) says.whole ∙ append_assoc says.front says.rest ys; written = says.written }
+stopped_before form s t xs ys Write says = rw (text_of-append form xs ys) (stops_before_more s t (text_of form xs) (text_of form ys) Write says)
+
+log_stops : (start : Start) → Begins start.document → (s t : SinkSeen) (bytes more : List ℕ) (why : Stop) → Says start.form s t (whole_said start bytes) (Err why) → Says start.form s t (log_said start (bytes ++ more)) (Err why)
 log_stops start law s t bytes more why stops =
     let rest = law bytes more in
-    rw (behind start bytes more rest.0 rest.1) (stops_before_more s t (whole_text start bytes) _ why stops)
+    subst (λ said. Says start.form s t said (Err why)) (sym (said_behind start bytes more rest.0 rest.1))
+    (stopped_before start.form s t (whole_said start bytes) (said_later start bytes rest.0) why stops)
 
 -- ---- the answers
 
-answers_stop : (start : Start) (before now : SourceSeen) (s t : SinkSeen) (bytes : List ℕ) (why : Stop) → Took before now bytes → length bytes ≤ most_log_bytes → now.faults ≡ before.faults → Stops s t (output start bytes) why → IfSome before.left (λ log. Stops s t (output start log) why) → AnswersLog start before now s t (status_of (Err why))
+answers_stop : (start : Start) (before now : SourceSeen) (s t : SinkSeen) (bytes : List ℕ) (why : Stop) → Took before now bytes → length bytes ≤ most_log_bytes → now.faults ≡ before.faults → Says start.form s t (log_said start bytes) (Err why) → IfSome before.left (λ log. Says start.form s t (log_said start log) (Err why)) → AnswersLog start before now s t (status_of (Err why))
 answers_stop start before now s t bytes Memory took short faultless stops log =
     record { bytes = bytes; took = took; told = stops; log = log; at_end = λ done. absurd (true≢false (sym done)); short = short; faultless = faultless }
 answers_stop start before now s t bytes Write took short faultless stops log =
     record { bytes = bytes; took = took; told = stops; log = log; at_end = λ done. absurd (true≢false (sym done)); short = short; faultless = faultless }
 
-answers_end : (start : Start) (before now : SourceSeen) (s t : SinkSeen) (bytes : List ℕ) (refused : Bool) → Took before now bytes → length bytes ≤ most_log_bytes → now.faults ≡ before.faults → IsAtEnd now.left → Wrote s t (output start bytes) → refused ≡ has_refusal start bytes → AnswersLog start before now s t (status_of (Ok refused))
+answers_end : (start : Start) (before now : SourceSeen) (s t : SinkSeen) (bytes : List ℕ) (refused : Bool) → Took before now bytes → length bytes ≤ most_log_bytes → now.faults ≡ before.faults → IsAtEnd now.left → Wrote s t (output start bytes) → refused ≡ list_any is_refusal (log_said start bytes) → AnswersLog start before now s t (status_of (Ok refused))
 answers_end start before now s t bytes false took short faultless at_end wrote told =
     record {
       bytes = bytes;
       took = took;
       told = (wrote, sym told);
-      log = of_all (λ log. Told (output start log) (has_refusal start log) s t Done) before.left bytes (all_taken before.left now.left bytes took.left at_end) (wrote, sym told);
+      log = of_all (λ log. Told start.form (log_said start log) s t Done) before.left bytes (all_taken before.left now.left bytes took.left at_end) (wrote, sym told);
       at_end = λ done. at_end;
       short = short;
       faultless = faultless;
@@ -268,7 +295,7 @@ answers_end start before now s t bytes true took short faultless at_end wrote to
       bytes = bytes;
       took = took;
       told = (wrote, sym told);
-      log = of_all (λ log. Told (output start log) (has_refusal start log) s t DoneWithRefusals) before.left bytes (all_taken before.left now.left bytes took.left at_end) (wrote, sym told);
+      log = of_all (λ log. Told start.form (log_said start log) s t DoneWithRefusals) before.left bytes (all_taken before.left now.left bytes took.left at_end) (wrote, sym told);
       at_end = λ done. at_end;
       short = short;
       faultless = faultless;
@@ -289,18 +316,18 @@ whole_wrote start s t after given bytes is says =
 answers_stopped : (start : Start) (before now : SourceSeen) (s t : SinkSeen) (after : Voice) (given : List Given) (at_end : Bool) (taken : ℕ) (reader : Reader) (why : Stop) → reader.document ≡ start.document → LogGave at_end most_log_bytes taken reader before now given → SaysAll (Writes start.form) after s t (run start.world given).said (Err (halt.Stop why)) → AnswersLog start before now s t (status_of (Err why))
 answers_stopped start before now s t after given true taken reader why document gave says =
     let same : given ≡ map a_block (blocks start.document gave.bytes) = subst (λ d. given ≡ map a_block (blocks d gave.bytes)) document gave.blocks in
-    let stops : Stops s t (output start gave.bytes) why = rw same at (stops_of start.form after s t _ why says) in
+    let stops : Says start.form s t (log_said start gave.bytes) (Err why) = subst (λ g. Says start.form s t (run start.world g).said (Err why)) same (stops_of start.form after s t _ why says) in
     answers_stop start before now s t gave.bytes why gave.took gave.short gave.faultless stops
-    (of_all (λ log. Stops s t (output start log) why) before.left gave.bytes (all_taken before.left now.left gave.bytes gave.took.left gave.at_end) stops)
+    (of_all (λ log. Says start.form s t (log_said start log) (Err why)) before.left gave.bytes (all_taken before.left now.left gave.bytes gave.took.left gave.at_end) stops)
 answers_stopped start before now s t after given false taken reader why document gave says =
     let same : given ≡ map a_block (whole_blocks start.document gave.bytes) = subst (λ d. given ≡ map a_block (whole_blocks d gave.bytes)) document gave.blocks in
-    let whole : Stops s t (whole_text start gave.bytes) why = rw same at (stops_of start.form after s t _ why says) in
+    let whole : Says start.form s t (whole_said start gave.bytes) (Err why) = subst (λ g. Says start.form s t (run start.world g).said (Err why)) same (stops_of start.form after s t _ why says) in
     let law : Begins start.document = subst (λ d. Begins d) document gave.begins in
     let count = gave.count in
-    let stops : (more : List ℕ) → Stops s t (output start (gave.bytes ++ more)) why = λ more. log_stops start law s t gave.bytes more why whole in
+    let stops : (more : List ℕ) → Says start.form s t (log_said start (gave.bytes ++ more)) (Err why) = λ more. log_stops start law s t gave.bytes more why whole in
     answers_stop start before now s t gave.bytes why gave.took (rw (← count) gave.short) gave.faultless
-    (rw (append-nil gave.bytes) at (stops []))
-    (of_log (λ log. Stops s t (output start log) why) before.left now.left gave.bytes gave.took.left stops)
+    (subst (λ bs. Says start.form s t (log_said start bs) (Err why)) (append-nil gave.bytes) (stops []))
+    (of_log (λ log. Says start.form s t (log_said start log) (Err why)) before.left now.left gave.bytes gave.took.left stops)
 
 answers_cut : (start : Start) (before now : SourceSeen) (s t : SinkSeen) (after : Voice) (given : List Given) (why : Cut) → LogEnded most_log_bytes start.document before now given (Some why) → SaysAll (Writes start.form) after s t (run start.world given).said (Err (halt.Cut why)) → AnswersLog start before now s t (status_of_drive (Err (halt.Cut why)))
 answers_cut start before now s t after given cut.Failed ended says =
@@ -322,14 +349,15 @@ answers_cut start before now s t after given cut.TooLong ended says =
       took = ended.took;
       written = wrote;
       log = of_log (λ log. WrotePart s t (output start log)) before.left now.left (ended.bytes ++ ended.last) ended.took.left (λ more. rw (append_assoc ended.bytes ended.last more) (log_begins start ended.begins s t ended.bytes (ended.last ++ more) wrote));
-      long = ended.long;
+      whole = ended.whole;
+      more = ended.more;
       faultless = ended.faultless;
     }
 answers_cut start before now s t after given cut.Memory ended says =
     let wrote = whole_wrote start s t after given ended.bytes ended.blocks says in
     answers_stop start before now s t (ended.bytes ++ ended.last) Memory ended.took ended.short ended.faultless
-    (log_begins start ended.begins s t ended.bytes ended.last wrote)
-    (of_log (λ log. WrotePart s t (output start log)) before.left now.left (ended.bytes ++ ended.last) ended.took.left (λ more. rw (append_assoc ended.bytes ended.last more) (log_begins start ended.begins s t ended.bytes (ended.last ++ more) wrote)))
+    (log_front start ended.begins s t ended.bytes ended.last wrote)
+    (of_log (λ log. WroteFront start.form (log_said start log) s t) before.left now.left (ended.bytes ++ ended.last) ended.took.left (λ more. rw (append_assoc ended.bytes ended.last more) (log_front start ended.begins s t ended.bytes (ended.last ++ more) wrote)))
 
 same_first : (a b c d : ℕ) → a ∷ b ∷ [] ≡ c ∷ d ∷ [] → a ≡ c
 same_first a b c d is = ap (λ (xs : List ℕ). get_or xs 0 0) is

@@ -17,14 +17,14 @@ use Rattle.rsp_call.specs.declared.voice.Voice.TheVariants as voices
 use Rattle.rsp_words.specs.declared.form.Form.TheVariants.{Table}
 use Rattle.rsp_call.specs.Feeds.{Drove, stop_of}
 use Rattle.rsp_call.specs.Generator.{generated, item, item_of, next_random, query_text, random}
-use Rattle.rsp_call.specs.Output.{Given, Saying, a_block, a_summary, run, text_of, text_of_saying}
+use Rattle.rsp_call.specs.Output.{Given, Saying, a_block, a_summary, run}
 use Rattle.rsp_call.specs.Summaries.{event_block, is_report, numbered, rows_said, said_of, summary}
 use Rattle.rsp_call.specs.Summaries as summaries
 use Rattle.rsp_call.specs.Tallies.{IsMaking, gen_left}
-use Rattle.rsp_call.specs.Stops.{Ends, Stops}
+use Rattle.rsp_call.specs.Sayings as sayings
 use Rattle.rsp_call.specs.Voices.{Says}
 use Rattle.rsp_call.proofs.Driving.{all_driven}
-use Rattle.rsp_call.proofs.Writings.{stopped_at_once}
+use Rattle.rsp_call.proofs.Writings.{wrote_nothing}
 
 random_more : (given : ℕ) → random (given + 1) ≡ next_random (random given)
 unfolding random
@@ -122,29 +122,28 @@ summary_is count tally now s t refused none says =
     let rows' : now.rows ≡ sum_by rows_said said = omega (arith, rows) in
     (λ i. a_summary count (reports' i) (rows' i))
 
-pub summary_ends : (count : ℕ) (tally now : Tally) (s t u : SinkSeen) (refused : Bool) (result : Result Bool Stop) → tally ≡ record { reports = 0; rows = 0 } → Says (voices.Counts tally) (voices.Counts now) s t (run empty_world (map a_block (numbered 1 (generated count)))).said (Ok refused) → Ends t u (text_of_saying Table (a_summary count now.reports now.rows)) result → Ends s u (text_of Table (summaries.counted count [])) result
+pub summary_ends : (count : ℕ) (tally now : Tally) (s t u : SinkSeen) (refused : Bool) (result : Result Bool Stop) → tally ≡ record { reports = 0; rows = 0 } → Says (voices.Counts tally) (voices.Counts now) s t (run empty_world (map a_block (numbered 1 (generated count)))).said (Ok refused) → sayings.Says Table t u (a_summary count now.reports now.rows ∷ []) result → sayings.Says Table s u (summaries.counted count []) result
 summary_ends count tally now s t u refused result none says ends =
-    let text : text_of Table (summaries.counted count []) ≡ text_of_saying Table (a_summary count now.reports now.rows) =
-    append-nil (text_of_saying Table (summary count (said_of count))) ∙ ap (text_of_saying Table) (sym (summary_is count tally now s t refused none says)) in
-    rw (text, ← says.0.0) ends
+    rw (sym (summary_is count tally now s t refused none says), ← says.0.0) ends
 
-pub summary_told : (count : ℕ) (tally now : Tally) (after : Voice) (s t u : SinkSeen) (refused : Bool) (counted : Result Bool Stop) (result : Result Bool Stop) → tally ≡ record { reports = 0; rows = 0 } → counted ≡ Ok refused → ((x : Tally) → after ≡ voices.Counts x → now ≡ x) → Says (voices.Counts tally) after s t (run empty_world (map a_block (numbered 1 (generated count)))).said counted → Ends t u (text_of_saying Table (a_summary count now.reports now.rows)) result → Ends s u (text_of Table (summaries.counted count [])) result
+pub summary_told : (count : ℕ) (tally now : Tally) (after : Voice) (s t u : SinkSeen) (refused : Bool) (counted : Result Bool Stop) (result : Result Bool Stop) → tally ≡ record { reports = 0; rows = 0 } → counted ≡ Ok refused → ((x : Tally) → after ≡ voices.Counts x → now ≡ x) → Says (voices.Counts tally) after s t (run empty_world (map a_block (numbered 1 (generated count)))).said counted → sayings.Says Table t u (a_summary count now.reports now.rows ∷ []) result → sayings.Says Table s u (summaries.counted count []) result
 summary_told count tally now (voices.Writes form) s t u refused counted result none done is says ends =
     let told = subst (λ r. Says (voices.Counts tally) (voices.Writes form) s t (run empty_world (map a_block (numbered 1 (generated count)))).said r) done says in
     absurd told.0
 summary_told count tally now (voices.Counts x) s t u refused counted result none done is says ends =
     let told = subst (λ r. Says (voices.Counts tally) (voices.Counts x) s t (run empty_world (map a_block (numbered 1 (generated count)))).said r) done says in
     let same : now ≡ x = is x refl in
-    summary_ends count tally x s t u refused result none told (subst (λ (n : Tally). Ends t u (text_of_saying Table (a_summary count n.reports n.rows)) result) same ends)
+    summary_ends count tally x s t u refused result none told (subst (λ (n : Tally). sayings.Says Table t u (a_summary count n.reports n.rows ∷ []) result) same ends)
 
-counting_stops : (tally : Tally) (after : Voice) (s t : SinkSeen) (said : List Saying) (text : List ℕ) (why : Stop) → Says (voices.Counts tally) after s t said (Err why) → Stops s t text why
-counting_stops tally (voices.Counts now) s t said text Memory says = rw says.told.0 (stopped_at_once s text)
-counting_stops tally (voices.Writes form) s t said text Memory says = absurd says.told
-counting_stops tally after s t said text Write says = absurd says
+-- where the counting stops, nothing is written
+counting_stops : (tally : Tally) (after : Voice) (s t : SinkSeen) (said other : List Saying) (why : Stop) → Says (voices.Counts tally) after s t said (Err why) → sayings.Says Table s t other (Err why)
+counting_stops tally (voices.Counts now) s t said other Memory says = record { front = []; rest = other; whole = refl; written = rw says.told.0 (wrote_nothing s) }
+counting_stops tally (voices.Writes form) s t said other Memory says = absurd says.told
+counting_stops tally after s t said other Write says = absurd says
 
-pub no_summary : (tally : Tally) (after : Voice) (s t : SinkSeen) (said : List Saying) (text : List ℕ) (why : Stop) (counted : Result Bool Stop) → counted ≡ Err why → Says (voices.Counts tally) after s t said counted → Stops s t text why
-no_summary tally after s t said text why counted stopped says =
-    counting_stops tally after s t said text why (subst (λ r. Says (voices.Counts tally) after s t said r) stopped says)
+pub no_summary : (tally : Tally) (after : Voice) (s t : SinkSeen) (said other : List Saying) (why : Stop) (counted : Result Bool Stop) → counted ≡ Err why → Says (voices.Counts tally) after s t said counted → sayings.Says Table s t other (Err why)
+no_summary tally after s t said other why counted stopped says =
+    counting_stops tally after s t said other why (subst (λ r. Says (voices.Counts tally) after s t said r) stopped says)
 
 -- all that the generator says
 pub gen_says : (Gave : List Given → Type 0) (Ended : List Given → Option Cut → Type 0) (count : ℕ) (left rest : List Given) (engine engine' : State) (a b : Voice) (s t : SinkSeen) (result : Result Bool Halt) → left ≡ map a_block (numbered 1 (generated count)) → Drove Gave Ended (Some left) (Some rest) [] engine engine' a b s t result → OnOk result (rest ≡ []) → Stands engine empty_world [] → Says a b s t (run empty_world (map a_block (numbered 1 (generated count)))).said (stop_of result)

@@ -1,5 +1,5 @@
 -- The reports of an event, said one behind another; and what an event says.
-use Rattle.std.proofs.Common.{◌≡◌, true, false, Bool, Ok, Err, Result, Option, Some, None, List, [], ◌∷◌, ◌++◌, map, refl, sym, ◌∙◌, ap, append_assoc}
+use Rattle.std.proofs.Common.{◌≡◌, true, false, Bool, Ok, Err, Result, Option, Some, None, List, [], ◌∷◌, ◌++◌, map, refl, sym, subst, ◌∙◌, ap, append_assoc}
 use Rattle.std.proofs.lemmas.List.{append-nil}
 use Rattle.std.specs.List.{list_any}
 use Rattle.std.specs.Prelude.{OnOk}
@@ -10,7 +10,7 @@ use Rattle.rsp_engine.specs.declared.report.Report.{Report}
 use Rattle.rsp_engine.specs.Accept.{accept}
 use Rattle.rsp_engine.specs.Moments.{Moment, moments}
 use Rattle.rsp_engine.specs.Offers.{GivesFirst, HasNone, Refuses}
-use Rattle.rsp_engine.specs.Reports.{IsReport, reports, world_behind}
+use Rattle.rsp_engine.specs.Reports.{reports, world_behind}
 use Rattle.rsp_engine.specs.Stands.{State, Stands}
 use Rattle.rsp_engine.specs.World.{World}
 use Rattle.rsp_engine.proofs.ReportSteps.{reports_step, world_step}
@@ -46,7 +46,7 @@ reporting_nothing engine voice sink =
     λ world left stands.
     record { here = world; rest = left; done = []; stands = stands; all = refl; leads = refl; told = said_nothing voice sink }
 
-reported_more : (world : World) (left : List Moment) (engine after : State) (a b c : Voice) (s t u : SinkSeen) (report : Report) → Reported world left engine a b s t → GivesFirst engine report after → ((wanted : Report) → IsReport report wanted → Said b c t u (a_report wanted ∷ [])) → Reported world left after a c s u
+reported_more : (world : World) (left : List Moment) (engine after : State) (a b c : Voice) (s t u : SinkSeen) (report : Report) → Reported world left engine a b s t → GivesFirst engine report after → Said b c t u (a_report report ∷ []) → Reported world left after a c s u
 reported_more world left engine after a b c s t u report told gives says =
     let first = gives.gives told.here told.rest told.stands in
     record {
@@ -59,10 +59,10 @@ reported_more world left engine after a b c s t u report told gives says =
           ∙ (ap (λ rs. told.done ++ map a_report rs) (reports_step told.here told.rest first.step first.is_next)
           ∙ sym (append_assoc told.done (a_report first.step.report ∷ []) (map a_report (reports first.step.after first.step.left))));
       leads = told.leads ∙ world_step told.here told.rest first.step first.is_next;
-      told = said_more a b c s t u told.done _ told.told (says first.step.report first.is_report);
+      told = said_more a b c s t u told.done _ told.told (subst (λ r. Said b c t u (a_report r ∷ [])) first.is_report says);
     }
 
-pub reporting_more : (before engine after : State) (a b c : Voice) (s t u : SinkSeen) (report : Report) → Reporting before engine a b s t → GivesFirst engine report after → ((wanted : Report) → IsReport report wanted → Said b c t u (a_report wanted ∷ [])) → Reporting before after a c s u
+pub reporting_more : (before engine after : State) (a b c : Voice) (s t u : SinkSeen) (report : Report) → Reporting before engine a b s t → GivesFirst engine report after → Said b c t u (a_report report ∷ []) → Reporting before after a c s u
 reporting_more before engine after a b c s t u report reporting gives says =
     λ world left stands. reported_more world left engine after a b c s t u report (reporting world left stands) gives says
 
@@ -74,13 +74,13 @@ reported_all world left engine after a b s t told none =
     let led : world_behind world left ≡ told.here = told.leads ∙ rw ended refl in
     (rw all told.told, rw (led, none.unchanged, ← ended) told.stands)
 
-pub reported_stops : (world : World) (left : List Moment) (engine after : State) (a b c : Voice) (s t u : SinkSeen) (report : Report) (why : Stop) → Reported world left engine a b s t → GivesFirst engine report after → ((wanted : Report) → IsReport report wanted → StopsSaying why b c t u (a_report wanted ∷ [])) → StopsSaying why a c s u (map a_report (reports world left))
+pub reported_stops : (world : World) (left : List Moment) (engine after : State) (a b c : Voice) (s t u : SinkSeen) (report : Report) (why : Stop) → Reported world left engine a b s t → GivesFirst engine report after → StopsSaying why b c t u (a_report report ∷ []) → StopsSaying why a c s u (map a_report (reports world left))
 reported_stops world left engine after a b c s t u report why told gives stops =
     let first = gives.gives told.here told.rest told.stands in
     let all = told.all ∙ ap (λ rs. told.done ++ map a_report rs) (reports_step told.here told.rest first.step first.is_next) in
     rw all
     (stops_behind a b c s t u told.done _ why told.told
-    (stops_before_more b c t u (a_report first.step.report ∷ []) _ why (stops first.step.report first.is_report)))
+    (stops_before_more b c t u (a_report first.step.report ∷ []) _ why (subst (λ r. StopsSaying why b c t u (a_report r ∷ [])) first.is_report stops)))
 
 -- memory was refused between two reports
 pub reported_part : (world : World) (left : List Moment) (engine : State) (a b : Voice) (s t : SinkSeen) → Reported world left engine a b s t → SaidFront a b s t (map a_report (reports world left))

@@ -2,6 +2,7 @@
 use Rattle.std.proofs.Common.{◌≡◌, ℕ, ◌+◌, Bool, true, ◌||◌, Option, Some, None, Result, Ok, Err, IfOk, List, [], ◌∷◌, ◌++◌, refl, sym, ◌∙◌, ap, append_assoc, append-nil}
 use Rattle.std.proofs.lemmas.Grind.{flat_map-append}
 use Rattle.std.proofs.lemmas.List.Folds.{list_any-append}
+use Rattle.std.specs.List.{list_any}
 use Rattle.std.specs.Option.{is_some}
 use Rattle.rsp_io.specs.Seen.{SinkSeen}
 use Rattle.rsp_engine.specs.declared.report.Report.{Report}
@@ -98,9 +99,15 @@ says_refusal form s t place reason (Err Memory) ends stays is = rw stays (stops_
 says_refusal form s t place None (Err Write) ends stays is = ends [] tt
 says_refusal form s t place (Some reason) (Err Write) ends stays is = rw (append-nil (refusal_line place reason)) (ends _ refl)
 
+-- what is written by itself
+pub says_one : (form : Form) (s t : SinkSeen) (saying : Saying) (result : Result Bool Stop) → Ends s t (text_of_saying form saying) result → Stays s t result → IfOk result (λ refused. refused ≡ list_any is_refusal (saying ∷ [])) → sayings.Says form s t (saying ∷ []) result
+says_one form s t saying (Ok refused) ends stays is = (rw (append-nil (text_of_saying form saying)) ends, is)
+says_one form s t saying (Err Memory) ends stays is = record { front = []; rest = saying ∷ []; whole = refl; written = rw stays (wrote_nothing s) }
+says_one form s t saying (Err Write) ends stays is = rw (append-nil (text_of_saying form saying)) ends
+
 -- what was counted
-pub counts_one : (before now : Tally) (sink : SinkSeen) (report wanted : Report) → now.reports ≡ before.reports + 1 → now.rows ≡ before.rows + rows_in report.outcome → rows_in report.outcome ≡ rows_in wanted.outcome → Said (Counts before) (Counts now) sink sink (a_report wanted ∷ [])
-counts_one before now sink report wanted reports rows same = (refl, counts_report before now wanted reports (rw same at rows))
+pub counts_one : (before now : Tally) (sink : SinkSeen) (report : Report) → now.reports ≡ before.reports + 1 → now.rows ≡ before.rows + rows_in report.outcome → Said (Counts before) (Counts now) sink sink (a_report report ∷ [])
+counts_one before now sink report reports rows = (refl, counts_report before now report reports rows)
 
 pub counts_refused : (tally : Tally) (sink : SinkSeen) (place : Place) (reason : Option Reason) → is_some reason ≡ true → Says (Counts tally) (Counts tally) sink sink (refusal_said place reason) (Ok true)
 counts_refused tally sink place None some = cc
@@ -115,10 +122,9 @@ pub wrote_of : (form : Form) (after : Voice) (s t : SinkSeen) (said : List Sayin
 wrote_of form (Writes other) s t said told = told.1
 wrote_of form (Counts tally) s t said told = absurd told
 
-pub stops_of : (form : Form) (after : Voice) (s t : SinkSeen) (said : List Saying) (why : Stop) → StopsSaying why (Writes form) after s t said → Stops s t (text_of form said) why
+pub stops_of : (form : Form) (after : Voice) (s t : SinkSeen) (said : List Saying) (why : Stop) → StopsSaying why (Writes form) after s t said → sayings.Says form s t said (Err why)
 stops_of form after s t said Memory stops =
-    rw (stops.whole, text_of-append form stops.front stops.rest)
-    (wrote_part s t _ _ (wrote_of form after s t stops.front stops.told))
+    record { front = stops.front; rest = stops.rest; whole = stops.whole; written = wrote_of form after s t stops.front stops.told }
 stops_of form after s t said Write stops = stops
 
 pub written_says : (form : Form) (after : Voice) (s t : SinkSeen) (said : List Saying) (result : Result Bool Stop) → Says (Writes form) after s t said result → sayings.Says form s t said result

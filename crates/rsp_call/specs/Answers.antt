@@ -10,7 +10,7 @@ use Rattle.rsp_words.specs.declared.form.Form.TheVariants.{Table}
 use Rattle.rsp_call.specs.declared.status.Status.{Status}
 use Rattle.rsp_call.specs.declared.status.Status.TheVariants.{Done, DoneWithRefusals, Usage, ReadFault, WriteFault, TooLong}
 use Rattle.rsp_words.specs.Words.{Mode, events, run, check, generate, names_of}
-use Rattle.rsp_call.specs.Output.{Start, output, has_refusal, usage_text, whole_text}
+use Rattle.rsp_call.specs.Output.{Start, log_said, output, usage_text, whole_text}
 use Rattle.rsp_call.specs.Sources.{Took}
 use Rattle.rsp_call.specs.Shelves.{ShelfSeen}
 use Rattle.rsp_call.specs.Checks.{checked}
@@ -26,13 +26,13 @@ is_done Done = true
 is_done DoneWithRefusals = true
 is_done _ = false
 
--- the log was worked off: to its end, or until a write failed or memory was refused; on the way through the text of the bytes, and
--- through that of the log; no read failed
+-- the log was worked off: to its end, or until a write failed or memory was refused; on the way through what is
+-- said of the bytes, and through what is said of the log; no read failed
 pub record Works (start : Start) (before now : SourceSeen) (sink sink' : SinkSeen) (status : Status) : Type 0 where
   pub bytes : List ℕ
   pub took : Took before now bytes
-  pub told : Told (output start bytes) (has_refusal start bytes) sink sink' status
-  pub log : IfSome before.left (λ log. Told (output start log) (has_refusal start log) sink sink' status)
+  pub told : Told start.form (log_said start bytes) sink sink' status
+  pub log : IfSome before.left (λ log. Told start.form (log_said start log) sink sink' status)
   pub at_end : IsTrue (is_done status) → IsAtEnd now.left
   pub short : length bytes ≤ most_log_bytes
   pub faultless : now.faults ≡ before.faults
@@ -48,14 +48,15 @@ pub record ReadFails (start : Start) (before now : SourceSeen) (sink sink' : Sin
   pub rose : Rose before.faults now.faults
   pub unsure : before.sure ≡ false
 
--- more bytes were taken than the limit allows; those of the last read were only counted
+-- more bytes were taken than the limit allows: what was written is exactly what the blocks give that the first so many bytes end
 pub record PassesLimit (start : Start) (before now : SourceSeen) (sink sink' : SinkSeen) : Type 0 where
   pub bytes : List ℕ
   pub last : List ℕ
   pub took : Took before now (bytes ++ last)
   pub written : Wrote sink sink' (whole_text start bytes)
   pub log : IfSome before.left (λ log. WrotePart sink sink' (output start log))
-  pub long : most_log_bytes < length (bytes ++ last)
+  pub whole : length bytes ≡ most_log_bytes
+  pub more : 0 < length last
   pub faultless : now.faults ≡ before.faults
 
 -- on words that ask for the log

@@ -1,5 +1,5 @@
 -- Definitions: what a call has written of a text, by its status; and what each answer says where named files are read first.
-use Rattle.std.specs.Prelude.{◌≡◌, ◌⊎◌, ℕ, Bool, true, false, List, []}
+use Rattle.std.specs.Prelude.{◌≡◌, ◌⊎◌, ℕ, true, false, List, [], ◌++◌}
 use Rattle.std.specs.List.{list_any}
 use Rattle.rsp_io.specs.Seen.{SinkSeen}
 use Rattle.rsp_words.specs.declared.form.Form.{Form}
@@ -7,15 +7,22 @@ use Rattle.rsp_call.specs.declared.status.Status.{Status}
 use Rattle.rsp_call.specs.declared.status.Status.TheVariants.{Done, DoneWithRefusals, ReadFault, WriteFault, OutOfMemory, TooLong}
 use Rattle.rsp_call.specs.Output.{Saying, is_refusal, text_of}
 use Rattle.rsp_call.specs.Shelves.{ShelfSeen, ReadsAll, EndsAt, CantRead, IsTooLong, LacksMemory}
-use Rattle.rsp_call.specs.Sinks.{Wrote, WrotePart, WriteFailed}
+use Rattle.rsp_call.specs.Sinks.{Wrote, WriteFailed}
 
--- a text in which something is refused, or nothing: it was written whole, or a write failed, or memory was refused on the way
-abbrev pub Told : List ℕ → Bool → SinkSeen → SinkSeen → Status → Type 0
-Told text some sink sink' Done = Wrote sink sink' text × (some ≡ false)
-Told text some sink sink' DoneWithRefusals = Wrote sink sink' text × (some ≡ true)
-Told text some sink sink' WriteFault = WriteFailed sink sink' text
-Told text some sink sink' OutOfMemory = WrotePart sink sink' text
-Told text some sink sink' _ = ⊥
+-- the first so many things that are said were written, each whole
+pub record WroteFront (form : Form) (said : List Saying) (sink sink' : SinkSeen) : Type 0 where
+  pub front : List Saying
+  pub rest : List Saying
+  pub whole : said ≡ front ++ rest
+  pub written : Wrote sink sink' (text_of form front)
+
+-- what is said was written, in which something is refused, or nothing; or a write failed, or memory was refused on the way
+abbrev pub Told : Form → List Saying → SinkSeen → SinkSeen → Status → Type 0
+Told form said sink sink' Done = Wrote sink sink' (text_of form said) × (list_any is_refusal said ≡ false)
+Told form said sink sink' DoneWithRefusals = Wrote sink sink' (text_of form said) × (list_any is_refusal said ≡ true)
+Told form said sink sink' WriteFault = WriteFailed sink sink' (text_of form said)
+Told form said sink sink' OutOfMemory = WroteFront form said sink sink'
+Told form said sink sink' _ = ⊥
 
 -- why a file wasn't read that may have so many bytes
 abbrev pub Unread : ℕ → Status → ShelfSeen → ShelfSeen → List ℕ → Type 0
@@ -33,5 +40,5 @@ abbrev pub AnswersFiles : ℕ → Form → List (List ℕ) → SayingOf → Shel
 AnswersFiles most form names said before now sink sink' status =
     ((files : List (List ℕ))
     × ReadsAll most before now names files
-    × Told (text_of form (said files)) (list_any is_refusal (said files)) sink sink' status)
+    × Told form (said files) sink sink' status)
     ⊎ (EndsAt most (Unread most status) before now names × Wrote sink sink' [])

@@ -14,7 +14,6 @@ pub mod FileAnswers
 pub mod Answers
 -- Words of the way
 pub mod Reasons
-pub mod Apart
 pub mod Tallies
 pub mod Readings
 pub mod Runs

@@ -61,11 +61,12 @@ pub record CantGoOn (most document : ℕ) (start now : SourceSeen) (given : List
   pub begins : Begins document
   pub blocks : given ≡ map a_block (whole_blocks document bytes)
 
--- there are more bytes than may be; those of the last read were only counted
+-- there are more bytes than may be; the first so many were worked off
 pub record GoesTooFar (most document : ℕ) (start now : SourceSeen) (given : List Given) : Type 0 where
   pub bytes : List ℕ
   pub last : List ℕ
-  pub long : most < length (bytes ++ last)
+  pub whole : length bytes ≡ most
+  pub more : 0 < length last
   pub took : Took start now (bytes ++ last)
   pub faultless : now.faults ≡ start.faults
   pub begins : Begins document
@@ -104,6 +105,6 @@ pub record TakesPiece (most taken taken' : ℕ) (reader reader' : Reader) (piece
 
 -- why a piece of so many bytes isn't taken
 abbrev pub RefusesPiece : Cut → ℕ → ℕ → ℕ → Type 0
-RefusesPiece TooLong most taken count = most - taken < count
+RefusesPiece TooLong most taken count = taken ≡ most
 RefusesPiece Memory most taken count = count ≤ most - taken
 RefusesPiece Failed most taken count = ⊥

@@ -1,7 +1,7 @@
 -- Definitions: what is said of what comes, from a world on, and the text of it; and of a log.
 use Rattle.std.specs.Prelude.{ℕ, Bool, true, false, Result, Ok, Err, List, [], ◌∷◌, ◌++◌, map, codes}
 use Rattle.std.specs.Fmt.{decimal}
-use Rattle.std.specs.List.{flat_map, list_any}
+use Rattle.std.specs.List.{flat_map}
 use Rattle.rsp_events.specs.declared.event.Event.{Event}
 use Rattle.rsp_events.specs.declared.event.Block.{Block}
 use Rattle.rsp_events.specs.declared.event.Content.{Content}
@@ -108,13 +108,12 @@ pub record Start : Type 0 where
 abbrev pub said_from : Start → List Block → List Saying
 said_from start blocks = (run start.world (map a_block blocks)).said
 
--- what the program writes for a log
-abbrev pub output : Start → List ℕ → List ℕ
-output start bytes = text_of start.form (said_from start (blocks start.document bytes))
+-- what is said of a log, and what the program writes for it
+abbrev pub log_said : Start → List ℕ → List Saying
+log_said start bytes = said_from start (blocks start.document bytes)
 
--- some block of the log is refused
-abbrev pub has_refusal : Start → List ℕ → Bool
-has_refusal start bytes = list_any is_refusal (said_from start (blocks start.document bytes))
+abbrev pub output : Start → List ℕ → List ℕ
+output start bytes = text_of start.form (log_said start bytes)
 
 -- what the blocks that have ended give
 abbrev pub whole_text : Start → List ℕ → List ℕ

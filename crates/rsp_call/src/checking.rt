@@ -1,13 +1,11 @@
 // Checking the query in a file.
-ghost use Rattle.std.specs.Prelude.{◌≡◌, ◌∷◌, [], IfOk};
-ghost use Rattle.std.specs.List.{list_any};
+ghost use Rattle.std.specs.Prelude.{◌≡◌, ◌∷◌, []};
 ghost use Rattle.rsp_spec.specs.Limits.{most_file_bytes};
 ghost use Rattle.rsp_call.specs.Checks.{checked};
 ghost use Rattle.rsp_call.specs.FileAnswers.{AnswersFiles};
 ghost use Rattle.rsp_words.specs.declared.form.Form.TheVariants.{Table};
-ghost use Rattle.rsp_call.specs.Output.{is_refusal, text_of};
 ghost use Rattle.rsp_call.specs.Shelves.{shelf_seen};
-ghost use Rattle.rsp_call.specs.Stops.{Ends};
+ghost use Rattle.rsp_call.specs.Sayings.{Says};
 ghost use Rattle.rsp_call.specs.Readings.{status_of_unread};
 
 use crate::faults::file_fault;
@@ -39,8 +37,7 @@ pub(crate) fn check<H: Shelf, K: Sink>(
 
 // writes what is said of the file; the answer is whether the query is refused
 fn tell_verdict<K: Sink>(alloc: Global, bytes: &[u8], out: &mut K) -> Result<bool, Stop>
-    ensures text { Ends (K.seen out.old) (K.seen out.new) (text_of Table (checked (bytes.now ∷ []))) result }
-    ensures refused { IfOk result (λ refused. refused ≡ list_any is_refusal (checked (bytes.now ∷ []))) }
+    ensures { Says Table (K.seen out.old) (K.seen out.new) (checked (bytes.now ∷ [])) result }
 {
     match file_fault(alloc, bytes) {
         Ok(Some(fault)) => {

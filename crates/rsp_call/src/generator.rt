@@ -1,5 +1,5 @@
 // The generator, of whose events only the reports and their rows are counted.
-ghost use Rattle.std.specs.Prelude.{◌≡◌, ◌+◌, ◌≤◌, IfOk, IfSome, IsTrue, [], false, map, codes};
+ghost use Rattle.std.specs.Prelude.{◌≡◌, ◌+◌, ◌≤◌, ◌∷◌, IfOk, IfSome, IsTrue, [], false, map, codes};
 ghost use Rattle.std.specs.List.{slice_get};
 ghost use Rattle.rsp_events.specs.Instants.{IsInstant};
 ghost use Rattle.rsp_engine.specs.World.{empty_world};
@@ -8,9 +8,10 @@ ghost use Rattle.rsp_spec.specs.Limits.{most_file_bytes};
 ghost use Rattle.rsp_call.specs.FileAnswers.{AnswersFiles};
 ghost use Rattle.rsp_words.specs.declared.form.Form.TheVariants.{Table};
 ghost use Rattle.rsp_call.specs.Generator.{generated};
-ghost use Rattle.rsp_call.specs.Output.{a_block, a_summary, text_of, text_of_saying};
+ghost use Rattle.rsp_call.specs.Output.{a_block, a_summary};
 ghost use Rattle.rsp_call.specs.Shelves.{ShelfSeen};
-ghost use Rattle.rsp_call.specs.Stops.{Ends};
+ghost use Rattle.rsp_call.specs.Sayings.{Says};
+ghost use Rattle.rsp_call.specs.Stops.{Ends, Stays};
 ghost use Rattle.rsp_call.specs.Summaries.{counted, numbered};
 ghost use Rattle.rsp_call.specs.Tallies.{IsMaking, gen_left};
 ghost use Rattle.rsp_call.specs.Generator as generator;
@@ -135,8 +136,7 @@ fn tell_summary<A: Answer, K: Sink, L: Ledger>(
     requires idle { IsTrue (is_idle engine.old) }
     requires new { Stands engine.old empty_world [] }
     requires count { count ≤ 1000000 }
-    ensures text { Ends (K.seen out.old) (K.seen out.new) (text_of Table (counted count [])) result }
-    ensures refused { IfOk result (λ refused. refused ≡ false) }
+    ensures { Says Table (K.seen out.old) (K.seen out.new) (counted count []) result }
 {
     let mut feed = GenFeed::new(alloc, count);
     let mut nothing = SteadySource::new(Vec::new(alloc), 1);
@@ -165,18 +165,26 @@ fn write_summary<K: Sink>(
     tally: Tally,
     out: &mut K,
 ) -> Result<bool, Stop>
-    ensures text { Ends (K.seen out.old) (K.seen out.new)
-        (text_of_saying Table (a_summary count tally.reports tally.rows)) result }
-    ensures refused { IfOk result (λ refused. refused ≡ false) }
+    ensures { Says Table (K.seen out.old) (K.seen out.new) (a_summary count tally.reports tally.rows ∷ []) result }
 {
     let Tally { reports, rows } = tally;
     match format!(in alloc; "gen {count} reports {reports} rows {rows}\n") {
         Ok(line) => {
-            write_all(out, line.as_bytes())?;
-            Ok(false)
+            let written = write_line(out, line.as_bytes());
+            written
         }
         Err(AllocError) => Err(Stop::Memory),
     }
+}
+
+// writes a line that is no refusal
+fn write_line<K: Sink>(out: &mut K, line: &[u8]) -> Result<bool, Stop>
+    ensures text { Ends (K.seen out.old) (K.seen out.new) line.now result }
+    ensures refused { IfOk result (λ refused. refused ≡ false) }
+    ensures stays { Stays (K.seen out.old) (K.seen out.new) result }
+{
+    write_all(out, line)?;
+    Ok(false)
 }
 
 const QUERY: &str = "PREFIX ex: <http://example.org/>

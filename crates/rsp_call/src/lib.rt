@@ -18,7 +18,6 @@ mod reports;
 mod run;
 mod status;
 mod stop;
-mod tabs;
 mod top;
 mod voice;
 mod writing;

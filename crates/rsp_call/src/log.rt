@@ -1,5 +1,5 @@
 // A log as a feed: its blocks, as they end in what is read.
-ghost use Rattle.std.specs.Prelude.{◌≡◌, ◌++◌, ◌∷◌, ◌≤◌, [], None, ℕ, IfErr, IfOk, List, OnOk, option_to_list, length, take, true};
+ghost use Rattle.std.specs.Prelude.{◌<◌, ◌+◌, ◌≡◌, ◌++◌, ◌∷◌, ◌≤◌, [], None, ℕ, IfErr, IfOk, List, OnOk, option_to_list, length, take, true};
 ghost use Rattle.rsp_io.specs.Seen.{SourceSeen};
 ghost use Rattle.rsp_events.specs.Blocks.{blocks, whole_blocks};
 ghost use Rattle.rsp_events.specs.Instants.{AllTimed};
@@ -33,6 +33,7 @@ impl LogFeed {
         ensures gave { (source : SourceSeen) → LogGave result.at_end result.most result.taken result.blocks source source [] }
         ensures most { result.most ≡ most }
         ensures document { result.blocks.document ≡ document }
+        ensures fits { result.taken ≤ result.most }
     {
         LogFeed {
             blocks: Blocks::new(alloc, document),
@@ -43,9 +44,29 @@ impl LogFeed {
         }
     }
 
-    // the blocks that end in so many bytes more
+    // how many bytes the next read asks for: no more than may still be taken; where none may, one, which says whether the log ends
+    fn asked(&self) -> usize
+        requires fits { self.now.taken ≤ self.now.most }
+        ensures some { 0 < result }
+        ensures many { result ≤ length self.now.buffer }
+        ensures room { self.now.taken < self.now.most → self.now.taken + result ≤ self.now.most }
+    {
+        let room = self.most - self.taken;
+        if room == 0 {
+            1
+        } else if room < READ_BYTES as u64 {
+            room as usize
+        } else {
+            READ_BYTES
+        }
+    }
+
+    // the blocks that end in so many bytes more; TooLong where none may be taken
     fn piece(&mut self, read: usize) -> Result<Listed<Block>, Cut>
-        requires { read ≤ length self.old.buffer }
+        requires read { read ≤ length self.old.buffer }
+        requires fits { self.old.taken ≤ self.old.most }
+        requires room { self.old.taken < self.old.most → self.old.taken + read ≤ self.old.most }
+        ensures fits { self.new.taken ≤ self.new.most }
         ensures most { self.new.most ≡ self.old.most }
         ensures document { self.new.blocks.document ≡ self.old.blocks.document }
         ensures at_end { self.new.at_end ≡ self.old.at_end }
@@ -54,7 +75,7 @@ impl LogFeed {
         ensures timed { IfOk result AllTimed }
         ensures cut { IfErr result (λ why. RefusesPiece why self.old.most self.old.taken read) }
     {
-        if self.most.saturating_sub(self.taken) < read as u64 {
+        if self.taken == self.most {
             return Err(Cut::TooLong);
         }
         self.taken += read as u64;
@@ -69,6 +90,7 @@ impl LogFeed {
         ensures most { self.new.most ≡ self.old.most }
         ensures document { self.new.blocks.document ≡ self.old.blocks.document }
         ensures at_end { self.new.at_end ≡ true }
+        ensures taken { self.new.taken ≡ self.old.taken }
         ensures given { IfOk result (λ last. (bytes : List ℕ) → HasRead self.old.blocks bytes
             → blocks self.old.blocks.document bytes ≡ whole_blocks self.old.blocks.document bytes ++ option_to_list last) }
         ensures timed { IfOk result (λ last. AllTimed (option_to_list last)) }
@@ -83,10 +105,10 @@ impl LogFeed {
 }
 
 impl<S: Source> Feed<S> for LogFeed {
-    ghost use Rattle.std.specs.Prelude.{◌∷◌, [], None, ⊤};
+    ghost use Rattle.std.specs.Prelude.{◌≤◌, ◌∷◌, [], None};
     ghost use Rattle.rsp_call.specs.Logs.{LogEnded, LogGave, log_turns};
 
-    ghost fits = { λ _. ⊤ };
+    ghost fits = { λ log. log.taken ≤ log.most };
 
     ghost gave = { λ log start now given. LogGave log.at_end log.most log.taken log.blocks start now given };
 
@@ -98,12 +120,14 @@ impl<S: Source> Feed<S> for LogFeed {
 
     ghost turns = { λ log. log_turns log.at_end log.most log.taken };
 
-    /// The blocks that end in the next read; at the end of the log the block that this ends, where there is one.
+    /// The blocks that end in the next read; at the end of the log the block that this ends, where there is one. Of a log that is
+    /// too long, exactly as many bytes as it may have are worked off.
     fn next(&mut self, from: &mut S) -> Result<Option<Batch>, Cut> {
         if self.at_end {
             return Ok(None);
         }
-        match from.read(&mut self.buffer[..]) {
+        let asked = self.asked();
+        match from.read(&mut self.buffer[..asked]) {
             Ok(0) => match self.last() {
                 Ok(Some(block)) => Ok(Some(Batch::Block(block))),
                 Ok(None) => Ok(None),

@@ -1,5 +1,6 @@
 // The line of a refusal.
-ghost use Rattle.std.specs.Prelude.{◌≡◌, List, ℕ, Some, true, IfOk, IsSome, is_some, option_map, string_bytes};
+ghost use Rattle.std.specs.Fmt.{decimal};
+ghost use Rattle.std.specs.Prelude.{◌≡◌, ◌++◌, List, ℕ, Some, true, IfOk, codes, is_some, option_map, string_bytes};
 ghost use Rattle.rsp_call.specs.Reasons.{details, kind, reason_of};
 ghost use Rattle.rsp_call.specs.Refusals.{Reason, limit_word, of_event, place_text, refusal_line};
 ghost use Rattle.rsp_engine.specs.declared.refused.Refused.TheVariants as refused;
@@ -76,20 +77,31 @@ fn line(alloc: Global, place: Place, answered: &Answered) -> Result<Option<Strin
     match kind(answered) {
         None => Ok(None),
         Some((number, name)) => {
-            let place = place_text(alloc, place)?;
             let details = details(alloc, answered)?;
-            Ok(Some(format!(in alloc; "# refused {place} {number} {name}{details}\n")?))
+            Ok(Some(line_at(alloc, place, number, name, details.as_str())?))
         }
     }
 }
 
-fn place_text(alloc: Global, place: Place) -> Result<String, AllocError>
-    ensures { IfOk result (λ text. string_bytes text ≡ place_text place) }
+// the line of a refusal at a place, in one text
+fn line_at(
+    alloc: Global,
+    place: Place,
+    number: u64,
+    name: &str,
+    details: &str,
+) -> Result<String, AllocError>
+    ensures { IfOk result (λ line. string_bytes line ≡ codes "# refused " ++ (place_text place
+        ++ (codes " " ++ (decimal number ++ (codes " " ++ (name.now ++ (details.now ++ codes "\n"))))))) }
 {
     match place {
-        Place::Block(number) => format!(in alloc; "block {number}"),
-        Place::Query => String::from_str(alloc, "query"),
-        Place::Line(file, line) => format!(in alloc; "file {file} line {line}"),
+        Place::Block(block) => {
+            format!(in alloc; "# refused block {block} {number} {name}{details}\n")
+        }
+        Place::Query => format!(in alloc; "# refused query {number} {name}{details}\n"),
+        Place::Line(file, line) => {
+            format!(in alloc; "# refused file {file} line {line} {number} {name}{details}\n")
+        }
     }
 }
 

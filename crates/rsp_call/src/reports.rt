@@ -1,15 +1,11 @@
 // Writing a report.
-ghost use Rattle.std.specs.Prelude.{◌≡◌, IfOk, false};
-ghost use Rattle.rsp_engine.specs.declared.report.Report.{Report};
-ghost use Rattle.rsp_engine.specs.Reports.{IsReport};
+ghost use Rattle.std.specs.Prelude.{◌≡◌, IfOk};
 ghost use Rattle.rsp_streams_out.specs.Json.{report_json};
 ghost use Rattle.rsp_streams_out.specs.Reports.{overfull_text, report_text};
-ghost use Rattle.rsp_call.specs.Apart.{have_tab};
 ghost use Rattle.rsp_call.specs.Output.{text_of_report};
 ghost use Rattle.rsp_call.specs.Stops.{Ends, Stays};
 
 use crate::stop::Stop;
-use crate::tabs::have_tab;
 use crate::writing::write_all;
 use rsp_engine::{Outcome, Report};
 use rsp_io::Sink;
@@ -19,15 +15,14 @@ use rsp_terms::{Term, Text};
 use rsp_words::Form;
 use std::alloc::{AllocError, Global};
 
-/// Writes a report: the one that is wanted, but for the order of rows of equal texts.
+/// Writes a report.
 pub(crate) fn tell<K: Sink>(
     alloc: Global,
     report: &Report,
     form: Form,
     out: &mut K,
 ) -> Result<(), Stop>
-    ensures text { (wanted : Report) → IsReport report.now wanted
-        → Ends (K.seen out.old) (K.seen out.new) (text_of_report form wanted) result }
+    ensures text { Ends (K.seen out.old) (K.seen out.new) (text_of_report form report.now) result }
     ensures stays { Stays (K.seen out.old) (K.seen out.new) result }
 {
     match text_of(alloc, report, form) {
@@ -36,9 +31,8 @@ pub(crate) fn tell<K: Sink>(
     }
 }
 
-// the text of the report that is wanted: this one, but for the order of rows of equal texts
 fn text_of(alloc: Global, report: &Report, form: Form) -> Result<Vec<u8>, AllocError>
-    ensures { IfOk result (λ text. (wanted : Report) → IsReport report.now wanted → text.items ≡ text_of_report form wanted) }
+    ensures { IfOk result (λ text. text.items ≡ text_of_report form report.now) }
 {
     let name = report.query.as_str();
     match &report.outcome {
@@ -67,7 +61,6 @@ fn table(
     Ok(text)
 }
 
-// Fails also where the rows' texts may not tell them apart.
 fn json(
     alloc: Global,
     name: &str,
@@ -75,11 +68,8 @@ fn json(
     variables: &[Text],
     rows: &[Row<Term>],
 ) -> Result<Vec<u8>, AllocError>
-    ensures { IfOk result (λ text. (text.items ≡ report_json name.now at variables.now rows.now) × (have_tab rows.now ≡ false)) }
+    ensures { IfOk result (λ text. text.items ≡ report_json name.now at variables.now rows.now) }
 {
-    if have_tab(rows) {
-        return Err(AllocError);
-    }
     let mut text = Vec::new(alloc);
     report_json(alloc, name, at, variables, rows, &mut text)?;
     Ok(text)

@@ -1,7 +1,5 @@
 // Voices: how what is said is told.
 ghost use Rattle.std.specs.Prelude.{◌≡◌, ◌+◌, ◌∷◌, [], IfOk, OnOk, true, is_some};
-ghost use Rattle.rsp_engine.specs.declared.report.Report as reported;
-ghost use Rattle.rsp_engine.specs.Reports.{IsReport};
 ghost use Rattle.rsp_call.specs.declared.voice.Tally as counts;
 ghost use Rattle.rsp_call.specs.declared.voice.Voice.TheVariants.{Counts};
 ghost use Rattle.rsp_call.specs.Output.{a_report};
@@ -54,8 +52,7 @@ impl Voice {
         report: &Report,
         out: &mut K,
     ) -> Result<(), Stop>
-        ensures { (wanted : reported.Report) → IsReport report.now wanted
-            → Tells self.old self.new (K.seen out.old) (K.seen out.new) (a_report wanted ∷ []) result }
+        ensures { Tells self.old self.new (K.seen out.old) (K.seen out.new) (a_report report.now ∷ []) result }
     {
         match *self {
             Voice::Writes(form) => {

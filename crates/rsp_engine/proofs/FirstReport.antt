@@ -27,7 +27,7 @@ use Rattle.rsp_engine.specs.Contents.{facts_over, watches}
 use Rattle.rsp_engine.specs.Left.{IsFirstLeft, left_from}
 use Rattle.rsp_engine.specs.Watching.{name_of}
 use Rattle.rsp_engine.specs.Moments.{Moment}
-use Rattle.rsp_engine.specs.Reports.{IsOutcome, after_report, cells_at, facts, is_overfull, live_query, query_after_report, report_of, rows_over, solutions}
+use Rattle.rsp_engine.specs.Reports.{after_report, cells_at, facts, is_overfull, live_query, query_after_report, report_of, rows_over, solutions}
 use Rattle.rsp_engine.specs.Steps.{moments_behind, next_step}
 use Rattle.rsp_engine.specs.Stands.{Behind, Follows, HaveSeen, IsState, Live, Precede, Stands, State, asked_in, asked_of, left_in, next_in, places_left, registration_of, registrations_in, test_in}
 use Rattle.rsp_engine.specs.Offers.{GivesOf}
@@ -43,11 +43,9 @@ use Rattle.rsp_engine.proofs.Seen.{name_of_query, seen_at, seen_removed, seen_se
 use Rattle.rsp_engine.proofs.Standing.{head_is, left_here, left_renamed, none_is, waits_renamed}
 
 -- by what was reported
-full_or_rows : (full : Bool) (given : Outcome) (rows : List (Cells Term)) → IsOutcome given (if full then outcomes.Overfull else outcomes.Rows rows) → is_overfull_outcome given ≡ full
-full_or_rows true outcomes.Overfull rows is = refl
-full_or_rows true (outcomes.Rows _) rows is = absurd is
-full_or_rows false outcomes.Overfull rows is = cc
-full_or_rows false (outcomes.Rows _) rows is = refl
+full_or_rows : (full : Bool) (given : Outcome) (rows : List (Cells Term)) → given ≡ (if full then outcomes.Overfull else outcomes.Rows rows) → is_overfull_outcome given ≡ full
+full_or_rows true given rows is = ap is_overfull_outcome is
+full_or_rows false given rows is = ap is_overfull_outcome is
 
 -- the rows over the same facts are the same
 rows_alike : (reading : Reading) (xs ys : List Fact) → IsSameMultiset fact_eq xs ys → IsSameMultiset (row_eq term_eq) (rows_over reading xs) (rows_over reading ys)
@@ -200,8 +198,8 @@ module _ (old new : State) (report : Report) (world : World) (left : List Moment
   stands_behind false ends told stood queries first = rw ends (went_on queries (told refl) (stood refl) first)
 
   -- what the world's query reports
-  outcome_is : IsOutcome report.outcome (report_of world found.0 place.at).outcome
-  outcome_is = subst (λ (r : Registration). IsOutcome report.outcome (outcome_over r.reading found.0.preceding (facts world r place.at))) (sym found.2)
+  outcome_is : report.outcome ≡ (report_of world found.0 place.at).outcome
+  outcome_is = subst (λ (r : Registration). report.outcome ≡ (outcome_over r.reading found.0.preceding (facts world r place.at))) (sym found.2)
       (given.outcome world.items follows contents (facts world query place.at) found.0.preceding seen precedes)
 
   pub first_given : GivesOf world left report new
@@ -209,11 +207,11 @@ module _ (old new : State) (report : Report) (world : World) (left : List Moment
       record {
         step = record { report = report_of world found.0 place.at; after = after_report world found.0.registration place.at; left = moments_behind world found.0.registration place.at rest };
         is_next = ap (next_step world) is_first ∙ rw live_is refl;
-        is_report = record {
-          query = given.query ∙ sym called;
-          at = given.at;
-          variables = given.variables ∙ ap (λ (r : Registration). r.reading.variables) (sym found.2);
-          outcome = outcome_is;
+        is_report = λ i. record {
+          query = (given.query ∙ sym called) i;
+          at = given.at i;
+          variables = (given.variables ∙ ap (λ (r : Registration). r.reading.variables) (sym found.2)) i;
+          outcome = outcome_is i;
         };
         stands = subst (λ (r : Registration). Stands new (after_report world r place.at) (moments_behind world r place.at rest)) (sym found.2)
             (stands_behind (is_overfull_outcome report.outcome) (sym full) given.told (λ rows. given.stood rows world.items follows contents) given.queries given.left);

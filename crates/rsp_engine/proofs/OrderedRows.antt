@@ -13,29 +13,23 @@ use Rattle.rsp_report.specs.declared.operator.Operator.TheVariants.{Rstream, Ist
 use Rattle.rsp_multiset.specs.Rows.{Cells, row_eq}
 use Rattle.rsp_terms.specs.declared.term.Term.{Term}
 use Rattle.rsp_terms.specs.Same.{term_eq, term_same}
-use Rattle.rsp_streams_out.specs.Rows.{AreRows, in_order, row_text}
+use Rattle.rsp_streams_out.specs.Rows.{in_order}
 use Rattle.rsp_algebra.proofs.SameFacts.{SameRows, same_mapped}
-use Rattle.rsp_streams_out.proofs.Turned.{in_order-times}
 use Rattle.rsp_engine.specs.Reports.{cells_at}
 
 pub ordered_rows : (rows wanted cut_rows out : List (Cells Term)) (shown : List ℕ) → SameRows rows wanted → cut_rows ≡ map (cells_at shown) rows
-    → out ≡ in_order cut_rows → ((other : List (Cells Term)) → SameRows other cut_rows → map row_text (in_order other) ≡ map row_text out)
-    → AreRows out (in_order (map (cells_at shown) wanted))
-ordered_rows rows wanted cut_rows out shown same cut_is out_is texts =
+    → ((other : List (Cells Term)) → SameRows other cut_rows → in_order other ≡ out) → out ≡ in_order (map (cells_at shown) wanted)
+ordered_rows rows wanted cut_rows out shown same cut_is order =
     let mapped : SameRows cut_rows (map (cells_at shown) wanted) = λ q. ap (λ rs. times (row_eq term_eq) rs q) cut_is ∙ same_mapped (cells_at shown) rows wanted same q in
-    record {
-      same = λ q. ap (λ rs. times (row_eq term_eq) rs q) out_is ∙ (in_order-times cut_rows q ∙ (mapped q ∙ sym (in_order-times (map (cells_at shown) wanted) q)));
-      texts = sym (texts (map (cells_at shown) wanted) (λ q. sym (mapped q)));
-    }
+    sym (order (map (cells_at shown) wanted) (λ q. sym (mapped q)))
 
 pub ordered_ok : {E : Type 0} (result : Result (List (Cells Term)) E) (rows cut_rows : List (Cells Term)) (shown : List ℕ) (bag : List (Cells Term × ℤ))
     → ((q : Cells Term) → times (row_eq term_eq) rows q ≡ weight (row_eq term_eq) bag q) → cut_rows ≡ map (cells_at shown) rows
-    → IfOk result (λ out. out ≡ in_order cut_rows)
-    → IfOk result (λ out. (other : List (Cells Term)) → SameRows other cut_rows → map row_text (in_order other) ≡ map row_text out)
-    → IfOk result (λ out. (wanted : List (Cells Term)) → ((q : Cells Term) → weight (row_eq term_eq) bag q ≡ times (row_eq term_eq) wanted q) → AreRows out (in_order (map (cells_at shown) wanted)))
-ordered_ok (Ok out) rows cut_rows shown bag held cut_is value texts =
-    λ wanted same. ordered_rows rows wanted cut_rows out shown (λ q. held q ∙ same q) cut_is value texts
-ordered_ok (Err why) rows cut_rows shown bag held cut_is value texts = tt
+    → IfOk result (λ out. (other : List (Cells Term)) → SameRows other cut_rows → in_order other ≡ out)
+    → IfOk result (λ out. (wanted : List (Cells Term)) → ((q : Cells Term) → weight (row_eq term_eq) bag q ≡ times (row_eq term_eq) wanted q) → out ≡ in_order (map (cells_at shown) wanted))
+ordered_ok (Ok out) rows cut_rows shown bag held cut_is order =
+    λ wanted same. ordered_rows rows wanted cut_rows out shown (λ q. held q ∙ same q) cut_is order
+ordered_ok (Err why) rows cut_rows shown bag held cut_is order = tt
 
 -- ---- changes of rows
 
@@ -79,5 +73,5 @@ stands_for Dstream change solutions preceding present other changed = changed
 
 -- no rows where none are to be reported
 pub no_rows : (operator : Operator) (preceding present : List (Cells Term)) → preceding ≡ [] → reported operator [] present ≡ []
-    → AreRows [] (reported operator preceding present)
-no_rows operator preceding present none is = rw (none, is) (record { same = λ q. refl; texts = refl })
+    → [] ≡ reported operator preceding present
+no_rows operator preceding present none is = rw (none, is) refl

@@ -1,5 +1,5 @@
 -- What a live query reports over the facts for which its answer then stands.
-use Rattle.std.proofs.Common.{◌≡◌, ℕ, Bool, true, false, List, refl, sym, subst, ◌∙◌, map}
+use Rattle.std.proofs.Common.{◌≡◌, ℕ, Bool, true, false, List, refl, sym, subst, ap, ◌∙◌, map}
 use Rattle.rsp_terms.specs.declared.statement.Fact.{Fact}
 use Rattle.rsp_algebra.specs.Nodes.{Node}
 use Rattle.rsp_algebra.specs.Meanings.{node_of}
@@ -8,7 +8,6 @@ use Rattle.rsp_algebra.specs.Overfull.{overfull}
 use Rattle.rsp_algebra.proofs.SameFacts.{SameFacts, same_overfull}
 use Rattle.rsp_terms.specs.declared.term.Term.{Term}
 use Rattle.rsp_multiset.specs.Rows.{Cells}
-use Rattle.rsp_streams_out.specs.Rows.{AreRows}
 use Rattle.rsp_streams_out.specs.Streams.{reported}
 use Rattle.rsp_engine.specs.declared.live_query.LiveQuery.{LiveQuery}
 use Rattle.rsp_engine.specs.declared.report.Outcome.TheVariants as outcomes
@@ -37,7 +36,7 @@ module _ {A : Type 0} (node : A → Node) (width : A → ℕ) (facts : A → Lis
   pub rows_outcome : (rows : List (Cells Term)) → overfull (width live.answer) (node live.answer) held ≡ false
       → ((seen : List Fact) (preceding : List (Cells Term)) → SameFacts held seen
       → Behind live.reported (map (cells_at live.query.value.shown) (eval (width live.answer) (node live.answer) (facts live.answer))) preceding
-      → AreRows rows (reported live.operator preceding (map (cells_at live.query.value.shown) (eval (width live.answer) (node live.answer) seen))))
+      → rows ≡ reported live.operator preceding (map (cells_at live.query.value.shown) (eval (width live.answer) (node live.answer) seen)))
       → IsOutcomeOver (outcomes.Rows rows) (live_of facts live) now
   rows_outcome rows full gives seen preceding alike precedes =
       let fits = now_full seen alike false full in
@@ -45,6 +44,6 @@ module _ {A : Type 0} (node : A → Node) (width : A → ℕ) (facts : A → Lis
       subst (λ w. Behind live.reported (map (cells_at live.query.value.shown) (eval w (node_of live.query.value.tree) (facts live.answer))) preceding) (sym answers.width_is) precedes in
       let by_node : Behind live.reported (map (cells_at live.query.value.shown) (eval (width live.answer) (node live.answer) (facts live.answer))) preceding =
       subst (λ n. Behind live.reported (map (cells_at live.query.value.shown) (eval (width live.answer) n (facts live.answer))) preceding) (sym answers.node_is) by_width in
-      let of_width = subst (λ w. AreRows rows (reported live.operator preceding (map (cells_at live.query.value.shown) (eval w (node live.answer) seen)))) answers.width_is (gives seen preceding (held_as seen alike) by_node) in
-      let of_node = subst (λ n. AreRows rows (reported live.operator preceding (map (cells_at live.query.value.shown) (eval live.query.value.width n seen)))) answers.node_is of_width in
-      rw fits of_node
+      let of_width = subst (λ w. rows ≡ (reported live.operator preceding (map (cells_at live.query.value.shown) (eval w (node live.answer) seen)))) answers.width_is (gives seen preceding (held_as seen alike) by_node) in
+      let of_node = subst (λ n. rows ≡ (reported live.operator preceding (map (cells_at live.query.value.shown) (eval live.query.value.width n seen)))) answers.node_is of_width in
+      rw fits (ap outcomes.Rows of_node)

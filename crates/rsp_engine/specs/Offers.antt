@@ -10,7 +10,6 @@ use Rattle.rsp_engine.specs.declared.report.Report.{Report}
 use Rattle.rsp_engine.specs.World.{World}
 use Rattle.rsp_engine.specs.Accept.{accept, is_live}
 use Rattle.rsp_engine.specs.Moments.{Moment, moments}
-use Rattle.rsp_engine.specs.Reports.{IsReport}
 use Rattle.rsp_engine.specs.Steps.{ReportStep, next_step}
 use Rattle.rsp_engine.specs.Stands.{State, Stands, is_idle, places_left}
 
@@ -67,7 +66,7 @@ pub record HasNone (old new : State) : Type 0 where
 pub record GivesOf (world : World) (left : List Moment) (report : Report) (new : State) : Type 0 where
   pub step : ReportStep
   pub is_next : next_step world left ≡ Some step
-  pub is_report : IsReport report step.report
+  pub is_report : report ≡ step.report
   pub stands : Stands new step.after step.left
 
 pub record GivesFirst (old : State) (report : Report) (new : State) : Type 0 where

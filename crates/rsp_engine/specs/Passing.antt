@@ -31,7 +31,7 @@ use Rattle.rsp_engine.specs.Inside.{Answers, fixed, live_of}
 use Rattle.rsp_engine.specs.Keeping.{IsUnmoved}
 use Rattle.rsp_engine.specs.Left.{IsFirstLeft}
 use Rattle.rsp_engine.specs.Readings.{reading_of}
-use Rattle.rsp_engine.specs.Reports.{IsOutcome, rows_over}
+use Rattle.rsp_engine.specs.Reports.{rows_over}
 use Rattle.rsp_engine.specs.Stands.{Fits, Follows, Precede, State, Live, asked_in, next_in, reading_in, registration_of, test_in}
 use Rattle.rsp_engine.specs.Watching.{IsPolicy, Tells, name_of, reports_by}
 use Rattle.rsp_engine.specs.World.{Reading}
@@ -78,7 +78,7 @@ outcome_over reading preceding facts =
 abbrev pub IsOutcomeOver : Outcome → Live → List Fact → Type 0
 IsOutcomeOver given live now =
     (facts : List Fact) (preceding : List (Cells Term))
-    → IsSameMultiset fact_eq now facts → Precede live preceding → IsOutcome given (outcome_over (reading_in live) preceding facts)
+    → IsSameMultiset fact_eq now facts → Precede live preceding → given ≡ outcome_over (reading_in live) preceding facts
 
 -- each item in a content of the query at t is kept
 abbrev pub HasContents : List Accepted → Kept → ℕ → List Watch → Type 0

@@ -8,7 +8,6 @@ use Rattle.rsp_multiset.specs.Rows.{Cells}
 use Rattle.rsp_multiset.specs.Variables as variables
 use Rattle.rsp_algebra.specs.Solutions.{eval}
 use Rattle.rsp_algebra.specs.Overfull.{overfull}
-use Rattle.rsp_streams_out.specs.Rows.{AreRows}
 use Rattle.rsp_streams_out.specs.Streams.{reported}
 use Rattle.rsp_engine.specs.declared.report.Report.{Report}
 use Rattle.rsp_engine.specs.declared.report.Outcome.{Outcome}
@@ -37,7 +36,7 @@ abbrev pub is_overfull : World → Registration → ℕ → Bool
 is_overfull world query t = overfull query.reading.width query.reading.node (facts world query t)
 
 -- the query's report at t: that it is overfull, or what its stream operator gives of the preceding rows and those of now, in the
--- byte order of their texts
+-- byte order of their texts, and rows of one text by their cells
 abbrev pub report_of : World → Query → ℕ → Report
 report_of world query t =
     record {
@@ -51,18 +50,6 @@ report_of world query t =
           outcome.Rows
           (reported query.registration.reading.operator query.preceding (solutions world query.registration t));
     }
-
-abbrev pub IsOutcome : Outcome → Outcome → Type 0
-IsOutcome outcome.Overfull wanted = wanted ≡ outcome.Overfull
-IsOutcome (outcome.Rows rows) outcome.Overfull = ⊥
-IsOutcome (outcome.Rows rows) (outcome.Rows wanted) = AreRows rows wanted
-
--- the report is this one, but for the order of rows of equal texts
-pub record IsReport (report wanted : Report) : Type 0 where
-  pub query : report.query ≡ wanted.query
-  pub at : report.at ≡ wanted.at
-  pub variables : report.variables ≡ wanted.variables
-  pub outcome : IsOutcome report.outcome wanted.outcome
 
 -- the live query of a name
 abbrev pub live_query : World → List ℕ → Option Query

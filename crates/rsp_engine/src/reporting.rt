@@ -11,7 +11,7 @@ ghost use Rattle.rsp_algebra.specs.Solutions.{eval};
 ghost use Rattle.rsp_scope.specs.Contents.{Accepted};
 ghost use Rattle.rsp_scope.specs.Ends.{HasContent};
 ghost use Rattle.rsp_scope.specs.Moves.{Followed, HasSeen, IsReached};
-ghost use Rattle.rsp_streams_out.specs.Rows.{AreRows, in_order};
+ghost use Rattle.rsp_streams_out.specs.Rows.{in_order};
 ghost use Rattle.rsp_streams_out.specs.Streams.{reported};
 ghost use Rattle.rsp_engine.specs.Contents.{watches};
 ghost use Rattle.rsp_engine.specs.Inside.{Answers, live_of};
@@ -182,8 +182,8 @@ fn told_rows<A: Answer>(
         → IsChanged (row_eq term_eq) before net.now
         (eval (A.width live.now.answer) (A.node live.now.answer) (A.facts live.now.answer))
         → Behind live.now.reported (map (cells_at live.now.query.value.shown) before) preceding
-        → AreRows rows (reported live.now.operator preceding (map (cells_at live.now.query.value.shown)
-        (eval (A.width live.now.answer) (A.node live.now.answer) facts)))) }
+        → rows ≡ reported live.now.operator preceding (map (cells_at live.now.query.value.shown)
+        (eval (A.width live.now.answer) (A.node live.now.answer) facts))) }
 {
     match read_by(live.operator, live.reported) {
         Reading::Solutions => all_rows(alloc, live),
@@ -197,8 +197,8 @@ fn all_rows<A: Answer>(alloc: Global, live: &LiveQuery<A>) -> Result<PrintedRows
     requires { A.spent live.now.answer ≡ false }
     ensures { IfOk result (λ rows. (facts : List Fact)
         → IsSameMultiset fact_eq (A.facts live.now.answer) facts
-        → AreRows rows (in_order (map (cells_at live.now.query.value.shown)
-        (eval (A.width live.now.answer) (A.node live.now.answer) facts)))) }
+        → rows ≡ in_order (map (cells_at live.now.query.value.shown)
+        (eval (A.width live.now.answer) (A.node live.now.answer) facts))) }
 {
     let solutions = live.answer.solutions()?;
     shown_rows(alloc, &solutions, live.query.shown.as_slice())

@@ -5,7 +5,7 @@ ghost use Rattle.rsp_multiset.specs.Weights.{IsChanged, IsSameMultiset, only, ti
 ghost use Rattle.rsp_multiset.specs.Rows.{Cells, row_eq};
 ghost use Rattle.rsp_terms.specs.declared.term.Term.{Term};
 ghost use Rattle.rsp_report.specs.declared.operator.Operator.TheVariants.{Rstream};
-ghost use Rattle.rsp_streams_out.specs.Rows.{AreRows, in_order};
+ghost use Rattle.rsp_streams_out.specs.Rows.{in_order};
 ghost use Rattle.rsp_streams_out.specs.Streams.{reported};
 ghost use Rattle.rsp_engine.specs.Reports.{cells_at};
 
@@ -22,7 +22,7 @@ pub(crate) fn shown_rows(
 ) -> Result<PrintedRows, AllocError>
     ensures { IfOk result (λ rows. (wanted : _)
         → ((q : _) → weight (row_eq term_eq) solutions.now q ≡ times (row_eq term_eq) wanted q)
-        → AreRows rows (in_order (map (cells_at shown.now) wanted))) }
+        → rows ≡ in_order (map (cells_at shown.now) wanted)) }
 {
     let rows = rows_of(alloc, solutions)?;
     printed(alloc, all_cut(alloc, rows.as_slice(), shown)?)
@@ -41,7 +41,7 @@ pub(crate) fn changed_rows(
         → IsChanged (row_eq term_eq) before net.now after
         → IsSameMultiset (row_eq term_eq) (map (cells_at shown.now) before) preceding
         → IsSameMultiset (row_eq term_eq) (map (cells_at shown.now) after) present
-        → AreRows rows (reported operator preceding present)) }
+        → rows ≡ reported operator preceding present) }
 {
     let change = change_cut(alloc, net, shown)?;
     let unread = Bag::new(alloc);

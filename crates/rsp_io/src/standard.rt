@@ -7,7 +7,7 @@ ghost use Rattle.rsp_io.specs.Writing.{WriteAppends, RoomFalls};
 ghost use Rattle.rsp_io.specs.Objects.{faults_after};
 
 use crate::{Failed, Sink, Source};
-use std::io::{self, Printer, Read, Write};
+use std::io::{self, ErrorKind, Printer, Read, Write};
 use std::marker::Model;
 
 /// Standard input. It tells how many bytes it gave and how many reads failed, and isn't sure.
@@ -45,7 +45,8 @@ impl<R: Input> Source for StdSource<R> {
 
     ghost seen = { λ s. record { left = None; given = s.given; faults = s.faults; sure = false } };
 
-    /// As `Source::read`: one read of the runtime's. Each that fails is a fault.
+    /// As `Source::read`: one read of the runtime's, made again where a signal interrupts it, up to 64 times. Each that fails is a
+    /// fault.
     fn read(&mut self, buf: &mut [u8]) -> Result<usize, Failed>
         requires { 0 < length buf.old }
         ensures bound { IfOk result (λ n. n ≤ length buf.old) }
@@ -66,15 +67,28 @@ impl<R: Input> Source for StdSource<R> {
     }
 }
 
-/// One read of any reader, for which it is proved what the runtime's own tells nothing of.
+// How many calls are made, at most, where a signal interrupts each: one, and 64 again. One that was interrupted took nothing.
+const MOST_CALLS: usize = 65;
+
+// whether a call failed since a signal interrupted it
+fn is_interrupted(error: &io::Error) -> bool {
+    error.kind() == ErrorKind::Interrupted
+}
+
+/// One read of any reader, for which it is proved what the runtime's own tells nothing of. It is made again where a signal
+/// interrupts it.
 pub(crate) fn read_once<I: Read>(input: &mut I, buf: &mut [u8]) -> Result<usize, Failed>
     ensures bound { IfOk result (λ n. n ≤ length buf.old) }
     ensures bytes { ReadConsumes (I.remaining input.old) (I.remaining input.new) result buf.new }
 {
-    match input.read(buf) {
-        Ok(count) => Ok(count),
-        Err(_) => Err(Failed),
+    for _ in 0..MOST_CALLS {
+        match input.read(buf) {
+            Ok(count) => return Ok(count),
+            Err(error) if is_interrupted(&error) => {}
+            Err(_) => return Err(Failed),
+        }
     }
+    Err(Failed)
 }
 
 /// Standard output. It tells only how many writes failed.
@@ -109,8 +123,8 @@ impl<P: Print> Sink for StdSink<'_, P> {
 
     ghost seen = { λ s. record { taken = None; room = None; faults = s.faults } };
 
-    /// As `Sink::write`: one unbuffered write of the runtime's. Each that fails is a fault, and one that takes no
-    /// byte is too.
+    /// As `Sink::write`: one unbuffered write of the runtime's, made again where a signal interrupts it, up to 64 times. Each that
+    /// fails is a fault, and one that takes no byte is too.
     fn write(&mut self, piece: &[u8]) -> Result<usize, Failed>
         requires { 0 < length piece.now }
         ensures bound { IfOk result (λ n. (1 ≤ n) × (n ≤ length piece.now)) }
@@ -130,15 +144,19 @@ impl<P: Print> Sink for StdSink<'_, P> {
     }
 }
 
-/// One write to any writer, for which it is proved what the runtime's own tells nothing of. One that takes no byte
-/// failed.
+/// One write to any writer, for which it is proved what the runtime's own tells nothing of. It is made again where a signal
+/// interrupts it. One that takes no byte failed.
 pub(crate) fn write_once<W: Write>(output: &mut W, piece: &[u8]) -> Result<usize, Failed>
     ensures bound { IfOk result (λ n. (1 ≤ n) × (n ≤ length piece.now)) }
     ensures bytes { TakesKnown (W.contents output.old) (W.contents output.new) result piece.now }
 {
-    match output.write(piece) {
-        Ok(0) => Err(Failed),
-        Ok(count) => Ok(count),
-        Err(_) => Err(Failed),
+    for _ in 0..MOST_CALLS {
+        match output.write(piece) {
+            Ok(0) => return Err(Failed),
+            Ok(count) => return Ok(count),
+            Err(error) if is_interrupted(&error) => {}
+            Err(_) => return Err(Failed),
+        }
     }
+    Err(Failed)
 }

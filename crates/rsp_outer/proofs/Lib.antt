@@ -1,3 +1,4 @@
+mod Agreeing
 mod Bare
 mod Buckets
 mod Lonely

@@ -4,7 +4,7 @@ pub mod JsonData
 mod JsonRows
 pub mod Less
 pub mod NoneGone
-pub mod SameTexts
+pub mod SameOrder
 pub mod Sorted
 mod StreamRows
 pub mod Tabs

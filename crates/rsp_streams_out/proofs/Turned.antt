@@ -1,13 +1,14 @@
 -- A bag's rows in order are the defined ones.
-use Rattle.std.proofs.Common.{◌≡◌, true, false, cond, List, [], ◌∷◌, ℤ, pos, ◌+ℤ◌, neg_ℤ, map, refl, sym, ap, ◌∙◌, arith}
+use Rattle.std.proofs.Common.{◌≡◌, true, false, cond, List, [], ◌∷◌, ℤ, pos, ◌+ℤ◌, neg_ℤ, refl, sym, ap, ◌∙◌, arith}
 use Rattle.std.proofs.lemmas.Int.{ints}
 use Rattle.std.specs.Prelude.{Result, Ok, Err, IfOk}
+use Rattle.std.specs.Ordering.{is_gt}
 use Rattle.rsp_multiset.specs.Rows.{Cells, row_eq}
 use Rattle.rsp_multiset.specs.RowSame.{row_decides}
 use Rattle.rsp_multiset.specs.Weights.{only, times, weight, above, Holds, IsChanged}
 use Rattle.rsp_terms.specs.declared.term.Term.{Term}
 use Rattle.rsp_terms.specs.Same.{term_eq, term_same}
-use Rattle.rsp_streams_out.specs.Rows.{AreRows, in_order, put_in, row_text, stands_behind}
+use Rattle.rsp_streams_out.specs.Rows.{in_order, put_in, row_order}
 use Rattle.rsp_streams_out.specs.Streams.{less}
 use Rattle.rsp_streams_out.specs.Turning.{excess}
 use Rattle.rsp_streams_out.proofs.Less.{less-times}
@@ -18,7 +19,7 @@ put_in-times : (row : Cells Term) (rows : List (Cells Term)) (q : Cells Term)
 put_in-times row [] q = refl
 put_in-times row (first ∷ rows) q =
     let rest = put_in-times row rows q in
-    elim (stands_behind row first) as (λ v.
+    elim (is_gt (row_order row first)) as (λ v.
     times (row_eq term_eq) (cond v (first ∷ put_in row rows) (row ∷ first ∷ rows)) q ≡ times (row_eq term_eq) (row ∷ first ∷ rows) q) [
       | true ↦ omega (arith, ints, rest)
       | false ↦ refl
@@ -28,17 +29,6 @@ pub in_order-times : (rows : List (Cells Term)) (q : Cells Term) → times (row_
 in_order-times [] q = refl
 in_order-times (row ∷ rows) q =
     put_in-times row (in_order rows) q ∙ ap (λ n. only (row_eq term_eq q row) (pos 1) +ℤ n) (in_order-times rows q)
-
-pub are_rows : (rows wanted out : List (Cells Term)) → ((q : Cells Term) → times (row_eq term_eq) rows q ≡ times (row_eq term_eq) wanted q)
-    → out ≡ in_order rows
-    → ((other : List (Cells Term)) → ((q : Cells Term) → times (row_eq term_eq) other q ≡ times (row_eq term_eq) rows q)
-    → map row_text (in_order other) ≡ map row_text out)
-    → AreRows out (in_order wanted)
-are_rows rows wanted out held is texts =
-    record {
-      same = λ q. ap (λ all. times (row_eq term_eq) all q) is ∙ in_order-times rows q ∙ held q ∙ sym (in_order-times wanted q);
-      texts = sym (texts wanted (λ q. sym (held q)));
-    }
 
 pub in_order_counts : {E : Type 0} (result : Result (List (Cells Term)) E) (rows : List (Cells Term)) (bag : List (Cells Term × ℤ))
     → ((q : Cells Term) → times (row_eq term_eq) rows q ≡ weight (row_eq term_eq) bag q) → IfOk result (λ out. out ≡ in_order rows)
@@ -74,9 +64,8 @@ module _ (change : List (Cells Term × ℤ)) (preceding present : List (Cells Te
   gone_rows bag is q = is q ∙ gone_counts q ∙ sym (less-times (row_eq term_eq) (row_decides term_same) preceding present q)
 
 pub in_order_ok : {E : Type 0} (result : Result (List (Cells Term)) E) (rows : List (Cells Term)) (bag : List (Cells Term × ℤ))
-    → ((q : Cells Term) → times (row_eq term_eq) rows q ≡ weight (row_eq term_eq) bag q) → IfOk result (λ out. out ≡ in_order rows)
-    → IfOk result (λ out. (other : List (Cells Term)) → ((q : Cells Term) → times (row_eq term_eq) other q ≡ times (row_eq term_eq) rows q)
-    → map row_text (in_order other) ≡ map row_text out)
-    → IfOk result (λ out. (wanted : List (Cells Term)) → Holds (row_eq term_eq) bag wanted → AreRows out (in_order wanted))
-in_order_ok (Ok out) rows bag held is texts = λ wanted holds. are_rows rows wanted out (λ q. held q ∙ holds q) is texts
-in_order_ok (Err why) rows bag held is texts = tt
+    → ((q : Cells Term) → times (row_eq term_eq) rows q ≡ weight (row_eq term_eq) bag q)
+    → IfOk result (λ out. (other : List (Cells Term)) → ((q : Cells Term) → times (row_eq term_eq) other q ≡ times (row_eq term_eq) rows q) → in_order other ≡ out)
+    → IfOk result (λ out. (wanted : List (Cells Term)) → Holds (row_eq term_eq) bag wanted → out ≡ in_order wanted)
+in_order_ok (Ok out) rows bag held same = λ wanted holds. sym (same wanted (λ q. sym (held q ∙ holds q)))
+in_order_ok (Err why) rows bag held same = tt

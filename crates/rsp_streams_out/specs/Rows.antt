@@ -1,13 +1,13 @@
 -- Definitions: rows of a report (SPARQL 1.1 Query Results TSV Format, section 4) and their order.
-use Rattle.std.specs.Prelude.{◌≡◌, ℕ, Bool, if◌then◌else◌, List, [], ◌∷◌, Option, Some, None, map}
+use Rattle.std.specs.Prelude.{ℕ, if◌then◌else◌, List, [], ◌∷◌, Option, Some, None, map}
 use Rattle.std.specs.List.{join_with_byte}
 use Rattle.std.specs.Str.{byte}
-use Rattle.std.specs.Ordering.{nat_cmp, is_gt}
+use Rattle.std.specs.Ordering.{is_gt, nat_cmp, on, then_cmp}
+use Rattle.std.specs.declared.cmp.Ordering.{Ordering}
 use Rattle.std.specs.Cmp.Lexicographic.{slice_cmp}
-use Rattle.rsp_multiset.specs.Rows.{Cells, row_eq}
-use Rattle.rsp_multiset.specs.Weights.{times}
+use Rattle.rsp_multiset.specs.Rows.{Cells}
 use Rattle.rsp_terms.specs.declared.term.Term.{Term}
-use Rattle.rsp_terms.specs.Same.{term_eq}
+use Rattle.rsp_terms.specs.declared.term.Term.TheVariants.{Iri, Blank, Literal, Tagged}
 use Rattle.rsp_terms.specs.Terms.{term_text}
 
 -- the printed term; an unbound variable has no text
@@ -19,21 +19,27 @@ cell_text (Some term) = term_text term
 abbrev pub row_text : Cells Term → List ℕ
 row_text row = join_with_byte (byte "\t") (map cell_text row)
 
--- the first row's text stands behind the second's in the order of bytes
-abbrev pub stands_behind : Cells Term → Cells Term → Bool
-stands_behind row other = is_gt (slice_cmp nat_cmp (row_text row) (row_text other))
+-- what a cell is made of: the kind of its term by a number, a blank node's document beside it, and the texts of the term
+abbrev pub cell_parts : Option Term → List (List ℕ)
+cell_parts None = []
+cell_parts (Some (Iri text)) = (0 ∷ []) ∷ (text ∷ [])
+cell_parts (Some (Blank document label)) = (1 ∷ (document ∷ [])) ∷ (label ∷ [])
+cell_parts (Some (Literal lexical datatype)) = (2 ∷ []) ∷ (lexical ∷ (datatype ∷ []))
+cell_parts (Some (Tagged lexical language)) = (3 ∷ []) ∷ (lexical ∷ (language ∷ []))
+
+abbrev pub cell_order : Option Term → Option Term → Ordering
+cell_order = on cell_parts (slice_cmp (slice_cmp nat_cmp))
+
+-- the order of rows: by their texts, byte by byte; and rows of one text by their cells, from left to right. Equal for one row alone
+abbrev pub row_order : Cells Term → Cells Term → Ordering
+row_order = then_cmp (on row_text (slice_cmp nat_cmp)) (slice_cmp cell_order)
 
 -- a row before the first row that doesn't stand before it
 abbrev pub put_in : Cells Term → List (Cells Term) → List (Cells Term)
 put_in row [] = row ∷ []
-put_in row (first ∷ rows) = if stands_behind row first then first ∷ put_in row rows else row ∷ (first ∷ rows)
+put_in row (first ∷ rows) = if is_gt (row_order row first) then first ∷ put_in row rows else row ∷ (first ∷ rows)
 
--- the rows in the byte order of their texts; rows of one text keep their order
+-- the rows in this order: one list for each multiset
 abbrev pub in_order : List (Cells Term) → List (Cells Term)
 in_order [] = []
 in_order (row ∷ rows) = put_in row (in_order rows)
-
--- the same rows as a multiset, in an order of the same texts: rows of equal texts may stand in any order
-pub record AreRows (rows wanted : List (Cells Term)) : Type 0 where
-  pub same : (q : Cells Term) → times (row_eq term_eq) rows q ≡ times (row_eq term_eq) wanted q
-  pub texts : map row_text rows ≡ map row_text wanted

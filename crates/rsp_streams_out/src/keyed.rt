@@ -1,4 +1,5 @@
 // Rows beside their texts.
+use crate::cells::compare_cells;
 use crate::row_text;
 use rsp_multiset::Row;
 use rsp_terms::Term;
@@ -6,7 +7,7 @@ use std::alloc::{AllocError, Global};
 use std::cmp::Ordering;
 use std::marker::Model;
 
-// A row beside its text, by which it compares. Contracts see the row.
+// A row beside its text, by which it compares; rows of one text compare by their cells. Contracts see the row.
 #[derive(Drop)]
 pub(crate) struct Keyed {
     text: Vec<u8>,
@@ -48,37 +49,36 @@ impl Keyed {
 }
 
 impl PartialEq for Keyed {
-    ghost use Rattle.std.specs.Prelude.{nat_eq};
-    ghost use Rattle.std.specs.Cmp.{partial_equiv_from_equiv};
-    ghost use Rattle.std.specs.Cmp.Lexicographic.{pointwise, on_texts_equal};
-    ghost use Rattle.rsp_streams_out.specs.Rows.{row_text};
+    ghost use Rattle.std.specs.Ordering.{eq_by_cmp};
+    ghost use Rattle.std.specs.Cmp.{eq_by_cmp_equiv, partial_equiv_from_equiv};
+    ghost use Rattle.rsp_streams_out.specs.Rows.{row_order};
+    ghost use Rattle.rsp_streams_out.specs.RowOrder.{row_order_total};
 
-    ghost eq = { λ a b. pointwise nat_eq (row_text a) (row_text b) };
+    ghost eq = { eq_by_cmp row_order };
 
-    ghost laws = { partial_equiv_from_equiv (on_texts_equal row_text) };
+    ghost laws = { partial_equiv_from_equiv (eq_by_cmp_equiv row_order_total) };
 
     fn eq(&self, other: &Keyed) -> bool {
-        self.text.as_slice() == other.text.as_slice()
+        self.cmp(other) == Ordering::Equal
     }
 }
 
 impl Eq for Keyed {
-    ghost use Rattle.std.specs.Cmp.Lexicographic.{on_texts_equal};
-    ghost use Rattle.rsp_streams_out.specs.Rows.{row_text};
+    ghost use Rattle.std.specs.Cmp.{eq_by_cmp_equiv};
+    ghost use Rattle.rsp_streams_out.specs.RowOrder.{row_order_total};
 
-    ghost laws = { on_texts_equal row_text };
+    ghost laws = { eq_by_cmp_equiv row_order_total };
 }
 
 impl PartialOrd for Keyed {
-    ghost use Rattle.std.specs.Prelude.{Some};
-    ghost use Rattle.std.specs.Ordering.{nat_cmp};
+    ghost use Rattle.std.specs.Prelude.{Some, refl};
     ghost use Rattle.std.specs.Cmp.{po};
-    ghost use Rattle.std.specs.Cmp.Lexicographic.{slice_cmp, on_texts, texts_ties};
-    ghost use Rattle.rsp_streams_out.specs.Rows.{row_text};
+    ghost use Rattle.rsp_streams_out.specs.Rows.{row_order};
+    ghost use Rattle.rsp_streams_out.specs.RowOrder.{row_order_total};
 
-    ghost partial_cmp = { λ a b. Some (slice_cmp nat_cmp (row_text a) (row_text b)) };
+    ghost partial_cmp = { λ a b. Some (row_order a b) };
 
-    ghost laws = { po (on_texts row_text) (λ a b. texts_ties (row_text a) (row_text b)) };
+    ghost laws = { po row_order_total (λ a b. refl) };
 
     fn partial_cmp(&self, other: &Keyed) -> Option<Ordering> {
         Some(self.cmp(other))
@@ -87,19 +87,21 @@ impl PartialOrd for Keyed {
 
 impl Ord for Keyed {
     ghost use Rattle.std.specs.Prelude.{refl};
-    ghost use Rattle.std.specs.Ordering.{nat_cmp};
-    ghost use Rattle.std.specs.Cmp.Lexicographic.{slice_cmp, on_texts, texts_ties};
-    ghost use Rattle.rsp_streams_out.specs.Rows.{row_text};
+    ghost use Rattle.rsp_streams_out.specs.Rows.{row_order};
+    ghost use Rattle.rsp_streams_out.specs.RowOrder.{row_order_total};
 
-    ghost cmp = { λ a b. slice_cmp nat_cmp (row_text a) (row_text b) };
+    ghost cmp = { row_order };
 
-    ghost total = { on_texts row_text };
+    ghost total = { row_order_total };
 
     ghost matches_partial_cmp = { λ _ _. refl };
 
-    ghost matches_eq = { λ a b. texts_ties (row_text a) (row_text b) };
+    ghost matches_eq = { λ _ _. refl };
 
     fn cmp(&self, other: &Keyed) -> Ordering {
-        self.text.as_slice().cmp(other.text.as_slice())
+        match self.text.as_slice().cmp(other.text.as_slice()) {
+            Ordering::Equal => compare_cells(self.row.cells(), other.row.cells()),
+            unequal => unequal,
+        }
     }
 }

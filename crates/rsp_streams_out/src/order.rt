@@ -14,14 +14,14 @@ use rsp_multiset::Row;
 use rsp_terms::{Listed, Term};
 use std::alloc::{AllocError, Global};
 
-/// The rows in the byte order of their texts; rows of one text keep their order, so that the texts depend on the rows as
-/// a multiset alone. Prints each row once, and compares about n log n times. Fails only where memory is refused.
+/// The rows in the byte order of their texts, and rows of one text by their cells, so that the list depends on the rows as a
+/// multiset alone. Prints each row once, and compares about n log n times. Fails only where memory is refused.
 pub fn ordered(alloc: Global, rows: Listed<Row<Term>>) -> Result<Listed<Row<Term>>, AllocError>
     ensures value { IfOk result (λ out. out ≡ in_order rows) }
     ensures sorted { IfOk result (λ out. IsSortedByKey row_text (slice_cmp nat_cmp) out) }
     ensures permutation { IfOk result (λ out. IsPermutation rows out) }
-    ensures texts { IfOk result (λ out. (other : _) → ((q : _) → times (row_eq term_eq) other q ≡ times (row_eq term_eq) rows q)
-        → map row_text (in_order other) ≡ map row_text out) }
+    ensures same { IfOk result (λ out. (other : _) → ((q : _) → times (row_eq term_eq) other q ≡ times (row_eq term_eq) rows q)
+        → in_order other ≡ out) }
 {
     Ok(printed(alloc, rows)?.into_rows())
 }
@@ -31,8 +31,8 @@ pub fn printed(alloc: Global, rows: Listed<Row<Term>>) -> Result<PrintedRows, Al
     ensures value { IfOk result (λ out. out ≡ in_order rows) }
     ensures sorted { IfOk result (λ out. IsSortedByKey row_text (slice_cmp nat_cmp) out) }
     ensures permutation { IfOk result (λ out. IsPermutation rows out) }
-    ensures texts { IfOk result (λ out. (other : _) → ((q : _) → times (row_eq term_eq) other q ≡ times (row_eq term_eq) rows q)
-        → map row_text (in_order other) ≡ map row_text out) }
+    ensures same { IfOk result (λ out. (other : _) → ((q : _) → times (row_eq term_eq) other q ≡ times (row_eq term_eq) rows q)
+        → in_order other ≡ out) }
 {
     let mut keyed = with_texts(alloc, rows)?;
     keyed.sort()?;

@@ -4,7 +4,7 @@ ghost use Rattle.rsp_multiset.specs.Rows.{Cells, row_eq};
 ghost use Rattle.rsp_multiset.specs.Weights.{Holds, times, weight};
 ghost use Rattle.rsp_terms.specs.declared.term.Term.{Term};
 ghost use Rattle.rsp_terms.specs.Same.{term_eq};
-ghost use Rattle.rsp_streams_out.specs.Rows.{AreRows, in_order};
+ghost use Rattle.rsp_streams_out.specs.Rows.{in_order};
 ghost use Rattle.rsp_streams_out.specs.Streams.{reported};
 ghost use Rattle.rsp_streams_out.specs.Turning.{times_reported, StandsFor};
 
@@ -24,7 +24,7 @@ pub fn turn(
     solutions: &Bag<Term>,
 ) -> Result<Listed<Row<Term>>, AllocError>
     ensures rows { IfOk result (λ rows. (preceding present : List (Cells Term))
-        → StandsFor operator change.now solutions.now preceding present → AreRows rows (reported operator preceding present)) }
+        → StandsFor operator change.now solutions.now preceding present → rows ≡ reported operator preceding present) }
     ensures counts { IfOk result (λ rows. (preceding present : List (Cells Term))
         → StandsFor operator change.now solutions.now preceding present
         → (q : Cells Term) → times (row_eq term_eq) rows q ≡ times_reported operator preceding present q) }
@@ -40,7 +40,7 @@ pub fn turn_printed(
     solutions: &Bag<Term>,
 ) -> Result<PrintedRows, AllocError>
     ensures rows { IfOk result (λ rows. (preceding present : List (Cells Term))
-        → StandsFor operator change.now solutions.now preceding present → AreRows rows (reported operator preceding present)) }
+        → StandsFor operator change.now solutions.now preceding present → rows ≡ reported operator preceding present) }
     ensures counts { IfOk result (λ rows. (preceding present : List (Cells Term))
         → StandsFor operator change.now solutions.now preceding present
         → (q : Cells Term) → times (row_eq term_eq) rows q ≡ times_reported operator preceding present q) }
@@ -55,7 +55,7 @@ pub fn turn_printed(
 // the rows of a bag, in order
 fn in_order_of(alloc: Global, bag: &Bag<Term>) -> Result<PrintedRows, AllocError>
     ensures rows { IfOk result (λ rows. (wanted : List (Cells Term))
-        → Holds (row_eq term_eq) bag.now wanted → AreRows rows (in_order wanted)) }
+        → Holds (row_eq term_eq) bag.now wanted → rows ≡ in_order wanted) }
     ensures counts { IfOk result (λ rows. (q : Cells Term) → times (row_eq term_eq) rows q ≡ weight (row_eq term_eq) bag.now q) }
 {
     printed(alloc, rows_of(alloc, bag)?)

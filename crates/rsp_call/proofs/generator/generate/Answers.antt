@@ -1,10 +1,7 @@
-use Rattle.std.proofs.Common.{refl}
 use Rattle.rsp_words.specs.declared.form.Form.TheVariants.{Table}
 use Rattle.rsp_call.specs.Summaries.{counted}
 use Rattle.rsp_call.proofs.Generated.{none_read}
 use Rattle.rsp_call.proofs.generator.generate.Goals as goal
 
 pub returns : goal.returns
-returns g c = record {
-  text = λ shelf. rw c.status_of.ensures (none_read Table (counted c.args.count) shelf _ _ c.tell_summary.result c.tell_summary.ensures.text c.tell_summary.ensures.refused refl);
-}
+returns g c = record { text = λ shelf. rw c.status_of.ensures (none_read Table (counted c.args.count) shelf _ _ c.tell_summary.result c.tell_summary.ensures) }

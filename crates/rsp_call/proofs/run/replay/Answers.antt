@@ -1,4 +1,4 @@
-use Rattle.std.proofs.Common.{◌∙◌, ap, refl, Err}
+use Rattle.std.proofs.Common.{◌∙◌, ap, refl, Err, []}
 use Rattle.rsp_engine.specs.World.{empty_world}
 use Rattle.rsp_call.specs.declared.stop.Stop.TheVariants.{Memory}
 use Rattle.rsp_call.specs.Output.{run}
@@ -7,7 +7,7 @@ use Rattle.rsp_call.specs.Replays.{replayed}
 use Rattle.rsp_words.specs.Words.{names_of}
 use Rattle.rsp_call.proofs.Answering.{files_told, files_unread}
 use Rattle.rsp_call.proofs.Streamed.{replayed_is}
-use Rattle.rsp_call.proofs.Writings.{stopped_at_once}
+use Rattle.rsp_call.proofs.Writings.{wrote_nothing}
 use Rattle.rsp_call.proofs.run.replay.Goals as goal
 
 pub returns-in-Ok-run_feed : goal.returns-in-Ok-run_feed
@@ -30,7 +30,7 @@ returns-in-Ok g c =
           refl
           refl
           c.in-Ok.ensures.files
-          (stopped_at_once _ _);
+          (record { front = []; rest = replayed replay c.in-Ok.files; whole = refl; written = wrote_nothing _ });
     }
 
 pub returns : goal.returns

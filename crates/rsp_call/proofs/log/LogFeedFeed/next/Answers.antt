@@ -1,5 +1,6 @@
-use Rattle.std.proofs.Common.{◌≤◌, length, rules, take}
-use Rattle.rsp_call.proofs.Consuming.{first_many, first_none}
+use Rattle.std.proofs.Common.{◌<◌, ◌≤◌, drop, length, rules, subst, take}
+use Rattle.rsp_call.specs.Logs.{TakesPiece}
+use Rattle.rsp_call.proofs.Consuming.{first_many, first_none, first_of_front}
 use Rattle.rsp_call.proofs.Logging.{ended_last_lacks, ended_refused, gave_last, gave_piece}
 use Rattle.rsp_call.proofs.log.LogFeedFeed.next.Goals as goal
 
@@ -47,17 +48,21 @@ returns-in-Ok-piece-clause-given g c start before gave =
     c.in-Ok.ensures.given
     c.in-Ok.ensures.cause.1
     c.read.ensures.still_sure
-    c.in-Ok-piece.ensures.takes
+    (subst (λ piece. TakesPiece c.args.self.now.most c.args.self.now.taken c.piece.new.self.taken c.args.self.now.blocks c.piece.new.self.blocks piece c.in-Ok-piece.ended)
+    (first_of_front c.read.new.buf (drop c.asked-asked.result c.args.self.now.buffer) c.in-Ok.read low)
+    c.in-Ok-piece.ensures.takes)
     gave
 
 pub returns-in-Err-piece-clause-ended : goal.returns-in-Err-piece-clause-ended
 returns-in-Err-piece-clause-ended g c start before gave =
     let low : c.in-Ok.read ≤ length c.read.new.buf = search rules in
+    let some : 0 < c.in-Ok.read = search rules in
     ended_refused _ _ _ _ c.in-Ok.read c.args.self.now.blocks c.piece.new.self.blocks start _ _ before (take c.in-Ok.read c.read.new.buf) c.in-Err-piece.cut
     c.if-self.false
     c.piece.ensures.most
     c.piece.ensures.document
     (first_many c.read.new.buf c.in-Ok.read low)
+    (λ too_long. some)
     c.in-Err-piece.ensures.cut
     c.in-Ok.ensures.bytes.0
     c.in-Ok.ensures.given

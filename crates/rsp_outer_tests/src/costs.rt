@@ -1,0 +1,102 @@
+// Large inputs, and small changes of them: each of these is a matter of seconds.
+use crate::conditions::Always;
+use crate::trials::{anti, keyed_anti, keyed_semi, left_join, semi};
+use rsp_multiset::{Changes, Row};
+use rsp_operators::Binary;
+use rsp_outer::{CompatibleSharing, CompatibleWhere};
+use rsp_terms::{Same, Term};
+use rsp_trials::{BinaryTrial, Refused, numbered};
+use std::alloc::{AllocError, Global};
+use std::test::Fail;
+
+// how many rows the left has
+const LEFTS: u64 = 100_000;
+
+// how many rows the right has from the first change on, where no later one is to move the left
+const RIGHTS: u64 = 50_000;
+
+// how many calls change one row of the right
+const CALLS: u64 = 20_000;
+
+// so many rows, each with a first cell of its own
+fn rows(alloc: Global, many: u64, last: u64) -> Result<Changes<Row<Term>>, AllocError> {
+    let mut change = Changes::new(alloc);
+    for number in 0..many {
+        change.alter(row(alloc, number, last)?, 1)?;
+    }
+    Ok(change)
+}
+
+fn row(alloc: Global, number: u64, last: u64) -> Result<Row<Term>, AllocError> {
+    let first = number.wrapping_add(1);
+    numbered(alloc, &[first, 0, last])
+}
+
+// gives the left's rows and so many of the right's in one change
+fn fill<O: Binary<Same> + Drop>(
+    alloc: Global,
+    trial: &mut BinaryTrial<O>,
+    rights: u64,
+) -> Result<(), Refused> {
+    let left = rows(alloc, LEFTS, 0)?;
+    let right = rows(alloc, rights, 9)?;
+    trial.change(alloc, &left, &right)?;
+    Ok(())
+}
+
+// a right row comes or, every second time, goes again
+fn change_one<O: Binary<Same> + Drop>(
+    alloc: Global,
+    trial: &mut BinaryTrial<O>,
+    call: u64,
+) -> Result<(), Refused> {
+    let by = if call % 2 == 0 { 1 } else { -1 };
+    let mut change = Changes::new(alloc);
+    change.alter(row(alloc, call / 2, 7)?, by)?;
+    trial.change(alloc, &Changes::new(alloc), &change)?;
+    Ok(())
+}
+
+// how many rows are answered after one large change and many small ones
+fn answered_after<O: Binary<Same> + Drop>(
+    alloc: Global,
+    given: BinaryTrial<O>,
+    rights: u64,
+) -> Result<usize, Refused> {
+    let mut trial = given;
+    fill(alloc, &mut trial, rights)?;
+    for call in 0..CALLS {
+        change_one(alloc, &mut trial, call)?;
+    }
+    Ok(trial.answers().distinct())
+}
+
+fn compatible(alloc: Global) -> Result<CompatibleWhere<Always>, AllocError> {
+    Ok(CompatibleWhere::new(Vec::from_slice(alloc, &[0])?, Always {}))
+}
+
+fn sharing(alloc: Global) -> Result<CompatibleSharing, AllocError> {
+    Ok(CompatibleSharing::new(Vec::from_slice(alloc, &[0])?))
+}
+
+#[test]
+fn by_key(rt: HostRuntime) -> Result<(), Fail> {
+    let alloc = rt.alloc();
+    let joined = left_join(alloc, compatible(alloc)?)?;
+    assert!(rt; answered_after(alloc, joined, 0)? == 100_000);
+    let exists = semi(alloc, compatible(alloc)?)?;
+    assert!(rt; answered_after(alloc, exists, 0)? == 0);
+    let minus = anti(alloc, sharing(alloc)?)?;
+    assert!(rt; answered_after(alloc, minus, 0)? == 100_000);
+    Ok(())
+}
+
+// the last two without a key: any right row is enough, and no pair is tested
+#[test]
+fn by_key_alone(rt: HostRuntime) -> Result<(), Fail> {
+    let alloc = rt.alloc();
+    assert!(rt; answered_after(alloc, keyed_semi(alloc, &[0])?, 0)? == 0);
+    assert!(rt; answered_after(alloc, keyed_anti(alloc, &[])?, RIGHTS)? == 0);
+    assert!(rt; answered_after(alloc, keyed_semi(alloc, &[])?, RIGHTS)? == 100_000);
+    Ok(())
+}

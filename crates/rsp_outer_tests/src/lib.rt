@@ -1,0 +1,23 @@
+//! The tests of outer joins and negation over terms that show themselves: small cases whose answers come from outside, random
+//! changes against values made anew, and large inputs.
+//!
+//! They stand here and in no layer, since a crate that has tests is proved twice. Below: the operators, and operators on trial.
+//! Nothing stands above.
+#![tactic(auto)]
+
+#[cfg(test)]
+mod anew;
+#[cfg(test)]
+mod conditions;
+#[cfg(test)]
+mod costs;
+#[cfg(test)]
+mod left_joins;
+#[cfg(test)]
+mod negation;
+#[cfg(test)]
+mod notation;
+#[cfg(test)]
+mod random;
+#[cfg(test)]
+mod trials;

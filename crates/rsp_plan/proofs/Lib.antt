@@ -1,0 +1,10 @@
+pub mod Counting
+pub mod Turned
+pub mod Passing
+pub mod Carrying
+pub mod Operating
+pub mod Binding
+pub mod Paired
+pub mod Childless
+pub mod Reading
+pub mod CellByCell

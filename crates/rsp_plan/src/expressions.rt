@@ -1,0 +1,60 @@
+// Conditions and values by expressions.
+use crate::showing::show_row;
+use rsp_expr::Expression;
+use rsp_multiset::Row;
+use rsp_operators::{Computed, Condition};
+use rsp_terms::Domain;
+use rsp_values::{truth, value};
+use std::alloc::{AllocError, Global};
+
+/// An expression, as a test and as a value of a row by the terms that it shows.
+#[derive(Drop)]
+pub struct ByExpression {
+    alloc: Global,
+    expression: Expression,
+}
+
+impl ByExpression {
+    ghost use Rattle.std.specs.Prelude.{◌≡◌};
+
+    /// The test and the value by this expression.
+    pub fn new(alloc: Global, expression: Expression) -> ByExpression
+        ensures { result.expression ≡ expression }
+    {
+        ByExpression { alloc, expression }
+    }
+}
+
+impl<D: Domain> Condition<D> for ByExpression {
+    ghost use Rattle.rsp_expr.specs.Meanings.{formula_of};
+    ghost use Rattle.rsp_expr.specs.Values.{truth as passes};
+
+    ghost test = { λ condition row. passes (formula_of condition.expression) row };
+
+    fn always(&self) -> bool {
+        false
+    }
+
+    fn holds(&self, row: &Row<D::Value>, domain: &D) -> Result<bool, AllocError> {
+        truth(
+            self.alloc,
+            &self.expression,
+            &show_row(self.alloc, row, domain)?,
+        )
+    }
+}
+
+impl<D: Domain> Computed<D> for ByExpression {
+    ghost use Rattle.rsp_expr.specs.Meanings.{formula_of};
+    ghost use Rattle.rsp_expr.specs.Values.{value as value_of};
+
+    ghost of = { λ computed row. value_of (formula_of computed.expression) row };
+
+    fn value(&self, row: &Row<D::Value>, domain: &mut D) -> Result<Option<D::Value>, AllocError> {
+        let shown = show_row(self.alloc, row, domain)?;
+        match value(self.alloc, &self.expression, &shown)? {
+            None => Ok(None),
+            Some(term) => Ok(Some(domain.keep(term)?)),
+        }
+    }
+}
