@@ -30,7 +30,8 @@ cell_parts (Some (Tagged lexical language)) = (3 ∷ []) ∷ (lexical ∷ (langu
 abbrev pub cell_order : Option Term → Option Term → Ordering
 cell_order = on cell_parts (slice_cmp (slice_cmp nat_cmp))
 
--- the order of rows: by their texts, byte by byte; and rows of one text by their cells, from left to right. Equal for one row alone
+-- the order of rows: by their texts, byte by byte; and rows of one text by their cells, from left to right. Equal for one row
+-- alone
 abbrev pub row_order : Cells Term → Cells Term → Ordering
 row_order = then_cmp (on row_text (slice_cmp nat_cmp)) (slice_cmp cell_order)
 
