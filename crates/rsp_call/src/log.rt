@@ -1,6 +1,5 @@
 // A log as a feed: its blocks, as they end in what is read.
-ghost use Rattle.std.specs.Prelude.{◌<◌, ◌+◌, ◌≡◌, ◌++◌, ◌∷◌, ◌≤◌, [], None, ℕ, List, option_to_list, length, take, true};
-ghost use Rattle.std.specs.Prelude.{IfErr, IfOk, OnOk};
+ghost use Rattle.std.specs.Prelude.{◌<◌, ◌+◌, ◌≡◌, ◌++◌, ◌∷◌, ◌≤◌, [], None, ℕ, IfErr, IfOk, List, OnOk, option_to_list, length, take, true};
 ghost use Rattle.rsp_io.specs.Seen.{SourceSeen};
 ghost use Rattle.rsp_events.specs.Blocks.{blocks, whole_blocks};
 ghost use Rattle.rsp_events.specs.Instants.{AllTimed};
@@ -45,8 +44,7 @@ impl LogFeed {
         }
     }
 
-    // how many bytes the next read asks for: no more than may still be taken; where none may, one, which says whether the log
-    // ends
+    // how many bytes the next read asks for: no more than may still be taken; where none may, one, which says whether the log ends
     fn asked(&self) -> usize
         requires fits { self.now.taken ≤ self.now.most }
         ensures some { 0 < result }
