@@ -1,10 +1,8 @@
-pub mod Counting
-pub mod Turned
-pub mod Passing
 pub mod Carrying
 pub mod Operating
+pub mod Begun
 pub mod Binding
 pub mod Paired
+pub mod RowsKept
 pub mod Childless
-pub mod Reading
-pub mod CellByCell
+pub mod FromNodes

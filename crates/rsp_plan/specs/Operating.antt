@@ -1,61 +1,39 @@
 -- Words of the way: that an operator is a part of a tree, and stands for the rows of its children.
-use Rattle.std.specs.Prelude.{◌≡◌, ℕ, Bool, List, [], ◌∷◌, ℤ}
+use Rattle.std.specs.Prelude.{ℕ, List, ◌∷◌}
 use Rattle.rsp_multiset.specs.Rows.{Cells}
 use Rattle.rsp_terms.specs.declared.term.Term.{Term}
-use Rattle.rsp_terms.specs.declared.statement.Fact.{Fact}
-use Rattle.rsp_operators.specs.Laws.{AllFit}
 use Rattle.rsp_algebra.specs.Fitting.{Fits}
 use Rattle.rsp_algebra.specs.Flat.{Part, above, pair}
 use Rattle.rsp_algebra.specs.Nodes as node
 use Rattle.rsp_algebra.specs.Nodes.{Node, Single, Double}
-use Rattle.rsp_algebra.specs.Solutions.{eval, rows_over, rows_of}
-use Rattle.rsp_plan.specs.Waiting.{AreDifferences}
+use Rattle.rsp_kinds.specs.Made.{IsSingle, IsDouble}
+use Rattle.rsp_turns.specs.Times.{Time, rows_at}
 
--- the operator has this width, no key, and the value of the part; it stands for the rows
-pub record IsOver (width : ℕ) (single : Single) (wide : ℕ) (key : List ℕ) (value : List (Cells Term) → List (Cells Term))
-    (Stands : List (Cells Term) → Type 0) (rows : List (Cells Term)) : Type 0 where
-  pub wide_is : wide ≡ width
-  pub key_is : key ≡ []
-  pub value_is : (others : List (Cells Term)) → value others ≡ rows_over width single others
-  pub stands : Stands rows
+abbrev pub Table : Type 0
+Table = List (Cells Term)
 
--- it is the part over the tree on top of the stack
+-- an operator with this width, key and value, whose state is so, is the part over the tree on top of the stack
+pub record IsOver (wide : ℕ) (key : List ℕ) (value : Table → Table) (Stands : Table → Type 0) (width : ℕ)
+    (single : Single) (child : Node) (time : Time) : Type 0 where
+  pub is : IsSingle width single wide key value
+  pub placed : Fits width (node.over single child)
+  pub stands : Stands (rows_at width child time)
+
 abbrev pub StandsOver :
-    ℕ → List ℕ → (List (Cells Term) → List (Cells Term)) → (List (Cells Term) → Type 0) → ℕ → Part → List Node →
-    List Fact → Type 0
-StandsOver wide key value Stands width (above single) (child ∷ trees) facts =
-    IsOver width single wide key value Stands (eval width child facts) × Fits width (node.over single child)
-StandsOver wide key value Stands width part trees facts = ⊥
+    ℕ → List ℕ → (Table → Table) → (Table → Type 0) → ℕ → Part → List Node → Time → Type 0
+StandsOver wide key value Stands width (above single) (child ∷ trees) time =
+    IsOver wide key value Stands width single child time
+StandsOver wide key value Stands width part trees time = ⊥
 
--- what an operator may take from the stack
-pub record MayTake {V : Type 0} (eq : V → V → Bool) (knows : V → Type 0) (shown : V → Term)
-    (Stands : ℕ → Part → List Node → List Fact → Type 0) (pending : List (List (Cells V × ℤ))) : Type 0 where
-  pub width : ℕ
-  pub part : Part
-  pub trees : List Node
-  pub before : List Fact
-  pub after : List Fact
-  pub stands : Stands width part trees before
-  pub differ : AreDifferences eq knows shown width before after trees pending
+-- one on two children, with a factor of its steps, is the part over the two trees on top
+pub record IsPair (wide : ℕ) (key : List ℕ) (factor : ℕ) (value : Table → Table → Table)
+    (Stands : Table → Table → Type 0) (width : ℕ) (double : Double) (left right : Node) (time : Time) : Type 0 where
+  pub is : IsDouble width double left right wide key factor value
+  pub placed : Fits width (node.of_two double left right)
+  pub stands : Stands (rows_at width left time) (rows_at width right time)
 
--- each row of the tree, over whatever facts, has this width and binds the key
-abbrev pub BindsKey : ℕ → List ℕ → Node → Type 0
-BindsKey width key tree = (facts : List Fact) → AllFit width key (eval width tree facts)
-
--- of an operator on two children
-pub record IsPair (width : ℕ) (double : Double) (wide : ℕ) (key : List ℕ)
-    (value : List (Cells Term) → List (Cells Term) → List (Cells Term))
-    (Stands : List (Cells Term) → List (Cells Term) → Type 0) (left right : Node) (facts : List Fact) : Type 0 where
-  pub wide_is : wide ≡ width
-  pub value_is : (lefts rights : List (Cells Term)) → value lefts rights ≡ rows_of double lefts rights
-  pub left_binds : BindsKey width key left
-  pub right_binds : BindsKey width key right
-  pub stands : Stands (eval width left facts) (eval width right facts)
-
--- it is the part over the two trees on top of the stack
 abbrev pub StandsPair :
-    ℕ → List ℕ → (List (Cells Term) → List (Cells Term) → List (Cells Term)) →
-    (List (Cells Term) → List (Cells Term) → Type 0) → ℕ → Part → List Node → List Fact → Type 0
-StandsPair wide key value Stands width (pair double) (right ∷ left ∷ trees) facts =
-    IsPair width double wide key value Stands left right facts × Fits width (node.of_two double left right)
-StandsPair wide key value Stands width part trees facts = ⊥
+    ℕ → List ℕ → ℕ → (Table → Table → Table) → (Table → Table → Type 0) → ℕ → Part → List Node → Time → Type 0
+StandsPair wide key factor value Stands width (pair double) (right ∷ left ∷ trees) time =
+    IsPair wide key factor value Stands width double left right time
+StandsPair wide key factor value Stands width part trees time = ⊥

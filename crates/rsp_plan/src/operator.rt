@@ -1,146 +1,108 @@
 // The kinds of nodes.
-ghost use Rattle.std.specs.Prelude.{◌≡◌, ℕ, List, IfOk};
-ghost use Rattle.rsp_multiset.specs.Weights.{IsChanged};
-ghost use Rattle.rsp_terms.specs.declared.statement.Fact.{Fact};
-ghost use Rattle.rsp_terms.specs.Same.{fact_eq};
-ghost use Rattle.rsp_operators.specs.Laws.{Leads, AnswersFit, IsShownAlike};
+ghost use Rattle.std.specs.Prelude.{◌+◌, ◌≤◌, ℕ, List, IfOk, IfSome, IfNone};
+ghost use Rattle.std.specs.Option.{option_copied};
+ghost use Rattle.rsp_operators.specs.Laws.{IsShownAlike};
 ghost use Rattle.rsp_algebra.specs.Flat.{Part};
 ghost use Rattle.rsp_algebra.specs.Nodes.{Node};
-ghost use Rattle.rsp_algebra.specs.Solutions.{eval};
-ghost use Rattle.rsp_plan.specs.Kinds.{StandsAs};
-ghost use Rattle.rsp_plan.specs.Operating.{StandsOver, StandsPair};
-ghost use Rattle.rsp_plan.specs.Turns.{MayTurn};
-ghost use Rattle.rsp_plan.specs.Waiting.{AreDifferences, root, rest};
+ghost use Rattle.rsp_plan.specs.Kinds.{AsOperator};
+ghost use Rattle.rsp_turns.specs.Times.{Time, GoesOn};
+ghost use Rattle.rsp_turns.specs.Turns.{IsTurn, MayTurn, HasAnswered, HasTooMany};
+ghost use Rattle.rsp_turns.specs.Working.{part_work};
 
-use crate::keeping::{Keeping, KeepingBoth};
-use crate::leaves::{answer_given, answer_scan};
+use crate::leaves::{Given, answer_given, answer_scan};
 use crate::over::answer_over;
 use crate::pair::answer_pair;
-use crate::pending::Stack;
-use crate::step::Step;
+use rsp_kinds::{Keeping, KeepingBoth};
 use rsp_multiset::{Changes, Row};
 use rsp_simple_operators::Scan;
 use rsp_steps::Steps;
-use rsp_terms::{Domain, Fact, Listed, Term};
+use rsp_terms::{Domain, Fact};
+use rsp_turns::{Stack, Step};
 use std::alloc::{AllocError, Global};
 use std::sync::ledger::Ledger;
 
-/// A node without its children, as the operator that keeps it.
+/// A node without its children: rows of its own, or an operator on the rows of one child or of two.
 #[derive(Drop)]
-pub enum Operator<F, E, P, X, U, J> {
-    /// The same rows over all facts.
-    Given(Listed<Row<Term>>),
+pub enum Operator<O, B> {
+    Given(Given),
     Scan(Scan),
-    Filter(F),
-    Extend(E),
-    Project(P),
-    Distinct(X),
-    Union(U),
-    Join(J),
+    Over(O),
+    Pair(B),
 }
 
-fn answered<
-    D: Domain,
-    F: Keeping<D>,
-    E: Keeping<D>,
-    P: Keeping<D>,
-    X: Keeping<D>,
-    U: KeepingBoth<D>,
-    J: KeepingBoth<D>,
-    L: Ledger,
->(
+fn answered<D: Domain, O: Keeping<D>, B: KeepingBoth<D>, L: Ledger>(
     alloc: Global,
-    operator: &mut Operator<F, E, P, X, U, J>,
-    facts: &Changes<Fact>,
+    operator: &mut Operator<O, B>,
+    facts: Option<&Changes<Fact>>,
     pending: &mut Stack<Changes<Row<D::Value>>>,
     domain: &mut D,
     steps: &mut Steps<L>,
-) -> Result<Changes<Row<D::Value>>, AllocError>
-    requires { MayTurn D.Value.eq (D.knows domain.old) (D.shown domain.old) (StandsAs
-        (λ a. StandsOver (F.width a) (F.key a) (F.value a) (F.stands a domain.old))
-        (λ a. StandsOver (E.width a) (E.key a) (E.value a) (E.stands a domain.old))
-        (λ a. StandsOver (P.width a) (P.key a) (P.value a) (P.stands a domain.old))
-        (λ a. StandsOver (X.width a) (X.key a) (X.value a) (X.stands a domain.old))
-        (λ a. StandsPair (U.width a) (U.key a) (U.value a) (U.stands a domain.old))
-        (λ a. StandsPair (J.width a) (J.key a) (J.value a) (J.stands a domain.old)) operator.old) facts.now pending.old }
+) -> Result<Option<Changes<Row<D::Value>>>, AllocError>
+    requires { MayTurn D.Value.eq (D.knows domain.old) (D.shown domain.old)
+        (AsOperator O.width O.key O.value B.width B.key B.factor B.value (λ o. O.stands o domain.old)
+        (λ b. B.stands b domain.old) operator.old) (option_copied facts) pending.old }
     ensures known { (v : D.Value) → D.knows domain.old v
         → IsShownAlike (D.shown domain.old) (D.knows domain.new) (D.shown domain.new) v }
-    ensures law { IfOk result (λ net. (width : ℕ) (part : Part) (trees : List Node) (before after : List Fact)
-        → StandsAs
-        (λ a. StandsOver (F.width a) (F.key a) (F.value a) (F.stands a domain.old))
-        (λ a. StandsOver (E.width a) (E.key a) (E.value a) (E.stands a domain.old))
-        (λ a. StandsOver (P.width a) (P.key a) (P.value a) (P.stands a domain.old))
-        (λ a. StandsOver (X.width a) (X.key a) (X.value a) (X.stands a domain.old))
-        (λ a. StandsPair (U.width a) (U.key a) (U.value a) (U.stands a domain.old))
-        (λ a. StandsPair (J.width a) (J.key a) (J.value a) (J.stands a domain.old)) operator.old width part trees before
-        → IsChanged fact_eq before facts.now after
-        → AreDifferences D.Value.eq (D.knows domain.old) (D.shown domain.old) width before after trees pending.old
-        → StandsAs
-        (λ a. StandsOver (F.width a) (F.key a) (F.value a) (F.stands a domain.new))
-        (λ a. StandsOver (E.width a) (E.key a) (E.value a) (E.stands a domain.new))
-        (λ a. StandsOver (P.width a) (P.key a) (P.value a) (P.stands a domain.new))
-        (λ a. StandsOver (X.width a) (X.key a) (X.value a) (X.stands a domain.new))
-        (λ a. StandsPair (U.width a) (U.key a) (U.value a) (U.stands a domain.new))
-        (λ a. StandsPair (J.width a) (J.key a) (J.value a) (J.stands a domain.new)) operator.new width part trees after
-        × (AnswersFit D.Value.eq width (D.knows domain.new) net
-        × (Leads (D.shown domain.new) (eval width (root trees part) before) net (eval width (root trees part) after)
-        × AreDifferences D.Value.eq (D.knows domain.new) (D.shown domain.new) width before after (rest trees part)
-        pending.new))) }
+    ensures law { IfOk result (λ answer. IfSome answer (λ net.
+        (width : ℕ) (part : Part) (trees : List Node) (before after : Time)
+        → IsTurn D.Value.eq (D.knows domain.old) (D.shown domain.old)
+        (AsOperator O.width O.key O.value B.width B.key B.factor B.value (λ o. O.stands o domain.old)
+        (λ b. B.stands b domain.old) operator.old) pending.old width part trees before after
+        → GoesOn before (option_copied facts.entry) after
+        → HasAnswered D.Value.eq (D.knows domain.new) (D.shown domain.new)
+        (AsOperator O.width O.key O.value B.width B.key B.factor B.value (λ o. O.stands o domain.new)
+        (λ b. B.stands b domain.new) operator.new) net pending.new width part trees before after)) }
+    ensures more { IfOk result (λ answer. IfNone answer (
+        (width : ℕ) (part : Part) (trees : List Node) (before after : Time)
+        → IsTurn D.Value.eq (D.knows domain.old) (D.shown domain.old)
+        (AsOperator O.width O.key O.value B.width B.key B.factor B.value (λ o. O.stands o domain.old)
+        (λ b. B.stands b domain.old) operator.old) pending.old width part trees before after
+        → GoesOn before (option_copied facts.entry) after
+        → HasTooMany width part trees after)) }
+    ensures cost { (width : ℕ) (part : Part) (trees : List Node) (before after : Time)
+        → IsTurn D.Value.eq (D.knows domain.old) (D.shown domain.old)
+        (AsOperator O.width O.key O.value B.width B.key B.factor B.value (λ o. O.stands o domain.old)
+        (λ b. B.stands b domain.old) operator.old) pending.old width part trees before after
+        → GoesOn before (option_copied facts.entry) after
+        → steps.new ≤ steps.old + part_work width before after trees part }
 {
     match operator {
-        Operator::Given(rows) => Ok(answer_given(alloc, rows, domain)),
-        Operator::Scan(scan) => answer_scan(alloc, scan, facts, domain),
-        Operator::Filter(filter) => answer_over(alloc, filter, pending, domain),
-        Operator::Extend(extend) => answer_over(alloc, extend, pending, domain),
-        Operator::Project(project) => answer_over(alloc, project, pending, domain),
-        Operator::Distinct(distinct) => answer_over(alloc, distinct, pending, domain),
-        Operator::Union(union) => answer_pair(alloc, union, pending, domain, steps),
-        Operator::Join(join) => answer_pair(alloc, join, pending, domain, steps),
+        Operator::Given(given) => Ok(Some(answer_given(alloc, given, facts.is_none(), domain)?)),
+        Operator::Scan(scan) => Ok(Some(answer_scan(alloc, scan, facts, domain)?)),
+        Operator::Over(over) => Ok(Some(answer_over(
+            alloc,
+            over,
+            facts.is_none(),
+            pending,
+            domain,
+        )?)),
+        Operator::Pair(pair) => answer_pair(alloc, pair, pending, domain, steps),
     }
 }
 
-impl<
-    D: Domain,
-    F: Keeping<D>,
-    E: Keeping<D>,
-    P: Keeping<D>,
-    X: Keeping<D>,
-    U: KeepingBoth<D>,
-    J: KeepingBoth<D>,
-> Step<D> for Operator<F, E, P, X, U, J> {
+impl<D: Domain, O: Keeping<D>, B: KeepingBoth<D>> Step<D> for Operator<O, B> {
     ghost use Rattle.rsp_plan.specs.Kinds.{as_moved, as_fed};
 
-    ghost stands = { λ operator domain width part trees facts. StandsAs
-        (λ a. StandsOver (F.width a) (F.key a) (F.value a) (F.stands a domain))
-        (λ a. StandsOver (E.width a) (E.key a) (E.value a) (E.stands a domain))
-        (λ a. StandsOver (P.width a) (P.key a) (P.value a) (P.stands a domain))
-        (λ a. StandsOver (X.width a) (X.key a) (X.value a) (X.stands a domain))
-        (λ a. StandsPair (U.width a) (U.key a) (U.value a) (U.stands a domain))
-        (λ a. StandsPair (J.width a) (J.key a) (J.value a) (J.stands a domain)) operator width part trees facts };
+    ghost stands = { λ operator domain. AsOperator O.width O.key O.value B.width B.key B.factor B.value
+        (λ o. O.stands o domain) (λ b. B.stands b domain) operator };
 
-    ghost carried = { λ operator d d' width part trees facts alike.
-        as_moved F.width F.key F.value (λ a. F.stands a d) (λ a. F.stands a d') E.width E.key E.value (λ a. E.stands a d)
-        (λ a. E.stands a d') P.width P.key P.value (λ a. P.stands a d) (λ a. P.stands a d') X.width X.key X.value
-        (λ a. X.stands a d) (λ a. X.stands a d') U.width U.key U.value (λ a. U.stands a d) (λ a. U.stands a d')
-        J.width J.key J.value (λ a. J.stands a d) (λ a. J.stands a d')
-        (λ a rows. F.moved a d d' rows alike) (λ a rows. E.moved a d d' rows alike) (λ a rows. P.moved a d d' rows alike)
-        (λ a rows. X.moved a d d' rows alike) (λ a lefts rights. U.moved a d d' lefts rights alike)
-        (λ a lefts rights. J.moved a d d' lefts rights alike)
-        operator width part trees facts };
+    ghost carried = { λ operator d d' width part trees time alike.
+        as_moved O.width O.key O.value B.width B.key B.factor B.value
+        (λ o. O.stands o d) (λ o. O.stands o d') (λ b. B.stands b d) (λ b. B.stands b d')
+        (λ o rows. O.moved o d d' rows alike) (λ b lefts rights. B.moved b d d' lefts rights alike)
+        operator width part trees time };
 
     ghost fed = { λ operator d.
-        as_fed F.width F.key F.value (λ a. F.stands a d) E.width E.key E.value (λ a. E.stands a d) P.width P.key P.value
-        (λ a. P.stands a d) X.width X.key X.value (λ a. X.stands a d) U.width U.key U.value (λ a. U.stands a d)
-        J.width J.key J.value (λ a. J.stands a d) operator };
+        as_fed O.width O.key O.value B.width B.key B.factor B.value (λ o. O.stands o d) (λ b. B.stands b d) operator };
 
     fn answer<L: Ledger>(
         &mut self,
         alloc: Global,
-        facts: &Changes<Fact>,
+        facts: Option<&Changes<Fact>>,
         pending: &mut Stack<Changes<Row<D::Value>>>,
         domain: &mut D,
         steps: &mut Steps<L>,
     ) -> Result<Option<Changes<Row<D::Value>>>, AllocError> {
-        Ok(Some(answered(alloc, self, facts, pending, domain, steps)?))
+        answered(alloc, self, facts, pending, domain, steps)
     }
 }

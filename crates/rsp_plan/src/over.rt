@@ -1,43 +1,108 @@
 // Operators on the rows of one child.
-ghost use Rattle.std.specs.Prelude.{◌≡◌, ℕ, List, IfOk};
-ghost use Rattle.rsp_terms.specs.declared.statement.Fact.{Fact};
-ghost use Rattle.rsp_operators.specs.Laws.{Leads, AnswersFit, IsShownAlike};
+ghost use Rattle.std.specs.Prelude.{◌≡◌, ◌+ℤ◌, ℕ, true, cond, [], List, IfOk};
+ghost use Rattle.rsp_multiset.specs.Rows.{Cells};
+ghost use Rattle.rsp_multiset.specs.Weights.{weight, AreChanges};
+ghost use Rattle.rsp_terms.specs.declared.term.Term.{Term};
+ghost use Rattle.rsp_operators.specs.Laws.{Leads, MayBeGiven, AnswersFit, IsShownAlike};
 ghost use Rattle.rsp_algebra.specs.Flat.{Part};
 ghost use Rattle.rsp_algebra.specs.Nodes.{Node};
-ghost use Rattle.rsp_algebra.specs.Solutions.{eval};
-ghost use Rattle.rsp_plan.specs.Operating.{StandsOver, MayTake};
-ghost use Rattle.rsp_plan.specs.Waiting.{AreDifferences, root, rest};
+ghost use Rattle.rsp_plan.specs.Operating.{StandsOver};
+ghost use Rattle.rsp_turns.specs.Times.{Time, LeadsOn};
+ghost use Rattle.rsp_turns.specs.Turns.{IsTurn, MayTake, HasAnswered};
 
-use crate::pending::Stack;
-use rsp_multiset::{Changes, Row};
-use rsp_operators::Unary;
+use rsp_kinds::Keeping;
+use rsp_multiset::{Cell, Changes, Row};
 use rsp_terms::Domain;
+use rsp_turns::Stack;
 use std::alloc::{AllocError, Global};
 
-/// The operator's answer to the change on top of the stack.
-pub(crate) fn answer_over<D: Domain, U: Unary<D>>(
+// the changes of both
+fn sum<V: Cell>(mut changes: Changes<V>, others: &Changes<V>) -> Result<Changes<V>, AllocError>
+    ensures entries { AreChanges V.eq changes }
+    ensures others { AreChanges V.eq others.now }
+    ensures sums { IfOk result (λ sum. (q : V) → weight V.eq sum q ≡ weight V.eq changes q +ℤ weight V.eq others.now q) }
+{
+    let _entries = changes.distinct();
+    let _others = others.distinct();
+    changes.add_changes(others)?;
+    Ok(changes)
+}
+
+// how the operator's value comes about at the start, where the change leads from no row
+fn begun<D: Domain, O: Keeping<D>>(
     alloc: Global,
-    operator: &mut U,
+    operator: &mut O,
+    child: &Changes<Row<D::Value>>,
+    domain: &mut D,
+) -> Result<Changes<Row<D::Value>>, AllocError>
+    requires { MayBeGiven (O.width operator.old) (O.key operator.old) (D.knows domain.old) (D.shown domain.old)
+        (O.stands operator.old domain.old) child.now }
+    ensures width { O.width operator.new ≡ O.width operator.old }
+    ensures key { O.key operator.new ≡ O.key operator.old }
+    ensures value { O.value operator.new ≡ O.value operator.old }
+    ensures known { (v : D.Value) → D.knows domain.old v
+        → IsShownAlike (D.shown domain.old) (D.knows domain.new) (D.shown domain.new) v }
+    ensures rows { IfOk result (λ net. AnswersFit D.Value.eq (O.width operator.old) (D.knows domain.new) net) }
+    ensures law { IfOk result (λ net. (after : List (Cells Term)) → O.stands operator.old domain.old []
+        → Leads (D.shown domain.old) [] child.now after
+        → O.stands operator.new domain.new after × Leads (D.shown domain.new) [] net (O.value operator.old after)) }
+{
+    let _child = child.distinct();
+    let first = operator.over_nothing(alloc, domain)?;
+    let net = operator.apply(alloc, child, domain)?;
+    sum(net, &first)
+}
+
+// how the operator's value changes, or comes about
+fn applied<D: Domain, O: Keeping<D>>(
+    alloc: Global,
+    operator: &mut O,
+    starts: bool,
+    child: &Changes<Row<D::Value>>,
+    domain: &mut D,
+) -> Result<Changes<Row<D::Value>>, AllocError>
+    requires { MayBeGiven (O.width operator.old) (O.key operator.old) (D.knows domain.old) (D.shown domain.old)
+        (O.stands operator.old domain.old) child.now }
+    ensures width { O.width operator.new ≡ O.width operator.old }
+    ensures key { O.key operator.new ≡ O.key operator.old }
+    ensures value { O.value operator.new ≡ O.value operator.old }
+    ensures known { (v : D.Value) → D.knows domain.old v
+        → IsShownAlike (D.shown domain.old) (D.knows domain.new) (D.shown domain.new) v }
+    ensures rows { IfOk result (λ net. AnswersFit D.Value.eq (O.width operator.old) (D.knows domain.new) net) }
+    ensures law { IfOk result (λ net. (before after : List (Cells Term)) → (starts ≡ true → before ≡ [])
+        → O.stands operator.old domain.old before → Leads (D.shown domain.old) before child.now after
+        → O.stands operator.new domain.new after
+        × Leads (D.shown domain.new) (cond starts [] (O.value operator.old before)) net (O.value operator.old after)) }
+{
+    if starts {
+        begun(alloc, operator, child, domain)
+    } else {
+        operator.apply(alloc, child, domain)
+    }
+}
+
+/// The operator's answer to the change on top of the stack, at the start or later.
+pub(crate) fn answer_over<D: Domain, O: Keeping<D>>(
+    alloc: Global,
+    operator: &mut O,
+    starts: bool,
     pending: &mut Stack<Changes<Row<D::Value>>>,
     domain: &mut D,
 ) -> Result<Changes<Row<D::Value>>, AllocError>
-    requires { MayTake D.Value.eq (D.knows domain.old) (D.shown domain.old) (StandsOver (U.width operator.old)
-        (U.key operator.old) (U.value operator.old) (U.stands operator.old domain.old)) pending.old }
+    requires { MayTake D.Value.eq (D.knows domain.old) (D.shown domain.old) (StandsOver (O.width operator.old)
+        (O.key operator.old) (O.value operator.old) (O.stands operator.old domain.old)) pending.old }
     ensures known { (v : D.Value) → D.knows domain.old v
         → IsShownAlike (D.shown domain.old) (D.knows domain.new) (D.shown domain.new) v }
-    ensures law { IfOk result (λ net. (width : ℕ) (part : Part) (trees : List Node) (before after : List Fact)
-        → StandsOver (U.width operator.old) (U.key operator.old) (U.value operator.old) (U.stands operator.old domain.old)
-        width part trees before
-        → AreDifferences D.Value.eq (D.knows domain.old) (D.shown domain.old) width before after trees pending.old
-        → StandsOver (U.width operator.new) (U.key operator.new) (U.value operator.new) (U.stands operator.new domain.new)
-        width part trees after
-        × (AnswersFit D.Value.eq width (D.knows domain.new) net
-        × (Leads (D.shown domain.new) (eval width (root trees part) before) net (eval width (root trees part) after)
-        × AreDifferences D.Value.eq (D.knows domain.new) (D.shown domain.new) width before after (rest trees part)
-        pending.new))) }
+    ensures law { IfOk result (λ net. (width : ℕ) (part : Part) (trees : List Node) (before after : Time)
+        → IsTurn D.Value.eq (D.knows domain.old) (D.shown domain.old) (StandsOver (O.width operator.old)
+        (O.key operator.old) (O.value operator.old) (O.stands operator.old domain.old)) pending.old
+        width part trees before after → LeadsOn starts before after
+        → HasAnswered D.Value.eq (D.knows domain.new) (D.shown domain.new) (StandsOver (O.width operator.new)
+        (O.key operator.new) (O.value operator.new) (O.stands operator.new domain.new)) net pending.new
+        width part trees before after) }
 {
     let Some(child) = pending.pop() else {
         unreachable!();
     };
-    operator.apply(alloc, &child, domain)
+    applied(alloc, operator, starts, &child, domain)
 }

@@ -1,43 +1,54 @@
 // Operators on the rows of two children.
-ghost use Rattle.std.specs.Prelude.{◌≡◌, ℕ, List, IfOk};
-ghost use Rattle.rsp_terms.specs.declared.statement.Fact.{Fact};
-ghost use Rattle.rsp_operators.specs.Laws.{Leads, AnswersFit, IsShownAlike};
+ghost use Rattle.std.specs.Prelude.{◌+◌, ◌≤◌, ℕ, List, IfOk, IfSome, IfNone};
+ghost use Rattle.rsp_operators.specs.Laws.{IsShownAlike};
 ghost use Rattle.rsp_algebra.specs.Flat.{Part};
 ghost use Rattle.rsp_algebra.specs.Nodes.{Node};
-ghost use Rattle.rsp_algebra.specs.Solutions.{eval};
-ghost use Rattle.rsp_plan.specs.Operating.{StandsPair, MayTake};
-ghost use Rattle.rsp_plan.specs.Waiting.{AreDifferences, root, rest};
+ghost use Rattle.rsp_plan.specs.Operating.{StandsPair};
+ghost use Rattle.rsp_turns.specs.Times.{Time};
+ghost use Rattle.rsp_turns.specs.Turns.{IsTurn, MayTake, HasAnswered, HasTooMany};
+ghost use Rattle.rsp_turns.specs.Working.{part_work};
 
-use crate::pending::Stack;
+use rsp_kinds::KeepingBoth;
 use rsp_multiset::{Changes, Row};
-use rsp_operators::Binary;
+use rsp_spec::limits::MOST_ROWS;
 use rsp_steps::Steps;
 use rsp_terms::Domain;
+use rsp_turns::Stack;
 use std::alloc::{AllocError, Global};
 use std::sync::ledger::Ledger;
 
 /// The operator's answer to the two changes on top of the stack, of which the right one is the upper.
-pub(crate) fn answer_pair<D: Domain, B: Binary<D>, L: Ledger>(
+pub(crate) fn answer_pair<D: Domain, B: KeepingBoth<D>, L: Ledger>(
     alloc: Global,
     operator: &mut B,
     pending: &mut Stack<Changes<Row<D::Value>>>,
     domain: &mut D,
     steps: &mut Steps<L>,
-) -> Result<Changes<Row<D::Value>>, AllocError>
+) -> Result<Option<Changes<Row<D::Value>>>, AllocError>
     requires { MayTake D.Value.eq (D.knows domain.old) (D.shown domain.old) (StandsPair (B.width operator.old)
-        (B.key operator.old) (B.value operator.old) (B.stands operator.old domain.old)) pending.old }
+        (B.key operator.old) (B.factor operator.old) (B.value operator.old) (B.stands operator.old domain.old))
+        pending.old }
     ensures known { (v : D.Value) → D.knows domain.old v
         → IsShownAlike (D.shown domain.old) (D.knows domain.new) (D.shown domain.new) v }
-    ensures law { IfOk result (λ net. (width : ℕ) (part : Part) (trees : List Node) (before after : List Fact)
-        → StandsPair (B.width operator.old) (B.key operator.old) (B.value operator.old) (B.stands operator.old domain.old)
-        width part trees before
-        → AreDifferences D.Value.eq (D.knows domain.old) (D.shown domain.old) width before after trees pending.old
-        → StandsPair (B.width operator.new) (B.key operator.new) (B.value operator.new) (B.stands operator.new domain.new)
-        width part trees after
-        × (AnswersFit D.Value.eq width (D.knows domain.new) net
-        × (Leads (D.shown domain.new) (eval width (root trees part) before) net (eval width (root trees part) after)
-        × AreDifferences D.Value.eq (D.knows domain.new) (D.shown domain.new) width before after (rest trees part)
-        pending.new))) }
+    ensures law { IfOk result (λ answer. IfSome answer (λ net.
+        (width : ℕ) (part : Part) (trees : List Node) (before after : Time)
+        → IsTurn D.Value.eq (D.knows domain.old) (D.shown domain.old) (StandsPair (B.width operator.old)
+        (B.key operator.old) (B.factor operator.old) (B.value operator.old) (B.stands operator.old domain.old))
+        pending.old width part trees before after
+        → HasAnswered D.Value.eq (D.knows domain.new) (D.shown domain.new) (StandsPair (B.width operator.new)
+        (B.key operator.new) (B.factor operator.new) (B.value operator.new) (B.stands operator.new domain.new))
+        net pending.new width part trees before after)) }
+    ensures more { IfOk result (λ answer. IfNone answer (
+        (width : ℕ) (part : Part) (trees : List Node) (before after : Time)
+        → IsTurn D.Value.eq (D.knows domain.old) (D.shown domain.old) (StandsPair (B.width operator.old)
+        (B.key operator.old) (B.factor operator.old) (B.value operator.old) (B.stands operator.old domain.old))
+        pending.old width part trees before after
+        → HasTooMany width part trees after)) }
+    ensures cost { (width : ℕ) (part : Part) (trees : List Node) (before after : Time)
+        → IsTurn D.Value.eq (D.knows domain.old) (D.shown domain.old) (StandsPair (B.width operator.old)
+        (B.key operator.old) (B.factor operator.old) (B.value operator.old) (B.stands operator.old domain.old))
+        pending.old width part trees before after
+        → steps.new ≤ steps.old + part_work width before after trees part }
 {
     let Some(right) = pending.pop() else {
         unreachable!();
@@ -45,5 +56,5 @@ pub(crate) fn answer_pair<D: Domain, B: Binary<D>, L: Ledger>(
     let Some(left) = pending.pop() else {
         unreachable!();
     };
-    operator.apply(alloc, &left, &right, domain, steps)
+    operator.answer_within(alloc, &left, &right, MOST_ROWS as u64, domain, steps)
 }

@@ -1,41 +1,69 @@
-use Rattle.rsp_plan.proofs.Carrying.{ok_led}
+use Rattle.std.proofs.Common.{rules, ◌≡◌, is_none}
+use Rattle.std.specs.Option.{option_copied}
+use Rattle.rsp_plan.proofs.Childless.{given-wide, given-law, scan-law, leads-from}
+use Rattle.rsp_plan.proofs.Carrying.{some_led, none_led}
 use Rattle.rsp_plan.proofs.operator.answered.Goals as goal
 
-pub returns-in-Given-clause-law : goal.returns-in-Given-clause-law
-returns-in-Given-clause-law g c = λ width part trees before after stands changed differ.
-    c.answer_given.ensures width part trees before after c.args.pending.now (rw c.in-Given.is at stands) differ
+pub answer_given-requires : goal.answer_given-requires
+answer_given-requires g c =
+    let take = c.requires.take in
+    given-wide c.in-Given.given take.width take.part take.trees take.before (rw c.in-Given.is at take.turn.stands)
 
-pub returns-in-Scan-clause-law : goal.returns-in-Scan-clause-law
-returns-in-Scan-clause-law g c =
-    ok_led c.answer_scan.result c.answer_scan.ensures.law
-    (λ net law width part trees before after stands changed differ. law width part trees before after c.args.pending.now (rw c.in-Scan.is at stands) changed differ)
+pub returns-in_ok-answer_given-in-Given-clause-law : goal.returns-in_ok-answer_given-in-Given-clause-law
+returns-in_ok-answer_given-in-Given-clause-law g c = λ width part trees before after turn on.
+    let starts : c.is_none.result ≡ is_none c.args.facts = search rules in
+    given-law g.met.D.Value.Cell.identical (g.D.Domain.knows c.args.domain.now) (g.D.Domain.knows c.answer_given.new.domain) (g.D.Domain.shown c.args.domain.now) (g.D.Domain.shown c.answer_given.new.domain)
+    c.answer_given.ensures.known c.in_ok-answer_given-in-Given.field-0 c.in-Given.given _ c.in_ok-answer_given-in-Given.ensures.rows c.in_ok-answer_given-in-Given.ensures.leads
+    c.args.pending.now width part trees before after (rw c.in-Given.is at turn.stands) turn.differ (leads-from c.args.facts c.is_none.result starts before after on)
 
-pub returns-in-Filter-clause-law : goal.returns-in-Filter-clause-law
-returns-in-Filter-clause-law g c =
-    ok_led c.answer_over.result c.answer_over.ensures.law
-    (λ net law width part trees before after stands changed differ. law width part trees before after (rw c.in-Filter.is at stands) differ)
+pub returns-in_ok-answer_scan-in-Scan-clause-law : goal.returns-in_ok-answer_scan-in-Scan-clause-law
+returns-in_ok-answer_scan-in-Scan-clause-law g c = λ width part trees before after turn on.
+    scan-law g.met.D.Value.Cell.identical (g.D.Domain.knows c.args.domain.now) (g.D.Domain.knows c.answer_scan.new.domain) (g.D.Domain.shown c.args.domain.now) (g.D.Domain.shown c.answer_scan.new.domain)
+    c.answer_scan.ensures.known c.in_ok-answer_scan-in-Scan.field-0 c.in-Scan.scan (option_copied c.args.facts) c.in_ok-answer_scan-in-Scan.ensures.rows c.in_ok-answer_scan-in-Scan.ensures.leads
+    c.args.pending.now width part trees before after (rw c.in-Scan.is at turn.stands) turn.differ on
 
-pub returns-in-Extend-clause-law : goal.returns-in-Extend-clause-law
-returns-in-Extend-clause-law g c =
-    ok_led c.answer_over-in-Extend.result c.answer_over-in-Extend.ensures.law
-    (λ net law width part trees before after stands changed differ. law width part trees before after (rw c.in-Extend.is at stands) differ)
+pub returns-in_ok-answer_over-in-Over-clause-law : goal.returns-in_ok-answer_over-in-Over-clause-law
+returns-in_ok-answer_over-in-Over-clause-law g c = λ width part trees before after turn on.
+    let starts : c.is_none-in-Over.result ≡ is_none c.args.facts = search rules in
+    let led = c.in_ok-answer_over-in-Over.ensures.law width part trees before after (record { stands = rw c.in-Over.is at turn.stands; differ = turn.differ }) (leads-from c.args.facts c.is_none-in-Over.result starts before after on) in
+    record { stands = led.stands; fit = led.fit; leads = led.leads; differ = led.differ }
 
-pub returns-in-Project-clause-law : goal.returns-in-Project-clause-law
-returns-in-Project-clause-law g c =
-    ok_led c.answer_over-in-Project.result c.answer_over-in-Project.ensures.law
-    (λ net law width part trees before after stands changed differ. law width part trees before after (rw c.in-Project.is at stands) differ)
+pub returns-in-Pair-clause-law : goal.returns-in-Pair-clause-law
+returns-in-Pair-clause-law g c =
+    some_led c.answer_pair.result c.answer_pair.ensures.law
+    (λ net law width part trees before after turn on.
+    let led = law width part trees before after (record { stands = rw c.in-Pair.is at turn.stands; differ = turn.differ }) in
+    record { stands = led.stands; fit = led.fit; leads = led.leads; differ = led.differ })
 
-pub returns-in-Distinct-clause-law : goal.returns-in-Distinct-clause-law
-returns-in-Distinct-clause-law g c =
-    ok_led c.answer_over-in-Distinct.result c.answer_over-in-Distinct.ensures.law
-    (λ net law width part trees before after stands changed differ. law width part trees before after (rw c.in-Distinct.is at stands) differ)
+pub returns-in-Pair-clause-more : goal.returns-in-Pair-clause-more
+returns-in-Pair-clause-more g c =
+    none_led c.answer_pair.result c.answer_pair.ensures.more
+    (λ more width part trees before after turn on. more width part trees before after (record { stands = rw c.in-Pair.is at turn.stands; differ = turn.differ }))
 
-pub returns-in-Union-clause-law : goal.returns-in-Union-clause-law
-returns-in-Union-clause-law g c =
-    ok_led c.answer_pair.result c.answer_pair.ensures.law
-    (λ net law width part trees before after stands changed differ. law width part trees before after (rw c.in-Union.is at stands) differ)
+pub returns-in-Pair-clause-cost : goal.returns-in-Pair-clause-cost
+returns-in-Pair-clause-cost g c = λ width part trees before after turn on.
+    c.answer_pair.ensures.cost width part trees before after (record { stands = rw c.in-Pair.is at turn.stands; differ = turn.differ })
 
-pub returns-in-Join-clause-law : goal.returns-in-Join-clause-law
-returns-in-Join-clause-law g c =
-    ok_led c.answer_pair-in-Join.result c.answer_pair-in-Join.ensures.law
-    (λ net law width part trees before after stands changed differ. law width part trees before after (rw c.in-Join.is at stands) differ)
+pub answer_over-requires : goal.answer_over-requires
+answer_over-requires g c =
+    let take = c.requires.take in
+    record {
+      width = take.width;
+      part = take.part;
+      trees = take.trees;
+      before = take.before;
+      after = take.after;
+      turn = record { stands = rw c.in-Over.is at take.turn.stands; differ = take.turn.differ };
+    }
+
+pub answer_pair-requires : goal.answer_pair-requires
+answer_pair-requires g c =
+    let take = c.requires.take in
+    record {
+      width = take.width;
+      part = take.part;
+      trees = take.trees;
+      before = take.before;
+      after = take.after;
+      turn = record { stands = rw c.in-Pair.is at take.turn.stands; differ = take.turn.differ };
+    }

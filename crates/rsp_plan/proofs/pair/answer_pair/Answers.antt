@@ -1,20 +1,39 @@
-use Rattle.rsp_plan.proofs.Carrying.{both_ok}
-use Rattle.rsp_plan.proofs.Paired.{pair-may, pair-law}
+use Rattle.std.proofs.Common.{refl}
+use Rattle.rsp_plan.proofs.Carrying.{both_some, none_led}
+use Rattle.rsp_plan.proofs.Paired.{pair-may, pair-law, pair-more, pair-few}
 use Rattle.rsp_plan.proofs.pair.answer_pair.Goals as goal
 
-pub apply-requires : goal.apply-requires
-apply-requires g c =
+pub answer_within-requires : goal.answer_within-requires
+answer_within-requires g c =
     pair-may g.met.D.Value.Cell.identical (g.D.Domain.knows c.args.domain.now) (g.D.Domain.shown c.args.domain.now) (g.B.Binary.width c.args.operator.now) (g.B.Binary.key c.args.operator.now)
-    (g.B.Binary.value c.args.operator.now) (g.B.Binary.stands c.args.operator.now c.args.domain.now) c.in-Some-pop.left c.in-Some.right c.args.pending.now c.pop.new.self c.pop-2.new.self
-    c.in-Some.ensures.some c.in-Some-pop.ensures.some (g.met.D.Domain.told_apart c.args.domain.now) c.requires
+    (g.B.Binary.factor c.args.operator.now) (g.B.Binary.value c.args.operator.now) (g.B.Binary.stands c.args.operator.now c.args.domain.now) c.in-Some-pop.left c.in-Some.right
+    c.args.pending.now c.pop.new.self c.pop-2.new.self c.in-Some.ensures.some c.in-Some-pop.ensures.some (g.met.D.Domain.told_apart c.args.domain.now) c.requires
 
 pub returns-clause-law : goal.returns-clause-law
 returns-clause-law g c =
-    both_ok c.apply.result c.apply.ensures.rows c.apply.ensures.law
+    both_some c.answer_within.result c.answer_within.ensures.rows c.answer_within.ensures.law
     (λ net fit led.
     pair-law g.met.D.Value.Cell.identical (g.D.Domain.knows c.args.domain.now) (g.D.Domain.shown c.args.domain.now) (g.B.Binary.width c.args.operator.now) (g.B.Binary.key c.args.operator.now)
-    (g.B.Binary.value c.args.operator.now) (g.B.Binary.stands c.args.operator.now c.args.domain.now) c.in-Some-pop.left c.in-Some.right c.args.pending.now c.pop.new.self c.pop-2.new.self
-    c.in-Some.ensures.some c.in-Some-pop.ensures.some
-    (g.D.Domain.knows c.apply.new.domain) (g.D.Domain.shown c.apply.new.domain) c.apply.ensures.known (g.B.Binary.width c.apply.new.self) (g.B.Binary.key c.apply.new.self)
-    (g.B.Binary.value c.apply.new.self) (g.B.Binary.stands c.apply.new.self c.apply.new.domain) c.apply.ensures.width c.apply.ensures.key c.apply.ensures.value
+    (g.B.Binary.factor c.args.operator.now) (g.B.Binary.value c.args.operator.now) (g.B.Binary.stands c.args.operator.now c.args.domain.now) c.in-Some-pop.left c.in-Some.right
+    c.args.pending.now c.pop.new.self c.pop-2.new.self c.in-Some.ensures.some c.in-Some-pop.ensures.some
+    (g.met.B.KeepingBoth.nothing c.args.operator.now)
+    (g.D.Domain.knows c.answer_within.new.domain) (g.D.Domain.shown c.answer_within.new.domain) c.answer_within.ensures.known (g.B.Binary.width c.answer_within.new.self) (g.B.Binary.key c.answer_within.new.self)
+    (g.B.Binary.factor c.answer_within.new.self) (g.B.Binary.value c.answer_within.new.self) (g.B.Binary.stands c.answer_within.new.self c.answer_within.new.domain)
+    c.answer_within.ensures.width c.answer_within.ensures.key c.answer_within.ensures.factor c.answer_within.ensures.value
     net fit led)
+
+pub returns-clause-more : goal.returns-clause-more
+returns-clause-more g c =
+    none_led c.answer_within.result c.answer_within.ensures.more
+    (λ more.
+    pair-more g.met.D.Value.Cell.identical (g.D.Domain.knows c.args.domain.now) (g.D.Domain.shown c.args.domain.now) (g.B.Binary.width c.args.operator.now) (g.B.Binary.key c.args.operator.now)
+    (g.B.Binary.factor c.args.operator.now) (g.B.Binary.value c.args.operator.now) (g.B.Binary.stands c.args.operator.now c.args.domain.now) c.in-Some-pop.left c.in-Some.right
+    c.args.pending.now c.pop.new.self c.pop-2.new.self c.in-Some.ensures.some c.in-Some-pop.ensures.some
+    (g.met.B.KeepingBoth.nothing c.args.operator.now) _ refl more)
+
+pub returns-clause-cost : goal.returns-clause-cost
+returns-clause-cost g c =
+    pair-few g.met.D.Value.Cell.identical (g.D.Domain.knows c.args.domain.now) (g.D.Domain.shown c.args.domain.now) (g.B.Binary.width c.args.operator.now) (g.B.Binary.key c.args.operator.now)
+    (g.B.Binary.factor c.args.operator.now) (g.B.Binary.value c.args.operator.now) (g.B.Binary.stands c.args.operator.now c.args.domain.now) c.in-Some-pop.left c.in-Some.right
+    c.args.pending.now c.pop.new.self c.pop-2.new.self c.in-Some.ensures.some c.in-Some-pop.ensures.some
+    c.args.steps.now c.answer_within.new.steps c.answer_within.ensures.cost

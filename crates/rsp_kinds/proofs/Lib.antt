@@ -1,0 +1,9 @@
+pub mod Answered
+pub mod ByKey
+pub mod Chosen
+pub mod Copied
+pub mod Keys
+pub mod Nothing
+pub mod Reading
+pub mod CellByCell
+pub mod Zipped

@@ -1,0 +1,15 @@
+-- Words of the way: an aggregate with its argument and its fold is one of the algebra.
+use Rattle.std.specs.Prelude.{ℕ, map}
+use Rattle.rsp_aggregates.specs.Folds.{folding_aggregate}
+use Rattle.rsp_aggregates.specs.declared.folding.Folding.{Folding}
+use Rattle.rsp_expr.specs.Formulas.{Aggregation}
+use Rattle.rsp_group_laws.specs.Alike.{IsAggregate}
+use Rattle.rsp_groups.specs.declared.aggregated.Aggregated.{Aggregated}
+use Rattle.rsp_kinds.specs.Arguments.{argument_value}
+use Rattle.rsp_kinds.specs.declared.expressions.Argument.{Argument}
+
+-- the variable, and over every group the value, of an aggregate of the algebra
+abbrev pub IsAggregated : Aggregated Argument Folding → ℕ × Aggregation → Type 0
+IsAggregated a aggregate =
+    IsAggregate a.variable (λ group. folding_aggregate a.fold (map (λ row. argument_value a.argument.expression row) group))
+    aggregate

@@ -1,0 +1,5 @@
+pub mod Along
+pub mod Popped
+pub mod Current
+pub mod StillSet
+pub mod Begun

@@ -1,0 +1,3 @@
+-- Words of the way: they link code to definitions, and need no belief
+pub mod Passing
+pub mod Kept
