@@ -1,7 +1,7 @@
 """Logs at which a report has to cost what has changed since the query's last one, and the output that is wanted of each.
 
-Quads `<a:i> <p:m> <b:i>` are stored, and each second an item comes that names one of them: so each report changes by a row or two,
-of as many as are stored. A program that evaluates each report anew takes an hour and more at these.
+Quads `<a:i> <p:m> <b:i>` are stored, and each second an item comes that names one of them: so each report changes by a row or
+two, of as many as are stored. A program that evaluates each report anew takes an hour and more at these.
 """
 STORED, ITEMS = 100_000, 20_000
 INTEGER = "^^<http://www.w3.org/2001/XMLSchema#integer>"
@@ -34,7 +34,7 @@ class Sizes:
         return f"{registrations}@tick 1\n@insert\n{quads}@end\n{items}@tick {1000 * self.items + 1000}\n".encode()
 
     def output(self, *queries):
-        """The reports of queries, each its name, its header and its rows by the number of the item that a report sees, 0 for none."""
+        """The reports of queries, each its name, its header and its rows by the number of the item that is seen, 0 for none."""
         pieces = []
         for number in range(self.items + 1):
             for name, header, rows_of in queries:
@@ -54,7 +54,7 @@ class Sizes:
             ("q", "?y\t?z\t?x", lambda number: [f"{row}\t<n:{number}>" for row in self.row(number)]))
 
     def optional(self):
-        """Each stored quad with its item, where one names it: what goes is the bare row of the item, and the row of the item before."""
+        """Each stored quad with its item, where one names it: what goes is the bare row of the item, and that of the item before."""
         def gone(number):
             before = [f"{row}\t<n:{number - 1}>" for row in self.row(number - 1)] if number else []
             return [f"{row}\t" for row in self.row(number)] + before
