@@ -54,7 +54,7 @@ class Sizes:
             ("q", "?y\t?z\t?x", lambda number: [f"{row}\t<n:{number}>" for row in self.row(number)]))
 
     def optional(self):
-        """Each stored quad with its item, where one names it: what goes is the bare row of the item, and that of the item before."""
+        """Each stored quad with its item, where one names it: the bare row of the item goes, and the row of the item before."""
         def gone(number):
             before = [f"{row}\t<n:{number - 1}>" for row in self.row(number - 1)] if number else []
             return [f"{row}\t" for row in self.row(number)] + before
