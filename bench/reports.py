@@ -173,16 +173,17 @@ def colliding_front(place):
 
 
 def keys(place, are_colliding):
-    """A load of so many stored pairs of quads and a report of their join, by keys that collide or by others as long.
+    """A load of so many stored quads with their partners and a report of their join, by keys that collide or by others as long.
 
-    They are the subjects of facts, or the cells that the join goes by.
+    They are the subjects of facts that are alike else, or the cells that the join goes by.
     """
     front = colliding_front(place) if are_colliding else "a:" + "x" * 22
     live = query("q", "RSTREAM", "(COUNT(*) AS ?n)", "?x <p:m> ?y . ?y <p:n> ?z")
 
     def quads(k):
-        key, plain = f"<{front}{k:08}>", f"<b:{k}>"
-        subject, shared = (key, plain) if place == "facts" else (plain, key)
-        return f"{subject} <p:m> {shared} .\n{shared} <p:n> <c:{k}> .\n"
+        key = f"<{front}{k:08}>"
+        if place == "facts":
+            return f"{key} <p:m> <o:1> .\n<o:1> <p:n> <c:1> .\n"
+        return f"<b:{k}> <p:m> {key} .\n{key} <p:n> <c:{k}> .\n"
 
     return lambda size: live + b"@tick 1\n" + inserted([quads(k) for k in range(size)]) + b"@tick 1000\n"
