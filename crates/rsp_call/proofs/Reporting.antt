@@ -144,28 +144,29 @@ refused_event_stands old new event why place world refuses some stands =
 
 -- one that isn't taken says its refusal; want of memory says nothing
 pub refused_says : (old new : State) (content : Content) (answered : Answered) (place : Place) (world : World) (a b : Voice) (s t : SinkSeen) (result : Result Bool Stop) → OffersContent old content (Err answered) new → Stands old world [] → Says a b s t (refusal_said place (reason_of answered)) result → OnOk result (is_some (reason_of answered) ≡ true) → Says a b s t (content_step world place content).said result
-refused_says old new (content.Event event) (answered.Event why) place world a b s t result refuses stands =
-    refused_event_says old new event why place world a b s t result refuses stands
-refused_says old new (content.Event event) (answered.Fault fault) place world a b s t result refuses stands = absurd refuses
-refused_says old new (content.Event event) (answered.Line fault) place world a b s t result refuses stands = absurd refuses
+refused_says old new (content.Event event) (answered.Event why) place world a b s t result refuses stands says some =
+    refused_event_says old new event why place world a b s t result refuses stands says some
+refused_says old new (content.Event event) (answered.Fault fault) place world a b s t result refuses stands says some = absurd refuses
+refused_says old new (content.Event event) (answered.Line fault) place world a b s t result refuses stands says some = absurd refuses
 refused_says old new (content.Fault fault) (answered.Fault same) place world a b s t result refuses stands says some =
     rw (← refuses.0) says
-refused_says old new (content.Fault fault) (answered.Event why) place world a b s t result refuses stands = absurd refuses
-refused_says old new (content.Fault fault) (answered.Line why) place world a b s t result refuses stands = absurd refuses
+refused_says old new (content.Fault fault) (answered.Event why) place world a b s t result refuses stands says some = absurd refuses
+refused_says old new (content.Fault fault) (answered.Line why) place world a b s t result refuses stands says some = absurd refuses
 
 pub refused_stands : (old new : State) (content : Content) (answered : Answered) (place : Place) (world : World) → OffersContent old content (Err answered) new → is_some (reason_of answered) ≡ true → Stands old world [] → Stands new (content_step world place content).after []
-refused_stands old new (content.Event event) (answered.Event why) place world refuses = refused_event_stands old new event why place world refuses
-refused_stands old new (content.Event event) (answered.Fault fault) place world refuses = absurd refuses
-refused_stands old new (content.Event event) (answered.Line fault) place world refuses = absurd refuses
+refused_stands old new (content.Event event) (answered.Event why) place world refuses some stands =
+    refused_event_stands old new event why place world refuses some stands
+refused_stands old new (content.Event event) (answered.Fault fault) place world refuses some stands = absurd refuses
+refused_stands old new (content.Event event) (answered.Line fault) place world refuses some stands = absurd refuses
 refused_stands old new (content.Fault fault) (answered.Fault same) place world refuses some stands = rw refuses.1 stands
-refused_stands old new (content.Fault fault) (answered.Event why) place world refuses = absurd refuses
-refused_stands old new (content.Fault fault) (answered.Line why) place world refuses = absurd refuses
+refused_stands old new (content.Fault fault) (answered.Event why) place world refuses some stands = absurd refuses
+refused_stands old new (content.Fault fault) (answered.Line why) place world refuses some stands = absurd refuses
 
 -- and the engine has still no report left
 pub refused_idle : (old new : State) (content : Content) (answered : Answered) → OffersContent old content (Err answered) new → is_some (reason_of answered) ≡ true → IsTrue (is_idle old) → IsTrue (is_idle new)
 refused_idle old new (content.Event event) (answered.Event why) refuses some idle = rw (named_refusal old new event why refuses some).unchanged idle
-refused_idle old new (content.Event event) (answered.Fault fault) refuses = absurd refuses
-refused_idle old new (content.Event event) (answered.Line fault) refuses = absurd refuses
+refused_idle old new (content.Event event) (answered.Fault fault) refuses some idle = absurd refuses
+refused_idle old new (content.Event event) (answered.Line fault) refuses some idle = absurd refuses
 refused_idle old new (content.Fault fault) (answered.Fault same) refuses some idle = rw refuses.1 idle
-refused_idle old new (content.Fault fault) (answered.Event why) refuses = absurd refuses
-refused_idle old new (content.Fault fault) (answered.Line why) refuses = absurd refuses
+refused_idle old new (content.Fault fault) (answered.Event why) refuses some idle = absurd refuses
+refused_idle old new (content.Fault fault) (answered.Line why) refuses some idle = absurd refuses
