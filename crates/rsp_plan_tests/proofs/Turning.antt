@@ -2,7 +2,7 @@
 use Rattle.std.proofs.Common.{◌≡◌, ◌≢◌, ◌⊎◌, inl, inr, zero, suc, Bool, true, false, List, [], ◌∷◌, ℤ, pos, negsuc, ◌+ℤ◌, refl, sym, subst, ◌∙◌, arith, Decides}
 use Rattle.std.specs.List.{AllByRecursion}
 use Rattle.std.proofs.lemmas.Int.{ints}
-use Rattle.rsp_multiset.specs.Weights.{only, weight, times, Holds, IsChanged}
+use Rattle.rsp_multiset.specs.Weights.{only, weight, times, Holds}
 use Rattle.rsp_terms.specs.declared.statement.Fact.{Fact}
 use Rattle.rsp_terms.specs.Same.{fact_eq, fact_same}
 use Rattle.rsp_algebra.specs.Changing.{MayChange}
@@ -32,11 +32,3 @@ may_change facts given changes held turns q = by (weight fact_eq changes q) refl
     by (pos zero) is = inl is
     by (pos (suc n)) is = turn (weighed (λ none. let never : ⊥ = omega (arith, ints, is, none) in never))
     by (negsuc n) is = turn (weighed (λ none. let never : ⊥ = omega (arith, ints, is, none) in never))
-
-pub follows_on : (before after : List Fact) (given changes sum : List (Fact × ℤ)) → Holds fact_eq given before → ((q : Fact) → weight fact_eq sum q ≡ weight fact_eq given q +ℤ weight fact_eq changes q)
-    → IsChanged fact_eq before changes after → Holds fact_eq sum after
-follows_on before after given changes sum held added changed q =
-    let was = held q in
-    let summed = added q in
-    let is = changed q in
-    omega (arith, ints, was, summed, is)
