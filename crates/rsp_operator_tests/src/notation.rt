@@ -119,15 +119,14 @@ pub(crate) fn turns_out<O: Binary<Same> + Drop>(
     Ok(true)
 }
 
-/// Whether the operator refuses each turn.
+/// Whether each turn is refused.
 pub(crate) fn are_refused<O: Binary<Same> + Drop>(
     alloc: Global,
-    given: BinaryTrial<O>,
+    trial: &mut BinaryTrial<O>,
     turns: &str,
 ) -> bool {
-    let mut trial = given;
     for turn in turns.lines() {
-        if !answers(alloc, &mut trial, Told::Answered, turn).is_err() {
+        if !answers(alloc, trial, Told::Answered, turn).is_err() {
             return false;
         }
     }

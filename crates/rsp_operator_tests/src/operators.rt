@@ -1,6 +1,4 @@
 // Operators on one input, turn by turn.
-ghost use Rattle.std.specs.Prelude.{◌≡◌};
-
 use crate::notation::single_turns_out;
 use crate::trials::{WIDTH, once};
 use rsp_multiset::Row;

@@ -1,11 +1,13 @@
 -- A change whose facts come and go by turns may be made.
-use Rattle.std.proofs.Common.{◌≡◌, ◌≢◌, ◌⊎◌, inl, inr, zero, suc, Bool, true, false, List, [], ◌∷◌, ℤ, pos, negsuc, ◌+ℤ◌, refl, sym, subst, ◌∙◌, arith, Decides}
+use Rattle.std.proofs.Common.{◌≡◌, ◌≢◌, ◌⊎◌, inl, inr, zero, suc, Bool, true, false, true≢false, not, Result, Ok, List, [], ◌∷◌, ℤ, pos, negsuc, ◌+ℤ◌, refl, sym, subst, ◌∙◌, arith, Decides}
 use Rattle.std.specs.List.{AllByRecursion}
 use Rattle.std.proofs.lemmas.Int.{ints}
 use Rattle.rsp_multiset.specs.Weights.{only, weight, times, Holds, IsChanged}
 use Rattle.rsp_terms.specs.declared.statement.Fact.{Fact}
 use Rattle.rsp_terms.specs.Same.{fact_eq, fact_same}
-use Rattle.rsp_algebra.specs.Changing.{MayChange}
+use Rattle.rsp_algebra.specs.Changing.{MayChange, is_overfull, goes_on}
+use Rattle.rsp_algebra.specs.declared.answer.Turn.{Turn}
+use Rattle.rsp_algebra.specs.declared.answer.Turn.TheVariants.{Net, Overfull}
 use Rattle.rsp_plan_tests.specs.Followed.{Turns, MayTurn}
 
 module _ {E : Type 0} (eq : E → E → Bool) (same : (x y : E) → Decides (eq x y) (x ≡ y)) where
@@ -40,3 +42,8 @@ follows_on before after given changes sum held added changed q =
     let summed = added q in
     let is = changed q in
     omega (arith, ints, was, summed, is)
+
+-- where the change of the solutions is answered, the answer isn't spent
+pub still-ready : {E : Type 0} (turn : Turn) (spent net : Bool) → spent ≡ not (goes_on {E} (Ok turn)) → net ≡ not (is_overfull turn) → net ≡ true → spent ≡ false
+still-ready (Net changes) spent net is told holds = is
+still-ready Overfull spent net is told holds = absurd (true≢false (sym holds ∙ told))

@@ -1,8 +1,9 @@
 // Answers on trial.
-ghost use Rattle.std.specs.Prelude.{◌≡◌, ◌⊎◌, ◌<◌, true, pos, negsuc, [], IfOk, IfSome};
+ghost use Rattle.std.specs.Prelude.{◌≡◌, ◌⊎◌, ◌<◌, true, not, pos, negsuc, [], IfOk, IfSome, OnOk};
 ghost use Rattle.rsp_multiset.specs.Weights.{weight};
 ghost use Rattle.rsp_terms.specs.declared.statement.Fact.{Fact};
 ghost use Rattle.rsp_terms.specs.Same.{fact_eq};
+ghost use Rattle.rsp_algebra.specs.Changing.{is_overfull};
 ghost use Rattle.rsp_algebra.specs.Fitting.{IsPlaced};
 ghost use Rattle.rsp_plan_tests.specs.Followed.{MayTurn};
 
@@ -61,9 +62,7 @@ impl<A: Answer> Trial<A> {
         if !self.ready {
             return Err(Refused::GaveUp);
         }
-        if !may_turn(&self.facts, changes) {
-            return Err(Refused::Missing);
-        }
+        check(&self.facts, changes)?;
         self.ready = false;
         self.facts.add_changes(changes)?;
         let turn = self.answer.change(changes, steps)?;
@@ -85,24 +84,26 @@ impl<A: Answer> Trial<A> {
     }
 }
 
-fn is_net(turn: &Turn) -> bool {
+fn is_net(turn: &Turn) -> bool
+    ensures { result ≡ not (is_overfull turn.now) }
+{
     match turn {
         Turn::Net(_) => true,
         Turn::Overfull => false,
     }
 }
 
-// whether each fact comes where it isn't, or goes where it is
-fn may_turn(facts: &Changes<Fact>, changes: &Changes<Fact>) -> bool
-    ensures { result ≡ true → MayTurn facts.now changes.now }
+// looks whether each fact comes where it isn't, or goes where it is
+fn check(facts: &Changes<Fact>, changes: &Changes<Fact>) -> Result<(), Refused>
+    ensures { OnOk result (MayTurn facts.now changes.now) }
 {
     for index in 0..changes.distinct() {
         let (fact, _) = changes.counted_at(index);
         if !turns(facts.count(fact), changes.count(fact)) {
-            return false;
+            return Err(Refused::Missing);
         }
     }
-    true
+    Ok(())
 }
 
 fn turns(held: Count, by: Count) -> bool
