@@ -44,6 +44,6 @@ follows_on before after given changes sum held added changed q =
     omega (arith, ints, was, summed, is)
 
 -- where the change of the solutions is answered, the answer isn't spent
-pub still-ready : {E : Type 0} (turn : Turn) (spent net : Bool) → spent ≡ not (goes_on {E} (Ok turn)) → net ≡ not (is_overfull turn) → net ≡ true → spent ≡ false
+pub still-ready : {E : Type 0} (turn : Turn) (spent net : Bool) → spent ≡ not (goes_on {E = E} (Ok turn)) → net ≡ not (is_overfull turn) → net ≡ true → spent ≡ false
 still-ready (Net changes) spent net is told holds = is
 still-ready Overfull spent net is told holds = absurd (true≢false (sym holds ∙ told))
