@@ -1,13 +1,11 @@
 -- A change whose facts come and go by turns may be made.
-use Rattle.std.proofs.Common.{◌≡◌, ◌≢◌, ◌⊎◌, inl, inr, zero, suc, Bool, true, false, true≢false, not, Result, Ok, List, [], ◌∷◌, ℤ, pos, negsuc, ◌+ℤ◌, refl, sym, subst, ◌∙◌, arith, Decides}
+use Rattle.std.proofs.Common.{◌≡◌, ◌≢◌, ◌⊎◌, inl, inr, zero, suc, Bool, true, false, List, [], ◌∷◌, ℤ, pos, negsuc, ◌+ℤ◌, refl, sym, subst, ◌∙◌, arith, Decides}
 use Rattle.std.specs.List.{AllByRecursion}
 use Rattle.std.proofs.lemmas.Int.{ints}
-use Rattle.rsp_multiset.specs.Weights.{only, weight, times, Holds, IsChanged}
+use Rattle.rsp_multiset.specs.Weights.{only, weight, times, Holds}
 use Rattle.rsp_terms.specs.declared.statement.Fact.{Fact}
 use Rattle.rsp_terms.specs.Same.{fact_eq, fact_same}
-use Rattle.rsp_algebra.specs.Changing.{MayChange, is_overfull, goes_on}
-use Rattle.rsp_algebra.specs.declared.answer.Turn.{Turn}
-use Rattle.rsp_algebra.specs.declared.answer.Turn.TheVariants.{Net, Overfull}
+use Rattle.rsp_algebra.specs.Changing.{MayChange}
 use Rattle.rsp_plan_tests.specs.Followed.{Turns, MayTurn}
 
 module _ {E : Type 0} (eq : E → E → Bool) (same : (x y : E) → Decides (eq x y) (x ≡ y)) where
@@ -34,16 +32,3 @@ may_change facts given changes held turns q = by (weight fact_eq changes q) refl
     by (pos zero) is = inl is
     by (pos (suc n)) is = turn (weighed (λ none. let never : ⊥ = omega (arith, ints, is, none) in never))
     by (negsuc n) is = turn (weighed (λ none. let never : ⊥ = omega (arith, ints, is, none) in never))
-
-pub follows_on : (before after : List Fact) (given changes sum : List (Fact × ℤ)) → Holds fact_eq given before → ((q : Fact) → weight fact_eq sum q ≡ weight fact_eq given q +ℤ weight fact_eq changes q)
-    → IsChanged fact_eq before changes after → Holds fact_eq sum after
-follows_on before after given changes sum held added changed q =
-    let was = held q in
-    let summed = added q in
-    let is = changed q in
-    omega (arith, ints, was, summed, is)
-
--- where the change of the solutions is answered, the answer isn't spent
-pub still-ready : {E : Type 0} (turn : Turn) (spent net : Bool) → spent ≡ not (goes_on {E = E} (Ok turn)) → net ≡ not (is_overfull turn) → net ≡ true → spent ≡ false
-still-ready (Net changes) spent net is told holds = is
-still-ready Overfull spent net is told holds = absurd (true≢false (sym holds ∙ told))
