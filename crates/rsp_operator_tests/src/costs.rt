@@ -138,9 +138,15 @@ fn of_one_key(rt: HostRuntime) -> Result<(), Fail> {
 }
 
 #[test]
-fn without_a_key(rt: HostRuntime) -> Result<(), Fail> {
+fn a_join_without_a_key(rt: HostRuntime) -> Result<(), Fail> {
     let alloc = rt.alloc();
     assert!(rt; is_too_much(alloc, bounded_join(alloc, &[], MOST)?)?);
+    Ok(())
+}
+
+#[test]
+fn an_outer_join_without_a_key(rt: HostRuntime) -> Result<(), Fail> {
+    let alloc = rt.alloc();
     let pairing = CompatibleWhere::new(Vec::new(alloc), Always {});
     assert!(rt; is_too_much(alloc, bounded_left_join(alloc, pairing, MOST)?)?);
     Ok(())
