@@ -224,10 +224,15 @@ ONE_ROW = {
     "one group": ("(COUNT(*) AS ?n) (MAX(STR(?y)) AS ?most)", "?x <p:v> ?y", "", "new"),
 }
 FEW_STORED, MANY_STORED = 1_000, 100_000
+# with a quad more for each report not more than can be stored
+ALL_STORED = 990_000
 
 
-def one_row(node, count):
-    """A load of so many reports under ISTREAM over this many stored quads, each with one row more by a node of this kind."""
+def one_row(node, count, unread=0):
+    """A load of so many reports under ISTREAM over this many stored quads, each with one row more by a node of this kind.
+
+    Beside them so many quads are stored that the query doesn't read.
+    """
     columns, body, end, key = ONE_ROW[node]
     clause = "FROM NAMED WINDOW <w:1> ON <s:a> [RANGE PT1S]"
     head = f"REGISTER ISTREAM <q:o> REPORT CLOSE TICK TIME AS SELECT {columns} {clause} WHERE {{ {body} }}{end}\n"
@@ -235,7 +240,8 @@ def one_row(node, count):
 
     def load(size):
         quads = [f"<a:{k}> <p:v> <b:{k}> .\n<b:{2 * k + 1}> <p:m> <c:{k}> .\n" for k in range(half)]
-        stored = b"".join(block("@insert", quads[at:at + 500]) for at in range(0, half, 500))
+        quads += [f"<u:{k}> <p:unread> <u:{k}> .\n" for k in range(unread)]
+        stored = b"".join(block("@insert", quads[at:at + 500]) for at in range(0, len(quads), 500))
         keys = [2 * (number % half) + 1 if key == "marked" else 2 * (half + number) for number in range(size)]
         rounds = [
             block("@insert", [f"<n:{number}> <p:v> <b:{at}> .\n"]) + b"@tick %d\n" % (1000 * number + 1000)

@@ -1,5 +1,6 @@
 -- Words of the way: what a feed gives, and how the work ends that it is driven through.
-use Rattle.std.specs.Prelude.{◌≡◌, Bool, Option, None, Some, Result, Ok, Err, OnOk, List, [], ◌∷◌, ◌++◌, ⊤, map, option_map, option_to_list}
+use Rattle.std.specs.Prelude.{◌≡◌, Bool, Option, None, Some, Result, Ok, Err, OnOk, List, [], ◌∷◌, ◌++◌, ⊤, map}
+use Rattle.std.specs.Prelude.{option_map, option_to_list}
 use Rattle.std.specs.List.{list_any}
 use Rattle.rsp_events.specs.Instants.{AllTimed, IsTimed}
 use Rattle.rsp_engine.specs.Stands.{State, Stands}

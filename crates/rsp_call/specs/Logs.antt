@@ -1,5 +1,6 @@
 -- Words of the way: what a log that is read a piece at a time has given.
-use Rattle.std.specs.Prelude.{◌≡◌, ℕ, suc, ◌+◌, ◌-◌, ◌<◌, ◌≤◌, Bool, true, false, if◌then◌else◌, Option, None, Some, List, ◌++◌, length, map}
+use Rattle.std.specs.Prelude.{◌≡◌, ℕ, suc, ◌+◌, ◌-◌, ◌<◌, ◌≤◌, Bool, true, false, if◌then◌else◌, Option, None, Some, List, ◌++◌}
+use Rattle.std.specs.Prelude.{length, map}
 use Rattle.std.specs.Io.KnownBytes.{IsAtEnd}
 use Rattle.rsp_spec.specs.Faults.{Rose}
 use Rattle.rsp_io.specs.Seen.{SourceSeen}

@@ -11,7 +11,8 @@ use Rattle.rsp_syntax.specs.declared.fault.SyntaxFault.TheVariants as syntax
 use Rattle.rsp_translation.specs.declared.shape.Shape.TheVariants as shape
 use Rattle.rsp_engine.specs.declared.refused.TextFault.TheVariants.{Syntax, Shape, Policy}
 use Rattle.rsp_engine.specs.declared.refused.Refused.{Refused}
-use Rattle.rsp_engine.specs.declared.refused.Refused.TheVariants.{Text, Late, NameTaken, NoQuery, QueriesFull, HeldFull, StoreFull, ItemTooLarge, StartOverfull}
+use Rattle.rsp_engine.specs.declared.refused.Refused.TheVariants.{Text, Late, NameTaken, NoQuery, QueriesFull}
+use Rattle.rsp_engine.specs.declared.refused.Refused.TheVariants.{HeldFull, StoreFull, ItemTooLarge, StartOverfull}
 use Rattle.rsp_call.specs.declared.refusals.Place.{Place}
 use Rattle.rsp_call.specs.declared.refusals.Place.TheVariants.{Block, Query, Line}
 
@@ -43,7 +44,8 @@ row (of_block BlockTooLarge) = (5, codes "BlockTooLarge", [])
 row (of_line NoTimeLine) = (6, codes "NoTimeLine", [])
 row (of_event (Text (Syntax (syntax.BadToken at)))) = (7, codes "BadToken", codes " at=" ++ decimal at)
 row (of_event (Text (Syntax (syntax.Syntax at)))) = (8, codes "Syntax", codes " at=" ++ decimal at)
-row (of_event (Text (Syntax (syntax.LeftOut at what)))) = (9, codes "LeftOut", codes " at=" ++ (decimal at ++ (codes " what=" ++ what)))
+row (of_event (Text (Syntax (syntax.LeftOut at what)))) =
+    (9, codes "LeftOut", codes " at=" ++ (decimal at ++ (codes " what=" ++ what)))
 row (of_event (Text (Syntax (syntax.Limit what)))) = (10, codes "Limit", codes " what=" ++ limit_word what)
 row (of_event (Text (Shape (shape.GraphShape at)))) = (11, codes "GraphShape", codes " at=" ++ decimal at)
 row (of_event (Text (Shape (shape.ExistsShape at)))) = (12, codes "ExistsShape", codes " at=" ++ decimal at)

@@ -1,7 +1,8 @@
 -- Definitions: the exit status of each answer.
 use Rattle.std.specs.Prelude.{ℕ}
 use Rattle.rsp_call.specs.declared.status.Status.{Status}
-use Rattle.rsp_call.specs.declared.status.Status.TheVariants.{Done, DoneWithRefusals, Usage, ReadFault, WriteFault, OutOfMemory, TooLong}
+use Rattle.rsp_call.specs.declared.status.Status.TheVariants.{Done, DoneWithRefusals, Usage, ReadFault, WriteFault}
+use Rattle.rsp_call.specs.declared.status.Status.TheVariants.{OutOfMemory, TooLong}
 
 abbrev pub code_of : Status → ℕ
 code_of Done = 0

@@ -1,13 +1,13 @@
 // Working off a batch.
 ghost use Rattle.std.specs.Prelude.{◌≡◌, ◌||◌, IsTrue, OnOk, List, [], map};
-ghost use Rattle.rsp_events.specs.Instants.{AllTimed, IsInstant, IsTimed};
+ghost use Rattle.rsp_events.specs.Instants.{AllTimed, IsTimed};
 ghost use Rattle.rsp_engine.specs.Moments.{Moment};
 ghost use Rattle.rsp_engine.specs.Reports.{reports, world_behind};
 ghost use Rattle.rsp_engine.specs.Stands.{Stands, is_idle};
 ghost use Rattle.rsp_engine.specs.World.{World};
 ghost use Rattle.rsp_call.specs.Feeds.{IsTimedBatch, given_in};
 ghost use Rattle.rsp_call.specs.Output.{a_block, a_report, run, step};
-ghost use Rattle.rsp_call.specs.Runs.{event_step, run_blocks};
+ghost use Rattle.rsp_call.specs.Runs.{OffersContent, run_blocks};
 ghost use Rattle.rsp_call.specs.Voices.{Says, Tells};
 
 use crate::feed::Batch;
@@ -16,7 +16,7 @@ use crate::stop::Stop;
 use crate::voice::Voice;
 use rsp_algebra::Answer;
 use rsp_engine::Engine;
-use rsp_events::{Block, Content, Event};
+use rsp_events::{Block, Content};
 use rsp_io::Sink;
 use rsp_steps::Steps;
 use rsp_terms::Listed;
@@ -100,42 +100,30 @@ fn take_block<A: Answer, K: Sink, L: Ledger>(
         → Stands engine.new (step world (a_block block)).after []) }
 {
     let Block { number, content } = block;
-    let place = Place::Block(number);
-    match content {
-        Content::Event(event) => take_event(alloc, engine, place, event, voice, out, steps),
-        Content::Fault(fault) => {
-            let refused = voice.refusal(alloc, place, Answered::Fault(fault), out);
+    match offer(engine, content) {
+        Ok(()) => match say_reports(alloc, engine, voice, out, steps) {
+            Ok(()) => Ok(false),
+            Err(stop) => Err(stop),
+        },
+        Err(answered) => {
+            let refused = voice.refusal(alloc, Place::Block(number), answered, out);
             refused
         }
     }
 }
 
-fn take_event<A: Answer, K: Sink, L: Ledger>(
-    alloc: Global,
-    engine: &mut Engine<A>,
-    place: Place,
-    event: Event,
-    voice: &mut Voice,
-    out: &mut K,
-    steps: &mut Steps<L>,
-) -> Result<bool, Stop>
+// Offers what a block says to the engine. Err: what was answered, where it isn't taken.
+fn offer<A: Answer>(engine: &mut Engine<A>, content: Content) -> Result<(), Answered>
     requires idle { IsTrue (is_idle engine.old) }
-    requires instant { IsInstant event }
-    ensures idle { OnOk result (IsTrue (is_idle engine.new)) }
-    ensures says { (world : World) → Stands engine.old world []
-        → Says voice.old voice.new (K.seen out.old) (K.seen out.new) (event_step world place event).said result }
-    ensures stands { OnOk result ((world : World) → Stands engine.old world []
-        → Stands engine.new (event_step world place event).after []) }
+    requires instant { IsTimed content }
+    ensures { OffersContent engine.old content result engine.new }
 {
-    match engine.offer(event) {
-        Ok(()) => match say_reports(alloc, engine, voice, out, steps) {
-            Ok(()) => Ok(false),
-            Err(stop) => Err(stop),
+    match content {
+        Content::Event(event) => match engine.offer(event) {
+            Ok(()) => Ok(()),
+            Err(why) => Err(Answered::Event(why)),
         },
-        Err(why) => {
-            let refused = voice.refusal(alloc, place, Answered::Event(why), out);
-            refused
-        }
+        Content::Fault(fault) => Err(Answered::Fault(fault)),
     }
 }
 

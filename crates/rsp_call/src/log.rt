@@ -1,5 +1,6 @@
 // A log as a feed: its blocks, as they end in what is read.
-ghost use Rattle.std.specs.Prelude.{◌<◌, ◌+◌, ◌≡◌, ◌++◌, ◌∷◌, ◌≤◌, [], None, ℕ, IfErr, IfOk, List, OnOk, option_to_list, length, take, true};
+ghost use Rattle.std.specs.Prelude.{◌<◌, ◌+◌, ◌≡◌, ◌++◌, ◌∷◌, ◌≤◌, [], None, ℕ, IfErr, IfOk, List, OnOk};
+ghost use Rattle.std.specs.Prelude.{option_to_list, length, take, true};
 ghost use Rattle.rsp_io.specs.Seen.{SourceSeen};
 ghost use Rattle.rsp_events.specs.Blocks.{blocks, whole_blocks};
 ghost use Rattle.rsp_events.specs.Instants.{AllTimed};
@@ -44,7 +45,8 @@ impl LogFeed {
         }
     }
 
-    // how many bytes the next read asks for: no more than may still be taken; where none may, one, which says whether the log ends
+    // how many bytes the next read asks for: no more than may still be taken; where none may, one, which says whether the log
+    // ends
     fn asked(&self) -> usize
         requires fits { self.now.taken ≤ self.now.most }
         ensures some { 0 < result }

@@ -15,8 +15,8 @@ use crate::run::replay;
 use crate::status::Status;
 use crate::voice::Voice;
 use crate::writing::write_whole;
+use rsp_answers::Maintained;
 use rsp_engine::Engine;
-use rsp_eval::Plain;
 use rsp_io::{Failed, Shelf, Sink, Source};
 use rsp_spec::limits::MOST_LOG_BYTES;
 use rsp_steps::Steps;
@@ -74,8 +74,8 @@ fn usage<K: Sink>(out: &mut K) -> Status
 // The log's document number.
 const LOG: u32 = 1;
 
-// an engine of the empty world, with no report left; of all answers the plain one is taken here alone
-fn new_engine(alloc: Global) -> Engine<Plain>
+// an engine of the empty world, with no report left; of all answers one is taken here alone
+fn new_engine(alloc: Global) -> Engine<Maintained>
     ensures stands { Stands result empty_world [] }
     ensures idle { IsTrue (is_idle result) }
 {

@@ -1,15 +1,15 @@
 //! The kinds of nodes as operators: what a plan asks of an operator besides the law of its changes, and who keeps it.
 //!
 //! A [`Keeping`] operator stands for the same rows when the domain has learnt terms, and says what its value over no rows is;
-//! a [`KeepingBoth`] one on two children has no rows over none, and answers within a bound. [`Either`] makes one operator of
-//! two, and so [`SingleOp`] and [`DoubleOp`] one type of all kinds. `of_root` of [`SingleNode`] and [`DoubleNode`] makes the
-//! operator of a tree's root: it has the node's value and no more steps than the node's part of the work, and stands for no
-//! rows. Where the key of two children decides alone which rows are compatible, partners are counted by key. Nodes without
+//! a [`KeepingBoth`] one on two children has no rows over none, and answers within a bound. [`OverOne`] and [`OverTwo`] are
+//! operators of any kind, and so [`SingleOp`] and [`DoubleOp`] are one type each. `of_root` of [`SingleNode`] and
+//! [`DoubleNode`] makes the operator of a tree's root: it has the node's value and no more steps than the node's part of the
+//! work, and stands for no rows. Where the key of two children decides alone which rows are compatible, partners are counted by key. Nodes without
 //! children are given rows ([`given_rows`]) or scans ([`scan_of`]). Below: the operators and the algebra. Above: the plan.
 #![tactic(auto)]
 
+mod by_kind;
 mod double;
-mod either;
 mod expressions;
 mod given;
 mod grouping;
@@ -23,12 +23,12 @@ mod showing;
 mod single;
 mod way;
 
-pub use double::{Alone, AsTheyAre, DoubleOp, Merged, Partnered};
-pub use either::Either;
+pub use by_kind::{OverOne, OverTwo};
+pub use double::DoubleOp;
 pub use expressions::{Argument, ByExpression};
 pub use given::given_rows;
 pub use keeping::{Keeping, KeepingBoth};
 pub use left_alone::LeftAlone;
 pub use nodes::{DoubleNode, SingleNode};
 pub use patterns::scan_of;
-pub use single::{Gathered, RowByRow, SingleOp};
+pub use single::SingleOp;

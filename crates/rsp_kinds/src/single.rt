@@ -6,7 +6,7 @@ ghost use Rattle.rsp_expr.specs.Values.{truth as passes, value as value_of};
 ghost use Rattle.rsp_multiset.specs.Variables.{extension, projection};
 ghost use Rattle.rsp_kinds.specs.Made.{IsSingle};
 
-use crate::either::Either;
+use crate::by_kind::OverOne;
 use crate::expressions::{Argument, ByExpression};
 use crate::grouping::grouping;
 use crate::nodes::SingleNode;
@@ -18,39 +18,36 @@ use rsp_simple_operators::{Deduping, Extending, Projecting, Select};
 use rsp_terms::Domain;
 use std::alloc::{AllocError, Global};
 
-/// Rows made of single rows: Filter, Extend, Project (SPARQL 1.1 Query, section 18.5).
-pub type RowByRow = Either<Select<ByExpression>, Either<Extending<ByExpression>, Projecting>>;
-
-/// Rows made of all of a child's: Distinct, Group with AggregateJoin (SPARQL 1.1 Query, section 18.5).
-pub type Gathered<D> = Either<Deduping<D>, GroupOp<D, Argument, Folding>>;
-
-/// An operator on one child, of any kind of node.
-pub type SingleOp<D> = Either<RowByRow, Gathered<D>>;
+/// An operator on one child, of any kind of node: Filter, Extend, Project, Distinct, Group with AggregateJoin (SPARQL 1.1 Query,
+/// section 18.5).
+pub type SingleOp<D> = OverOne<
+    Select<ByExpression>,
+    Extending<ByExpression>,
+    Projecting,
+    Deduping<D>,
+    GroupOp<D, Argument, Folding>,
+>;
 
 impl<D: Domain> SingleNode<D> for SingleOp<D> {
     fn of_root(alloc: Global, tree: &Tree, width: usize) -> Result<SingleOp<D>, AllocError> {
         match tree {
-            Tree::Filter { condition, .. } => Ok(Either::First(Either::First(selecting(
-                alloc, condition, width,
-            )?))),
+            Tree::Filter { condition, .. } => {
+                Ok(OverOne::Filter(selecting(alloc, condition, width)?))
+            }
             Tree::Extend {
                 variable,
                 expression,
                 ..
-            } => Ok(Either::First(Either::Second(Either::First(extending(
-                alloc, *variable, expression, width,
-            )?)))),
-            Tree::Project { variables, .. } => Ok(Either::First(Either::Second(Either::Second(
-                projecting(alloc, variables, width)?,
-            )))),
-            Tree::Distinct { .. } => Ok(Either::Second(Either::First(Deduping::new(
-                alloc, width,
-            )?))),
+            } => Ok(OverOne::Extend(extending(alloc, *variable, expression, width)?)),
+            Tree::Project { variables, .. } => {
+                Ok(OverOne::Project(projecting(alloc, variables, width)?))
+            }
+            Tree::Distinct { .. } => Ok(OverOne::Distinct(Deduping::new(alloc, width)?)),
             Tree::Group {
                 keys,
                 aggregates,
                 ..
-            } => Ok(Either::Second(Either::Second(grouping(alloc, keys, aggregates, width)?))),
+            } => Ok(OverOne::Group(grouping(alloc, keys, aggregates, width)?)),
             _ => unreachable!(),
         }
     }

@@ -5,12 +5,10 @@ use crate::beside::{Run, Told, first_told, run_beside};
 use crate::facts::many;
 use crate::queries::{GROUPS, JOINS, OVERFULL, PARTNERS, Text, query};
 use rsp_algebra::Translated;
+use rsp_answers::Maintained;
 use rsp_eval::Plain;
-use rsp_kinds::{DoubleOp, SingleOp};
-use rsp_maintained::Plan;
 use rsp_multiset::Changes;
-use rsp_plan::Operator;
-use rsp_terms::{Fact, Same};
+use rsp_terms::Fact;
 use rsp_trials::Refused;
 use std::alloc::Global;
 use std::marker::Brand;
@@ -19,8 +17,6 @@ use std::test::Fail;
 
 // how many changes each query is given
 const CHANGES: usize = 60;
-
-type Maintained = Plan<Operator<SingleOp<Same>, DoubleOp<Same>>>;
 
 fn beside(alloc: Global, query: &Translated) -> Result<Option<Run>, Refused>
     requires { IsPlaced query.now }

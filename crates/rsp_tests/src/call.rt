@@ -28,20 +28,20 @@ const AMPLE: usize = 1000;
 // A call over objects in memory: the number of the read and of the write that fails, none where `NONE`, the most bytes of
 // each, and how many bytes the sink takes.
 #[derive(Clone, Copy)]
-struct Case<'a> {
-    words: &'a [&'a str],
-    log: &'a [u8],
-    failing_read: u64,
-    read_bytes: usize,
-    failing_write: u64,
-    write_bytes: usize,
-    capacity: usize,
+pub(crate) struct Case<'a> {
+    pub words: &'a [&'a str],
+    pub log: &'a [u8],
+    pub failing_read: u64,
+    pub read_bytes: usize,
+    pub failing_write: u64,
+    pub write_bytes: usize,
+    pub capacity: usize,
 }
 
 const NONE: u64 = u64::MAX;
 
 // a log that is read and written without a failing call
-fn steady(log: &[u8]) -> Case<'_> {
+pub(crate) fn steady(log: &[u8]) -> Case<'_> {
     Case {
         words: &["events"],
         log,
@@ -109,7 +109,12 @@ pub(crate) fn uncounted(
 }
 
 // whether a call ends with this status and leaves this text in the sink
-fn gives(alloc: Global, case: Case<'_>, status: Status, text: &str) -> Result<bool, AllocError> {
+pub(crate) fn gives(
+    alloc: Global,
+    case: Case<'_>,
+    status: Status,
+    text: &str,
+) -> Result<bool, AllocError> {
     let words = texts_of(alloc, case.words)?;
     let mut input = source_of(alloc, case)?;
     let mut shelf = MemoryShelf::new(Vec::new(alloc), Vec::new(alloc), 1);
