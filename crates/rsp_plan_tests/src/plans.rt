@@ -1,0 +1,90 @@
+// The answer on maintained operators beside the plain one.
+ghost use Rattle.rsp_algebra.specs.Fitting.{IsPlaced};
+
+use crate::beside::{Run, Told, first_told, run_beside};
+use crate::facts::many;
+use crate::queries::{GROUPS, JOINS, OVERFULL, PARTNERS, Text, query};
+use rsp_algebra::Translated;
+use rsp_answers::Maintained;
+use rsp_eval::Plain;
+use rsp_multiset::Changes;
+use rsp_terms::Fact;
+use rsp_trials::Refused;
+use std::alloc::Global;
+use std::marker::Brand;
+use std::sync::ledger::Blank;
+use std::test::Fail;
+
+// how many changes each query is given
+const CHANGES: usize = 60;
+
+fn beside(alloc: Global, query: &Translated) -> Result<Option<Run>, Refused>
+    requires { IsPlaced query.now }
+{
+    run_beside::<Maintained, Plain, Brand>(alloc, query, CHANGES, Blank::new(1))
+}
+
+fn at_first(
+    alloc: Global,
+    query: &Translated,
+    changes: &Changes<Fact>,
+) -> Result<Option<Told>, Refused>
+    requires { IsPlaced query.now }
+{
+    first_told::<Maintained, Plain, Brand>(alloc, query, changes, Blank::new(1))
+}
+
+// whether both answers of the query told the same at each change, and some rows at some
+fn are_alike(alloc: Global, text: Text) -> Result<bool, Fail> {
+    let query = query(alloc, text)?;
+    match beside(alloc, &query)? {
+        Some(run) => Ok(run.changes == CHANGES && run.rows > 0),
+        None => Ok(false),
+    }
+}
+
+#[test]
+fn joins(rt: HostRuntime) -> Result<(), Fail> {
+    for text in &JOINS {
+        let (shown, pattern) = text;
+        assert!(rt; are_alike(rt.alloc(), *text)?, "SELECT {shown} {pattern}");
+    }
+    Ok(())
+}
+
+#[test]
+fn outer_joins_and_negation(rt: HostRuntime) -> Result<(), Fail> {
+    for text in &PARTNERS {
+        let (shown, pattern) = text;
+        assert!(rt; are_alike(rt.alloc(), *text)?, "SELECT {shown} {pattern}");
+    }
+    Ok(())
+}
+
+#[test]
+fn conditions_and_groups(rt: HostRuntime) -> Result<(), Fail> {
+    for text in &GROUPS {
+        let (shown, pattern) = text;
+        assert!(rt; are_alike(rt.alloc(), *text)?, "SELECT {shown} {pattern}");
+    }
+    Ok(())
+}
+
+// whether both answers of the query are overfull after these changes
+fn are_overfull(alloc: Global, text: Text, changes: &Changes<Fact>) -> Result<bool, Fail> {
+    let query = query(alloc, text)?;
+    Ok(at_first(alloc, &query, changes)? == Some(Told::Overfull))
+}
+
+#[test]
+fn overfull(rt: HostRuntime) -> Result<(), Fail> {
+    let changes = many(rt.alloc(), 1_001)?;
+    for text in &OVERFULL {
+        let (shown, pattern) = text;
+        assert!(rt;
+            are_overfull(rt.alloc(), *text, &changes)?,
+            "SELECT {shown} {pattern}"
+        );
+    }
+    Ok(())
+}
