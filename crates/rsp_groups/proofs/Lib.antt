@@ -2,6 +2,7 @@ pub mod Moving
 pub mod Stepping
 pub mod Keyed
 pub mod Answering
+pub mod Written
 pub mod Walking
 pub mod Turning
 pub mod Concluding

@@ -10,7 +10,8 @@ use Rattle.rsp_expr.specs.Groups.{group_of}
 use Rattle.rsp_groups.specs.Moves.{Moved, part, columns, values_in}
 use Rattle.rsp_groups.specs.Standing.{GroupStands, GroupsStand, Steps, IsEntry}
 use Rattle.rsp_groups.specs.Turns.{Turn}
-use Rattle.rsp_groups.specs.Answers.{IsRow}
+use Rattle.rsp_groups.specs.Answers.{IsRow, is_group}
+use Rattle.rsp_groups.proofs.Answering.{group-of_keyed}
 use Rattle.rsp_groups.proofs.Walking.{known-weaker, mapped-next}
 use Rattle.std.proofs.lemmas.List.FromFn.{length-map-range_with_len}
 use Rattle.rsp_groups.specs.Carrying.{row_alike, row_known}
@@ -54,6 +55,14 @@ module _ {F : Type 0} (stands : F → List (Option Term) → Type 0)
     aggregates = group.aggregates;
   }
 
+-- a key's group is one of the rows' alone
+group-of_alike : (width : ℕ) (keys : List ℕ) (rows others : List (Cells Term)) (key : Cells Term) → IsSameMultiset same_row rows others
+    → is_group width keys others key ≡ is_group width keys rows key
+group-of_alike width [] rows others key same = refl
+group-of_alike width (v ∷ vs) rows others key same =
+    group-of_keyed width v vs others key
+    ∙ (sym (same-any decides (λ row. same_row key (projection width (v ∷ vs) row)) rows others same) ∙ sym (group-of_keyed width v vs rows key))
+
 pub groups-alike : {V G : Type 0} {test : V → V → Bool} (knows : V → Type 0) (shown : V → Term) (width : ℕ) (keys : List ℕ) (Holds : G → List (Cells Term) → Type 0)
     → ((h : G) (rows others : List (Cells Term)) → IsSameMultiset same_row rows others → Holds h rows → Holds h others)
     → (groups : List (Cells V × G)) (rows others : List (Cells Term)) → IsSameMultiset same_row rows others
@@ -63,6 +72,7 @@ groups-alike {V} {G} {test} knows shown width keys Holds alike groups rows other
   held = λ q. by q (lookup (row_eq test q) groups) (stands.held q);
   whole = λ key there. stands.whole key (same-any decides (λ row. same_row key (projection width keys row)) rows others same ∙ there);
   keyless = stands.keyless;
+  are = λ q some. group-of_alike width keys rows others (shown_row shown q) same ∙ stands.are q some;
 }
   where
     by : (q : Cells V) (found : Option G) → IfSome found (λ h. Holds h (group_of width keys rows (shown_row shown q)))

@@ -3,6 +3,7 @@ use Rattle.std.proofs.Common.{◌≡◌, ℕ, ◌+◌, ◌<◌, ◌≤◌, Bool,
 use Rattle.std.specs.Prelude.{Option, Some, None}
 use Rattle.std.specs.List.{AllZip, AllByRecursion}
 use Rattle.std.proofs.lemmas.List.{drop_all, map-append}
+use Rattle.rsp_folds.specs.Copies.{copies}
 use Rattle.rsp_groups.specs.Moves.{Moved, part}
 use Rattle.rsp_groups.specs.Standing.{Steps, MayMoveEntry, MayStep}
 use Rattle.rsp_groups.proofs.Moving.{zip-at, zip-long}
@@ -13,6 +14,11 @@ use Rattle.rsp_multiset.proofs.Held.{weight-negated}
 use Rattle.std.proofs.lemmas.Int.{ints}
 use Rattle.rsp_operators.specs.Laws.{IsShownAlike}
 use Rattle.rsp_terms.specs.declared.term.Term.{Term}
+
+-- no copies move nothing
+pub none-moved : {E : Type 0} (out : Bool) (n : ℕ) (x : E) (before after : List E) → n ≡ 0 → Moved out n x before after → before ≡ after
+none-moved false n x before after none moved = sym (moved ∙ ap (λ m. copies m x ++ before) none)
+none-moved true n x before after none moved = moved ∙ ap (λ m. copies m x ++ after) none
 
 pub drop-here : {X : Type 0} (xs : List X) (i : ℕ) (d : X) → i < length xs → drop i xs ≡ get_or xs i d ∷ drop (i + 1) xs
 drop-here xs i d below = drop-cons xs i d below ∙ (λ j. get_or xs i d ∷ drop (sym (add-one i) j) xs)

@@ -13,6 +13,7 @@ use Rattle.rsp_multiset.specs.RowSame.{row_decides}
 use Rattle.rsp_multiset.specs.Shown.{shown_row, IsKnown}
 use Rattle.rsp_terms.specs.declared.term.Term.{Term}
 use Rattle.rsp_operators.specs.Laws.{IsShownAlike}
+use Rattle.rsp_groups.specs.Answers.{is_group}
 use Rattle.rsp_groups.specs.Standing.{GroupsStand}
 
 module _ {V : Type 0} (shown : V → Term) (knows : V → Type 0) (shown' : V → Term) where
@@ -44,6 +45,7 @@ carried_groups {V} {G} {test} same before shown knows shown' width keys Holds gr
   whole = λ key there. let found = stands.whole key there in
       (found.0, (found.1.0, row_alike shown knows shown' found.0 (alike_at found.0 found.1.0) ∙ found.1.1));
   keyless = stands.keyless;
+  are = λ q some. ap (is_group width keys rows) (row_alike shown knows shown' q (alike_at q some)) ∙ stands.are q some;
 }
   where
     alike_at : (q : Cells V) → IsSome (lookup (row_eq test q) groups) → IsKnown (IsShownAlike shown knows shown') q

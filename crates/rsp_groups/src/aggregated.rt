@@ -1,4 +1,6 @@
 // Aggregates.
+ghost use Rattle.std.specs.Prelude.{◌≡◌};
+ghost use Rattle.rsp_groups.specs.Answers.{is_empty_key};
 
 /// An aggregate of a group: the variable for its value, the argument whose values in the group's rows it is over, and a
 /// fold of its kind, with nothing in it or whatever: fresh ones are made of it.
@@ -16,4 +18,14 @@ pub struct Grouping<C, F> {
     pub width: usize,
     pub keys: Vec<usize>,
     pub aggregates: Vec<Aggregated<C, F>>,
+}
+
+/// Whether all rows are one group.
+pub(crate) fn is_keyless(keys: &[usize]) -> bool
+    ensures { result ≡ is_empty_key keys.now }
+{
+    match keys {
+        [] => true,
+        _ => false,
+    }
 }

@@ -15,7 +15,7 @@ ghost use Rattle.rsp_groups.specs.Standing.{GroupStands, GroupsStand};
 
 use crate::entries::Entry;
 use crate::folds::results_of;
-use crate::group::Group;
+use crate::group::{Group, has_row};
 use crate::groups::Groups;
 use rsp_folds::Fold;
 use rsp_multiset::{Cell, Changes, Row};
@@ -42,13 +42,6 @@ pub(crate) fn touched_keys<V: Cell>(
         keys.alter(entry.key.share()?, 1)?;
     }
     Ok(keys)
-}
-
-// whether a group of so many rows has a row in the value
-fn has_row(rows: u64, keyless: bool) -> bool
-    ensures { result ≡ (keyless || nat_lt 0 rows) }
-{
-    keyless || rows > 0
 }
 
 // the group's aggregates, if it has a row in the value

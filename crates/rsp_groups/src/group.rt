@@ -1,5 +1,5 @@
 // A group of rows.
-ghost use Rattle.std.specs.Prelude.{◌≡◌, ◌≤◌, ◌^◌, [], List, Option, length, map, IfOk, OnOk};
+ghost use Rattle.std.specs.Prelude.{◌≡◌, ◌≤◌, ◌^◌, ◌||◌, nat_lt, [], List, Option, length, map, IfOk, OnOk};
 ghost use Rattle.rsp_multiset.specs.Rows.{Cells};
 ghost use Rattle.rsp_terms.specs.declared.term.Term.{Term};
 ghost use Rattle.rsp_groups.specs.Moves.{Moved, MovedCount, values_in};
@@ -19,6 +19,13 @@ pub struct Group<F: Drop> {
 
 // so many rows a group can have
 const MOST_ROWS: u64 = 4_294_967_296;
+
+/// Whether a group of so many rows is one of the groups, and has a row in the value.
+pub(crate) fn has_row(rows: u64, keyless: bool) -> bool
+    ensures { result ≡ (keyless || nat_lt 0 rows) }
+{
+    keyless || rows > 0
+}
 
 // so many more, or less, where that is at most 2^32
 fn moved_count(rows: u64, times: u64, out: bool) -> Result<u64, AllocError>

@@ -1,16 +1,16 @@
 // All groups, by the cells of their keys.
-ghost use Rattle.std.specs.Prelude.{◌≡◌, ℕ, [], List, Option, length, map, IfOk, OnOk, IfSome, true};
+ghost use Rattle.std.specs.Prelude.{◌≡◌, ◌||◌, ◌&&◌, ℕ, [], List, Option, None, Some, cond, nat_lt, length, map, IfOk, OnOk};
 ghost use Rattle.std.specs.List.{AllByRecursion};
 ghost use Rattle.std.specs.Map.{lookup};
+ghost use Rattle.rsp_expr.specs.Groups.{group_of};
 ghost use Rattle.rsp_multiset.specs.Rows.{Cells, row_eq};
 ghost use Rattle.rsp_multiset.specs.Shown.{shown_row, IsKnown};
-ghost use Rattle.rsp_multiset.specs.Variables.{projection};
 ghost use Rattle.rsp_terms.specs.declared.term.Term.{Term};
-ghost use Rattle.rsp_groups.specs.Moves.{Moved, values_in};
-ghost use Rattle.rsp_groups.specs.Standing.{GroupStands, GroupsStand, MayMoveRow};
+ghost use Rattle.rsp_groups.specs.Answers.{is_empty_key};
+ghost use Rattle.rsp_groups.specs.Standing.{GroupStands, GroupsStand};
 
-use crate::aggregated::Aggregated;
-use crate::group::{Group, move_row};
+use crate::aggregated::{Aggregated, Grouping, is_keyless};
+use crate::group::{Group, has_row};
 use indexmap::IndexMap;
 use rsp_folds::Fold;
 use rsp_multiset::{Cell, Row};
@@ -48,79 +48,42 @@ pub(crate) fn fresh_group<C, F: Fold>(
     Ok(Group { rows: 0, folds })
 }
 
-/// Makes a group of no rows for the key, unless it has one.
-pub(crate) fn open_group<D: Domain, C, F: Fold>(
+/// Takes the key's group out of the others, or makes one of no rows where the key has none.
+pub(crate) fn take_group<D: Domain, C, F: Fold>(
     alloc: Global,
+    grouping: &Grouping<C, F>,
     groups: &mut Groups<D::Value, F>,
     key: &Row<D::Value>,
-    aggregates: &[Aggregated<C, F>],
-) -> Result<(), AllocError>
-    ensures { OnOk result ((domain : D) (width : ℕ) (keys : List ℕ)
+) -> Result<Group<F>, AllocError>
+    ensures others { (q : Cells D.Value) → lookup (row_eq D.Value.eq q) groups.new.entries
+        ≡ cond (row_eq D.Value.eq key.now q) None (lookup (row_eq D.Value.eq q) groups.old.entries) }
+    ensures group { IfOk result (λ group. (domain : D) (width : ℕ) (keys : List ℕ)
         (arguments : List (Cells Term → Option Term)) (rows : List (Cells Term))
-        → IsKnown (D.knows domain) key.now → length arguments ≡ length aggregates.now
+        → IsKnown (D.knows domain) key.now → length arguments ≡ length grouping.now.aggregates.items
         → GroupsStand D.Value.eq (D.knows domain) (D.shown domain) width keys (λ g. GroupStands F.stands F.aggregate arguments
-        (map (λ a. F.aggregate a.fold) aggregates.now) g.rows g.folds.items) groups.old.entries rows
-        → GroupsStand D.Value.eq (D.knows domain) (D.shown domain) width keys (λ g. GroupStands F.stands F.aggregate arguments
-        (map (λ a. F.aggregate a.fold) aggregates.now) g.rows g.folds.items) groups.new.entries rows) }
+        (map (λ a. F.aggregate a.fold) grouping.now.aggregates.items) g.rows g.folds.items) groups.old.entries rows
+        → GroupStands F.stands F.aggregate arguments (map (λ a. F.aggregate a.fold) grouping.now.aggregates.items) group.rows
+        group.folds.items (group_of width keys rows (shown_row (D.shown domain) key.now))) }
 {
-    if groups.contains_key(key) {
-        return Ok(());
+    match groups.swap_remove(key) {
+        Some(group) => Ok(group),
+        None => fresh_group(alloc, grouping.aggregates.as_slice()),
     }
-    let group = fresh_group(alloc, aggregates)?;
-    groups.insert(key.share()?, group)?;
-    Ok(())
 }
 
-/// Takes copies of a row with this key and these values of the arguments into its group, or gives them back.
-pub(crate) fn move_in_group<D: Domain, F: Fold>(
-    alloc: Global,
-    groups: &mut Groups<D::Value, F>,
-    key: &Row<D::Value>,
-    values: &[Option<Term>],
-    times: u64,
-    out: bool,
+/// Puts the key's group back to the others; without a row only where there are no keys.
+pub(crate) fn put_group<V: Cell, C, F: Fold>(
+    grouping: &Grouping<C, F>,
+    groups: &mut Groups<V, F>,
+    key: &Row<V>,
+    group: Group<F>,
 ) -> Result<(), AllocError>
-    requires { (domain : D) × ((width : ℕ) × ((keys : List ℕ)
-        × ((arguments : List (Cells Term → Option Term)) × ((aggregates : List (List (Option Term) → Option Term))
-        × MayMoveRow (D.shown domain) width keys arguments (GroupsStand D.Value.eq (D.knows domain) (D.shown domain)
-        width keys (λ g. GroupStands F.stands F.aggregate arguments aggregates g.rows g.folds.items) groups.old.entries) out
-        times key.now values.now)))) }
-    ensures { OnOk result ((domain : D) (width : ℕ) (keys : List ℕ)
-        (arguments : List (Cells Term → Option Term)) (aggregates : List (List (Option Term) → Option Term))
-        (row : Cells Term) (before after : List (Cells Term)) → IsKnown (D.knows domain) key.now
-        → projection width keys row ≡ shown_row (D.shown domain) key.now → values.now ≡ values_in arguments row
-        → Moved out times row before after
-        → GroupsStand D.Value.eq (D.knows domain) (D.shown domain) width keys
-        (λ g. GroupStands F.stands F.aggregate arguments aggregates g.rows g.folds.items) groups.old.entries before
-        → GroupsStand D.Value.eq (D.knows domain) (D.shown domain) width keys
-        (λ g. GroupStands F.stands F.aggregate arguments aggregates g.rows g.folds.items) groups.new.entries after) }
+    ensures { OnOk result ((q : Cells V) → lookup (row_eq V.eq q) groups.new.entries
+        ≡ cond ((is_empty_key grouping.now.keys.items || nat_lt 0 group.rows) && row_eq V.eq key.now q) (Some group)
+        (lookup (row_eq V.eq q) groups.old.entries)) }
 {
-    match groups.get_mut(key) {
-        Some(group) => move_row(alloc, group, values, times, out),
-        None => Err(AllocError),
+    if has_row(group.rows, is_keyless(grouping.keys.as_slice())) {
+        groups.insert(key.share()?, group)?;
     }
-}
-
-/// Drops the group of the key if it has no row.
-pub(crate) fn close_group<D: Domain, F: Fold>(groups: &mut Groups<D::Value, F>, key: &Row<D::Value>)
-    ensures { (domain : D) (width : ℕ) (keys : List ℕ)
-        (arguments : List (Cells Term → Option Term)) (aggregates : List (List (Option Term) → Option Term))
-        (rows : List (Cells Term)) → (keys ≡ [] → ⊥)
-        → GroupsStand D.Value.eq (D.knows domain) (D.shown domain) width keys
-        (λ g. GroupStands F.stands F.aggregate arguments aggregates g.rows g.folds.items) groups.old.entries rows
-        → GroupsStand D.Value.eq (D.knows domain) (D.shown domain) width keys
-        (λ g. GroupStands F.stands F.aggregate arguments aggregates g.rows g.folds.items) groups.new.entries rows }
-{
-    if is_empty_group(groups, key) {
-        groups.swap_remove(key);
-    }
-}
-
-fn is_empty_group<V: Cell, F: Fold>(groups: &Groups<V, F>, key: &Row<V>) -> bool
-    ensures { IfSome (lookup (row_eq V.eq key.now) groups.now.entries) (λ g. result ≡ true → g.rows ≡ 0) }
-{
-    match groups.get(key) {
-        Some(group) => group.rows == 0,
-        None => false,
-    }
+    Ok(())
 }

@@ -7,12 +7,12 @@ ghost use Rattle.rsp_operators.specs.Laws.{Leads, MayBeGiven, AnswersFit, IsShow
 ghost use Rattle.rsp_groups.specs.Standing.{GroupStands, GroupsStand};
 ghost use Rattle.rsp_groups.specs.Values.{by_variable};
 
-use crate::aggregated::Grouping;
+use crate::aggregated::{Grouping, is_keyless};
 use crate::answers::{push_answer, results_at, touched_keys};
 use crate::entries::read_entries;
 use crate::groups::{Groups, fresh_group};
 use crate::rows::{difference, rows_of_answers};
-use crate::touching::{is_keyless, turn_groups};
+use crate::touching::turn_groups;
 use indexmap::IndexMap;
 use rsp_folds::Fold;
 use rsp_multiset::{Changes, Row};

@@ -1,13 +1,15 @@
 // Changed rows come into their groups, or go out of them.
-ghost use Rattle.std.specs.Prelude.{◌≡◌, ℕ, ℤ, List, Option, OnOk};
+ghost use Rattle.std.specs.Prelude.{◌≡◌, ℕ, ℤ, List, Option, OnOk, map, length};
 ghost use Rattle.std.specs.List.{AllZip};
 ghost use Rattle.rsp_multiset.specs.Rows.{Cells};
 ghost use Rattle.rsp_terms.specs.declared.term.Term.{Term};
 ghost use Rattle.rsp_groups.specs.Moves.{Moved, part};
 ghost use Rattle.rsp_groups.specs.Standing.{GroupStands, GroupsStand, IsEntry, Steps, MayMoveEntry, MayStep};
 
+use crate::aggregated::Grouping;
 use crate::entries::Entry;
-use crate::groups::{Groups, move_in_group};
+use crate::group::move_row;
+use crate::groups::{Groups, put_group, take_group};
 use rsp_folds::Fold;
 use rsp_multiset::Count;
 use rsp_terms::Domain;
@@ -24,62 +26,70 @@ fn part_of(by: Count, out: bool) -> u64
     }
 }
 
-// takes a changed row in where it comes, or gives it back where it goes
-fn move_entry<D: Domain, F: Fold>(
+// takes a changed row into its group where it comes, or gives it back where it goes; the group is there from its first row to
+// its last, without keys always
+fn move_entry<D: Domain, C, F: Fold>(
     alloc: Global,
+    grouping: &Grouping<C, F>,
     groups: &mut Groups<D::Value, F>,
     entry: &Entry<D::Value>,
     out: bool,
 ) -> Result<(), AllocError>
-    requires { (domain : D) × ((width : ℕ) × ((keys : List ℕ) × ((arguments : List (Cells Term → Option Term))
-        × ((aggregates : List (List (Option Term) → Option Term))
-        × MayMoveEntry (IsEntry (D.knows domain) (D.shown domain) width keys arguments entry.now.key entry.now.values.items
-        entry.now.by) (GroupsStand D.Value.eq (D.knows domain) (D.shown domain) width keys (λ g. GroupStands F.stands F.aggregate
-        arguments aggregates g.rows g.folds.items) groups.old.entries) out)))) }
-    ensures { OnOk result ((domain : D) (width : ℕ) (keys : List ℕ) (arguments : List (Cells Term → Option Term))
-        (aggregates : List (List (Option Term) → Option Term)) (row : Cells Term × ℤ) (before after : List (Cells Term))
-        → IsEntry (D.knows domain) (D.shown domain) width keys arguments entry.now.key entry.now.values.items entry.now.by row
+    requires { (domain : D) × ((arguments : List (Cells Term → Option Term))
+        × ((length arguments ≡ length grouping.now.aggregates.items)
+        × MayMoveEntry (IsEntry (D.knows domain) (D.shown domain) grouping.now.width grouping.now.keys.items arguments
+        entry.now.key entry.now.values.items entry.now.by) (GroupsStand D.Value.eq (D.knows domain) (D.shown domain)
+        grouping.now.width grouping.now.keys.items (λ g. GroupStands F.stands F.aggregate arguments
+        (map (λ a. F.aggregate a.fold) grouping.now.aggregates.items) g.rows g.folds.items) groups.old.entries) out)) }
+    ensures { OnOk result ((domain : D) (arguments : List (Cells Term → Option Term)) (row : Cells Term × ℤ)
+        (before after : List (Cells Term)) → length arguments ≡ length grouping.now.aggregates.items
+        → IsEntry (D.knows domain) (D.shown domain) grouping.now.width grouping.now.keys.items arguments entry.now.key
+        entry.now.values.items entry.now.by row
         → Moved out (part out row.1) row.0 before after
-        → GroupsStand D.Value.eq (D.knows domain) (D.shown domain) width keys (λ g. GroupStands F.stands F.aggregate
-        arguments aggregates g.rows g.folds.items) groups.old.entries before
-        → GroupsStand D.Value.eq (D.knows domain) (D.shown domain) width keys (λ g. GroupStands F.stands F.aggregate
-        arguments aggregates g.rows g.folds.items) groups.new.entries after) }
+        → GroupsStand D.Value.eq (D.knows domain) (D.shown domain) grouping.now.width grouping.now.keys.items
+        (λ g. GroupStands F.stands F.aggregate arguments (map (λ a. F.aggregate a.fold) grouping.now.aggregates.items) g.rows
+        g.folds.items) groups.old.entries before
+        → GroupsStand D.Value.eq (D.knows domain) (D.shown domain) grouping.now.width grouping.now.keys.items
+        (λ g. GroupStands F.stands F.aggregate arguments (map (λ a. F.aggregate a.fold) grouping.now.aggregates.items) g.rows
+        g.folds.items) groups.new.entries after) }
 {
     let times = part_of(entry.by, out);
-    move_in_group::<D, F>(
-        alloc,
-        groups,
-        &entry.key,
-        entry.values.as_slice(),
-        times,
-        out,
-    )
+    if times == 0 {
+        return Ok(());
+    }
+    let mut group = take_group::<D, C, F>(alloc, grouping, groups, &entry.key)?;
+    move_row(alloc, &mut group, entry.values.as_slice(), times, out)?;
+    put_group(grouping, groups, &entry.key, group)
 }
 
 /// Takes all changed rows in that come, or gives all back that go.
-pub(crate) fn move_entries<D: Domain, F: Fold>(
+pub(crate) fn move_entries<D: Domain, C, F: Fold>(
     alloc: Global,
+    grouping: &Grouping<C, F>,
     groups: &mut Groups<D::Value, F>,
     entries: &[Entry<D::Value>],
     out: bool,
 ) -> Result<(), AllocError>
-    requires { (domain : D) × ((width : ℕ) × ((keys : List ℕ) × ((arguments : List (Cells Term → Option Term))
-        × ((aggregates : List (List (Option Term) → Option Term))
-        × MayStep (λ entry. IsEntry (D.knows domain) (D.shown domain) width keys arguments entry.key entry.values.items
-        entry.by) (GroupsStand D.Value.eq (D.knows domain) (D.shown domain) width keys (λ g. GroupStands F.stands F.aggregate
-        arguments aggregates g.rows g.folds.items) groups.old.entries) out entries.now)))) }
-    ensures { OnOk result ((domain : D) (width : ℕ) (keys : List ℕ) (arguments : List (Cells Term → Option Term))
-        (aggregates : List (List (Option Term) → Option Term)) (rows : List (Cells Term × ℤ)) (before after : List (Cells Term))
-        → AllZip (λ entry. IsEntry (D.knows domain) (D.shown domain) width keys arguments entry.key entry.values.items entry.by)
-        entries.now rows
+    requires { (domain : D) × ((arguments : List (Cells Term → Option Term))
+        × ((length arguments ≡ length grouping.now.aggregates.items)
+        × MayStep (λ entry. IsEntry (D.knows domain) (D.shown domain) grouping.now.width grouping.now.keys.items arguments
+        entry.key entry.values.items entry.by) (GroupsStand D.Value.eq (D.knows domain) (D.shown domain) grouping.now.width
+        grouping.now.keys.items (λ g. GroupStands F.stands F.aggregate arguments (map (λ a. F.aggregate a.fold)
+        grouping.now.aggregates.items) g.rows g.folds.items) groups.old.entries) out entries.now)) }
+    ensures { OnOk result ((domain : D) (arguments : List (Cells Term → Option Term)) (rows : List (Cells Term × ℤ))
+        (before after : List (Cells Term)) → length arguments ≡ length grouping.now.aggregates.items
+        → AllZip (λ entry. IsEntry (D.knows domain) (D.shown domain) grouping.now.width grouping.now.keys.items arguments
+        entry.key entry.values.items entry.by) entries.now rows
         → Steps out rows before after
-        → GroupsStand D.Value.eq (D.knows domain) (D.shown domain) width keys (λ g. GroupStands F.stands F.aggregate
-        arguments aggregates g.rows g.folds.items) groups.old.entries before
-        → GroupsStand D.Value.eq (D.knows domain) (D.shown domain) width keys (λ g. GroupStands F.stands F.aggregate
-        arguments aggregates g.rows g.folds.items) groups.new.entries after) }
+        → GroupsStand D.Value.eq (D.knows domain) (D.shown domain) grouping.now.width grouping.now.keys.items
+        (λ g. GroupStands F.stands F.aggregate arguments (map (λ a. F.aggregate a.fold) grouping.now.aggregates.items) g.rows
+        g.folds.items) groups.old.entries before
+        → GroupsStand D.Value.eq (D.knows domain) (D.shown domain) grouping.now.width grouping.now.keys.items
+        (λ g. GroupStands F.stands F.aggregate arguments (map (λ a. F.aggregate a.fold) grouping.now.aggregates.items) g.rows
+        g.folds.items) groups.new.entries after) }
 {
     for entry in entries {
-        move_entry::<D, F>(alloc, groups, entry, out)?;
+        move_entry::<D, C, F>(alloc, grouping, groups, entry, out)?;
     }
     Ok(())
 }

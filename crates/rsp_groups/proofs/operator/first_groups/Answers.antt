@@ -3,13 +3,14 @@ use Rattle.std.specs.Map.{lookup}
 use Rattle.rsp_multiset.specs.Rows.{row_eq}
 use Rattle.rsp_groups.specs.Answers.{is_empty_key}
 use Rattle.rsp_groups.specs.Standing.{GroupStands}
-use Rattle.rsp_groups.proofs.Keyed.{stand-first, stand-keyless}
+use Rattle.rsp_groups.proofs.Written.{stand-first, stand-keyless}
 use Rattle.rsp_groups.proofs.Turning.{known-unbound}
 use Rattle.rsp_groups.proofs.operator.first_groups.Goals as goal
 
 pub returns-then-is_keyless : goal.returns-then-is_keyless
 returns-then-is_keyless g c = λ domain arguments long.
     stand-keyless g.met.D.Value.Cell.identical (g.D.Domain.knows domain) (g.D.Domain.shown domain) c.args.grouping.now.width c.args.grouping.now.keys.items _
+    (ap is_empty_key (sym c.as_slice.ensures.value) ∙ sym c.is_keyless.ensures ∙ c.if-is_keyless.true)
     (known-unbound (g.D.Domain.knows domain) c.args.grouping.now.width) c.in_ok-group.group c.new-groups.result.entries c.insert.new.self.entries c.new-groups.ensures.empty
     (λ q. c.in_ok-insert.ensures.updates.0 q
     ∙ ap (λ cells. cond (row_eq g.D.Value.PartialEq.eq cells q) (Some c.in_ok-group.group) (lookup (row_eq g.D.Value.PartialEq.eq q) c.new-groups.result.entries)) c.in_ok-key.ensures)

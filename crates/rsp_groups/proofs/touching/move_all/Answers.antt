@@ -1,3 +1,4 @@
+use Rattle.std.proofs.Common.{map}
 use Rattle.rsp_groups.proofs.Stepping.{on_ok}
 use Rattle.rsp_groups.proofs.Turning.{group-alike, groups-alike}
 use Rattle.rsp_groups.proofs.touching.move_all.Goals as goal
@@ -5,26 +6,20 @@ use Rattle.rsp_groups.proofs.touching.move_all.Goals as goal
 pub move_entries-requires : goal.move_entries-requires
 move_entries-requires g c =
     let may = c.requires in
-    let turn = may.1.1.1.1.1 in (
+    let turn = may.1.1.1 in (
       may.0,
       (
         may.1.0,
         (
           may.1.1.0,
-          (
-            may.1.1.1.0,
-            (
-              may.1.1.1.1.0,
-              record {
-                rows = turn.rows;
-                before = turn.before;
-                after = turn.turn.come;
-                are = turn.are;
-                steps = turn.turn.comes;
-                stands = turn.stands;
-              },
-            ),
-          ),
+          record {
+            rows = turn.rows;
+            before = turn.before;
+            after = turn.turn.come;
+            are = turn.are;
+            steps = turn.turn.comes;
+            stands = turn.stands;
+          },
         ),
       ),
     )
@@ -32,29 +27,24 @@ move_entries-requires g c =
 pub move_entries-requires-2 : goal.move_entries-requires-2
 move_entries-requires-2 g c =
     let may = c.requires in
-    let turn = may.1.1.1.1.1 in
-    let come = c.in_ok-move_entries.ensures may.0 may.1.0 may.1.1.0 may.1.1.1.0 may.1.1.1.1.0 turn.rows turn.before turn.turn.come turn.are turn.turn.comes turn.stands in (
+    let turn = may.1.1.1 in
+    let come = c.in_ok-move_entries.ensures may.0 may.1.0 turn.rows turn.before turn.turn.come may.1.1.0 turn.are turn.turn.comes turn.stands in (
       may.0,
       (
         may.1.0,
         (
           may.1.1.0,
-          (
-            may.1.1.1.0,
-            (
-              may.1.1.1.1.0,
-              record {
-                rows = turn.rows;
-                before = turn.turn.going;
-                after = turn.after;
-                are = turn.are;
-                steps = turn.turn.goes;
-                stands = groups-alike (g.D.Domain.knows may.0) (g.D.Domain.shown may.0) may.1.0 may.1.1.0 _
-                    (λ h rows others same. group-alike g.F.Fold.stands g.met.F.Fold.stands_alike g.F.Fold.aggregate may.1.1.1.0 may.1.1.1.1.0 h.rows h.folds.items rows others same)
-                    c.move_entries.new.groups.entries turn.turn.come turn.turn.going turn.turn.same come;
-              },
-            ),
-          ),
+          record {
+            rows = turn.rows;
+            before = turn.turn.going;
+            after = turn.after;
+            are = turn.are;
+            steps = turn.turn.goes;
+            stands = groups-alike (g.D.Domain.knows may.0) (g.D.Domain.shown may.0) c.args.grouping.now.width c.args.grouping.now.keys.items _
+                (λ h rows others same. group-alike g.F.Fold.stands g.met.F.Fold.stands_alike g.F.Fold.aggregate may.1.0
+                (map (λ a. g.F.Fold.aggregate a.fold) c.args.grouping.now.aggregates.items) h.rows h.folds.items rows others same)
+                c.move_entries.new.groups.entries turn.turn.come turn.turn.going turn.turn.same come;
+          },
         ),
       ),
     )
@@ -62,10 +52,11 @@ move_entries-requires-2 g c =
 pub returns : goal.returns
 returns g c =
     on_ok c.move_entries-2.result
-    (λ law domain width keys arguments aggregates rows before after are turn stands.
-    law domain width keys arguments aggregates rows turn.going after are turn.goes
-    (groups-alike (g.D.Domain.knows domain) (g.D.Domain.shown domain) width keys _
-    (λ h xs others same. group-alike g.F.Fold.stands g.met.F.Fold.stands_alike g.F.Fold.aggregate arguments aggregates h.rows h.folds.items xs others same)
+    (λ law domain arguments rows before after long are turn stands.
+    law domain arguments rows turn.going after long are turn.goes
+    (groups-alike (g.D.Domain.knows domain) (g.D.Domain.shown domain) c.args.grouping.now.width c.args.grouping.now.keys.items _
+    (λ h xs others same. group-alike g.F.Fold.stands g.met.F.Fold.stands_alike g.F.Fold.aggregate arguments
+    (map (λ a. g.F.Fold.aggregate a.fold) c.args.grouping.now.aggregates.items) h.rows h.folds.items xs others same)
     c.move_entries.new.groups.entries turn.come turn.going turn.same
-    (c.in_ok-move_entries.ensures domain width keys arguments aggregates rows before turn.come are turn.comes stands)))
+    (c.in_ok-move_entries.ensures domain arguments rows before turn.come long are turn.comes stands)))
     c.move_entries-2.ensures

@@ -1,4 +1,4 @@
-use Rattle.std.proofs.Common.{ℕ, ℤ, List, drop}
+use Rattle.std.proofs.Common.{◌≡◌, ℕ, ℤ, List, drop, map, length}
 use Rattle.std.specs.Prelude.{Option}
 use Rattle.std.specs.List.{AllZip}
 use Rattle.rsp_multiset.specs.Rows.{Cells}
@@ -8,13 +8,15 @@ use Rattle.rsp_groups.proofs.walk.move_entries.Given as goal
 
 abbrev pub invariant-loop-entry : goal.invariant-loop-entry
 invariant-loop-entry g l =
-    (domain : g.row.D.Denot) (width : ℕ) (keys : List ℕ) (arguments : List (Cells Term → Option Term)) (aggregates : List (List (Option Term) → Option Term))
-    (rows : List (Cells Term × ℤ)) (before after : List (Cells Term))
-    → AllZip (λ entry. IsEntry (g.D.Domain.knows domain) (g.D.Domain.shown domain) width keys arguments entry.key entry.values.items entry.by) l.entries rows
+    (domain : g.row.D.Denot) (arguments : List (Cells Term → Option Term)) (rows : List (Cells Term × ℤ)) (before after : List (Cells Term))
+    → length arguments ≡ length l.grouping.aggregates.items
+    → AllZip (λ entry. IsEntry (g.D.Domain.knows domain) (g.D.Domain.shown domain) l.grouping.width l.grouping.keys.items arguments entry.key entry.values.items entry.by) l.entries rows
     → Steps l.out rows before after
-    → GroupsStand g.D.Value.PartialEq.eq (g.D.Domain.knows domain) (g.D.Domain.shown domain) width keys (λ h. GroupStands g.F.Fold.stands g.F.Fold.aggregate arguments aggregates h.rows h.folds.items)
+    → GroupsStand g.D.Value.PartialEq.eq (g.D.Domain.knows domain) (g.D.Domain.shown domain) l.grouping.width l.grouping.keys.items
+    (λ h. GroupStands g.F.Fold.stands g.F.Fold.aggregate arguments (map (λ a. g.F.Fold.aggregate a.fold) l.grouping.aggregates.items) h.rows h.folds.items)
     l.initial.groups.entries before
     → (middle : List (Cells Term)) × (
-    GroupsStand g.D.Value.PartialEq.eq (g.D.Domain.knows domain) (g.D.Domain.shown domain) width keys (λ h. GroupStands g.F.Fold.stands g.F.Fold.aggregate arguments aggregates h.rows h.folds.items)
+    GroupsStand g.D.Value.PartialEq.eq (g.D.Domain.knows domain) (g.D.Domain.shown domain) l.grouping.width l.grouping.keys.items
+    (λ h. GroupStands g.F.Fold.stands g.F.Fold.aggregate arguments (map (λ a. g.F.Fold.aggregate a.fold) l.grouping.aggregates.items) h.rows h.folds.items)
     l.groups.entries middle
     × Steps l.out (drop l.entry-index rows) middle after)
