@@ -11,6 +11,14 @@ use Rattle.rsp_groups.proofs.Walking.{none-moved}
 use Rattle.rsp_groups.proofs.Written.{stand-moved, written-back, then-holds, then-some}
 use Rattle.rsp_groups.proofs.walk.move_entry.Goals as goal
 
+pub returns-then-times-eq0 : goal.returns-then-times-eq0
+returns-then-times-eq0 g c = λ domain arguments row before after long entry moved stands.
+    let none = sym (c.part_of-times.ensures ∙ ap (part c.args.out) entry.count) ∙ c.if-times-eq0.true in
+    subst (GroupsStand g.D.Value.PartialEq.eq (g.D.Domain.knows domain) (g.D.Domain.shown domain) c.args.grouping.now.width c.args.grouping.now.keys.items
+    (λ h. GroupStands g.F.Fold.stands g.F.Fold.aggregate arguments (map (λ a. g.F.Fold.aggregate a.fold) c.args.grouping.now.aggregates.items) h.rows h.folds.items)
+    c.args.groups.now.entries)
+    (none-moved c.args.out (part c.args.out row.1) row.0 before after none moved) stands
+
 pub move_row-requires : goal.move_row-requires
 move_row-requires g c =
     let may = c.requires in
@@ -62,7 +70,9 @@ returns g c =
     (written-back g.D.Value.PartialEq.eq c.args.entry.now.key (is_empty_key keys || nat_lt 0 c.move_row.new.group.rows) c.move_row.new.group
     c.args.groups.now.entries c.take_group.new.groups.entries c.put_group.new.groups.entries c.take_group.ensures.others back)
     entry.known
-    (then-holds _ (is_empty_key keys || nat_lt 0 c.move_row.new.group.rows) c.move_row.new.group holds)
+    (then-holds (λ h. GroupStands g.F.Fold.stands g.F.Fold.aggregate arguments
+    (map (λ a. g.F.Fold.aggregate a.fold) c.args.grouping.now.aggregates.items) h.rows h.folds.items (group_of width keys after key))
+    (is_empty_key keys || nat_lt 0 c.move_row.new.group.rows) c.move_row.new.group holds)
     (then-some (is_empty_key keys || nat_lt 0 c.move_row.new.group.rows) c.move_row.new.group
     ∙ ap (λ n. is_empty_key keys || nat_lt 0 n) holds.count)
     stands)
