@@ -5,16 +5,16 @@ use Rattle.std.specs.Map.{lookup}
 use Rattle.rsp_multiset.specs.Rows.{row_eq}
 use Rattle.rsp_groups.proofs.groups.put_group.Goals as goal
 
-pub returns-then-has_row : goal.returns-then-has_row
-returns-then-has_row g c = λ q.
-    let shares = c.in_ok-share.ensures in
-    let keyless = c.is_keyless.ensures ∙ ap is_empty_key c.as_slice.ensures.value in
-    let has = sym c.if-has_row.true ∙ (c.has_row.ensures ∙ ap (λ b. b || nat_lt 0 c.args.group.rows) keyless) in
+pub returns-in_ok-insert : goal.returns-in_ok-insert
+returns-in_ok-insert g c = λ q.
     c.in_ok-insert.ensures.updates.0 q
-    ∙ (λ i. cond (has i && row_eq g.V.PartialEq.eq (shares i) q) (Some c.args.group) (lookup (row_eq g.V.PartialEq.eq q) c.args.groups.now.entries))
+    ∙ (ap (λ cells. cond (row_eq g.V.PartialEq.eq cells q) (Some c.args.group) (lookup (row_eq g.V.PartialEq.eq q) c.args.groups.now.entries)) c.in_ok-share.ensures
+    ∙ ap (λ b. cond (b && row_eq g.V.PartialEq.eq c.args.key.now q) (Some c.args.group) (lookup (row_eq g.V.PartialEq.eq q) c.args.groups.now.entries))
+    (sym c.if-has_row.true
+    ∙ (c.has_row.ensures ∙ ap (λ b. b || nat_lt 0 c.args.group.rows) (c.is_keyless.ensures ∙ ap is_empty_key c.as_slice.ensures.value))))
 
-pub returns : goal.returns
-returns g c = λ q.
+pub returns-else-has_row : goal.returns-else-has_row
+returns-else-has_row g c = λ q.
     ap (λ b. cond (b && row_eq g.V.PartialEq.eq c.args.key.now q) (Some c.args.group) (lookup (row_eq g.V.PartialEq.eq q) c.args.groups.now.entries))
     (sym c.if-has_row.false
     ∙ (c.has_row.ensures ∙ ap (λ b. b || nat_lt 0 c.args.group.rows) (c.is_keyless.ensures ∙ ap is_empty_key c.as_slice.ensures.value)))
