@@ -1,13 +1,13 @@
 -- A change of rows as rows that come and then rows that go, and groups under lists that are one multiset.
-use Rattle.std.proofs.Common.{◌≡◌, ◌≢◌, ℕ, zero, suc, ◌+◌, nat_eq, drop, Bool, true, false, cond, ◌||◌, true≢false, List, [], ◌∷◌, ◌++◌, ℤ, pos, negsuc, ◌+ℤ◌, ◌*ℤ◌, neg_ℤ, length, map, filter, refl, sym, ap, subst, ◌∙◌, arith, Decides}
-use Rattle.std.specs.Prelude.{Option, Some, None, IsSome, IfSome, if◌then◌else◌}
+use Rattle.std.proofs.Common.{◌≡◌, ℕ, zero, suc, ◌+◌, nat_eq, drop, Bool, true, false, List, [], ◌∷◌, ◌++◌, ℤ, pos, negsuc, ◌+ℤ◌, length, map, filter, refl, sym, ap, subst, ◌∙◌, arith, Decides}
+use Rattle.std.specs.Prelude.{Option, Some, None, IfSome, if◌then◌else◌}
 use Rattle.std.specs.Option.{option_eq, option_map}
-use Rattle.std.specs.List.{AllByRecursion, AllZip, list_any, range_with_len}
-use Rattle.std.specs.Map.{keys_of, lookup}
+use Rattle.std.specs.List.{AllByRecursion, AllZip, range_with_len}
+use Rattle.std.specs.Map.{lookup}
 use Rattle.std.proofs.lemmas.Int.{ints}
 use Rattle.rsp_folds.specs.Copies.{copies}
 use Rattle.rsp_expr.specs.Groups.{group_of}
-use Rattle.rsp_groups.specs.Moves.{Moved, part, columns, values_in}
+use Rattle.rsp_groups.specs.Moves.{part, columns, values_in}
 use Rattle.rsp_groups.specs.Standing.{GroupStands, GroupsStand, Steps, IsEntry}
 use Rattle.rsp_groups.specs.Turns.{Turn}
 use Rattle.rsp_groups.specs.Answers.{IsRow, is_group}

@@ -1,11 +1,11 @@
 -- Entries one after the other, and what a domain learns on the way.
-use Rattle.std.proofs.Common.{◌≡◌, ℕ, ◌+◌, ◌<◌, ◌≤◌, Bool, true, false, List, [], ◌∷◌, ◌++◌, ℤ, pos, ◌+ℤ◌, neg_ℤ, length, map, get_or, drop, drop-cons, add-one, refl, sym, ap, subst, ◌∙◌, arith, append_assoc}
-use Rattle.std.specs.Prelude.{Option, Some, None}
+use Rattle.std.proofs.Common.{◌≡◌, ℕ, ◌+◌, ◌<◌, ◌≤◌, Bool, true, false, List, [], ◌∷◌, ◌++◌, ℤ, pos, ◌+ℤ◌, neg_ℤ, length, map, get_or, drop, drop-cons, add-one, sym, ap, subst, ◌∙◌, arith, append_assoc}
+use Rattle.std.specs.Prelude.{Some, None}
 use Rattle.std.specs.List.{AllZip, AllByRecursion}
 use Rattle.std.proofs.lemmas.List.{drop_all, map-append}
 use Rattle.rsp_folds.specs.Copies.{copies}
 use Rattle.rsp_groups.specs.Moves.{Moved, part}
-use Rattle.rsp_groups.specs.Standing.{Steps, MayMoveEntry, MayStep}
+use Rattle.rsp_groups.specs.Standing.{Steps, MayMoveEntry}
 use Rattle.rsp_groups.proofs.Moving.{zip-at, zip-long}
 use Rattle.rsp_multiset.specs.Rows.{Cells}
 use Rattle.rsp_multiset.specs.Shown.{IsKnown}

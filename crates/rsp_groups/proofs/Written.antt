@@ -1,5 +1,5 @@
 -- Groups whose state is written at one key.
-use Rattle.std.proofs.Common.{◌≡◌, ℕ, ◌+◌, Bool, true, false, cond, ◌||◌, ◌&&◌, true≢false, List, [], ◌∷◌, length, refl, sym, ap, subst, ◌∙◌, Decides}
+use Rattle.std.proofs.Common.{◌≡◌, ℕ, Bool, true, false, cond, ◌||◌, ◌&&◌, true≢false, List, [], ◌∷◌, length, refl, sym, ap, subst, ◌∙◌, Decides}
 use Rattle.std.specs.Prelude.{Option, Some, None, IsSome, IfSome, is_some, nat_lt}
 use Rattle.std.specs.Bool.{then_some}
 use Rattle.std.specs.List.{list_any}

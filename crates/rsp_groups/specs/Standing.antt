@@ -30,17 +30,6 @@ pub record GroupsStand {V G : Type 0} (test : V → V → Bool) (knows : V → T
   pub keyless : keys ≡ [] → IsSome (lookup (row_eq test (row_by width (λ _. None))) groups)
   pub are : (q : Cells V) → IsSome (lookup (row_eq test q) groups) → is_group width keys rows (shown_row shown q) ≡ true
 
--- a row with copies that come or go, and what is said of it
-pub record MayMoveRow {V : Type 0} (shown : V → Term) (width : ℕ) (keys : List ℕ) (arguments : List (Cells Term → Option Term))
-    (Stands : List (Cells Term) → Type 0) (out : Bool) (n : ℕ) (at : Cells V) (given : List (Option Term)) : Type 0 where
-  pub row : Cells Term
-  pub before : List (Cells Term)
-  pub after : List (Cells Term)
-  pub key : projection width keys row ≡ shown_row shown at
-  pub values : given ≡ values_in arguments row
-  pub moved : Moved out n row before after
-  pub stands : Stands before
-
 -- the rows come in, or go out, one entry after the other
 abbrev pub Steps : Bool → List (Cells Term × ℤ) → List (Cells Term) → List (Cells Term) → Type 0
 Steps out [] before after = before ≡ after

@@ -1,5 +1,5 @@
 use Rattle.std.proofs.Common.{map}
-use Rattle.rsp_groups.specs.Standing.{GroupStands, GroupsStand, IsEntry}
+use Rattle.rsp_groups.specs.Standing.{GroupStands, GroupsStand}
 use Rattle.rsp_groups.proofs.Walking.{step-may, step-next, step-end}
 use Rattle.rsp_groups.proofs.walk.move_entries.Goals as goal
 

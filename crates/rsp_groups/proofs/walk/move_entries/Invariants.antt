@@ -1,4 +1,4 @@
-use Rattle.std.proofs.Common.{◌≡◌, ℕ, ℤ, List, drop, map, length}
+use Rattle.std.proofs.Common.{◌≡◌, ℤ, List, drop, map, length}
 use Rattle.std.specs.Prelude.{Option}
 use Rattle.std.specs.List.{AllZip}
 use Rattle.rsp_multiset.specs.Rows.{Cells}

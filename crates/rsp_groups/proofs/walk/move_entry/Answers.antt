@@ -1,4 +1,4 @@
-use Rattle.std.proofs.Common.{map, length, sym, subst, ap, ◌∙◌, ◌||◌}
+use Rattle.std.proofs.Common.{map, sym, subst, ap, ◌∙◌, ◌||◌}
 use Rattle.std.specs.Prelude.{nat_lt}
 use Rattle.rsp_expr.specs.Groups.{group_of}
 use Rattle.rsp_multiset.specs.Shown.{shown_row}
