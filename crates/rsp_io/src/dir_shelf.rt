@@ -55,8 +55,8 @@ impl<R: Files> Source for DirShelf<'_, R> {
 
     ghost seen = { λ s. record { left = None; given = s.given; faults = s.faults; sure = false } };
 
-    /// As `Source::read`: one read of the file that was picked last, made again where a signal interrupts it, up to 64 times. Each
-    /// that fails is a fault. Before any pick that succeeded there is nothing to read.
+    /// As `Source::read`: one read of the file that was picked last, made again where a signal interrupts it, up to 64
+    /// times. Each that fails is a fault. Before any pick that succeeded there is nothing to read.
     fn read(&mut self, buf: &mut [u8]) -> Result<usize, Failed>
         requires { 0 < length buf.old }
         ensures bound { IfOk result (λ n. n ≤ length buf.old) }

@@ -45,8 +45,8 @@ impl<R: Input> Source for StdSource<R> {
 
     ghost seen = { λ s. record { left = None; given = s.given; faults = s.faults; sure = false } };
 
-    /// As `Source::read`: one read of the runtime's, made again where a signal interrupts it, up to 64 times. Each that fails is a
-    /// fault.
+    /// As `Source::read`: one read of the runtime's, made again where a signal interrupts it, up to 64 times. Each that
+    /// fails is a fault.
     fn read(&mut self, buf: &mut [u8]) -> Result<usize, Failed>
         requires { 0 < length buf.old }
         ensures bound { IfOk result (λ n. n ≤ length buf.old) }
@@ -123,8 +123,8 @@ impl<P: Print> Sink for StdSink<'_, P> {
 
     ghost seen = { λ s. record { taken = None; room = None; faults = s.faults } };
 
-    /// As `Sink::write`: one unbuffered write of the runtime's, made again where a signal interrupts it, up to 64 times. Each that
-    /// fails is a fault, and one that takes no byte is too.
+    /// As `Sink::write`: one unbuffered write of the runtime's, made again where a signal interrupts it, up to 64 times.
+    /// Each that fails is a fault, and one that takes no byte is too.
     fn write(&mut self, piece: &[u8]) -> Result<usize, Failed>
         requires { 0 < length piece.now }
         ensures bound { IfOk result (λ n. (1 ≤ n) × (n ≤ length piece.now)) }

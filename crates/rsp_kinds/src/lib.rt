@@ -4,8 +4,9 @@
 //! a [`KeepingBoth`] one on two children has no rows over none, and answers within a bound. [`OverOne`] and [`OverTwo`] are
 //! operators of any kind, and so [`SingleOp`] and [`DoubleOp`] are one type each. `of_root` of [`SingleNode`] and
 //! [`DoubleNode`] makes the operator of a tree's root: it has the node's value and no more steps than the node's part of the
-//! work, and stands for no rows. Where the key of two children decides alone which rows are compatible, partners are counted by key. Nodes without
-//! children are given rows ([`given_rows`]) or scans ([`scan_of`]). Below: the operators and the algebra. Above: the plan.
+//! work, and stands for no rows. Where the key of two children decides alone which rows are compatible, partners are counted
+//! by key. Nodes without children are given rows ([`given_rows`]) or scans ([`scan_of`]). Below: the operators and the algebra.
+//! Above: the plan.
 #![tactic(auto)]
 
 mod by_kind;

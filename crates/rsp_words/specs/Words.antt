@@ -16,8 +16,8 @@ pub record Stream : Type 0 where
   pub iri : List ℕ
   pub file : List ℕ
 
--- recorded streams for the query in the file of this name, over the stored quads in the file of a name, if there is one; reports are
--- written in this form
+-- recorded streams for the query in the file of this name, over the stored quads in the file of a name, if there is one; reports
+-- are written in this form
 pub record Replay : Type 0 where
   pub form : Form
   pub store : Option (List ℕ)
@@ -31,15 +31,15 @@ names_behind replay = option_to_list replay.store ++ map (λ (stream : Stream). 
 abbrev pub names_of : Replay → List (List ℕ)
 names_of replay = replay.query ∷ names_behind replay
 
--- to work off the log and write its reports in this form; to replay recorded streams for a query; to check the query in the file of this name; to work off so many items of
--- the generator
+-- to work off the log and write its reports in this form; to replay recorded streams for a query; to check the query in the file
+-- of this name; to work off so many items of the generator
 pub data Mode : Type 0 where
   events : Form → Mode
   run : Replay → Mode
   check : List ℕ → Mode
   generate : ℕ → Mode
 
--- ---- what stands behind the word of a mode: options, then values; a first `--` may stand anywhere among them, and ends the options
+-- ---- what stands behind the word of a mode: options, then values; a first `--` may stand anywhere among them and ends them
 
 abbrev pub is_dashes : List ℕ → Bool
 is_dashes word = bytes_eq word (codes "--")
