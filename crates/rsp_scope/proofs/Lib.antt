@@ -9,6 +9,7 @@ mod NeededRows
 pub mod Needs
 pub mod Orders
 pub mod Puts
+pub mod Reading
 pub mod Risings
 pub mod InsertCounts
 pub mod ScopeRows

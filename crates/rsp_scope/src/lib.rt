@@ -2,8 +2,9 @@
 //!
 //! Contracts see [`Streams`] as the list of kept items and the number of accepted ones; each call is a filter, an append
 //! or a sum of that list. A move of [`Contents`] gives the facts by which the window's graph then differs, whatever the
-//! order of the items' times. They see [`Stored`] as the list of the stored quads, each once, as facts. The definitions say
-//! which accepted items are needed, and laws that to keep these alone, up to their ends, loses nothing that a window sees.
+//! order of the items' times. They see [`Stored`] as the list of the stored quads, each once, as facts. Of these and of
+//! their changes a [`Reader`] is given what it reads. The definitions say which accepted items are needed, and laws that to keep
+//! these alone, up to their ends, loses nothing that a window sees.
 //! Above: the engine. Below: windows, terms and changes.
 #![tactic(auto)]
 
@@ -16,6 +17,7 @@ mod lanes;
 mod peaks;
 mod pieces;
 mod queue;
+mod reader;
 mod removal;
 mod room;
 mod runs;
@@ -28,6 +30,7 @@ mod times;
 
 pub use contents::Contents;
 pub use item::{Item, later};
+pub use reader::{Reader, part_read};
 pub use shared::Shared;
 pub use store_log::StoreLog;
 pub use stored::{Stored, StoredFault};

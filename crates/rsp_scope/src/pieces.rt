@@ -8,6 +8,7 @@ ghost use Rattle.rsp_scope.specs.Logged.{pieces_since};
 ghost use Rattle.rsp_scope.specs.Pieces.{AreAlike, EndBy};
 ghost use Rattle.rsp_scope.specs.declared.pieces.Piece.{Piece};
 
+use crate::reader::{Reader, add_read};
 use rsp_multiset::Changes;
 use rsp_terms::Fact;
 use std::alloc::{AllocError, Global};
@@ -185,40 +186,50 @@ fn joined(mut one: Changes<Fact>, other: Changes<Fact>) -> Result<Changes<Fact>,
     Ok(one)
 }
 
-/// The change that was logged from the place on.
-pub(crate) fn sum_since(
+/// The change that was logged from the place on, of the facts that the reader reads.
+pub(crate) fn sum_since<R: Reader>(
     alloc: Global,
     pieces: &[Piece],
     place: u64,
+    reader: &R,
 ) -> Result<Changes<Fact>, AllocError>
-    ensures { IfOk result (λ sum. (q : Fact) → weight fact_eq sum q ≡ pieces_since pieces.now place q) }
+    ensures { IfOk result (λ sum. (q : Fact)
+        → weight fact_eq sum q ≡ only (R.is_read reader.now q) (pieces_since pieces.now place q)) }
 {
     let mut sum = Changes::new(alloc);
     for piece in pieces {
-        add_seen(&mut sum, piece, place)?;
+        add_seen(&mut sum, piece, place, reader)?;
     }
     Ok(sum)
 }
 
-// adds the piece if it is seen from the place
-fn add_seen(sum: &mut Changes<Fact>, piece: &Piece, place: u64) -> Result<(), AllocError>
-    ensures { OnOk result ((q : Fact)
-        → weight fact_eq sum.new q
-        ≡ weight fact_eq sum.old q +ℤ only (nat_lt place piece.now.end) (weight fact_eq piece.now.changes q)) }
+// adds what is read of the piece if it is seen from the place
+fn add_seen<R: Reader>(
+    sum: &mut Changes<Fact>,
+    piece: &Piece,
+    place: u64,
+    reader: &R,
+) -> Result<(), AllocError>
+    ensures { OnOk result ((q : Fact) → weight fact_eq sum.new q ≡ weight fact_eq sum.old q
+        +ℤ only (R.is_read reader.now q) (only (nat_lt place piece.now.end) (weight fact_eq piece.now.changes q))) }
 {
     if place < piece.end {
-        return add_all(sum, &piece.changes);
+        return add_all(sum, &piece.changes, reader);
     }
     Ok(())
 }
 
-fn add_all(sum: &mut Changes<Fact>, changes: &Changes<Fact>) -> Result<(), AllocError>
-    ensures { OnOk result ((q : Fact)
-        → weight fact_eq sum.new q ≡ weight fact_eq sum.old q +ℤ weight fact_eq changes.now q) }
+fn add_all<R: Reader>(
+    sum: &mut Changes<Fact>,
+    changes: &Changes<Fact>,
+    reader: &R,
+) -> Result<(), AllocError>
+    ensures { OnOk result ((q : Fact) → weight fact_eq sum.new q
+        ≡ weight fact_eq sum.old q +ℤ only (R.is_read reader.now q) (weight fact_eq changes.now q)) }
 {
     for index in 0..changes.distinct() {
         let (fact, count) = changes.counted_at(index);
-        sum.add(fact.share()?, count)?;
+        add_read(sum, fact, count, reader)?;
     }
     Ok(())
 }

@@ -1,12 +1,13 @@
 // What came to and went from the stored quads, kept once for all queries.
 ghost use Rattle.std.specs.Prelude.{◌≡◌, ◌+◌, ◌≤◌, ◌+ℤ◌, ℕ, pos, IfOk, OnOk};
 ghost use Rattle.std.specs.List.{All, Contains};
-ghost use Rattle.rsp_multiset.specs.Weights.{weight};
+ghost use Rattle.rsp_multiset.specs.Weights.{only, weight};
 ghost use Rattle.rsp_terms.specs.declared.statement.Fact.{Fact};
 ghost use Rattle.rsp_terms.specs.Same.{fact_eq};
 ghost use Rattle.rsp_scope.specs.Logged.{since};
 
 use crate::pieces::{Piece, end_behind, log, sum_since};
+use crate::reader::Reader;
 use rsp_multiset::Changes;
 use rsp_terms::Fact;
 use std::alloc::{AllocError, Global};
@@ -40,7 +41,7 @@ impl Model for StoreLog {
 impl StoreLog {
     ghost use Rattle.std.specs.Prelude.{◌≡◌, ◌+◌, ◌≤◌, ◌+ℤ◌, ℕ, pos, IfOk, OnOk};
     ghost use Rattle.std.specs.List.{All, Contains};
-    ghost use Rattle.rsp_multiset.specs.Weights.{weight};
+    ghost use Rattle.rsp_multiset.specs.Weights.{only, weight};
     ghost use Rattle.rsp_terms.specs.declared.statement.Fact.{Fact};
     ghost use Rattle.rsp_terms.specs.Same.{fact_eq};
     ghost use Rattle.rsp_scope.specs.Logged.{since};
@@ -84,10 +85,12 @@ impl StoreLog {
         self.end
     }
 
-    /// The change that was logged from the place on. Fails where memory is refused or a count is out of range.
-    pub fn since(&self, place: u64) -> Result<Changes<Fact>, AllocError>
-        ensures { IfOk result (λ change. (q : Fact) → weight fact_eq change q ≡ since self.now place q) }
+    /// The change that was logged from the place on, of the facts that the reader reads. Fails where memory is refused or a
+    /// count is out of range.
+    pub fn since<R: Reader>(&self, place: u64, reader: &R) -> Result<Changes<Fact>, AllocError>
+        ensures { IfOk result (λ change. (q : Fact)
+            → weight fact_eq change q ≡ only (R.is_read reader.now q) (since self.now place q)) }
     {
-        sum_since(self.alloc, &self.pieces, place)
+        sum_since(self.alloc, &self.pieces, place, reader)
     }
 }

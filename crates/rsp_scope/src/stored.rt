@@ -2,17 +2,18 @@
 ghost use Rattle.std.specs.Prelude.{◌≡◌, ◌<◌, ◌≤◌, ◌+ℤ◌, ℕ, [], take, drop, length, map, IfOk, IfErr, OnOk, OnErr};
 ghost use Rattle.std.specs.List.{IsDistinct};
 ghost use Rattle.rsp_spec.specs.Limits.{most_quads};
-ghost use Rattle.rsp_multiset.specs.Weights.{times, weight, IsChanged, IsSameMultiset};
+ghost use Rattle.rsp_multiset.specs.Weights.{only, times, weight, IsChanged, IsSameMultiset};
 ghost use Rattle.rsp_terms.specs.declared.statement.Fact.{Fact};
 ghost use Rattle.rsp_terms.specs.Same.{fact_eq};
 ghost use Rattle.rsp_scope.specs.Quads.{fact_of, stored_with, stored_without};
 ghost use Rattle.rsp_scope.specs.Faults.{IsStoredFault};
 ghost use Rattle.rsp_scope.specs.Putting.{IsUncounted};
 
+use crate::reader::{Reader, add_read};
 use crate::removal::{stored_among, take_out};
 use crate::room::counted;
 use indexmap::IndexSet;
-use rsp_multiset::Changes;
+use rsp_multiset::{Changes, Count};
 use rsp_spec::limits::MOST_QUADS;
 use rsp_terms::{Fact, Quad, Spot};
 use std::alloc::{AllocError, Global};
@@ -61,7 +62,7 @@ impl Stored {
     ghost use Rattle.std.specs.Prelude.{◌≡◌, ◌<◌, ◌≤◌, ◌+ℤ◌, ℕ, [], take, drop, length, map, IfOk, OnOk, OnErr, IfErr};
     ghost use Rattle.std.specs.List.{IsDistinct};
     ghost use Rattle.rsp_spec.specs.Limits.{most_quads};
-    ghost use Rattle.rsp_multiset.specs.Weights.{times, weight, IsChanged, IsSameMultiset};
+    ghost use Rattle.rsp_multiset.specs.Weights.{only, times, weight, IsChanged, IsSameMultiset};
     ghost use Rattle.rsp_terms.specs.declared.statement.Fact.{Fact};
     ghost use Rattle.rsp_terms.specs.Same.{fact_eq};
     ghost use Rattle.rsp_scope.specs.Quads.{fact_of, stored_with, stored_without};
@@ -115,11 +116,12 @@ impl Stored {
         delete_from(self.alloc, &mut self.facts, quads)
     }
 
-    /// Every stored quad as a fact, once.
-    pub fn facts(&self) -> Result<Changes<Fact>, AllocError>
-        ensures { IfOk result (λ change. (q : Fact) → weight fact_eq change q ≡ times fact_eq self.now q) }
+    /// Every stored quad that the reader reads, as a fact, once.
+    pub fn facts<R: Reader>(&self, reader: &R) -> Result<Changes<Fact>, AllocError>
+        ensures { IfOk result (λ change. (q : Fact)
+            → weight fact_eq change q ≡ only (R.is_read reader.now q) (times fact_eq self.now q)) }
     {
-        changes_of(self.alloc, self.facts.as_slice())
+        read_of(self.alloc, self.facts.as_slice(), reader)
     }
 }
 
@@ -161,6 +163,22 @@ fn delete_from(
     change.negate();
     take_out(facts, gone.as_slice());
     Ok(change)
+}
+
+fn read_of<R: Reader>(
+    alloc: Global,
+    facts: &[Fact],
+    reader: &R,
+) -> Result<Changes<Fact>, AllocError>
+    ensures { IfOk result (λ change. (q : Fact)
+        → weight fact_eq change q ≡ only (R.is_read reader.now q) (times fact_eq facts.now q)) }
+{
+    let mut changes = Changes::new(alloc);
+    let once = Count::of_many(1)?;
+    for fact in facts {
+        add_read(&mut changes, fact, once, reader)?;
+    }
+    Ok(changes)
 }
 
 fn changes_of(alloc: Global, facts: &[Fact]) -> Result<Changes<Fact>, AllocError>
