@@ -1,5 +1,5 @@
 -- How a live query comes to stand for the facts of an instant: what it sees is a set.
-use Rattle.std.proofs.Common.{◌≡◌, ◌⊎◌, inl, inr, ℕ, ◌≤◌, Bool, true, false, true≢false, not, ◌&&◌, ◌||◌, if◌then◌else◌, Option, None, Some, List, [], ◌∷◌, ◌++◌, ℤ, pos, negsuc, ◌+ℤ◌, ◌+◌, refl, sym, ap, subst, ◌∙◌, arith}
+use Rattle.std.proofs.Common.{◌≡◌, ◌⊎◌, inl, inr, ℕ, ◌≤◌, Bool, true, false, true≢false, not, ◌&&◌, ◌||◌, if◌then◌else◌, Option, None, Some, List, [], ◌∷◌, ◌++◌, ℤ, pos, negsuc, ◌+ℤ◌, ◌+◌, filter, refl, sym, ap, subst, ◌∙◌, arith}
 use Rattle.std.specs.List.{AllByRecursion, IsDistinct, flat_map, list_any}
 use Rattle.std.specs.Prelude.{nat_eq}
 use Rattle.std.proofs.lemmas.Bool.{ne_eqb}
@@ -128,6 +128,14 @@ module _ (stored : List Fact) (store : IsStore stored) (items : List Accepted) (
   -- each fact that it sees stands once
   pub seen_facts_once : (q : Fact) → IsOnce (times fact_eq (stored ++ facts_over items first windows t) q)
   seen_facts_once q = subst IsOnce (sym (times-append fact_eq stored (facts_over items first windows t) q)) (once_in q.spot q.triple)
+
+-- and of these, each that passes a test
+pub once_read : (test : Fact → Bool) (facts : List Fact) → ((q : Fact) → IsOnce (times fact_eq facts q)) → (q : Fact) → IsOnce (times fact_eq (filter test facts) q)
+once_read test facts once q = subst IsOnce (sym (times-filter fact_same test facts q)) (by (test q))
+  where
+    by : (b : Bool) → IsOnce (only b (times fact_eq facts q))
+    by true = once q
+    by false = inl refl
 
 -- ---- the change from the facts of one report to those of the next
 

@@ -9,9 +9,11 @@ use Rattle.rsp_multiset.specs.Rows.{Cells, row_eq}
 use Rattle.rsp_terms.specs.declared.term.Term.{Term}
 use Rattle.rsp_terms.specs.declared.statement.Fact.{Fact}
 use Rattle.rsp_terms.specs.Same.{fact_eq, fact_same, term_eq}
-use Rattle.rsp_multiset.specs.Weights.{IsSameMultiset}
+use Rattle.rsp_multiset.specs.Weights.{IsSameMultiset, only, times}
 use Rattle.rsp_multiset.proofs.SameLists.{same-append}
+use Rattle.rsp_algebra.specs.Reading.{reads}
 use Rattle.rsp_algebra.specs.Solutions.{eval}
+use Rattle.rsp_algebra.proofs.FactsRead.{eval-read}
 use Rattle.rsp_algebra.proofs.SameFacts.{same_mapped, same_solutions}
 use Rattle.rsp_engine.specs.declared.schedule.Pending.{Pending}
 use Rattle.rsp_engine.specs.declared.report.Outcome.{Outcome}
@@ -20,6 +22,7 @@ use Rattle.rsp_engine.specs.declared.report.Report.{Report}
 use Rattle.rsp_engine.specs.World.{Query, Reading, Registration, World, next_of, registrations}
 use Rattle.rsp_engine.specs.Kept.{held, watches_of}
 use Rattle.rsp_scope.specs.Needed.{listed_triples, needed_items}
+use Rattle.rsp_scope.proofs.Takings.{times-filter}
 use Rattle.std.specs.Option.{option_map_or}
 use Rattle.rsp_spec.specs.Limits.{most_held}
 use Rattle.rsp_engine.specs.Accept.{without}
@@ -29,7 +32,7 @@ use Rattle.rsp_engine.specs.Watching.{name_of}
 use Rattle.rsp_engine.specs.Moments.{Moment}
 use Rattle.rsp_engine.specs.Reports.{after_report, cells_at, facts, is_overfull, live_query, query_after_report, report_of, rows_over, solutions}
 use Rattle.rsp_engine.specs.Steps.{moments_behind, next_step}
-use Rattle.rsp_engine.specs.Stands.{Behind, Follows, HaveSeen, IsState, Live, Precede, Stands, State, asked_in, asked_of, left_in, next_in, places_left, registration_of, registrations_in, test_in}
+use Rattle.rsp_engine.specs.Stands.{Behind, Follows, HaveSeen, IsState, Live, Precede, Stands, State, asked_in, asked_of, is_read, left_in, next_in, places_left, registration_of, registrations_in, test_in}
 use Rattle.rsp_engine.specs.Offers.{GivesOf}
 use Rattle.rsp_engine.specs.Passing.{HasContents, ReportsFirst, facts_at, is_overfull_outcome, outcome_over, place_behind, queries_behind}
 use Rattle.rsp_engine.proofs.Left.{gone, waiting_head}
@@ -51,6 +54,13 @@ full_or_rows false given rows is = ap is_overfull_outcome is
 rows_alike : (reading : Reading) (xs ys : List Fact) → IsSameMultiset fact_eq xs ys → IsSameMultiset (row_eq term_eq) (rows_over reading xs) (rows_over reading ys)
 rows_alike reading xs ys alike =
     same_mapped (cells_at reading.shown) (eval reading.width reading.node xs) (eval reading.width reading.node ys) (same_solutions reading.width reading.node xs ys alike)
+
+-- and those over the facts that its tree reads
+rows_read : (reading : Reading) (xs ys zs : List Fact) → IsSameMultiset fact_eq xs (filter (reads reading.node) ys) → IsSameMultiset fact_eq ys zs → IsSameMultiset (row_eq term_eq) (rows_over reading xs) (rows_over reading zs)
+rows_read reading xs ys zs alike seen q =
+    rows_alike reading xs (filter (reads reading.node) zs)
+    (λ f. alike f ∙ (times-filter fact_same (reads reading.node) ys f ∙ (ap (only (reads reading.node f)) (seen f) ∙ sym (times-filter fact_same (reads reading.node) zs f)))) q
+    ∙ ap (λ solutions. times (row_eq term_eq) (map (cells_at reading.shown) solutions) q) (eval-read reading.width (reads reading.node) reading.node (λ fact is. is) zs)
 
 -- one is taken out
 shorter : {X : Type 0} (xs : List X) (i : ℕ) → i < length xs → length (remove xs i) + 1 ≡ length xs
@@ -169,7 +179,7 @@ module _ (old new : State) (report : Report) (world : World) (left : List Moment
       behind true (without live.name world.queries) queries regs have bounds first _ struck
 
   -- any other report has shown the query the facts of its instant
-  went_on : new.queries ≡ queries_behind old place given.now false → given.now.reported ≡ true → IsSameMultiset fact_eq given.now.seen seen_now → IsFirstLeft name_of (test_in old) (asked_in new) (next_in old) place.at (place.query + 1) new.first
+  went_on : new.queries ≡ queries_behind old place given.now false → given.now.reported ≡ true → IsSameMultiset fact_eq given.now.seen (filter (is_read live) seen_now) → IsFirstLeft name_of (test_in old) (asked_in new) (next_in old) place.at (place.query + 1) new.first
       → Stands new (record world { queries = map (query_after_report world place.at live.name) world.queries }) rest
   went_on queries has_told stood first =
       let told : Query = record found.0 { preceding = solutions world found.0.registration place.at } in
@@ -184,14 +194,14 @@ module _ (old new : State) (report : Report) (world : World) (left : List Moment
       let bounds = alike_keeps world stands.bounds (map (query_after_report world place.at live.name) world.queries) regs_all in
       let rows : IsSameMultiset (row_eq term_eq) (rows_over (registration_of given.now).reading given.now.seen) (solutions world query place.at) =
       subst (λ (r : Registration). IsSameMultiset (row_eq term_eq) (rows_over r.reading given.now.seen) (solutions world query place.at)) (sym given.same)
-      (rows_alike query.reading given.now.seen (facts world query place.at) (λ f. stood f ∙ seen f)) in
+      (rows_read query.reading given.now.seen seen_now (facts world query place.at) stood seen) in
       let told_rows : IsSameMultiset (row_eq term_eq) (rows_over (registration_of given.now).reading given.now.seen) told.preceding = subst (λ r. IsSameMultiset (row_eq term_eq) (rows_over (registration_of given.now).reading given.now.seen) (solutions world r place.at)) (sym found.2) rows in
       let behind_told : Precede given.now told.preceding = subst (λ b. Behind b (rows_over (registration_of given.now).reading given.now.seen) told.preceding) (sym has_told) told_rows in
       let have : HaveSeen new.queries (map (query_after_report world place.at live.name) world.queries) = subst (λ ls. HaveSeen ls (map (query_after_report world place.at live.name) world.queries)) (sym queries)
       (subst (λ qs. HaveSeen (slice_set old.queries place.query given.now) qs) (sym set_is) (seen_set old.queries world.queries place.query given.now told stands.seen behind_told)) in
       behind false (map (query_after_report world place.at live.name) world.queries) queries regs have bounds first rest (ap (λ qs. left_from name_of (test_in old) qs (next_in old) place.at (place.query + 1)) asked_old)
 
-  stands_behind : (ends : Bool) → is_overfull world query place.at ≡ ends → (ends ≡ false → given.now.reported ≡ true) → (ends ≡ false → IsSameMultiset fact_eq given.now.seen seen_now) → new.queries ≡ queries_behind old place given.now ends
+  stands_behind : (ends : Bool) → is_overfull world query place.at ≡ ends → (ends ≡ false → given.now.reported ≡ true) → (ends ≡ false → IsSameMultiset fact_eq given.now.seen (filter (is_read live) seen_now)) → new.queries ≡ queries_behind old place given.now ends
       → IsFirstLeft name_of (test_in old) (asked_in new) (next_in old) place.at (place_behind place ends) new.first
       → Stands new (after_report world query place.at) (moments_behind world query place.at rest)
   stands_behind true ends told stood queries first = rw ends (ended queries first)

@@ -1,5 +1,5 @@
 -- How accepted items go on to fit what an engine keeps.
-use Rattle.std.proofs.Common.{◌≡◌, ℕ, zero, suc, ◌+ℤ◌, ◌≤◌, List, [], ◌∷◌, ◌++◌, length, map, take, Some, slice_get, refl, sym, ◌∙◌, ap, subst, arith}
+use Rattle.std.proofs.Common.{◌≡◌, ℕ, zero, suc, true, false, pos, ◌+ℤ◌, ◌≤◌, List, [], ◌∷◌, ◌++◌, length, map, take, Some, slice_get, refl, sym, ◌∙◌, ap, subst, arith}
 use Rattle.std.specs.List.{All, Contains}
 use Rattle.std.proofs.lemmas.List.{length-take, take-append-le}
 use Rattle.std.proofs.lemmas.List.Elements.{All-cons, All-contains_itself, All-weaker, Contains-append_left, Contains-append_right}
@@ -16,7 +16,7 @@ use Rattle.rsp_scope.proofs.Needed.{content_kept, passed}
 use Rattle.rsp_engine.specs.Contents.{watches}
 use Rattle.rsp_engine.specs.Kept.{watches_of}
 use Rattle.rsp_engine.specs.Passing.{HasContents, unwatched}
-use Rattle.rsp_engine.specs.Stands.{Fits, Follows, Live, State, cut_of, facts_followed, registration_of, unseen, watches_in}
+use Rattle.rsp_engine.specs.Stands.{Fits, Follows, Live, State, cut_of, facts_followed, is_read, registration_of, unseen, watches_in}
 use Rattle.rsp_engine.specs.Watching.{Tells}
 
 -- ---- what a query's windows contain is kept
@@ -58,7 +58,8 @@ module _ (items more : List Accepted) where
   follows_more stored log live follows = record {
     contents = All-weaker (λ (seen : Followed). HasSeen seen (take seen.accepted items)) (λ (seen : Followed). HasSeen seen (take seen.accepted (items ++ more)))
         (λ seen has. subst (HasSeen seen) (sym (seen_more seen has)) has) live.contents follows.contents;
-    seen = λ q. rw (facts_more live.contents follows.contents) (follows.seen q);
+    seen = λ q is. rw (facts_more live.contents follows.contents) (follows.seen q is);
+    unread = follows.unread;
   }
 
 -- what a query watches makes no difference
@@ -67,7 +68,8 @@ pub follows_alike : (items : List Accepted) (stored : List Fact) (log : Log) (on
 follows_alike items stored log one other is follows = record {
   contents = subst (λ (l : Live). All (λ (seen : Followed). HasSeen seen (take seen.accepted items)) l.contents) is follows.contents;
   seen = λ q.
-      subst (λ (l : Live). times fact_eq l.seen q +ℤ unseen stored log l q ≡ times fact_eq stored q +ℤ times fact_eq (facts_followed items l.contents) q) is (follows.seen q);
+      subst (λ (l : Live). is_read l q ≡ true → times fact_eq l.seen q +ℤ unseen stored log l q ≡ times fact_eq stored q +ℤ times fact_eq (facts_followed items l.contents) q) is (follows.seen q);
+  unread = λ q. subst (λ (l : Live). is_read l q ≡ false → times fact_eq l.seen q ≡ pos 0) is (follows.unread q);
 }
 
 all_follow : (items : List Accepted) (stored : List Fact) (log : Log) (olds news : List Live) → map unwatched olds ≡ map unwatched news

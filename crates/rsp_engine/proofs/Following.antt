@@ -1,5 +1,5 @@
 -- Windows that move to an instant one after the other, and how a live query then follows the items.
-use Rattle.std.proofs.Common.{◌≡◌, ℕ, true, ◌+◌, ◌<◌, ◌≤◌, Some, List, [], ◌∷◌, ◌++◌, ℤ, pos, ◌+ℤ◌, length, map, take, drop, set, get_or, refl, sym, ap, subst, ◌∙◌, arith}
+use Rattle.std.proofs.Common.{◌≡◌, ℕ, Bool, true, false, ◌+◌, ◌<◌, ◌≤◌, Some, List, [], ◌∷◌, ◌++◌, ℤ, pos, ◌+ℤ◌, length, map, take, drop, set, get_or, refl, sym, ap, subst, ◌∙◌, arith}
 use Rattle.std.specs.List.{All}
 use Rattle.std.specs.Vec.{with_items}
 use Rattle.rsp_engine.specs.declared.live_query.LiveQuery.{LiveQuery}
@@ -7,8 +7,11 @@ use Rattle.std.proofs.lemmas.Int.{ints}
 use Rattle.std.proofs.lemmas.List.{append-nil, drop-set-lt, drop_more, length-map, map-set, set-get_or, with_items_is, take-append-drop, take_all, take_more, take_more_set}
 use Rattle.std.proofs.lemmas.List.Elements.{All-cons, All-get_or, All-head, All-nil, All-push, All-same, All-tail}
 use Rattle.rsp_terms.specs.declared.statement.Fact.{Fact}
-use Rattle.rsp_terms.specs.Same.{fact_eq}
+use Rattle.rsp_terms.specs.Same.{fact_eq, fact_same}
 use Rattle.rsp_algebra.specs.Changing.{IsSet, MayChange}
+use Rattle.rsp_algebra.specs.Meanings.{node_of}
+use Rattle.rsp_algebra.specs.Reading.{reads}
+use Rattle.rsp_algebra.specs.declared.tree.Translated.{Translated}
 use Rattle.rsp_multiset.specs.Weights.{IsChanged, IsSameMultiset, only, times, weight}
 use Rattle.rsp_multiset.proofs.Changing.{times-append}
 use Rattle.rsp_multiset.proofs.Sums.{sum_z-append, sum_z-flat_map}
@@ -18,12 +21,14 @@ use Rattle.rsp_scope.specs.Kept.{Kept}
 use Rattle.rsp_scope.specs.Moves.{Followed, HasSeen}
 use Rattle.rsp_scope.specs.Logged.{since}
 use Rattle.rsp_scope.specs.Logged.{Log}
+use Rattle.rsp_scope.proofs.Reading.{only-sum}
+use Rattle.rsp_scope.proofs.Takings.{times-filter}
 use Rattle.rsp_engine.specs.Contents.{facts_over, watches}
 use Rattle.rsp_engine.specs.Seeing.{facts_seen}
 use Rattle.rsp_engine.specs.Keeping.{watches_followed}
-use Rattle.rsp_engine.specs.Passing.{HasContents, IsFollowed, facts_at}
-use Rattle.rsp_engine.specs.Stands.{Follows, IsStore, Live, facts_followed, unseen}
-use Rattle.rsp_engine.proofs.FactSets.{may_change, seen_facts_once, set_once}
+use Rattle.rsp_engine.specs.Passing.{HasContents, IsFollowed, facts_at, facts_read_at}
+use Rattle.rsp_engine.specs.Stands.{Follows, IsStore, Live, facts_followed, is_read, unseen}
+use Rattle.rsp_engine.proofs.FactSets.{may_change, once_read, seen_facts_once, set_once}
 
 -- it has seen a beginning of these items
 abbrev pub HasBegun : List Accepted → Followed → Type 0
@@ -186,6 +191,18 @@ module _ (kept : Kept) (t i : ℕ) (olds news : List Followed) (before after : L
 
 -- ---- what a live query then sees
 
+-- a change holds what the tree reads of what the query hasn't seen of the stored quads, and of what its windows gained and lost
+abbrev pub IsTold : List Fact → Log → Live → List (Fact × ℤ) → List (Fact × ℤ) → Type 0
+IsTold stored log live shift changes = (q : Fact) → weight fact_eq changes q ≡ only (is_read live q) (unseen stored log live q +ℤ weight fact_eq shift q)
+
+-- such a one is made of the two parts
+pub told_of : (stored : List Fact) (log : Log) (live : Live) (fresh shift part changes : List (Fact × ℤ))
+    → ((q : Fact) → weight fact_eq fresh q ≡ only (is_read live q) (unseen stored log live q))
+    → ((q : Fact) → weight fact_eq part q ≡ only (is_read live q) (weight fact_eq shift q))
+    → ((q : Fact) → weight fact_eq changes q ≡ weight fact_eq fresh q +ℤ weight fact_eq part q) → IsTold stored log live shift changes
+told_of stored log live fresh shift part changes unseen_is part_is joined q =
+    joined q ∙ ((λ i. unseen_is q i +ℤ part_is q i) ∙ sym (only-sum (is_read live q) (unseen stored log live q) (weight fact_eq shift q)))
+
 -- windows that have moved to t see their graphs at t
 followed_is : (items : List Accepted) (t : ℕ) (contents : List Followed) → All (λ (seen : Followed). seen.at ≡ Some t) contents
     → All (λ (seen : Followed). seen.accepted ≡ length items) contents → facts_followed items contents ≡ facts_seen items (watches_followed contents) t
@@ -197,39 +214,56 @@ followed_is items t (x ∷ xs) at accepted =
     let rest = followed_is items t xs (All-tail (λ (seen : Followed). seen.at ≡ Some t) x xs at) (All-tail (λ (seen : Followed). seen.accepted ≡ length items) x xs accepted) in
     (λ i. window_facts x.watch (here i) (all i) ++ rest i)
 
-module _ (items : List Accepted) (stored : List Fact) (log : Log) (live : Live) (t : ℕ) (news : List Followed) (fresh changes : List (Fact × ℤ))
+module _ (items : List Accepted) (stored : List Fact) (log : Log) (live : Live) (t : ℕ) (news : List Followed) (shift changes : List (Fact × ℤ))
     (follows : Follows items stored log live)
     (watched : watches_followed news ≡ watches live.first live.windows)
     (at : All (λ (seen : Followed). seen.at ≡ Some t) news)
-    (not_seen : (q : Fact) → weight fact_eq fresh q ≡ unseen stored log live q)
-    (moved : AreMoved items live.contents news fresh changes) where
+    (told : IsTold stored log live shift changes)
+    (moved : AreMoved items live.contents news [] shift) where
   seen_is : facts_followed items news ≡ facts_over items live.first live.windows t
   seen_is = followed_is items t news at moved.accepted ∙ ap (λ ws. facts_seen items ws t) watched
 
-  -- the change leads from what its answer stands for to what it sees at t
-  pub leads_to_now : IsChanged fact_eq live.seen changes (facts_at items stored live t)
-  leads_to_now q =
-      let before = follows.seen q in
-      let first = not_seen q in
-      let then = moved.told q in
-      let now = ap (λ facts. times fact_eq facts q) seen_is in
-      let both = times-append fact_eq stored (facts_over items live.first live.windows t) q in
-      omega (arith, ints, before, first, then, now, both)
+  -- the change leads from what its answer stands for to what its tree reads of what it sees at t
+  pub leads_to_now : IsChanged fact_eq live.seen changes (facts_read_at items stored live t)
+  leads_to_now q = times-filter fact_same (is_read live) (facts_at items stored live t) q ∙ by (is_read live q) refl
+    where
+      by : (b : Bool) → is_read live q ≡ b → only b (times fact_eq (facts_at items stored live t) q) ≡ times fact_eq live.seen q +ℤ weight fact_eq changes q
+      by true is =
+          let before = follows.seen q is in
+          let all : weight fact_eq changes q ≡ unseen stored log live q +ℤ weight fact_eq shift q = rw is at (told q) in
+          let then = moved.told q in
+          let now = ap (λ facts. times fact_eq facts q) seen_is in
+          let both = times-append fact_eq stored (facts_over items live.first live.windows t) q in
+          omega (arith, ints, before, all, then, now, both)
+      by false is =
+          let before = follows.unread q is in
+          let none : weight fact_eq changes q ≡ pos 0 = rw is at (told q) in
+          omega (arith, ints, before, none)
 
   -- where its answer then stands for that, and it has seen all of the log, it follows the items on
-  pub follows_on : (new : Live) → new.contents ≡ news → new.reported ≡ true → ((q : Fact) → since log new.place q ≡ pos 0)
+  pub follows_on : (new : Live) → new.query ≡ live.query → new.contents ≡ news → new.reported ≡ true → ((q : Fact) → since log new.place q ≡ pos 0)
       → IsChanged fact_eq live.seen changes new.seen → Follows items stored log new
-  follows_on new contents reported marked changed = record {
+  follows_on new same contents reported marked changed = record {
     contents = All-same (HasBegun items) new.contents news contents moved.begun;
-    seen = λ q.
+    seen = λ q is.
+        let read : is_read live q ≡ true = as_before q ∙ is in
         let none : unseen stored log new q ≡ pos 0 = rw reported (marked q) in
-        let before = follows.seen q in
-        let first = not_seen q in
+        let before = follows.seen q read in
+        let all : weight fact_eq changes q ≡ unseen stored log live q +ℤ weight fact_eq shift q = rw read at (told q) in
         let then = moved.told q in
         let by = changed q in
         let own = ap (λ l. times fact_eq (facts_followed items l) q) contents in
-        omega (arith, ints, none, before, first, then, by, own);
+        omega (arith, ints, none, before, all, then, by, own);
+    unread = λ q is.
+        let unread : is_read live q ≡ false = as_before q ∙ is in
+        let before = follows.unread q unread in
+        let none : weight fact_eq changes q ≡ pos 0 = rw unread at (told q) in
+        let by = changed q in
+        omega (arith, ints, before, none, by);
   }
+    where
+      as_before : (q : Fact) → is_read live q ≡ is_read new q
+      as_before q = ap (λ (query : Translated). reads (node_of query.tree) q) (sym same)
 
 -- what a move of all windows says
 abbrev pub AllMoved : Kept → ℕ → List Followed → List Followed → List (Fact × ℤ) → List (Fact × ℤ) → Type 0
@@ -248,31 +282,31 @@ contents_back live news same =
 
 -- ---- a live query whose windows have moved to t
 
-module _ (kept : Kept) (stored : List Fact) (log : Log) (t : ℕ) (live : Live) (news : List Followed) (fresh changes : List (Fact × ℤ))
+module _ (kept : Kept) (stored : List Fact) (log : Log) (t : ℕ) (live : Live) (news : List Followed) (shift changes : List (Fact × ℤ))
     (watches_old : watches_followed live.contents ≡ watches live.first live.windows)
     (watches_new : watches_followed news ≡ watches_followed live.contents)
     (at : All (λ (seen : Followed). seen.at ≡ Some t) news)
-    (not_seen : (q : Fact) → weight fact_eq fresh q ≡ unseen stored log live q)
-    (moved : AllMoved kept t live.contents news fresh changes) where
+    (told : IsTold stored log live shift changes)
+    (moved : AllMoved kept t live.contents news [] shift) where
   module _ (items : List Accepted) (follows : Follows items stored log live) (contents : HasContents items kept t (watches live.first live.windows)) where
-    are_moved : AreMoved items live.contents news fresh changes
+    are_moved : AreMoved items live.contents news [] shift
     are_moved =
         let given = moved items follows.contents (subst (HasContents items kept t) (sym watches_old) contents) in
         record { begun = given.0; told = given.1; accepted = given.2 }
 
-    pub change_leads : IsChanged fact_eq live.seen changes (facts_at items stored live t)
-    change_leads = leads_to_now items stored log live t news fresh changes follows (watches_new ∙ watches_old) at not_seen are_moved
+    pub change_leads : IsChanged fact_eq live.seen changes (facts_read_at items stored live t)
+    change_leads = leads_to_now items stored log live t news shift changes follows (watches_new ∙ watches_old) at told are_moved
 
-    -- the answer then stands for what it sees
-    pub stands_for_now : (held : List Fact) → IsChanged fact_eq live.seen changes held → IsSameMultiset fact_eq held (facts_at items stored live t)
+    -- the answer then stands for what its tree reads of what it sees
+    pub stands_for_now : (held : List Fact) → IsChanged fact_eq live.seen changes held → IsSameMultiset fact_eq held (facts_read_at items stored live t)
     stands_for_now held changed q = changed q ∙ sym (change_leads q)
 
-    pub still_follows : (new : Live) → new.contents ≡ news → new.reported ≡ true → ((q : Fact) → since log new.place q ≡ pos 0)
+    pub still_follows : (new : Live) → new.query ≡ live.query → new.contents ≡ news → new.reported ≡ true → ((q : Fact) → since log new.place q ≡ pos 0)
         → IsChanged fact_eq live.seen changes new.seen → Follows items stored log new
-    still_follows = follows_on items stored log live t news fresh changes follows (watches_new ∙ watches_old) at not_seen are_moved
+    still_follows = follows_on items stored log live t news shift changes follows (watches_new ∙ watches_old) at told are_moved
 
   pub allowed_change : IsStore stored → IsSet live.seen → IsFollowed kept stored log t live → MayChange live.seen changes
   allowed_change store set followed =
-      may_change live.seen (facts_at followed.items stored live t) changes (set_once live.seen set)
-      (seen_facts_once stored store followed.items live.first live.windows t)
+      may_change live.seen (facts_read_at followed.items stored live t) changes (set_once live.seen set)
+      (once_read (is_read live) (facts_at followed.items stored live t) (seen_facts_once stored store followed.items live.first live.windows t))
       (change_leads followed.items followed.follows followed.contents)

@@ -371,7 +371,8 @@ pub new_follows : (items : List Accepted) (stored : List Fact) (log : Log) (live
 new_follows items stored log live unreported unseen unmoved = record {
   contents = All-weaker IsUnmoved (λ (seen : Followed). HasSeen seen (take seen.accepted items))
       (λ (seen : Followed) (new : IsUnmoved seen). let none : seen.accepted ≡ 0 = new.seen.accepted in subst (λ n. HasSeen seen (take n items)) (sym none) new.seen) live.contents unmoved;
-  seen = λ q. rw (unreported, unseen, none_followed items live.contents unmoved) (omega (arith, ints));
+  seen = λ q is. rw (unreported, unseen, none_followed items live.contents unmoved) (omega (arith, ints));
+  unread = λ q is. rw unseen refl;
 }
 
 module _ (old new : State) (live : Live) (items : List Accepted) (same : new ≡ record old { queries = old.queries ++ live ∷ [] }) (fits : Fits old items)
@@ -456,7 +457,8 @@ follows_logged : (items : List Accepted) (stored stored_now : List Fact) (log lo
     → IsLoggedFor stored log stored_now log_now live → Follows items stored log live → Follows items stored_now log_now live
 follows_logged items stored stored_now log log_now live logged follows = record {
   contents = follows.contents;
-  seen = λ q. by live.reported q logged (follows.seen q);
+  seen = λ q is. by live.reported q logged (follows.seen q is);
+  unread = follows.unread;
 }
   where
     by : (b : Bool) (q : Fact) → (b ≡ true → (q : Fact) → since log_now live.place q +ℤ times fact_eq stored q ≡ since log live.place q +ℤ times fact_eq stored_now q)

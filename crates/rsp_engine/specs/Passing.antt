@@ -1,5 +1,5 @@
 -- Words of the way: what the engine's calls do to its state.
-use Rattle.std.specs.Prelude.{◌≡◌, ℕ, ◌+◌, Option, Bool, if◌then◌else◌, true, false, None, Some, List, [], ◌++◌, length, map, remove, slice_get, slice_set, unwrap_or}
+use Rattle.std.specs.Prelude.{◌≡◌, ℕ, ◌+◌, Option, Bool, if◌then◌else◌, true, false, None, Some, List, [], ◌++◌, filter, length, map, remove, slice_get, slice_set, unwrap_or}
 use Rattle.std.specs.List.{All}
 use Rattle.rsp_terms.specs.declared.term.Term.{Term}
 use Rattle.rsp_terms.specs.declared.statement.Fact.{Fact}
@@ -32,7 +32,7 @@ use Rattle.rsp_engine.specs.Keeping.{IsUnmoved}
 use Rattle.rsp_engine.specs.Left.{IsFirstLeft}
 use Rattle.rsp_engine.specs.Readings.{reading_of}
 use Rattle.rsp_engine.specs.Reports.{rows_over}
-use Rattle.rsp_engine.specs.Stands.{Fits, Follows, Precede, State, Live, asked_in, next_in, reading_in, registration_of, test_in}
+use Rattle.rsp_engine.specs.Stands.{Fits, Follows, Precede, State, Live, asked_in, is_read, next_in, reading_in, registration_of, test_in}
 use Rattle.rsp_engine.specs.Watching.{IsPolicy, Tells, name_of, reports_by}
 use Rattle.rsp_engine.specs.World.{Reading}
 
@@ -88,6 +88,10 @@ HasContents items kept t watched = All (λ (watch : Watch). HasContent watch t k
 abbrev pub facts_at : List Accepted → List Fact → Live → ℕ → List Fact
 facts_at items stored live t = stored ++ facts_over items live.first live.windows t
 
+-- and what its tree reads of that
+abbrev pub facts_read_at : List Accepted → List Fact → Live → ℕ → List Fact
+facts_read_at items stored live t = filter (is_read live) (facts_at items stored live t)
+
 -- there are items of which a live query's windows have seen a beginning, and whose contents at t are kept
 pub record IsFollowed (kept : Kept) (stored : List Fact) (log : Log) (t : ℕ) (live : Live) : Type 0 where
   pub items : List Accepted
@@ -95,7 +99,7 @@ pub record IsFollowed (kept : Kept) (stored : List Fact) (log : Log) (t : ℕ) (
   pub contents : HasContents items kept t (watches live.first live.windows)
 
 -- a live query reported at t, over the stored quads and what its windows see of the accepted items; where it is still live, its
--- answer stands for that, and it has seen all of the log
+-- answer stands for what its tree reads of that, and it has seen all of the log
 pub record IsReported {A : Type 0} (node : A → Node) (width : A → ℕ) (facts : A → List Fact) (spent : A → Bool)
     (kept : Kept) (stored : List Fact) (log : Log) (t : ℕ) (live new : LiveQuery A) (given : Outcome) : Type 0 where
   pub outcome : (items : List Accepted) → Follows items stored log (live_of facts live)
@@ -111,7 +115,7 @@ pub record IsReported {A : Type 0} (node : A → Node) (width : A → ℕ) (fact
   pub follows : is_overfull_outcome given ≡ false → (items : List Accepted) → Follows items stored log (live_of facts live)
       → HasContents items kept t (watches live.first live.windows)
       → Follows items stored log (live_of facts new)
-      × IsSameMultiset fact_eq (facts new.answer) (facts_at items stored (live_of facts live) t)
+      × IsSameMultiset fact_eq (facts new.answer) (facts_read_at items stored (live_of facts live) t)
 
 -- the live queries behind a report of the one at this place, which is then this: or is no longer live
 abbrev pub queries_behind : State → Pending → Live → Bool → List Live
@@ -123,8 +127,8 @@ abbrev pub place_behind : Pending → Bool → ℕ
 place_behind place true = place.query
 place_behind place false = place.query + 1
 
--- the report at the first place left was given; the query's answer stands for what it saw where it isn't overfull, and the
--- moments behind are left, with the items that they need
+-- the report at the first place left was given; where it isn't overfull, the query's answer stands for what its tree reads of
+-- what it saw; and the moments behind are left, with the items that they need
 pub record ReportsFirst (old : State) (report : Report) (new : State) : Type 0 where
   pub place : Pending
   pub live : Live
@@ -142,7 +146,7 @@ pub record ReportsFirst (old : State) (report : Report) (new : State) : Type 0 w
   pub told : is_overfull_outcome report.outcome ≡ false → now.reported ≡ true
   pub stood : is_overfull_outcome report.outcome ≡ false → (items : List Accepted) → Follows items old.stored old.log live
       → HasContents items old.kept place.at (watches live.first live.windows)
-      → IsSameMultiset fact_eq now.seen (facts_at items old.stored live place.at)
+      → IsSameMultiset fact_eq now.seen (facts_read_at items old.stored live place.at)
   pub next : new.next ≡ old.next
   pub stored : new.stored ≡ old.stored
   pub log : new.log ≡ old.log

@@ -14,6 +14,7 @@ use Rattle.rsp_report.specs.declared.chosen.Chosen.{Chosen}
 use Rattle.rsp_report.specs.declared.contents.Watched.{Watched}
 use Rattle.rsp_report.specs.declared.operator.Operator.{Operator}
 use Rattle.rsp_algebra.specs.Meanings.{node_of}
+use Rattle.rsp_algebra.specs.Reading.{reads}
 use Rattle.rsp_algebra.specs.declared.tree.Translated.{Translated}
 use Rattle.rsp_scope.specs.Contents.{Accepted, Watch, window_facts}
 use Rattle.rsp_scope.specs.Ends.{IsKept}
@@ -146,12 +147,17 @@ facts_followed items contents =
 abbrev pub unseen : List Fact → Log → Live → Fact → ℤ
 unseen stored log live q = if live.reported then since log live.place q else times fact_eq stored q
 
--- a live query's answer stands for what it saw at its last report: what it hasn't seen of the stored quads leads from there to
--- the stored quads and what its windows saw
+-- the live query's tree reads the fact
+abbrev pub is_read : Live → Fact → Bool
+is_read live = reads (node_of live.query.tree)
+
+-- a live query's answer stands for what it saw at its last report of the facts that its tree reads, and for no others: what it
+-- hasn't seen of the stored quads leads from there to the stored quads and what its windows saw
 pub record Follows (items : List Accepted) (stored : List Fact) (log : Log) (live : Live) : Type 0 where
   pub contents : All (λ (seen : Followed). HasSeen seen (take seen.accepted items)) live.contents
-  pub seen : (q : Fact) → times fact_eq live.seen q +ℤ unseen stored log live q
+  pub seen : (q : Fact) → is_read live q ≡ true → times fact_eq live.seen q +ℤ unseen stored log live q
       ≡ times fact_eq stored q +ℤ times fact_eq (facts_followed items live.contents) q
+  pub unread : (q : Fact) → is_read live q ≡ false → times fact_eq live.seen q ≡ pos 0
 
 -- these are the accepted items, as far as the engine needs them: of them it keeps what is needed from the cut on, and from there
 -- on its queries watch their times and follow their contents

@@ -2,8 +2,8 @@
 use rsp_algebra::Translated;
 use rsp_query::Operator;
 use rsp_report::{Chosen, Watched};
-use rsp_scope::Contents;
-use rsp_terms::{Listed, Text};
+use rsp_scope::{Contents, Reader};
+use rsp_terms::{Fact, Listed, Text};
 use rsp_windows::Window;
 
 /// A window over a stream, by its IRI.
@@ -14,7 +14,7 @@ pub(crate) struct StreamWindow {
 }
 
 /// A query that is live. It sees the items from number `first` on, counted from 0 in the order of acceptance. Its answer
-/// stands for the facts of its last report.
+/// stands for the facts of its last report that its tree reads.
 #[derive(Drop)]
 pub struct LiveQuery<A> {
     pub name: Text,
@@ -36,4 +36,16 @@ pub struct LiveQuery<A> {
     /// Each window with its content as of the last report.
     pub contents: Vec<Contents>,
     pub answer: A,
+}
+
+/// A live query reads the facts that its tree reads.
+impl<A> Reader for LiveQuery<A> {
+    ghost use Rattle.rsp_algebra.specs.Meanings.{node_of};
+    ghost use Rattle.rsp_algebra.specs.Reading.{reads as tree_reads};
+
+    ghost is_read = { λ live. tree_reads (node_of live.query.value.tree) };
+
+    fn reads(&self, fact: &Fact) -> bool {
+        self.query.tree.reads(fact)
+    }
 }

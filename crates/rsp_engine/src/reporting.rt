@@ -6,7 +6,7 @@ ghost use Rattle.rsp_terms.specs.Same.{fact_eq, term_eq};
 ghost use Rattle.rsp_terms.specs.declared.term.Term.{Term};
 ghost use Rattle.rsp_terms.specs.declared.statement.Fact.{Fact};
 ghost use Rattle.rsp_multiset.specs.Rows.{Cells, row_eq};
-ghost use Rattle.rsp_multiset.specs.Weights.{IsChanged, IsSameMultiset, times, weight};
+ghost use Rattle.rsp_multiset.specs.Weights.{IsChanged, IsSameMultiset, only, times, weight};
 ghost use Rattle.rsp_algebra.specs.Solutions.{eval};
 ghost use Rattle.rsp_scope.specs.Contents.{Accepted};
 ghost use Rattle.rsp_scope.specs.Ends.{HasContent};
@@ -18,13 +18,13 @@ ghost use Rattle.rsp_engine.specs.Inside.{Answers, live_of};
 ghost use Rattle.rsp_engine.specs.Keeping.{watches_followed};
 ghost use Rattle.rsp_engine.specs.Passing.{HasContents, IsFollowed, IsReported};
 ghost use Rattle.rsp_engine.specs.Reports.{cells_at};
-ghost use Rattle.rsp_engine.specs.Stands.{Behind, IsStore, facts_followed, unseen};
+ghost use Rattle.rsp_engine.specs.Stands.{Behind, IsStore, facts_followed, is_read, unseen};
 
 use crate::rows::{changed_rows, shown_rows};
 use crate::{LiveQuery, Outcome, Report};
 use rsp_algebra::{Answer, Turn};
 use rsp_multiset::{Changes, Row};
-use rsp_scope::{Contents, StoreLog, Stored, Streams};
+use rsp_scope::{Contents, StoreLog, Stored, Streams, part_read};
 use rsp_steps::Steps;
 use rsp_streams_out::{PrintedRows, Reading, read_by};
 use rsp_terms::{Fact, Listed, Term, Text};
@@ -85,7 +85,9 @@ fn outcome_at<A: Answer, L: Ledger>(
         streams.now stored.now log.now at live.old live.new) }
 {
     let mut changes = unseen(live, stored, log)?;
-    move_windows(&mut live.contents, streams, at, &mut changes)?;
+    let mut moved = Changes::new(alloc);
+    move_windows(&mut live.contents, streams, at, &mut moved)?;
+    changes.join_changes(part_read(alloc, moved, live)?)?;
     live.place = log.mark();
     match live.answer.change(&changes, steps)? {
         Turn::Overfull => Ok(Outcome::Overfull),
@@ -97,19 +99,19 @@ fn outcome_at<A: Answer, L: Ledger>(
     }
 }
 
-// what a query hasn't seen of the stored quads
+// what a query hasn't seen of the stored quads, as far as it reads them
 fn unseen<A: Answer>(
     live: &LiveQuery<A>,
     stored: &Stored,
     log: &StoreLog,
 ) -> Result<Changes<Fact>, AllocError>
-    ensures { IfOk result (λ changes. (q : Fact)
-        → weight fact_eq changes q ≡ unseen stored.now log.now (live_of A.facts live.now) q) }
+    ensures { IfOk result (λ changes. (q : Fact) → weight fact_eq changes q
+        ≡ only (is_read (live_of A.facts live.now) q) (unseen stored.now log.now (live_of A.facts live.now) q)) }
 {
     if live.reported {
-        log.since(live.place)
+        log.since(live.place, live)
     } else {
-        stored.facts()
+        stored.facts(live)
     }
 }
 

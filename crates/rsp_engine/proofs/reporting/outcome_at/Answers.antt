@@ -1,4 +1,4 @@
-use Rattle.std.proofs.Common.{◌≡◌, ◌∙◌, Some, refl, sym, ap, subst, true≢false}
+use Rattle.std.proofs.Common.{◌≡◌, ◌∙◌, [], Some, refl, sym, ap, subst, true≢false}
 use Rattle.std.specs.Prelude.{not, Ok}
 use Rattle.std.proofs.lemmas.List.Elements.{All-same}
 use Rattle.std.specs.Vec.{with_items}
@@ -11,7 +11,7 @@ use Rattle.rsp_algebra.specs.Solutions.{eval}
 use Rattle.rsp_engine.specs.Inside.{live_of}
 use Rattle.rsp_engine.specs.Keeping.{watches_followed}
 use Rattle.rsp_engine.specs.Passing.{facts_at}
-use Rattle.rsp_engine.proofs.Following.{AllMoved, allowed_change, contents_back, stands_for_now, still_follows}
+use Rattle.rsp_engine.proofs.Following.{AllMoved, allowed_change, contents_back, stands_for_now, still_follows, told_of}
 use Rattle.rsp_engine.proofs.Reported.{overfull_outcome, rows_outcome}
 use Rattle.rsp_engine.proofs.reporting.outcome_at.Goals as goal
 
@@ -19,9 +19,13 @@ pub change-requires-clause-allowed : goal.change-requires-clause-allowed
 change-requires-clause-allowed g c =
     let news = c.move_windows.new.contents in
     let watched = c.in_ok-move_windows.ensures.watches ∙ ap watches_followed c.deref_mut.ensures.value in
-    let moved = subst (λ l. AllMoved c.args.streams.now c.args.at l news c.in_ok-changes.changes c.move_windows.new.changes) c.deref_mut.ensures.value c.in_ok-move_windows.ensures.moved in
-    allowed_change c.args.streams.now c.args.stored.now c.args.log.now c.args.at (live_of g.A.Answer.facts c.args.live.now) news c.in_ok-changes.changes c.move_windows.new.changes
-    c.requires.watches watched c.in_ok-move_windows.ensures.at c.in_ok-changes.ensures moved
+    let shift = c.move_windows.new.changes in
+    let changes = c.join_changes.new.self in
+    let moved = subst (λ l. AllMoved c.args.streams.now c.args.at l news [] shift) c.deref_mut.ensures.value c.in_ok-move_windows.ensures.moved in
+    let told = told_of c.args.stored.now c.args.log.now (live_of g.A.Answer.facts c.args.live.now) c.in_ok-changes.changes shift c.in_ok-part_read.result changes
+    c.in_ok-changes.ensures c.in_ok-part_read.ensures c.in_ok-join_changes.ensures in
+    allowed_change c.args.streams.now c.args.stored.now c.args.log.now c.args.at (live_of g.A.Answer.facts c.args.live.now) news shift changes
+    c.requires.watches watched c.in_ok-move_windows.ensures.at told moved
     c.requires.store c.requires.answers.set c.requires.followed
 
 pub returns-in-Overfull : goal.returns-in-Overfull
@@ -30,9 +34,13 @@ returns-in-Overfull g c =
     let news = c.move_windows.new.contents in
     let held = g.A.Answer.facts c.change.new.self in
     let watched = c.in_ok-move_windows.ensures.watches ∙ ap watches_followed c.deref_mut.ensures.value in
-    let moved = subst (λ l. AllMoved c.args.streams.now c.args.at l news c.in_ok-changes.changes c.move_windows.new.changes) c.deref_mut.ensures.value c.in_ok-move_windows.ensures.moved in
-    let stands = stands_for_now c.args.streams.now c.args.stored.now c.args.log.now c.args.at (live_of g.A.Answer.facts live) news c.in_ok-changes.changes c.move_windows.new.changes
-    c.requires.watches watched c.in_ok-move_windows.ensures.at c.in_ok-changes.ensures moved in
+    let shift = c.move_windows.new.changes in
+    let changes = c.join_changes.new.self in
+    let moved = subst (λ l. AllMoved c.args.streams.now c.args.at l news [] shift) c.deref_mut.ensures.value c.in_ok-move_windows.ensures.moved in
+    let told = told_of c.args.stored.now c.args.log.now (live_of g.A.Answer.facts live) c.in_ok-changes.changes shift c.in_ok-part_read.result changes
+    c.in_ok-changes.ensures c.in_ok-part_read.ensures c.in_ok-join_changes.ensures in
+    let stands = stands_for_now c.args.streams.now c.args.stored.now c.args.log.now c.args.at (live_of g.A.Answer.facts live) news shift changes
+    c.requires.watches watched c.in_ok-move_windows.ensures.at told moved in
     let back = contents_back live news watched in
     let full = sym (ap is_overfull (sym c.in-Overfull.is) ∙ c.in_ok-change.ensures.overfull) in
     record {
@@ -61,11 +69,15 @@ returns g c =
     let news = c.move_windows.new.contents in
     let held = g.A.Answer.facts c.change.new.self in
     let watched = c.in_ok-move_windows.ensures.watches ∙ ap watches_followed c.deref_mut.ensures.value in
-    let moved = subst (λ l. AllMoved c.args.streams.now c.args.at l news c.in_ok-changes.changes c.move_windows.new.changes) c.deref_mut.ensures.value c.in_ok-move_windows.ensures.moved in
-    let stands = stands_for_now c.args.streams.now c.args.stored.now c.args.log.now c.args.at (live_of g.A.Answer.facts live) news c.in_ok-changes.changes c.move_windows.new.changes
-    c.requires.watches watched c.in_ok-move_windows.ensures.at c.in_ok-changes.ensures moved in
-    let still = still_follows c.args.streams.now c.args.stored.now c.args.log.now c.args.at (live_of g.A.Answer.facts live) news c.in_ok-changes.changes c.move_windows.new.changes
-    c.requires.watches watched c.in_ok-move_windows.ensures.at c.in_ok-changes.ensures moved in
+    let shift = c.move_windows.new.changes in
+    let changes = c.join_changes.new.self in
+    let moved = subst (λ l. AllMoved c.args.streams.now c.args.at l news [] shift) c.deref_mut.ensures.value c.in_ok-move_windows.ensures.moved in
+    let told = told_of c.args.stored.now c.args.log.now (live_of g.A.Answer.facts live) c.in_ok-changes.changes shift c.in_ok-part_read.result changes
+    c.in_ok-changes.ensures c.in_ok-part_read.ensures c.in_ok-join_changes.ensures in
+    let stands = stands_for_now c.args.streams.now c.args.stored.now c.args.log.now c.args.at (live_of g.A.Answer.facts live) news shift changes
+    c.requires.watches watched c.in_ok-move_windows.ensures.at told moved in
+    let still = still_follows c.args.streams.now c.args.stored.now c.args.log.now c.args.at (live_of g.A.Answer.facts live) news shift changes
+    c.requires.watches watched c.in_ok-move_windows.ensures.at told moved in
     let back = contents_back live news watched in
     let full = sym (ap is_overfull (sym c.in-Net.is) ∙ c.in_ok-change.ensures.overfull) in
     let ready = c.change.ensures.spent ∙ ap (λ r. not (goes_on r)) (c.in_ok-change.was ∙ ap Ok c.in-Net.is) in
@@ -92,7 +104,7 @@ returns g c =
           set = c.in_ok-change.ensures.set;
         };
         follows = λ rows items follows has. (
-          still items follows has _ back refl c.mark-live.ensures.none c.in_ok-change.ensures.facts,
+          still items follows has _ refl back refl c.mark-live.ensures.none c.in_ok-change.ensures.facts,
           stands items follows has held c.in_ok-change.ensures.facts,
         );
       };
