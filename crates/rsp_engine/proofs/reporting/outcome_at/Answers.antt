@@ -21,8 +21,9 @@ change-requires-clause-allowed g c =
     let watched = c.in_ok-move_windows.ensures.watches ∙ ap watches_followed c.deref_mut.ensures.value in
     let shift = c.move_windows.new.changes in
     let changes = c.join_changes.new.self in
-    let moved = subst (λ l. AllMoved c.args.streams.now c.args.at l news [] shift) c.deref_mut.ensures.value c.in_ok-move_windows.ensures.moved in
-    let told = told_of c.args.stored.now c.args.log.now (live_of g.A.Answer.facts c.args.live.now) c.in_ok-changes.changes shift c.in_ok-part_read.result changes
+    let from_none = subst (λ changes. AllMoved c.args.streams.now c.args.at c.deref_mut.result.now news changes shift) c.new-moved.ensures c.in_ok-move_windows.ensures.moved in
+    let moved = subst (λ l. AllMoved c.args.streams.now c.args.at l news [] shift) c.deref_mut.ensures.value from_none in
+    let told = told_of c.args.stored.now c.args.log.now (live_of g.A.Answer.facts c.args.live.now) c.in_ok-changes.changes shift c.in_ok-part_read.field-0 changes
     c.in_ok-changes.ensures c.in_ok-part_read.ensures c.in_ok-join_changes.ensures in
     allowed_change c.args.streams.now c.args.stored.now c.args.log.now c.args.at (live_of g.A.Answer.facts c.args.live.now) news shift changes
     c.requires.watches watched c.in_ok-move_windows.ensures.at told moved
@@ -36,8 +37,9 @@ returns-in-Overfull g c =
     let watched = c.in_ok-move_windows.ensures.watches ∙ ap watches_followed c.deref_mut.ensures.value in
     let shift = c.move_windows.new.changes in
     let changes = c.join_changes.new.self in
-    let moved = subst (λ l. AllMoved c.args.streams.now c.args.at l news [] shift) c.deref_mut.ensures.value c.in_ok-move_windows.ensures.moved in
-    let told = told_of c.args.stored.now c.args.log.now (live_of g.A.Answer.facts live) c.in_ok-changes.changes shift c.in_ok-part_read.result changes
+    let from_none = subst (λ changes. AllMoved c.args.streams.now c.args.at c.deref_mut.result.now news changes shift) c.new-moved.ensures c.in_ok-move_windows.ensures.moved in
+    let moved = subst (λ l. AllMoved c.args.streams.now c.args.at l news [] shift) c.deref_mut.ensures.value from_none in
+    let told = told_of c.args.stored.now c.args.log.now (live_of g.A.Answer.facts live) c.in_ok-changes.changes shift c.in_ok-part_read.field-0 changes
     c.in_ok-changes.ensures c.in_ok-part_read.ensures c.in_ok-join_changes.ensures in
     let stands = stands_for_now c.args.streams.now c.args.stored.now c.args.log.now c.args.at (live_of g.A.Answer.facts live) news shift changes
     c.requires.watches watched c.in_ok-move_windows.ensures.at told moved in
@@ -71,8 +73,9 @@ returns g c =
     let watched = c.in_ok-move_windows.ensures.watches ∙ ap watches_followed c.deref_mut.ensures.value in
     let shift = c.move_windows.new.changes in
     let changes = c.join_changes.new.self in
-    let moved = subst (λ l. AllMoved c.args.streams.now c.args.at l news [] shift) c.deref_mut.ensures.value c.in_ok-move_windows.ensures.moved in
-    let told = told_of c.args.stored.now c.args.log.now (live_of g.A.Answer.facts live) c.in_ok-changes.changes shift c.in_ok-part_read.result changes
+    let from_none = subst (λ changes. AllMoved c.args.streams.now c.args.at c.deref_mut.result.now news changes shift) c.new-moved.ensures c.in_ok-move_windows.ensures.moved in
+    let moved = subst (λ l. AllMoved c.args.streams.now c.args.at l news [] shift) c.deref_mut.ensures.value from_none in
+    let told = told_of c.args.stored.now c.args.log.now (live_of g.A.Answer.facts live) c.in_ok-changes.changes shift c.in_ok-part_read.field-0 changes
     c.in_ok-changes.ensures c.in_ok-part_read.ensures c.in_ok-join_changes.ensures in
     let stands = stands_for_now c.args.streams.now c.args.stored.now c.args.log.now c.args.at (live_of g.A.Answer.facts live) news shift changes
     c.requires.watches watched c.in_ok-move_windows.ensures.at told moved in
