@@ -18,18 +18,6 @@ use Rattle.rsp_engine.proofs.WatchedWith.{AreMoved, same_by}
 
 -- ---- windows
 
--- a step of a loop that changes each element
-pub more_mapped : {X : Type 0} (f : X → X) (xs : List X) (i : ℕ) (x new : X) → i < length xs
-    → x ≡ get_or (map f (take i xs) ++ drop i xs) i x → new ≡ f x
-    → set (map f (take i xs) ++ drop i xs) i new ≡ map f (take (i + 1) xs) ++ drop (i + 1) xs
-more_mapped f xs i x new within is made = subst (λ n. set (map f (take i xs) ++ drop i xs) i new ≡ map f (take n xs) ++ drop n xs) (sym (add-one i)) (by xs i within is)
-  where
-    by : (xs : List X) (i : ℕ) → i < length xs → x ≡ get_or (map f (take i xs) ++ drop i xs) i x
-        → set (map f (take i xs) ++ drop i xs) i new ≡ map f (take (suc i) xs) ++ drop (suc i) xs
-    by [] i within is = absurd (omega (arith, within))
-    by (y ∷ ys) zero within is = ap (λ z. z ∷ ys) (made ∙ ap f is)
-    by (y ∷ ys) (suc i) within is = ap (λ zs. f y ∷ zs) (by ys i (omega (arith, within)) is)
-
 pub all_calm : (ws : List Watched) → IsCalm (map calmed ws)
 all_calm [] k d within = absurd (omega (arith, within))
 all_calm (w ∷ ws) zero d within = refl

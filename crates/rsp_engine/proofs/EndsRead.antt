@@ -97,9 +97,14 @@ module _ (n : ℕ) (entry : Numbered) where
             (sym (at_place whole k live rest is))
         by false fails same = ap (λ b. b || list_any needs rest) (others 0 live (omega arith) fails) ∙ same
 
+    -- whether it is needed, by an end of those that were asked and by the places that are left
+    abbrev pub IsSoFar : List (LiveQuery A) → List ℕ → Option ℕ → Type 0
+    IsSoFar queries rest end = is_needed n (watches_by queries) entry
+        ≡ (option_map_or (λ e. nat_le n e) end false || list_any (needs_at queries) rest)
+
     -- the item is needed where a reader of its stream needs it
     pub by_readers : (queries : List (LiveQuery A)) → All (λ live. watches_followed live.contents.items ≡ watches live.first live.windows) queries
-        → is_needed n (watches_by queries) entry ≡ list_any (needs_at queries) (places_from (is_reader entry.item.stream) 0 queries)
+        → IsSoFar queries (places_from (is_reader entry.item.stream) 0 queries) None
     by_readers queries are =
         by_queries queries
         ∙ by_places (is_reader entry.item.stream) queries queries 0 refl
@@ -107,12 +112,11 @@ module _ (n : ℕ) (entry : Numbered) where
         ∙ other_needs (get_or queries k d).first 0 (get_or queries k d).windows none)
 
     -- a step of a loop over the places
-    pub reader_more : (queries : List (LiveQuery A)) (places : List ℕ) (i place : ℕ) (live : LiveQuery A) (end until : Option ℕ) (whole : Bool)
+    pub reader_more : (queries : List (LiveQuery A)) (places : List ℕ) (i place : ℕ) (live : LiveQuery A) (end until : Option ℕ)
         → i < length places → place ≡ get_or places i place → place < length queries → live ≡ get_or queries place live
         → EndsAt (watches_followed live.contents.items) entry until
-        → whole ≡ (option_map_or (λ e. nat_le n e) end false || list_any (needs_at queries) (drop i places))
-        → whole ≡ (option_map_or (λ e. nat_le n e) (later end until) false || list_any (needs_at queries) (drop (i + 1) places))
-    reader_more queries places i place live end until whole below at within is ends so_far =
+        → IsSoFar queries (drop i places) end → IsSoFar queries (drop (i + 1) places) (later end until)
+    reader_more queries places i place live end until below at within is ends so_far =
         let split : drop i places ≡ place ∷ drop (i + 1) places = drop_more places i place below ∙ ap (λ p. p ∷ drop (i + 1) places) (sym at) in
         let here : needs_at queries place ≡ option_map_or (λ e. nat_le n e) until false =
         ap (λ o. option_map_or (λ live. needs live) o false) (slice_get-get_or queries place live within ∙ ap Some (sym is)) ∙ ends n in
@@ -122,9 +126,9 @@ module _ (n : ℕ) (entry : Numbered) where
         ∙ (sym (or_assoc (option_map_or (λ e. nat_le n e) end false) (option_map_or (λ e. nat_le n e) until false) (list_any (needs_at queries) (drop (i + 1) places)))
         ∙ ap (λ b. b || list_any (needs_at queries) (drop (i + 1) places)) (later_test n end until))))
 
-    pub none_more : (queries : List (LiveQuery A)) (places : List ℕ) (i : ℕ) (end : Option ℕ) (whole : Bool) → length places ≤ i
-        → whole ≡ (option_map_or (λ e. nat_le n e) end false || list_any (needs_at queries) (drop i places))
-        → whole ≡ option_map_or (λ e. nat_le n e) end false
-    none_more queries places i end whole past so_far =
+    pub none_more : (queries : List (LiveQuery A)) (places : List ℕ) (i : ℕ) (end : Option ℕ) → length places ≤ i
+        → IsSoFar queries (drop i places) end
+        → is_needed n (watches_by queries) entry ≡ option_map_or (λ e. nat_le n e) end false
+    none_more queries places i end past so_far =
         so_far ∙ (ap (λ l. option_map_or (λ e. nat_le n e) end false || list_any (needs_at queries) l) (drop_all i places past)
         ∙ or_false (option_map_or (λ e. nat_le n e) end false))

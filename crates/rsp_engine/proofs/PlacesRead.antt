@@ -2,7 +2,7 @@
 use Rattle.std.proofs.Common.{◌≡◌, ◌≢◌, ℕ, zero, suc, ◌+◌, ◌-◌, ◌<◌, ◌≤◌, Bool, true, false, true≢false, cond, if◌then◌else◌, ◌||◌, List, [], ◌∷◌, ◌++◌, length, map, filter, take, drop, set, get_or, remove, nat_eq, nat_lt, not, length-set, get_or-set_same, get_or-set_other, refl, sym, ap, subst, ◌∙◌, arith, add-one, append_assoc, append-nil, eqb-true}
 use Rattle.std.specs.List.{list_any}
 use Rattle.std.proofs.lemmas.Bool.Decides.{nat_tests}
-use Rattle.std.proofs.lemmas.List.{get_or_default, take_all, take_more}
+use Rattle.std.proofs.lemmas.List.{drop_all, get_or_default, take_all, take_more}
 use Rattle.std.proofs.lemmas.List.Folds.{list_any-append}
 use Rattle.rsp_engine.specs.Readers.{lowered, places_from, without}
 use Rattle.rsp_engine.specs.Watched.{AreChanged}
@@ -276,3 +276,20 @@ module _ {X : Type 0} (R : X → X → Type 0) where
         there = λ k d within passes. are.done k d within (ap (λ l. among l k) all ∙ (among_is test olds k d within ∙ passes));
         elsewhere = λ k d within fails. are.to_do k d within (ap (λ l. among l k) all ∙ (among_is test olds k d within ∙ fails));
       }
+
+-- ---- what is done to each element, one after another
+
+pub more_mapped : {X : Type 0} (f : X → X) (xs : List X) (i : ℕ) (x new : X) → i < length xs
+    → x ≡ get_or (map f (take i xs) ++ drop i xs) i x → new ≡ f x
+    → set (map f (take i xs) ++ drop i xs) i new ≡ map f (take (i + 1) xs) ++ drop (i + 1) xs
+more_mapped f xs i x new within is made =
+    subst (λ n. set (map f (take i xs) ++ drop i xs) i new ≡ map f (take n xs) ++ drop n xs) (sym (add-one i)) (by xs i within is)
+  where
+    by : (xs : List X) (i : ℕ) → i < length xs → x ≡ get_or (map f (take i xs) ++ drop i xs) i x
+        → set (map f (take i xs) ++ drop i xs) i new ≡ map f (take (suc i) xs) ++ drop (suc i) xs
+    by [] i within is = absurd (omega (arith, within))
+    by (y ∷ ys) zero within is = ap (λ z. z ∷ ys) (made ∙ ap f is)
+    by (y ∷ ys) (suc i) within is = ap (λ zs. f y ∷ zs) (by ys i (omega (arith, within)) is)
+
+pub all_mapped : {X : Type 0} (f : X → X) (xs : List X) (i : ℕ) → length xs ≤ i → map f (take i xs) ++ drop i xs ≡ map f xs
+all_mapped f xs i end = (λ k. map f (take_all i xs end k) ++ drop_all i xs end k) ∙ append-nil (map f xs)

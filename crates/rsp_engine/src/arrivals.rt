@@ -1,5 +1,5 @@
 // What a new item adds to what live queries watch: its time, to the windows over its stream.
-ghost use Rattle.std.specs.Prelude.{◌≡◌, ◌≤◌, ◌<◌, ◌++◌, ◌∷◌, ℕ, Bool, [], false, List, map, OnOk, Some, bytes_eq, length, slice_get};
+ghost use Rattle.std.specs.Prelude.{◌≡◌, ◌≤◌, ◌<◌, ◌++◌, ◌∷◌, ℕ, [], false, List, map, OnOk, Some, bytes_eq, length, slice_get};
 ghost use Rattle.std.specs.Prelude.{slice_index_or};
 ghost use Rattle.std.specs.List.{All};
 ghost use Rattle.std.specs.Option.{option_map_or};
@@ -60,18 +60,19 @@ fn calm<A>(queries: &mut [LiveQuery<A>], readers: &Readers)
         → IsCalmed (slice_index_or queries.old k d) (slice_index_or queries.new k d) }
 {
     if let Some(stream) = readers.newest() {
-        calm_readers(queries, readers.of(stream));
+        calm_readers(queries, readers, stream);
     }
 }
 
-// takes `fresh` back from the windows of the queries at these places
-fn calm_readers<A>(queries: &mut [LiveQuery<A>], places: &[usize])
-    requires { (test : LiveQuery A → Bool) × (places.now ≡ places_from test 0 queries.old) }
-    ensures { (test : LiveQuery A → Bool) → places.now ≡ places_from test 0 queries.old
-        → AreChanged test IsCalmed queries.old queries.new }
+// takes `fresh` back from the windows of the queries that read the stream
+fn calm_readers<A>(queries: &mut [LiveQuery<A>], readers: &Readers, stream: &Text)
+    requires { readers_of readers.now stream.now ≡ places_from (is_reader stream.now) 0 queries.old }
+    ensures { AreChanged (is_reader stream.now) IsCalmed queries.old queries.new }
 {
+    let places = readers.of(stream);
     for index in 0..places.len() {
-        calm_query(&mut queries[places[index]]);
+        let place = places[index];
+        calm_query(&mut queries[place]);
     }
 }
 
@@ -100,7 +101,8 @@ fn attend<A>(
 {
     let places = readers.of(stream);
     for index in 0..places.len() {
-        watch_query(alloc, &mut queries[places[index]], stream, time, from)?;
+        let place = places[index];
+        watch_query(alloc, &mut queries[place], stream, time, from)?;
     }
     Ok(())
 }

@@ -45,7 +45,8 @@ pub(crate) fn end_of<A>(
     let places = readers.of(stream);
     let mut end = None;
     for index in 0..places.len() {
-        let live = &queries[places[index]];
+        let place = places[index];
+        let live = &queries[place];
         end = later(end, end_by(live.contents.as_slice(), number, stream, time));
     }
     end
