@@ -112,16 +112,16 @@ module _ (n : ℕ) (entry : Numbered) where
         ∙ other_needs (get_or queries k d).first 0 (get_or queries k d).windows none)
 
     -- a step of a loop over the places
-    pub reader_more : (queries : List (LiveQuery A)) (places : List ℕ) (i place : ℕ) (live : LiveQuery A) (end until : Option ℕ)
-        → i < length places → place ≡ get_or places i place → place < length queries → live ≡ get_or queries place live
+    pub reader_more : (queries : List (LiveQuery A)) (places : List ℕ) (i d : ℕ) (live : LiveQuery A) (end until : Option ℕ)
+        → i < length places → get_or places i d < length queries → live ≡ get_or queries (get_or places i d) live
         → EndsAt (watches_followed live.contents.items) entry until
         → IsSoFar queries (drop i places) end → IsSoFar queries (drop (i + 1) places) (later end until)
-    reader_more queries places i place live end until below at within is ends so_far =
-        let split : drop i places ≡ place ∷ drop (i + 1) places = drop_more places i place below ∙ ap (λ p. p ∷ drop (i + 1) places) (sym at) in
+    reader_more queries places i d live end until below within is ends so_far =
+        let place = get_or places i d in
         let here : needs_at queries place ≡ option_map_or (λ e. nat_le n e) until false =
         ap (λ o. option_map_or (λ live. needs live) o false) (slice_get-get_or queries place live within ∙ ap Some (sym is)) ∙ ends n in
         so_far
-        ∙ (ap (λ l. option_map_or (λ e. nat_le n e) end false || list_any (needs_at queries) l) split
+        ∙ (ap (λ l. option_map_or (λ e. nat_le n e) end false || list_any (needs_at queries) l) (drop_more places i d below)
         ∙ (ap (λ b. option_map_or (λ e. nat_le n e) end false || (b || list_any (needs_at queries) (drop (i + 1) places))) here
         ∙ (sym (or_assoc (option_map_or (λ e. nat_le n e) end false) (option_map_or (λ e. nat_le n e) until false) (list_any (needs_at queries) (drop (i + 1) places)))
         ∙ ap (λ b. b || list_any (needs_at queries) (drop (i + 1) places)) (later_test n end until))))

@@ -1,6 +1,6 @@
 -- The places of those that pass a test, and what is done at them one after another.
 use Rattle.std.proofs.Common.{◌≡◌, ◌≢◌, ℕ, zero, suc, ◌+◌, ◌-◌, ◌<◌, ◌≤◌, Bool, true, false, true≢false, cond, if◌then◌else◌, ◌||◌, List, [], ◌∷◌, ◌++◌, length, map, filter, take, drop, set, get_or, remove, nat_eq, nat_lt, not, length-set, get_or-set_same, get_or-set_other, refl, sym, ap, subst, ◌∙◌, arith, add-one, append_assoc, append-nil, eqb-true}
-use Rattle.std.specs.List.{list_any}
+use Rattle.std.specs.List.{All, list_any}
 use Rattle.std.proofs.lemmas.Bool.Decides.{nat_tests}
 use Rattle.std.proofs.lemmas.List.{drop_all, get_or_default, take_all, take_more}
 use Rattle.std.proofs.lemmas.List.Folds.{list_any-append}
@@ -54,8 +54,12 @@ module _ {X : Type 0} (test : X → Bool) where
       by false i inside rest = let r = rest i inside in (omega (arith, r.0), omega (arith, r.1))
 
   -- each place is within the list
-  pub place_within : (xs : List X) (i d : ℕ) → i < length (places 0 xs) → get_or (places 0 xs) i d < length xs
+  place_within : (xs : List X) (i d : ℕ) → i < length (places 0 xs) → get_or (places 0 xs) i d < length xs
   place_within xs i d within = let b = (bounds 0 xs i d within).1 in omega (arith, b)
+
+  pub place_inside : (listed : List ℕ) (xs : List X) (i d : ℕ) → listed ≡ places 0 xs → i < length listed → get_or listed i d < length xs
+  place_inside listed xs i d is within =
+      subst (λ l. get_or l i d < length xs) (sym is) (place_within xs i d (subst (λ l. i < length l) is within))
 
   low : (n : ℕ) (xs : List X) (k : ℕ) → k < n → among (places n xs) k ≡ false
   low n [] k less = refl
@@ -238,34 +242,29 @@ module _ {X : Type 0} (R : X → X → Type 0) where
           first_false true b h = h
           first_false false b h = refl
 
-  -- a step of a loop over the places of those that pass
-  pub more_done : (test : X → Bool) (places : List ℕ) (olds news : List X) (i place : ℕ) (one new : X) → places ≡ places_from test 0 olds
-      → i < length places → place ≡ get_or places i place → AreDone R (take i places) olds news
-      → (place < length olds → R (get_or news place one) new) → AreDone R (take (i + 1) places) olds (set news place new)
-  more_done test places olds news i place one new is within at are holds =
-      let inside : place < length olds =
-      subst (λ p. p < length olds) (sym at) (subst (λ l. get_or l i place < length olds) (sym is)
-      (place_within test olds i place (subst (λ l. i < length l) is within))) in
-      let other : among (take i places) place ≡ false =
-      subst (λ p. among (take i places) p ≡ false) (sym at) (subst (λ l. among (take i l) (get_or l i place) ≡ false) (sym is)
-      (once test olds i place (subst (λ l. i < length l) is within))) in
-      let more : take (i + 1) places ≡ take i places ++ place ∷ [] =
-      take_more places i place within ∙ ap (λ p. take i places ++ p ∷ []) (sym at) in
-      subst (λ l. AreDone R l olds (set news place new)) (sym more)
-      (one_done (take i places) olds news place one new are (omega (arith, inside, are.long)) other (holds inside))
+  -- ---- the place of number i
 
-  -- what is still to do at the place of the step
-  pub to_do_at : (test : X → Bool) (places : List ℕ) (olds news : List X) (i place : ℕ) (one : X) → places ≡ places_from test 0 olds
-      → i < length places → place ≡ get_or places i place → AreDone R (take i places) olds news
-      → (place < length news) × ((d : X) → get_or news place d ≡ get_or olds place d)
-  to_do_at test places olds news i place one is within at are =
-      let inside : place < length olds =
-      subst (λ p. p < length olds) (sym at) (subst (λ l. get_or l i place < length olds) (sym is)
-      (place_within test olds i place (subst (λ l. i < length l) is within))) in
-      let other : among (take i places) place ≡ false =
-      subst (λ p. among (take i places) p ≡ false) (sym at) (subst (λ l. among (take i l) (get_or l i place) ≡ false) (sym is)
-      (once test olds i place (subst (λ l. i < length l) is within))) in
-      (omega (arith, inside, are.long), λ d. are.to_do place d inside other)
+  module _ (test : X → Bool) (places : List ℕ) (olds news : List X) (i d : ℕ) (is : places ≡ places_from test 0 olds)
+      (within : i < length places) (are : AreDone R (take i places) olds news) where
+    -- it is within
+    pub place_there : get_or places i d < length news
+    place_there = let inside = place_inside test places olds i d is within in omega (arith, inside, are.long)
+
+    left_so_far : among (take i places) (get_or places i d) ≡ false
+    left_so_far = subst (λ l. among (take i l) (get_or l i d) ≡ false) (sym is) (once test olds i d (subst (λ l. i < length l) is within))
+
+    -- what holds of all still holds there
+    pub holds_there : (P : X → Type 0) (one : X) → one ≡ get_or news (get_or places i d) one → All P olds → P one
+    holds_there P one at all =
+        let inside = place_inside test places olds i d is within in
+        subst P (sym (at ∙ are.to_do (get_or places i d) one inside left_so_far)) (all (get_or places i d) one inside)
+
+    -- and it is then done there
+    pub more_done : (one new : X) → one ≡ get_or news (get_or places i d) one → R one new
+        → AreDone R (take (i + 1) places) olds (set news (get_or places i d) new)
+    more_done one new at holds =
+        subst (λ l. AreDone R l olds (set news (get_or places i d) new)) (sym (take_more places i d within))
+        (one_done (take i places) olds news (get_or places i d) one new are place_there left_so_far (subst (λ x. R x new) at holds))
 
   pub all_done : (test : X → Bool) (places : List ℕ) (olds news : List X) (i : ℕ) → places ≡ places_from test 0 olds → length places ≤ i
       → AreDone R (take i places) olds news → AreChanged test R olds news
