@@ -59,8 +59,9 @@ fn calm<A>(queries: &mut [LiveQuery<A>], readers: &Readers)
     ensures calmed { (k : ℕ) (d : LiveQuery A) → k < length queries.old
         → IsCalmed (slice_index_or queries.old k d) (slice_index_or queries.new k d) }
 {
-    if let Some(stream) = readers.newest() {
-        calm_readers(queries, readers, stream);
+    match readers.newest() {
+        Some(stream) => calm_readers(queries, readers, stream),
+        None => {}
     }
 }
 

@@ -1,7 +1,7 @@
 use Rattle.std.proofs.Common.{◌≡◌, ◌∙◌, Some, ap, map, refl, subst, sym}
 use Rattle.std.specs.List.{All}
 use Rattle.rsp_engine.specs.Inside.{parts_of}
-use Rattle.rsp_engine.specs.Readers.{AreRead, IsStill, readers_of, reads}
+use Rattle.rsp_engine.specs.Readers.{IsStill, readers_of, reads}
 use Rattle.rsp_engine.specs.declared.live_query.LiveQuery.{LiveQuery}
 use Rattle.rsp_engine.specs.declared.readers.Readers.{Readers}
 use Rattle.rsp_engine.proofs.Calming.{all_moved, all_still, calmed_watching, places_kept}
@@ -22,8 +22,8 @@ attend-requires-clause-read g c =
     places_kept c.args.readers.now c.args.readers.now olds calm c.requires.read (λ s. refl) parts c.args.stream.now
     ∙ places_map (reads c.args.stream.now) (λ (live : LiveQuery g.row.A.Denot). live.windows) 0 calm
 
-pub returns-in_ok-attend : goal.returns-in_ok-attend
-returns-in_ok-attend g c =
+pub returns : goal.returns
+returns g c =
     let olds = c.args.queries.now in
     let news = c.attend.new.queries in
     let stream = c.args.stream.now in

@@ -4,8 +4,8 @@ use Rattle.rsp_engine.specs.Readers.{AreRead, readers_of, reads}
 use Rattle.rsp_engine.proofs.ReadersBehind.{read_more}
 use Rattle.rsp_engine.proofs.engine.add.Goals as goal
 
-pub returns-in_ok-push-clause-read : goal.returns-in_ok-push-clause-read
-returns-in_ok-push-clause-read g c =
+pub returns-clause-read : goal.returns-clause-read
+returns-clause-read g c =
     let old = c.args.readers.now in
     let new = c.add.new.self in
     let last : c.len.result ≡ length c.args.queries.now.items = omega (arith, c.len.ensures, c.args.queries.now.ok.0) in
