@@ -254,17 +254,17 @@ module _ {X : Type 0} (R : X → X → Type 0) where
     left_so_far = subst (λ l. among (take i l) (get_or l i d) ≡ false) (sym is) (once test olds i d (subst (λ l. i < length l) is within))
 
     -- what holds of all still holds there
-    pub holds_there : (P : X → Type 0) (one : X) → one ≡ get_or news (get_or places i d) one → All P olds → P one
-    holds_there P one at all =
+    pub holds_there : (P : X → Type 0) (e : X) → All P olds → P (get_or news (get_or places i d) e)
+    holds_there P e all =
         let inside = place_inside test places olds i d is within in
-        subst P (sym (at ∙ are.to_do (get_or places i d) one inside left_so_far)) (all (get_or places i d) one inside)
+        subst P (sym (are.to_do (get_or places i d) e inside left_so_far)) (all (get_or places i d) e inside)
 
     -- and it is then done there
-    pub more_done : (one new : X) → one ≡ get_or news (get_or places i d) one → R one new
+    pub more_done : (e new : X) → R (get_or news (get_or places i d) e) new
         → AreDone R (take (i + 1) places) olds (set news (get_or places i d) new)
-    more_done one new at holds =
+    more_done e new holds =
         subst (λ l. AreDone R l olds (set news (get_or places i d) new)) (sym (take_more places i d within))
-        (one_done (take i places) olds news (get_or places i d) one new are place_there left_so_far (subst (λ x. R x new) at holds))
+        (one_done (take i places) olds news (get_or places i d) e new are place_there left_so_far holds)
 
   pub all_done : (test : X → Bool) (places : List ℕ) (olds news : List X) (i : ℕ) → places ≡ places_from test 0 olds → length places ≤ i
       → AreDone R (take i places) olds news → AreChanged test R olds news
@@ -281,7 +281,7 @@ module _ {X : Type 0} (R : X → X → Type 0) where
 pub more_mapped : {X : Type 0} (f : X → X) (xs : List X) (i : ℕ) (x new : X) → i < length xs
     → x ≡ get_or (map f (take i xs) ++ drop i xs) i x → new ≡ f x
     → set (map f (take i xs) ++ drop i xs) i new ≡ map f (take (i + 1) xs) ++ drop (i + 1) xs
-more_mapped f xs i x new within is made =
+more_mapped {X} f xs i x new within is made =
     subst (λ n. set (map f (take i xs) ++ drop i xs) i new ≡ map f (take n xs) ++ drop n xs) (sym (add-one i)) (by xs i within is)
   where
     by : (xs : List X) (i : ℕ) → i < length xs → x ≡ get_or (map f (take i xs) ++ drop i xs) i x

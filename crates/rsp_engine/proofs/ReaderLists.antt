@@ -1,5 +1,5 @@
 -- Lists of readers by stream, as one is added or taken out.
-use Rattle.std.proofs.Common.{◌≡◌, ℕ, zero, suc, ◌+◌, ◌<◌, Bool, true, false, cond, ◌||◌, Option, None, Some, List, [], ◌∷◌, ◌++◌, length, take, get_or, remove, refl, sym, ap, ◌∙◌, arith, append-nil, bytes_eq}
+use Rattle.std.proofs.Common.{◌≡◌, ℕ, zero, suc, ◌+◌, ◌<◌, Bool, true, false, cond, ◌||◌, Option, None, Some, List, [], ◌∷◌, ◌++◌, length, take, get_or, refl, sym, ap, subst, ◌∙◌, bytes_eq}
 use Rattle.std.specs.Cmp.Lexicographic.{bytes_decides}
 use Rattle.std.specs.Global.{Vec}
 use Rattle.std.specs.List.{list_any}
@@ -13,15 +13,17 @@ use Rattle.rsp_engine.specs.Readers.{list_of, reads, without}
 use Rattle.rsp_engine.proofs.Named.{turned}
 
 -- lists of which a place was taken out, one after another
-module _ {F : Type 0} (place : ℕ) (T : F → List ℕ → Vec ℕ → Bool → Vec ℕ → F → Type 0)
-    (says : (f : F) (k : List ℕ) (old : Vec ℕ) (b : Bool) (new : Vec ℕ) (g : F) → T f k old b new g → (b ≡ true) × (new.items ≡ without place old.items)) where
-  pub lowered_lists : (f : F) (lists kept : List (List ℕ × Vec ℕ)) → RetainsPairs T f lists kept
+module _ {F : Type 0} (place : ℕ) (T : F → List ℕ → Vec ℕ → Bool → Vec ℕ → F → Type 0) (f : F)
+    (says : (k : List ℕ) (old : Vec ℕ) (b : Bool) (new : Vec ℕ) (g : F) → T f k old b new g
+        → (b ≡ true) × ((new.items ≡ without place old.items) × (g ≡ f))) where
+  pub lowered_lists : (lists kept : List (List ℕ × Vec ℕ)) → RetainsPairs T f lists kept
       → (s : List ℕ) → list_of kept s ≡ without place (list_of lists s)
-  lowered_lists f [] kept h s = ap (λ l. list_of l s) h
-  lowered_lists f (e ∷ lists) kept h s =
-      let told = says f e.0 e.1 h.0 h.1 h.2 h.4 in
+  lowered_lists [] kept h s = ap (λ l. list_of l s) h
+  lowered_lists (e ∷ lists) kept h s =
+      let told = says e.0 e.1 h.0 h.1 h.2 h.4 in
       let split : kept ≡ (e.0, h.1) ∷ h.3 = h.6 ∙ ap (λ b. cond b ((e.0, h.1) ∷ h.3) h.3) told.0 in
-      by (bytes_eq s e.0) h.1 (lookup (bytes_eq s) h.3) told.1 (ap (λ l. list_of l s) split) (lowered_lists h.2 lists h.3 h.5 s)
+      let rest = subst (λ (y : F). RetainsPairs T y lists h.3) told.1.1 h.5 in
+      by (bytes_eq s e.0) h.1 (lookup (bytes_eq s) h.3) told.1.0 (ap (λ l. list_of l s) split) (lowered_lists lists h.3 rest s)
     where
       by : (b : Bool) (new : Vec ℕ) (rest : Option (Vec ℕ)) → new.items ≡ without place e.1.items
           → list_of kept s ≡ option_map_or (λ (places : Vec ℕ). places.items) (cond b (Some new) rest) []

@@ -28,7 +28,7 @@ module _ {A : Type 0} (readers new : Readers) (queries : List (LiveQuery A)) (ar
         ∙ ap (places_from (reads s) 0) (sym (map_push (λ (live : LiveQuery A). live.windows) queries query)))));
     still = subst (λ o. All (IsStill o) (queries ++ query ∷ [])) (sym newest)
         (All-append (IsStill readers.newest) queries (query ∷ []) are.still
-        (All-cons (IsStill readers.newest) query [] (λ none. calm) (All-nil (IsStill {A} readers.newest))));
+        (All-cons (IsStill readers.newest) query [] (λ none. calm) (All-nil (IsStill {A = A} readers.newest))));
   }
     where
       by : (b : Bool) (l : List ℕ) (n : ℕ) → cond b (l ++ n ∷ []) l ≡ l ++ cond b (n ∷ []) []
@@ -66,4 +66,4 @@ read_set {A} readers queries place live now are listed windows watched =
 -- of no queries there are none
 pub read_none : {A : Type 0} (readers : Readers) (queries : List (LiveQuery A)) → queries ≡ [] → ((s : List ℕ) → readers_of readers s ≡ []) → AreRead readers queries
 read_none {A} readers queries is none =
-    subst (AreRead readers) (sym is) (record { places = none; still = All-nil (IsStill {A} readers.newest) })
+    subst (AreRead readers) (sym is) (record { places = none; still = All-nil (IsStill {A = A} readers.newest) })

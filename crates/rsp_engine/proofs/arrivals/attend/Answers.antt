@@ -9,6 +9,13 @@ use Rattle.rsp_engine.proofs.arrivals.attend.Goals as goal
 pub loop-index-init : goal.loop-index-init
 loop-index-init g c = none_done (IsMoved c.args.stream.now c.args.time c.args.from) c.args.queries.now
 
+pub offset_bounds-queries-place : goal.offset_bounds-queries-place
+offset_bounds-queries-place g c =
+    let within : c.loop-index.index < length c.of-places.result.now = omega (arith, c.loop-index-test.true) in
+    let there = place_there (IsMoved c.args.stream.now c.args.time c.args.from) (is_reader c.args.stream.now) c.of-places.result.now c.args.queries.now
+    c.loop-index.queries c.loop-index.index 0 (c.of-places.ensures ∙ c.requires.read) within c.loop-index.invariant in
+    omega (arith, there)
+
 pub bounds-queries-place : goal.bounds-queries-place
 bounds-queries-place g c =
     let within : c.loop-index.index < length c.of-places.result.now = omega (arith, c.loop-index-test.true) in
@@ -20,14 +27,14 @@ watch_query-requires-clause-watching g c =
     let within : c.loop-index.index < length c.of-places.result.now = omega (arith, c.loop-index-test.true) in
     holds_there (IsMoved c.args.stream.now c.args.time c.args.from) (is_reader c.args.stream.now) c.of-places.result.now c.args.queries.now
     c.loop-index.queries c.loop-index.index 0 (c.of-places.ensures ∙ c.requires.read) within c.loop-index.invariant
-    (λ live. IsWatching c.args.from (asked live)) c.index-queries-place.result c.index-queries-place.is c.requires.watching
+    (λ live. IsWatching c.args.from (asked live)) c.index-queries-place.result c.requires.watching
 
 pub loop-index-preserved : goal.loop-index-preserved
 loop-index-preserved g c =
     let within : c.loop-index.index < length c.of-places.result.now = omega (arith, c.loop-index-test.true) in
     more_done (IsMoved c.args.stream.now c.args.time c.args.from) (is_reader c.args.stream.now) c.of-places.result.now c.args.queries.now
     c.loop-index.queries c.loop-index.index 0 (c.of-places.ensures ∙ c.requires.read) within c.loop-index.invariant
-    c.index-queries-place.result c.watch_query.new.live c.index-queries-place.is
+    c.index-queries-place.result c.watch_query.new.live
     (record { parts = c.in_ok-watch_query.ensures.parts; watched = c.in_ok-watch_query.ensures.watched })
 
 pub returns : goal.returns

@@ -7,6 +7,13 @@ use Rattle.rsp_engine.proofs.arrivals.calm_readers.Goals as goal
 pub loop-index-init : goal.loop-index-init
 loop-index-init g c = none_done IsCalmed c.args.queries.now
 
+pub offset_bounds-queries-place : goal.offset_bounds-queries-place
+offset_bounds-queries-place g c =
+    let within : c.loop-index.index < length c.of-places.result.now = omega (arith, c.loop-index-test.true) in
+    let there = place_there IsCalmed (is_reader c.args.stream.now) c.of-places.result.now c.args.queries.now
+    c.loop-index.queries c.loop-index.index 0 (c.of-places.ensures ∙ c.requires) within c.loop-index.invariant in
+    omega (arith, there)
+
 pub bounds-queries-place : goal.bounds-queries-place
 bounds-queries-place g c =
     let within : c.loop-index.index < length c.of-places.result.now = omega (arith, c.loop-index-test.true) in
@@ -18,7 +25,7 @@ loop-index-preserved g c =
     let within : c.loop-index.index < length c.of-places.result.now = omega (arith, c.loop-index-test.true) in
     more_done IsCalmed (is_reader c.args.stream.now) c.of-places.result.now c.args.queries.now
     c.loop-index.queries c.loop-index.index 0 (c.of-places.ensures ∙ c.requires) within c.loop-index.invariant
-    c.index-queries-place.result c.calm_query.new.live c.index-queries-place.is c.calm_query.ensures
+    c.index-queries-place.result c.calm_query.new.live c.calm_query.ensures
 
 pub returns : goal.returns
 returns g c =

@@ -14,6 +14,13 @@ loop-index-init g c graph n =
     let places = c.of-places.ensures ∙ places_by c.args.stream.now c.args.readers.now c.args.queries.now c.requires.read in
     subst (λ l. IsSoFar n entry c.args.queries.now l None) (sym places) (by_readers n entry c.args.queries.now c.requires.watches)
 
+pub offset_bounds-queries-place : goal.offset_bounds-queries-place
+offset_bounds-queries-place g c =
+    let within : c.loop-index.index < length c.of-places.result.now = omega (arith, c.loop-index-test.true) in
+    let places = c.of-places.ensures ∙ places_by c.args.stream.now c.args.readers.now c.args.queries.now c.requires.read in
+    let there = place_inside (is_reader c.args.stream.now) c.of-places.result.now c.args.queries.now c.loop-index.index 0 places within in
+    omega (arith, there)
+
 pub bounds-queries-place : goal.bounds-queries-place
 bounds-queries-place g c =
     let within : c.loop-index.index < length c.of-places.result.now = omega (arith, c.loop-index-test.true) in
