@@ -4,7 +4,7 @@ use rsp_operators::Condition;
 use rsp_terms::{Same, Term};
 use std::alloc::AllocError;
 
-/// True on every row.
+/// True on every row, which it tells at once: asked of a row, it gives up.
 #[derive(Drop)]
 pub(crate) struct Always {}
 
@@ -18,7 +18,7 @@ impl Condition<Same> for Always {
     }
 
     fn holds(&self, _row: &Row<Term>, _domain: &Same) -> Result<bool, AllocError> {
-        Ok(true)
+        Err(AllocError)
     }
 }
 

@@ -153,13 +153,21 @@ fn an_outer_join_without_a_key(rt: HostRuntime) -> Result<(), Fail> {
 }
 
 #[test]
-fn by_key(rt: HostRuntime) -> Result<(), Fail> {
+fn joins_by_key(rt: HostRuntime) -> Result<(), Fail> {
     let alloc = rt.alloc();
     assert!(rt; answered_after(alloc, joined(alloc, &[0])?, 0)? == 0);
     let joined = left_join(alloc, compatible(alloc)?)?;
     assert!(rt; answered_after(alloc, joined, 0)? == 100_000);
+    Ok(())
+}
+
+#[test]
+fn negation_by_key(rt: HostRuntime) -> Result<(), Fail> {
+    let alloc = rt.alloc();
     let exists = semi(alloc, compatible(alloc)?)?;
     assert!(rt; answered_after(alloc, exists, 0)? == 0);
+    let not_exists = anti(alloc, compatible(alloc)?)?;
+    assert!(rt; answered_after(alloc, not_exists, 0)? == 100_000);
     let minus = anti(alloc, sharing(alloc)?)?;
     assert!(rt; answered_after(alloc, minus, 0)? == 100_000);
     Ok(())
@@ -170,6 +178,7 @@ fn by_key(rt: HostRuntime) -> Result<(), Fail> {
 fn by_key_alone(rt: HostRuntime) -> Result<(), Fail> {
     let alloc = rt.alloc();
     assert!(rt; answered_after(alloc, keyed_semi(alloc, &[0])?, 0)? == 0);
+    assert!(rt; answered_after(alloc, keyed_anti(alloc, &[0])?, 0)? == 100_000);
     assert!(rt; answered_after(alloc, keyed_anti(alloc, &[])?, RIGHTS)? == 0);
     assert!(rt; answered_after(alloc, keyed_semi(alloc, &[])?, RIGHTS)? == 100_000);
     Ok(())

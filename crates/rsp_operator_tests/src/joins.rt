@@ -18,6 +18,11 @@ const PAIRS: &str = "2*1__ 32_|3*12_|6*12_
 const WITHOUT_KEY: &str = "1__ 3__|_2_ 34_|12_ 32_ 34_
 ___|-1*_2_|-1*12_ -1*32_ 34_";
 
+// what the left leaves unbound meets each value of the right; what it binds meets its own
+const UNBOUND: &str = "1__|_89 _76|189 176
+2_9||289
+-1*1__|-1*_89|-1*189 -1*176 -1*289";
+
 // two copies stay while the right row comes, and go while it comes; a pair goes with both its rows; rows of the left come, go,
 // or stay, while those of the right do
 const BOTH: &str = "2*12_||
@@ -55,7 +60,7 @@ fn pairs_of_a_key(rt: HostRuntime) -> Result<(), Fail> {
 
 #[test]
 fn without_a_key_each_row_meets_each(rt: HostRuntime) -> Result<(), Fail> {
-    for turns in [PAIRS, BOTH, WITHOUT_KEY] {
+    for turns in [PAIRS, BOTH, WITHOUT_KEY, UNBOUND] {
         assert!(rt; joins_so(rt.alloc(), &[], turns)?, "{turns}");
     }
     Ok(())

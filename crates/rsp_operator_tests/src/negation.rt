@@ -43,13 +43,21 @@ fn minus(alloc: Global, key: &[usize], turns: &str) -> Result<bool, Refused> {
     turns_out(alloc, trial, Told::Answered, turns)
 }
 
-// true where the last cell is 3
-fn last_is_three(alloc: Global) -> Result<Equals, AllocError> {
-    let three: Term = term(alloc, "n:3")?;
-    Ok(Equals {
-        variable: 2,
-        term: three,
-    })
+// true where the variable's cell is this one
+fn equals(alloc: Global, variable: usize, cell: &str) -> Result<Equals, AllocError> {
+    let term: Term = term(alloc, cell)?;
+    Ok(Equals { variable, term })
+}
+
+// by the first cell as a key, those without a partner and those with one
+fn on_condition(
+    alloc: Global,
+    variable: usize,
+    cell: &str,
+    turns: &str,
+) -> Result<bool, Refused> {
+    let without = not_exists(alloc, &[0], equals(alloc, variable, cell)?, turns)?;
+    Ok(without && exists(alloc, &[0], equals(alloc, variable, cell)?, turns)?)
 }
 
 // both sides change in one turn
@@ -84,8 +92,16 @@ const UNBOUND: &str = "1__ 12_|14_|12_
 |-1*14_|
 |-1*12_|1__ 12_";
 
-// the condition is false, an error, and true
-const CONDITION: &str = "12_|1_4|12_
+// a condition by a variable of the left: false on the first row's merge; on the third row it is asked of the merge
+const OF_THE_LEFT: &str = "14_ 12_||14_ 12_
+|1_3|-1*12_
+1__||1__
+|12_|-1*1__
+|-1*12_|1__
+|-1*1_3|12_";
+
+// a condition by a variable of the right: false, an error, and true
+const OF_THE_RIGHT: &str = "12_|1_4|12_
 |1__|
 |1_3|-1*12_
 |-1*1_4 -1*1__|
@@ -159,8 +175,7 @@ fn not_exists_asks_for_none(rt: HostRuntime) -> Result<(), Fail> {
 
 #[test]
 fn a_condition_is_false_or_an_error(rt: HostRuntime) -> Result<(), Fail> {
-    let alloc = rt.alloc();
-    assert!(rt; not_exists(alloc, &[0], last_is_three(alloc)?, CONDITION)?);
-    assert!(rt; exists(alloc, &[0], last_is_three(alloc)?, CONDITION)?);
+    assert!(rt; on_condition(rt.alloc(), 1, "n:2", OF_THE_LEFT)?);
+    assert!(rt; on_condition(rt.alloc(), 2, "n:3", OF_THE_RIGHT)?);
     Ok(())
 }

@@ -1,9 +1,9 @@
-// Scans of facts, and each row once.
+// Scans of facts.
 ghost use Rattle.std.specs.Prelude.{◌≡◌};
 
 use rsp_multiset::{Changes, Row};
 use rsp_simple_operators::{Graph, Part, Pattern, Scan};
-use rsp_terms::{Fact, Same, Spot, Term, Text, Triple};
+use rsp_terms::{Domain, Fact, Same, Spot, Term, Text, Triple};
 use std::alloc::{AllocError, Global};
 use std::test::Fail;
 
@@ -88,6 +88,45 @@ fn scanned(
     scan.apply(alloc, &facts(alloc, lines)?, &mut domain)
 }
 
+// terms that show themselves, and how many were taken in
+#[derive(Drop)]
+struct Noting {
+    taken: usize,
+}
+
+impl Domain for Noting {
+    ghost use Rattle.std.specs.Prelude.{⊤};
+
+    type Value = Term;
+
+    ghost knows = { λ domain value. ⊤ };
+
+    ghost shown = { λ domain value. value };
+
+    ghost told_apart = { λ domain x y _ _ same. same };
+
+    fn empty(_alloc: Global) -> Noting {
+        Noting { taken: 0 }
+    }
+
+    fn show<'a>(&'a self, value: &'a Term) -> &'a Term {
+        value
+    }
+
+    fn keep(&mut self, term: Term) -> Result<Term, AllocError> {
+        self.taken = self.taken.wrapping_add(1);
+        Ok(term)
+    }
+}
+
+// how many terms a scan of the default graph gives to its domain
+fn taken(alloc: Global, object: Part) -> Result<usize, AllocError> {
+    let pattern = pattern(alloc, Graph::Default, Part::Variable(0), object)?;
+    let mut domain = Noting { taken: 0 };
+    Scan::new(2, pattern).apply(alloc, &facts(alloc, &LINES)?, &mut domain)?;
+    Ok(domain.taken)
+}
+
 const LINES: [Line; 5] = [
     ("", "a:1", "a:2", 1),
     ("", "a:1", "a:1", -1),
@@ -152,5 +191,14 @@ fn a_variable_past_the_width_is_in_no_row(rt: HostRuntime) -> Result<(), Fail> {
         &LINES,
     )?;
     assert_eq!(rt; net.distinct(), 0);
+    Ok(())
+}
+
+// the pattern stands for two of the facts, and for one
+#[test]
+fn facts_that_match_alone_give_terms(rt: HostRuntime) -> Result<(), Fail> {
+    for (variable, wanted) in [(1, 4), (0, 1)] {
+        assert_eq!(rt; taken(rt.alloc(), Part::Variable(variable))?, wanted);
+    }
     Ok(())
 }
