@@ -50,12 +50,7 @@ fn equals(alloc: Global, variable: usize, cell: &str) -> Result<Equals, AllocErr
 }
 
 // by the first cell as a key, those without a partner and those with one
-fn on_condition(
-    alloc: Global,
-    variable: usize,
-    cell: &str,
-    turns: &str,
-) -> Result<bool, Refused> {
+fn on_condition(alloc: Global, variable: usize, cell: &str, turns: &str) -> Result<bool, Refused> {
     let without = not_exists(alloc, &[0], equals(alloc, variable, cell)?, turns)?;
     Ok(without && exists(alloc, &[0], equals(alloc, variable, cell)?, turns)?)
 }
