@@ -119,12 +119,18 @@ impl Domain for Noting {
     }
 }
 
-// how many terms a scan of the default graph gives to its domain
-fn taken(alloc: Global, object: Part) -> Result<usize, AllocError> {
-    let pattern = pattern(alloc, Graph::Default, Part::Variable(0), object)?;
+// how many terms the scan gives to its domain
+fn taken(alloc: Global, scan: &Scan, facts: &Changes<Fact>) -> Result<usize, AllocError> {
     let mut domain = Noting { taken: 0 };
-    Scan::new(2, pattern).apply(alloc, &facts(alloc, &LINES)?, &mut domain)?;
-    Ok(domain.taken)
+    let net = scan.apply(alloc, facts, &mut domain)?;
+    Ok(if net.is_empty() { 0 } else { domain.taken })
+}
+
+fn default_scan(alloc: Global, object: usize) -> Result<Scan, AllocError> {
+    let subject = Part::Variable(0);
+    let object = Part::Variable(object);
+    let pattern = pattern(alloc, Graph::Default, subject, object)?;
+    Ok(Scan::new(2, pattern))
 }
 
 const LINES: [Line; 5] = [
@@ -197,8 +203,10 @@ fn a_variable_past_the_width_is_in_no_row(rt: HostRuntime) -> Result<(), Fail> {
 // the pattern stands for two of the facts, and for one
 #[test]
 fn facts_that_match_alone_give_terms(rt: HostRuntime) -> Result<(), Fail> {
-    for (variable, wanted) in [(1, 4), (0, 1)] {
-        assert_eq!(rt; taken(rt.alloc(), Part::Variable(variable))?, wanted);
+    let given = facts(rt.alloc(), &LINES)?;
+    for (object, wanted) in [(1, 4), (0, 1)] {
+        let scan = default_scan(rt.alloc(), object)?;
+        assert_eq!(rt; taken(rt.alloc(), &scan, &given)?, wanted);
     }
     Ok(())
 }
