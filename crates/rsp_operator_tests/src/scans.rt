@@ -3,7 +3,7 @@ ghost use Rattle.std.specs.Prelude.{◌≡◌};
 
 use rsp_multiset::{Changes, Row};
 use rsp_simple_operators::{Graph, Part, Pattern, Scan};
-use rsp_terms::{Domain, Fact, Same, Spot, Term, Text, Triple};
+use rsp_terms::{Fact, Same, Spot, Term, Text, Triple};
 use std::alloc::{AllocError, Global};
 use std::test::Fail;
 
@@ -88,51 +88,6 @@ fn scanned(
     scan.apply(alloc, &facts(alloc, lines)?, &mut domain)
 }
 
-// terms that show themselves, and how many were taken in
-#[derive(Drop)]
-struct Noting {
-    taken: usize,
-}
-
-impl Domain for Noting {
-    ghost use Rattle.std.specs.Prelude.{⊤};
-
-    type Value = Term;
-
-    ghost knows = { λ domain value. ⊤ };
-
-    ghost shown = { λ domain value. value };
-
-    ghost told_apart = { λ domain x y _ _ same. same };
-
-    fn empty(_alloc: Global) -> Noting {
-        Noting { taken: 0 }
-    }
-
-    fn show<'a>(&'a self, value: &'a Term) -> &'a Term {
-        value
-    }
-
-    fn keep(&mut self, term: Term) -> Result<Term, AllocError> {
-        self.taken = self.taken.wrapping_add(1);
-        Ok(term)
-    }
-}
-
-// how many terms the scan gives to its domain
-fn taken(alloc: Global, scan: &Scan, facts: &Changes<Fact>) -> Result<usize, AllocError> {
-    let mut domain = Noting { taken: 0 };
-    let net = scan.apply(alloc, facts, &mut domain)?;
-    Ok(if net.is_empty() { 0 } else { domain.taken })
-}
-
-fn default_scan(alloc: Global, object: usize) -> Result<Scan, AllocError> {
-    let subject = Part::Variable(0);
-    let object = Part::Variable(object);
-    let pattern = pattern(alloc, Graph::Default, subject, object)?;
-    Ok(Scan::new(2, pattern))
-}
-
 const LINES: [Line; 5] = [
     ("", "a:1", "a:2", 1),
     ("", "a:1", "a:1", -1),
@@ -197,16 +152,5 @@ fn a_variable_past_the_width_is_in_no_row(rt: HostRuntime) -> Result<(), Fail> {
         &LINES,
     )?;
     assert_eq!(rt; net.distinct(), 0);
-    Ok(())
-}
-
-// the pattern stands for two of the facts, and for one
-#[test]
-fn facts_that_match_alone_give_terms(rt: HostRuntime) -> Result<(), Fail> {
-    let given = facts(rt.alloc(), &LINES)?;
-    for (object, wanted) in [(1, 4), (0, 1)] {
-        let scan = default_scan(rt.alloc(), object)?;
-        assert_eq!(rt; taken(rt.alloc(), &scan, &given)?, wanted);
-    }
     Ok(())
 }
