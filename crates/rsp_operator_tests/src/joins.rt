@@ -1,232 +1,98 @@
-// Operators on two inputs, as rows come to them for the first time.
-ghost use Rattle.std.specs.Prelude.{◌≡◌, ◌<◌, ◌≤ℤ◌, true, is_some, pos, ℤ, [], List, Option};
-ghost use Rattle.std.specs.List.{AllByRecursion};
-ghost use Rattle.rsp_terms.specs.declared.term.Term.{Term};
-ghost use Rattle.rsp_multiset.specs.Variables.{cell as cell_of};
-ghost use Rattle.rsp_operators.specs.Laws.{Fits};
-
-use rsp_joins::{Compatible, JoinOp};
-use rsp_multiset::{Changes, Row};
-use rsp_operators::Binary;
+// The maintained join and the union, turn by turn.
+use crate::notation::{Told, are_refused, turns_out};
+use crate::trials::{WIDTH, joined};
 use rsp_simple_operators::Joining;
-use rsp_steps::Steps;
-use rsp_terms::{Same, Term, Text};
-use std::alloc::{AllocError, Global};
-use std::marker::Brand;
-use std::sync::ledger::{Blank, Ledger};
+use rsp_trials::{BinaryTrial, Refused};
+use std::alloc::Global;
 use std::test::Fail;
 
-fn cell(alloc: Global, text: &str) -> Result<Option<Term>, AllocError> {
-    if text.is_empty() {
-        return Ok(None);
-    }
-    Ok(Some(Term::Iri(Text::new(alloc, text)?)))
+// a pair of which both rows come counts once, as often as both together; and so it does where both go. A merge that goes by one
+// pair and comes by another is no change. What is unbound on one side is no value of the other
+const PAIRS: &str = "2*1__ 32_|3*12_|6*12_
+-2*1__|-3*12_|-6*12_
+45_|4__|45_
+-1*45_ 4__|45_ -1*4__|
+6__ 67_|68_ 2*6__|68_ 2*67_ 2*6__
+9__||";
+
+const WITHOUT_KEY: &str = "1__ 3__|_2_ 34_|12_ 32_ 34_
+___|-1*_2_|-1*12_ -1*32_ 34_";
+
+// what the left leaves unbound meets each value of the right; what it binds meets its own
+const UNBOUND: &str = "1__|_89 _76|189 176
+2_9||289
+-1*1__|-1*_89|-1*189 -1*176 -1*289";
+
+// two copies stay while the right row comes, and go while it comes; a pair goes with both its rows; rows of the left come, go,
+// or stay, while those of the right do
+const BOTH: &str = "2*12_||
+|1_3|2*123
+|-1*1_3|-2*123
+-2*12_|1_3|
+|-1*1_3|
+1__|123|123
+-1*1__|-1*123|-1*123
+12_ 13_|1_4|124 134
+-1*12_ 2*15_|-1*1_4 1_6|-1*124 -1*134 136 2*156
+13_|-1*1_6|-1*136 -2*156";
+
+// rows of another width, rows that don't bind the key, and rows that aren't there
+const NOT_TO_COME: &str = "1||
+_2_||
+-1*12_||
+|-1*12_|";
+
+// rows of both sides add up; one that changes sides stays
+const UNIONS: &str = "2*1__ 32_|3*1__ _2_|5*1__ 32_ _2_
+-2*1__|2*1__|";
+
+fn joins_so(alloc: Global, key: &[usize], turns: &str) -> Result<bool, Refused> {
+    turns_out(alloc, joined(alloc, key)?, Told::Answered, turns)
 }
 
-fn row(alloc: Global, first: &str, second: &str) -> Result<Row<Term>, AllocError> {
-    let mut cells = Vec::new(alloc);
-    cells.push(cell(alloc, first)?)?;
-    cells.push(cell(alloc, second)?)?;
-    Ok(Row::new(cells))
-}
-
-fn change(
-    alloc: Global,
-    of: &[(&'static str, &'static str, i64)],
-) -> Result<Changes<Row<Term>>, AllocError> {
-    let mut change = Changes::new(alloc);
-    for (first, second, by) in of {
-        change.alter(row(alloc, first, second)?, *by)?;
-    }
-    Ok(change)
-}
-
-fn count(
-    alloc: Global,
-    net: &Changes<Row<Term>>,
-    first: &str,
-    second: &str,
-) -> Result<i64, AllocError> {
-    Ok(net.count(&row(alloc, first, second)?).value())
-}
-
-fn is_bound(cells: &[Option<Term>], variable: usize) -> bool
-    ensures { result ≡ is_some (cell_of cells.now variable) }
-{
-    match cells.get(variable) {
-        Some(Some(_)) => true,
-        _ => false,
-    }
-}
-
-// whether the row has two cells and binds the variables
-fn fits(row: &Row<Term>, key: &[usize]) -> bool
-    ensures { result ≡ true → Fits 2 key.now row.now }
-{
-    if row.cells().len() != 2 {
-        return false;
-    }
-    for variable in key {
-        if !is_bound(row.cells(), *variable) {
-            return false;
-        }
-    }
-    true
-}
-
-// whether only such rows are in the change, and none goes
-fn comes(change: &Changes<Row<Term>>, key: &[usize]) -> bool
-    ensures { result ≡ true
-        → AllByRecursion (λ (e : List (Option Term) × ℤ). Fits 2 key.now e.0 × (pos 0 ≤ℤ e.1)) change.now }
-{
-    for index in 0..change.distinct() {
-        let (row, by) = change.counted_at(index);
-        if by.is_negative() {
-            return false;
-        }
-        if !fits(row, key) {
-            return false;
-        }
-    }
-    true
-}
-
-// what an operator answers that stands for no rows
-fn first_answer<O: Binary<Same>, L: Ledger>(
-    alloc: Global,
-    blank: Blank,
-    operator: &mut O,
-    key: &[usize],
-    left: &Changes<Row<Term>>,
-    right: &Changes<Row<Term>>,
-) -> Result<Changes<Row<Term>>, AllocError>
-    requires name { blank.name ≡ L.name }
-    requires parts { blank.parts ≡ L.parts }
-    requires some { 0 < blank.parts }
-    requires width { O.width operator.old ≡ 2 }
-    requires key { O.key operator.old ≡ key.now }
-    requires stands { (domain : Same) → O.stands operator.old domain [] [] }
-{
-    let left_comes = comes(left, key);
-    let right_comes = comes(right, key);
-    if !left_comes {
-        return Err(AllocError);
-    }
-    if !right_comes {
-        return Err(AllocError);
-    }
-    let mut domain = Same::new();
-    let mut steps: Steps<L> = Steps::new(blank);
-    operator.apply(alloc, left, right, &mut domain, &mut steps)
-}
-
-fn joined<L: Ledger>(
-    alloc: Global,
-    blank: Blank,
-    key: &[usize],
-    left: &Changes<Row<Term>>,
-    right: &Changes<Row<Term>>,
-) -> Result<Changes<Row<Term>>, AllocError>
-    requires name { blank.name ≡ L.name }
-    requires parts { blank.parts ≡ L.parts }
-    requires some { 0 < blank.parts }
-{
-    let pairing = Compatible::new(Vec::from_slice(alloc, key)?);
-    let mut operator: JoinOp<Same, Compatible> = JoinOp::new(alloc, 2, pairing)?;
-    first_answer::<JoinOp<Same, Compatible>, L>(alloc, blank, &mut operator, key, left, right)
-}
-
-// how often a row is in the join of rows that come
-fn joined_count<L: Ledger>(
-    alloc: Global,
-    blank: Blank,
-    key: &[usize],
-    left: &[(&'static str, &'static str, i64)],
-    right: &[(&'static str, &'static str, i64)],
-    wanted: (&'static str, &'static str),
-) -> Result<i64, AllocError>
-    requires name { blank.name ≡ L.name }
-    requires parts { blank.parts ≡ L.parts }
-    requires some { 0 < blank.parts }
-{
-    let lefts = change(alloc, left)?;
-    let rights = change(alloc, right)?;
-    let net = joined::<L>(alloc, blank, key, &lefts, &rights)?;
-    count(alloc, &net, wanted.0, wanted.1)
-}
-
-// a pair of which both rows come counts once, as often as both together
 #[test]
-fn copies_multiply(rt: HostRuntime) -> Result<(), Fail> {
-    let left = [("a:1", "", 2), ("a:3", "a:2", 1)];
-    let right = [("a:1", "a:2", 3)];
-    for (row, times) in [(("a:1", "a:2"), 6), (("a:3", "a:2"), 0), (("a:1", ""), 0)] {
-        assert_eq!(rt;
-            joined_count::<Brand>(rt.alloc(), Blank::new(1), &[0], &left, &right, row)?,
-            times
-        );
+fn pairs_of_a_key(rt: HostRuntime) -> Result<(), Fail> {
+    for turns in [PAIRS, BOTH] {
+        assert!(rt; joins_so(rt.alloc(), &[0], turns)?, "{turns}");
     }
     Ok(())
 }
 
 #[test]
 fn without_a_key_each_row_meets_each(rt: HostRuntime) -> Result<(), Fail> {
-    let left = [("a:1", "", 1), ("a:3", "", 1)];
-    let right = [("", "a:2", 1), ("a:3", "a:4", 1)];
-    for (row, times) in [
-        (("a:1", "a:2"), 1),
-        (("a:3", "a:2"), 1),
-        (("a:3", "a:4"), 1),
-        (("a:1", "a:4"), 0),
-    ] {
-        assert_eq!(rt;
-            joined_count::<Brand>(rt.alloc(), Blank::new(1), &[], &left, &right, row)?,
-            times
-        );
+    for turns in [PAIRS, BOTH, WITHOUT_KEY, UNBOUND] {
+        assert!(rt; joins_so(rt.alloc(), &[], turns)?, "{turns}");
     }
     Ok(())
+}
+
+// whether it refuses what may not come, and then answers as the turns tell
+fn refuses_and_goes_on(alloc: Global, refused: &str, turns: &str) -> Result<bool, Refused> {
+    let mut trial = joined(alloc, &[0])?;
+    if !are_refused(alloc, &mut trial, refused) {
+        return Ok(false);
+    }
+    turns_out(alloc, trial, Told::Answered, turns)
 }
 
 #[test]
-fn an_unbound_place_meets_each_value(rt: HostRuntime) -> Result<(), Fail> {
-    let left = [("a:1", "", 1), ("a:1", "a:2", 1)];
-    let right = [("a:1", "a:3", 1), ("a:1", "", 2)];
-    for (row, times) in [(("a:1", "a:3"), 1), (("a:1", "a:2"), 2), (("a:1", ""), 2)] {
-        assert_eq!(rt;
-            joined_count::<Brand>(rt.alloc(), Blank::new(1), &[0], &left, &right, row)?,
-            times
-        );
-    }
+fn what_may_not_come_changes_nothing(rt: HostRuntime) -> Result<(), Fail> {
+    assert!(rt; refuses_and_goes_on(rt.alloc(), NOT_TO_COME, PAIRS)?);
     Ok(())
 }
 
-fn united_count<L: Ledger>(
-    alloc: Global,
-    blank: Blank,
-    left: &[(&'static str, &'static str, i64)],
-    right: &[(&'static str, &'static str, i64)],
-    wanted: (&'static str, &'static str),
-) -> Result<i64, AllocError>
-    requires name { blank.name ≡ L.name }
-    requires parts { blank.parts ≡ L.parts }
-    requires some { 0 < blank.parts }
-{
-    let lefts = change(alloc, left)?;
-    let rights = change(alloc, right)?;
-    let mut operator = Joining::new(2);
-    let net = first_answer::<Joining, L>(alloc, blank, &mut operator, &[], &lefts, &rights)?;
-    count(alloc, &net, wanted.0, wanted.1)
+fn unites_so(alloc: Global, turns: &str) -> Result<bool, Refused> {
+    let trial: BinaryTrial<Joining> = BinaryTrial::new(
+        alloc,
+        Joining::new(WIDTH),
+        WIDTH,
+        Vec::new(alloc),
+    )?;
+    turns_out(alloc, trial, Told::Answered, turns)
 }
 
 #[test]
 fn rows_of_both_sides_add_up(rt: HostRuntime) -> Result<(), Fail> {
-    let left = [("a:1", "", 2), ("a:3", "a:2", 1)];
-    let right = [("a:1", "", 3), ("", "a:2", 1)];
-    for (row, times) in [(("a:1", ""), 5), (("a:3", "a:2"), 1), (("", "a:2"), 1)] {
-        assert_eq!(rt;
-            united_count::<Brand>(rt.alloc(), Blank::new(1), &left, &right, row)?,
-            times
-        );
-    }
+    assert!(rt; unites_so(rt.alloc(), UNIONS)?);
     Ok(())
 }

@@ -1,79 +1,13 @@
-// Operators over terms that show themselves.
-ghost use Rattle.std.specs.Prelude.{◌≡◌, ◌<◌, true, ℤ, [], List, Option, length};
-ghost use Rattle.std.specs.List.{AllByRecursion};
-ghost use Rattle.rsp_terms.specs.declared.term.Term.{Term};
-
-use rsp_multiset::{Changes, Row};
-use rsp_operators::{Computed, Condition, Unary};
+// Operators on one input, turn by turn.
+use crate::notation::single_turns_out;
+use crate::trials::{WIDTH, once};
+use rsp_multiset::Row;
+use rsp_operators::{Computed, Condition};
 use rsp_simple_operators::{Extending, Projecting, Select};
-use rsp_terms::{Same, Term, Text};
+use rsp_terms::{Same, Term};
+use rsp_trials::{Refused, UnaryTrial};
 use std::alloc::{AllocError, Global};
 use std::test::Fail;
-
-fn cell(alloc: Global, text: &str) -> Result<Option<Term>, AllocError> {
-    if text.is_empty() {
-        return Ok(None);
-    }
-    Ok(Some(Term::Iri(Text::new(alloc, text)?)))
-}
-
-fn row(alloc: Global, first: &str, second: &str) -> Result<Row<Term>, AllocError> {
-    let mut cells = Vec::new(alloc);
-    cells.push(cell(alloc, first)?)?;
-    cells.push(cell(alloc, second)?)?;
-    Ok(Row::new(cells))
-}
-
-fn change(
-    alloc: Global,
-    of: &[(&'static str, &'static str, i64)],
-) -> Result<Changes<Row<Term>>, AllocError> {
-    let mut change = Changes::new(alloc);
-    for (first, second, by) in of {
-        change.alter(row(alloc, first, second)?, *by)?;
-    }
-    Ok(change)
-}
-
-fn count(
-    alloc: Global,
-    net: &Changes<Row<Term>>,
-    first: &str,
-    second: &str,
-) -> Result<i64, AllocError> {
-    Ok(net.count(&row(alloc, first, second)?).value())
-}
-
-// whether each row has two cells
-fn are_pairs(change: &Changes<Row<Term>>) -> bool
-    ensures { result ≡ true → AllByRecursion (λ (e : List (Option Term) × ℤ). length e.0 ≡ 2) change.now }
-{
-    for index in 0..change.distinct() {
-        let (row, _) = change.counted_at(index);
-        if row.cells().len() != 2 {
-            return false;
-        }
-    }
-    true
-}
-
-// what an operator answers that stands for all lists of rows of two cells
-fn answer<O: Unary<Same>>(
-    alloc: Global,
-    operator: &mut O,
-    change: &Changes<Row<Term>>,
-) -> Result<Changes<Row<Term>>, AllocError>
-    requires width { O.width operator.old ≡ 2 }
-    requires key { O.key operator.old ≡ [] }
-    requires stands { (domain : Same) (rows : List (List (Option Term))) → O.stands operator.old domain rows }
-{
-    let pairs = are_pairs(change);
-    if !pairs {
-        return Err(AllocError);
-    }
-    let mut domain = Same::new();
-    operator.apply(alloc, change, &mut domain)
-}
 
 #[derive(Drop)]
 struct BindsFirst {}
@@ -96,49 +30,6 @@ impl Condition<Same> for BindsFirst {
     }
 }
 
-fn selected(alloc: Global, change: &Changes<Row<Term>>) -> Result<Changes<Row<Term>>, AllocError> {
-    let mut operator = Select::new(2, BindsFirst {});
-    answer(alloc, &mut operator, change)
-}
-
-#[test]
-fn rows_pass_a_condition(rt: HostRuntime) -> Result<(), Fail> {
-    let given = change(
-        rt.alloc(),
-        &[("a:1", "a:2", 2), ("", "a:2", 1), ("a:1", "", -1)],
-    )?;
-    let net = selected(rt.alloc(), &given)?;
-    for (first, second, wanted) in [("a:1", "a:2", 2), ("", "a:2", 0), ("a:1", "", -1)] {
-        assert_eq!(rt; count(rt.alloc(), &net, first, second)?, wanted);
-    }
-    Ok(())
-}
-
-fn projected(alloc: Global, change: &Changes<Row<Term>>) -> Result<Changes<Row<Term>>, AllocError> {
-    let mut operator = Projecting::new(2, Vec::from_array(alloc, [0])?);
-    answer(alloc, &mut operator, change)
-}
-
-#[test]
-fn rows_fall_together(rt: HostRuntime) -> Result<(), Fail> {
-    let given = change(
-        rt.alloc(),
-        &[("a:1", "a:2", 1), ("a:4", "a:2", 1), ("a:4", "a:3", 1)],
-    )?;
-    let net = projected(rt.alloc(), &given)?;
-    for (first, second, wanted) in [("a:1", "", 1), ("a:4", "", 2), ("a:1", "a:2", 0)] {
-        assert_eq!(rt; count(rt.alloc(), &net, first, second)?, wanted);
-    }
-    Ok(())
-}
-
-#[test]
-fn rows_that_fall_together_vanish(rt: HostRuntime) -> Result<(), Fail> {
-    let given = change(rt.alloc(), &[("a:1", "a:2", 1), ("a:1", "a:3", -1)])?;
-    assert_eq!(rt; projected(rt.alloc(), &given)?.distinct(), 0);
-    Ok(())
-}
-
 // the first cell, an error where it isn't bound
 #[derive(Drop)]
 struct First {}
@@ -156,17 +47,53 @@ impl Computed<Same> for First {
     }
 }
 
-fn extended(alloc: Global, change: &Changes<Row<Term>>) -> Result<Changes<Row<Term>>, AllocError> {
-    let mut operator = Extending::new(2, 1, First {});
-    answer(alloc, &mut operator, change)
+const SELECTED: &str = "2*12_ _2_ 1__||2*12_ 1__
+-1*1__ -1*_2_||-1*1__";
+
+// rows fall together, and those that come and go so vanish
+const PROJECTED: &str = "12_ 42_ 43_||1__ 2*4__
+-1*12_ 13_||";
+
+// what stood there is replaced, and an error unbinds
+const EXTENDED: &str = "12_ 3*_2_||11_ 3*___
+-1*12_ -2*_2_||-1*11_ -2*___";
+
+// an answer comes with the first copy and with the last alone
+const ONCE: &str = "2*12_ 1__||12_ 1__
+3*12_||
+-4*12_||
+-1*12_ 1__||-1*12_
+12_||12_";
+
+fn selects_so(alloc: Global, turns: &str) -> Result<bool, Refused> {
+    let operator = Select::new(WIDTH, BindsFirst {});
+    let trial = UnaryTrial::new(alloc, operator, WIDTH, Vec::new(alloc));
+    single_turns_out(alloc, trial, turns)
+}
+
+fn projects_so(alloc: Global, turns: &str) -> Result<bool, Refused> {
+    let operator = Projecting::new(WIDTH, Vec::from_slice(alloc, &[0])?);
+    let trial = UnaryTrial::new(alloc, operator, WIDTH, Vec::new(alloc));
+    single_turns_out(alloc, trial, turns)
+}
+
+fn extends_so(alloc: Global, turns: &str) -> Result<bool, Refused> {
+    let operator = Extending::new(WIDTH, 1, First {});
+    let trial = UnaryTrial::new(alloc, operator, WIDTH, Vec::new(alloc));
+    single_turns_out(alloc, trial, turns)
 }
 
 #[test]
-fn a_value_replaces_and_an_error_unbinds(rt: HostRuntime) -> Result<(), Fail> {
-    let given = change(rt.alloc(), &[("a:1", "a:2", 1), ("", "a:2", 3)])?;
-    let net = extended(rt.alloc(), &given)?;
-    for (first, second, wanted) in [("a:1", "a:1", 1), ("", "", 3), ("a:1", "a:2", 0)] {
-        assert_eq!(rt; count(rt.alloc(), &net, first, second)?, wanted);
-    }
+fn row_by_row(rt: HostRuntime) -> Result<(), Fail> {
+    assert!(rt; selects_so(rt.alloc(), SELECTED)?);
+    assert!(rt; projects_so(rt.alloc(), PROJECTED)?);
+    assert!(rt; extends_so(rt.alloc(), EXTENDED)?);
+    Ok(())
+}
+
+#[test]
+fn each_row_is_there_once(rt: HostRuntime) -> Result<(), Fail> {
+    let alloc = rt.alloc();
+    assert!(rt; single_turns_out(alloc, once(alloc)?, ONCE)?);
     Ok(())
 }

@@ -38,10 +38,12 @@ fn rows_are_counted(rt: HostRuntime) -> Result<(), Fail> {
 }
 
 #[test]
-fn less_than_none_is_refused(rt: HostRuntime) -> Result<(), Fail> {
+fn less_than_none_and_more_than_a_count_are_refused(rt: HostRuntime) -> Result<(), Fail> {
     let mut index = kept(rt.alloc())?;
-    assert!(rt; index.alter(&row(rt.alloc(), 4, 6)?, -2).is_err());
-    assert_eq!(rt; count_of(rt.alloc(), &index, 4, 6)?, 1);
+    for (second, by, wanted) in [(6, -2, 1), (5, i64::MAX, 2)] {
+        assert!(rt; index.alter(&row(rt.alloc(), 4, second)?, by).is_err());
+        assert_eq!(rt; count_of(rt.alloc(), &index, 4, second)?, wanted);
+    }
     Ok(())
 }
 

@@ -1,4 +1,4 @@
-// Scans of facts, and each row once.
+// Scans of facts.
 ghost use Rattle.std.specs.Prelude.{◌≡◌};
 
 use rsp_multiset::{Changes, Row};

@@ -1,4 +1,0 @@
-use Rattle.rsp_operator_tests.proofs.joins.an_unbound_place_meets_each_value.Given as goal
-
-abbrev pub ghosts-joined_count : goal.ghosts-joined_count
-ghosts-joined_count g a = record { name = a.blank.name; parts = a.blank.parts }

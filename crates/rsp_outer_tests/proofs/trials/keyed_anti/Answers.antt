@@ -1,5 +1,0 @@
-use Rattle.rsp_outer_tests.proofs.Alike.{counts-alike}
-use Rattle.rsp_outer_tests.proofs.trials.keyed_anti.Goals as goal
-
-pub new-requires-clause-nothing : goal.new-requires-clause-nothing
-new-requires-clause-nothing c = λ domain. counts-alike c.new-operator.ensures.width c.new-operator.ensures.key (c.new-operator.ensures.nothing domain)
