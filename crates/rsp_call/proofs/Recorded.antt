@@ -36,7 +36,7 @@ timed_end P (first ∷ xs) x all this = (all.0, timed_end P xs x all.1 this)
 pub recording_none : (first : ℕ) (streams : List stream_read.Stream) (files : List (List ℕ)) (before : List RefusedLines) → Recording first streams files before before [] first 0
 recording_none first streams files before = record { given = refl; all = refl; timed = tt }
 
-pub recording_on : (first : ℕ) (streams : List stream_read.Stream) (files : List (List ℕ)) (before lines : List RefusedLines) (lists : List (List Event)) (document place : ℕ) (stream : stream_read.Stream) (file : List ℕ) (read : RecordedItems) (more : RefusedLines) → Recording first streams files before lines lists document place → slice_get streams place ≡ Some stream → slice_get files place ≡ Some file → read ≡ recorded stream.iri.now document file → AllByRecursion IsInstant read.items → lines_given more.file.now more.lines ≡ lines_given stream.file.now read.refused → Recording first streams files before (lines ++ more ∷ []) (lists ++ read.items ∷ []) (document + 1) (place + 1)
+pub recording_on : (first : ℕ) (streams : List stream_read.Stream) (files : List (List ℕ)) (before lines : List RefusedLines) (lists : List (List Event)) (document place : ℕ) (stream : stream_read.Stream) (file : List ℕ) (read : RecordedItems) (more : RefusedLines) → Recording first streams files before lines lists document place → slice_get streams place ≡ Some stream → slice_get files place ≡ Some file → read ≡ recorded stream.iri.now document file → AllByRecursion IsInstant read.items → lines_given more.file more.lines ≡ lines_given stream.file.now read.refused → Recording first streams files before (lines ++ more ∷ []) (lists ++ read.items ∷ []) (document + 1) (place + 1)
 recording_on first streams files before lines lists document place stream file read more so_far is_stream is_file is timed same =
     let streams' = map stream_for (drop (place + 1) streams) in
     let reads = recordings (document + 1) streams' (drop (place + 1) files) in
@@ -46,7 +46,7 @@ recording_on first streams files before lines lists document place stream file r
     rw next (rw (behind_place streams place stream is_stream) refl) in
     record {
       given =
-          rw (flat_map-append (λ (r : RefusedLines). lines_given r.file.now r.lines) lines (more ∷ []), append-nil (lines_given more.file.now more.lines), same, append_assoc (files_given lines) (lines_given stream.file.now read.refused) (all_lines_given streams' reads), ← given)
+          rw (flat_map-append (λ (r : RefusedLines). lines_given r.file r.lines) lines (more ∷ []), append-nil (lines_given more.file more.lines), same, append_assoc (files_given lines) (lines_given stream.file.now read.refused) (all_lines_given streams' reads), ← given)
           so_far.given;
       all =
           append_assoc lists (read.items ∷ []) (items_of reads)

@@ -42,10 +42,10 @@ all_lines (read ∷ files) = refl
 
 -- ---- a line
 
-line_next : (files : List RefusedLines) (file line : ℕ) (read : RefusedLines) (refused : LineRefused) → slice_get files file ≡ Some read → slice_get read.lines line ≡ Some refused → lines_left line (drop file files) ≡ line_given read.file.now refused ∷ lines_left (line + 1) (drop file files)
+line_next : (files : List RefusedLines) (file line : ℕ) (read : RefusedLines) (refused : LineRefused) → slice_get files file ≡ Some read → slice_get read.lines line ≡ Some refused → lines_left line (drop file files) ≡ line_given read.file refused ∷ lines_left (line + 1) (drop file files)
 line_next files file line read refused is_file is_line = rw (behind_place files file read is_file) (rw (behind_place read.lines line refused is_line) refl)
 
-pub takes_line : (files : List RefusedLines) (file line : ℕ) (batches : List Batch) (read : RefusedLines) (refused : LineRefused) (given : List Given) → slice_get files file ≡ Some read → slice_get read.lines line ≡ Some refused → given ≡ line_given read.file.now refused ∷ [] → run_left files file line batches ≡ given ++ run_left files file (line + 1) batches
+pub takes_line : (files : List RefusedLines) (file line : ℕ) (batches : List Batch) (read : RefusedLines) (refused : LineRefused) (given : List Given) → slice_get files file ≡ Some read → slice_get read.lines line ≡ Some refused → given ≡ line_given read.file refused ∷ [] → run_left files file line batches ≡ given ++ run_left files file (line + 1) batches
 takes_line files file line batches read refused given is_file is_line is =
     rw is (ap (λ lines. lines ++ batches_given batches) (line_next files file line read refused is_file is_line))
 

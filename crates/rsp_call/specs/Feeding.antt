@@ -11,12 +11,12 @@ use Rattle.rsp_call.specs.Replays.{given_by, lines_given}
 use Rattle.rsp_words.specs.Words.{Replay}
 
 abbrev pub files_given : List RefusedLines → List Given
-files_given files = flat_map (λ (read : RefusedLines). lines_given read.file.now read.lines) files
+files_given files = flat_map (λ (read : RefusedLines). lines_given read.file read.lines) files
 
 -- behind so many lines of the first file
 abbrev pub lines_left : ℕ → List RefusedLines → List Given
 lines_left line [] = []
-lines_left line (read ∷ files) = lines_given read.file.now (drop line read.lines) ++ files_given files
+lines_left line (read ∷ files) = lines_given read.file (drop line read.lines) ++ files_given files
 
 abbrev pub batches_given : List Batch → List Given
 batches_given batches = flat_map given_in batches

@@ -75,7 +75,7 @@ pub(crate) fn replay<A: Answer, H: Shelf, K: Sink, L: Ledger>(
 fn tell_feed<A: Answer, K: Sink, L: Ledger>(
     alloc: Global,
     engine: &mut Engine<A>,
-    feed: RunFeed<'_>,
+    feed: RunFeed,
     form: Form,
     out: &mut K,
     steps: &mut Steps<L>,
@@ -84,8 +84,8 @@ fn tell_feed<A: Answer, K: Sink, L: Ledger>(
     requires new { Stands engine.old empty_world [] }
     requires timed { AreTimedBatches (into_iter_items feed.batches) }
     ensures { Says form (K.seen out.old) (K.seen out.new)
-        (run empty_world (run_left feed.entry.files feed.entry.file feed.entry.line
-        (into_iter_items feed.entry.batches))).said result }
+        (run empty_world (run_left feed.files feed.file feed.line
+        (into_iter_items feed.batches))).said result }
 {
     let mut feed = feed;
     let mut nothing = SteadySource::new(Vec::new(alloc), 1);
@@ -106,19 +106,19 @@ fn tell_feed<A: Answer, K: Sink, L: Ledger>(
 
 // What recorded streams give: the refused lines of their files, and the batches behind them.
 #[derive(Drop)]
-struct RunFeed<'a> {
+struct RunFeed {
     alloc: Global,
-    files: Listed<RefusedLines<'a>>,
+    files: Listed<RefusedLines>,
     // the file of the next line, and its place there
     file: usize,
     line: usize,
     batches: IntoIter<Batch>,
 }
 
-impl<'a> RunFeed<'a> {
-    fn new(alloc: Global, files: Listed<RefusedLines<'a>>, batches: Listed<Batch>) -> RunFeed<'a>
+impl RunFeed {
+    fn new(alloc: Global, files: Listed<RefusedLines>, batches: Listed<Batch>) -> RunFeed
         ensures left { run_left result.files result.file result.line (into_iter_items result.batches)
-            ≡ files_given files.entry ++ batches_given batches }
+            ≡ files_given files ++ batches_given batches }
         ensures batches { into_iter_items result.batches ≡ batches }
     {
         RunFeed {
@@ -131,7 +131,7 @@ impl<'a> RunFeed<'a> {
     }
 }
 
-impl<'a, S: Source> Feed<S> for RunFeed<'a> {
+impl<S: Source> Feed<S> for RunFeed {
     ghost use Rattle.std.specs.Prelude.{◌≡◌, Some, []};
     ghost use Rattle.std.specs.Vec.Iter.{into_iter_items};
     ghost use Rattle.rsp_call.specs.Feeding.{AreTimedBatches, run_left, run_turns};
@@ -153,7 +153,7 @@ impl<'a, S: Source> Feed<S> for RunFeed<'a> {
     fn next(&mut self, _from: &mut S) -> Result<Option<Batch>, Cut> {
         match self.files.as_slice().get(self.file) {
             Some(read) => match read.lines.as_slice().get(self.line) {
-                Some(line) => match refused_line(self.alloc, read.file, *line) {
+                Some(line) => match refused_line(&read.file, *line) {
                     Ok(batch) => {
                         self.line += 1;
                         Ok(Some(batch))
@@ -174,22 +174,22 @@ impl<'a, S: Source> Feed<S> for RunFeed<'a> {
     }
 }
 
-fn refused_line(alloc: Global, file: &str, refused: LineRefused) -> Result<Batch, AllocError>
+fn refused_line(file: &Text, refused: LineRefused) -> Result<Batch, AllocError>
     ensures given { IfOk result (λ batch. given_in batch ≡ line_given file.now refused ∷ []) }
     ensures timed { IfOk result IsTimedBatch }
 {
     let LineRefused { line, fault } = refused;
-    let file = Text::new(alloc, file)?;
+    let file = file.share()?;
     Ok(Batch::Refused(Place::Line(file, line), Answered::Line(fault)))
 }
 
 // ---- what it is made of
 
-fn run_feed<'a>(
+fn run_feed(
     alloc: Global,
-    replay: &Replay<'a>,
+    replay: &Replay<'_>,
     files: &[Listed<u8>],
-) -> Result<RunFeed<'a>, AllocError>
+) -> Result<RunFeed, AllocError>
     ensures left { IfOk result (λ feed. run_left feed.files feed.file feed.line (into_iter_items feed.batches)
         ≡ given_of (replay_for replay.now) files.now) }
     ensures timed { IfOk result (λ feed. AreTimedBatches (into_iter_items feed.batches)) }
@@ -211,12 +211,12 @@ fn run_feed<'a>(
 }
 
 // without stored quads
-fn feed_of_streams<'a>(
+fn feed_of_streams(
     alloc: Global,
-    streams: &[Stream<'a>],
+    streams: &[Stream<'_>],
     query: &[u8],
     files: &[Listed<u8>],
-) -> Result<RunFeed<'a>, AllocError>
+) -> Result<RunFeed, AllocError>
     ensures left { IfOk result (λ feed. run_left feed.files feed.file feed.line (into_iter_items feed.batches)
         ≡ given_by (map stream_for streams.now) query.now None files.now) }
     ensures timed { IfOk result (λ feed. AreTimedBatches (into_iter_items feed.batches)) }
@@ -227,13 +227,13 @@ fn feed_of_streams<'a>(
 }
 
 // with stored quads, whose file is the first
-fn feed_of_store<'a>(
+fn feed_of_store(
     alloc: Global,
-    streams: &[Stream<'a>],
+    streams: &[Stream<'_>],
     query: &[u8],
-    file: &'a str,
+    file: &str,
     files: &[Listed<u8>],
-) -> Result<RunFeed<'a>, AllocError>
+) -> Result<RunFeed, AllocError>
     ensures left { IfOk result (λ feed. run_left feed.files feed.file feed.line (into_iter_items feed.batches)
         ≡ given_by (map stream_for streams.now) query.now (Some file.now) files.now) }
     ensures timed { IfOk result (λ feed. AreTimedBatches (into_iter_items feed.batches)) }
@@ -244,7 +244,7 @@ fn feed_of_store<'a>(
             let LoadedQuads { quads, refused } = loaded(alloc, 1, store.as_slice())?;
             let mut before = Listed::new(alloc);
             before.push(RefusedLines {
-                file,
+                file: Text::new(alloc, file)?,
                 lines: refused,
             })?;
             let StreamFiles { lines, items } = recordings(alloc, 2, streams, behind, before)?;
@@ -310,28 +310,28 @@ fn registration(alloc: Global, text: &str) -> Result<Event, AllocError>
 
 /// The refused lines of a file, by its name.
 #[derive(Drop)]
-pub(crate) struct RefusedLines<'a> {
-    pub file: &'a str,
+pub(crate) struct RefusedLines {
+    pub file: Text,
     pub lines: Listed<LineRefused>,
 }
 
 /// What the files of streams hold: their refused lines, and the items of each.
 #[derive(Drop)]
-pub(crate) struct StreamFiles<'a> {
-    pub lines: Listed<RefusedLines<'a>>,
+pub(crate) struct StreamFiles {
+    pub lines: Listed<RefusedLines>,
     pub items: Listed<Listed<Event>>,
 }
 
 /// What the files of the streams hold, each as a document, of which the first has this number; their refused lines stand behind
 /// these.
-pub(crate) fn recordings<'a>(
+pub(crate) fn recordings(
     alloc: Global,
     first: u32,
-    streams: &[Stream<'a>],
+    streams: &[Stream<'_>],
     files: &[Listed<u8>],
-    before: Listed<RefusedLines<'a>>,
-) -> Result<StreamFiles<'a>, AllocError>
-    ensures lines { IfOk result (λ found. files_given found.lines ≡ files_given before.entry
+    before: Listed<RefusedLines>,
+) -> Result<StreamFiles, AllocError>
+    ensures lines { IfOk result (λ found. files_given found.lines ≡ files_given before
         ++ all_lines_given (map stream_for streams.now) (replays.recordings first (map stream_for streams.now) files.now)) }
     ensures items { IfOk result (λ found.
         found.items ≡ replays.items_of (replays.recordings first (map stream_for streams.now) files.now)) }
@@ -347,7 +347,7 @@ pub(crate) fn recordings<'a>(
                 let read = recording(alloc, document, stream, file.as_slice())?;
                 let RecordedItems { items, refused } = read;
                 lines.push(RefusedLines {
-                    file: stream.file,
+                    file: Text::new(alloc, stream.file)?,
                     lines: refused,
                 })?;
                 lists.push(items)?;
