@@ -27,3 +27,8 @@ pub mod Policies
 pub mod KeptEnds
 pub mod Logging
 mod WorldRows
+pub mod PlacesRead
+pub mod Calming
+pub mod ReaderLists
+pub mod EndsRead
+pub mod ReadersBehind

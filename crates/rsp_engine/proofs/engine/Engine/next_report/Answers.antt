@@ -6,7 +6,7 @@ use Rattle.rsp_engine.proofs.engine.Engine.next_report.Goals as goal
 pub returns-in-Ok : goal.returns-in-Ok
 returns-in-Ok g c =
     let old = c.args.self.now in
-    let sound = c.self.invariant c.if-self.false in
+    let sound = (c.self.invariant c.if-self.false).0 in
     let ready : old.broken ≡ false = rw (← c.self.view_is) c.if-self.false in
     let state : IsState old = rw (← c.self.view_is) sound.state in
     let given = c.in-Ok.ensures.ok in
