@@ -1,9 +1,10 @@
+use borrow.Author.Rules.{scaled_Fits}
 use Rattle.std.proofs.Common.{rules, ◌≤◌, ◌<◌, ◌∙◌, arith, get_or, length}
 use Rattle.rsp_engine.specs.Inside.{asked}
 use Rattle.rsp_engine.specs.Readers.{is_reader}
 use Rattle.rsp_engine.specs.Watched.{IsMoved}
 use Rattle.rsp_engine.specs.Watching.{IsWatching}
-use Rattle.rsp_engine.proofs.PlacesRead.{all_done, holds_there, more_done, none_done, place_there}
+use Rattle.rsp_engine.proofs.PlacesRead.{all_done, holds_there, more_done, none_done, place_inside, place_there}
 use Rattle.rsp_engine.proofs.arrivals.attend.Goals as goal
 
 pub loop-index-init : goal.loop-index-init
@@ -12,10 +13,9 @@ loop-index-init g c = none_done (IsMoved c.args.stream.now c.args.time c.args.fr
 pub offset_bounds-queries-place : goal.offset_bounds-queries-place
 offset_bounds-queries-place g c =
     let within : c.loop-index.index < length c.of-places.result.now = omega (arith, c.loop-index-test.true) in
-    let there : get_or c.of-places.result.now c.loop-index.index 0 < length c.loop-index.queries =
-    place_there (IsMoved c.args.stream.now c.args.time c.args.from) (is_reader c.args.stream.now) c.of-places.result.now c.args.queries.now
-    c.loop-index.queries c.loop-index.index 0 (c.of-places.ensures ∙ c.requires.read) within c.loop-index.invariant in
-    search rules
+    let there : get_or c.of-places.result.now c.loop-index.index 0 < length c.args.queries.now =
+    place_inside (is_reader c.args.stream.now) c.of-places.result.now c.args.queries.now c.loop-index.index 0 (c.of-places.ensures ∙ c.requires.read) within in
+    scaled_Fits (get_or c.of-places.result.now c.loop-index.index 0) (length c.args.queries.now) _ there (search rules)
 
 pub bounds-queries-place : goal.bounds-queries-place
 bounds-queries-place g c =
