@@ -28,7 +28,7 @@ go_live-requires-clause-prompt g c =
     begun_prompt _ _ (asked c.in-Ok-Some.query) (rw c.in-Ok-Some.field-0-is at c.in-Ok-Some.ensures.policy) (rw c.in-Ok-Some.field-0-is at c.in-Ok-Some.ensures.watched)
 
 pub go_live-requires-clause-calm : goal.go_live-requires-clause-calm
-go_live-requires-clause-calm g c = begun_calm _ _ (rw c.in-Ok-Some.field-0-is at c.in-Ok-Some.ensures.watched)
+go_live-requires-clause-calm g c = begun_calm c.in-Ok-Some.query.watched.items c.in-Ok-Some.query.windows (rw c.in-Ok-Some.field-0-is at c.in-Ok-Some.ensures.watched)
 
 pub returns-in-Ok-Some : goal.returns-in-Ok-Some
 returns-in-Ok-Some g c = λ text is.
