@@ -14,6 +14,9 @@ pub mod Offering
 pub mod FactSets
 pub mod Following
 pub mod OrderedRows
+pub mod FirstPlace
+pub mod StillSet
+pub mod Costing
 pub mod FirstReport
 pub mod ReportSteps
 pub mod Reported

@@ -86,11 +86,12 @@ impl<A: Answer> Engine<A> {
     ghost use Rattle.rsp_engine.specs.Inside.{Answers, asked, live_of};
     ghost use Rattle.rsp_engine.specs.Keeping.{accepted_of, excess, watches_followed};
     ghost use Rattle.rsp_engine.specs.Kept.{held};
-    ghost use Rattle.rsp_engine.specs.Passing.{Begins, IsAsked, Passes, ReportsFirst};
+    ghost use Rattle.rsp_engine.specs.Passing.{Begins, CostsFirst, IsAsked, Passes, ReportsFirst};
     ghost use Rattle.rsp_engine.specs.World.{World, empty_world};
     ghost use Rattle.rsp_engine.specs.Moments.{Moment};
     ghost use Rattle.rsp_engine.specs.Stands.{Live, Stands, is_idle, next_in, registrations_in, watches_in};
     ghost use Rattle.rsp_engine.specs.Offers.{Offers, NextReport};
+    ghost use Rattle.rsp_engine.specs.Steps.{next_work};
     ghost use Rattle.rsp_engine.specs.Watching.{IsPrompt};
     ghost use Rattle.rsp_events.specs.Instants.{IsInstant};
 
@@ -477,12 +478,14 @@ impl<A: Answer> Engine<A> {
     /// The next report of the last event, in order; None exactly where none is left. An overfull report ends its query.
     ///
     /// Fails as `Broken` exactly where memory was refused before, and as `OutOfMemory` where memory is refused, which
-    /// breaks the engine. Takes no memory where no report is left.
+    /// breaks the engine. Takes no memory where no report is left, and at most as many steps as the report's work.
     pub fn next_report<L: Ledger>(
         &mut self,
         steps: &mut Steps<L>,
     ) -> Result<Option<Report>, EngineFault>
         ensures report { NextReport self.old result self.new }
+        ensures cost { (world : World) (left : List Moment) → Stands self.old world left
+            → steps.new ≤ steps.old + next_work world left }
     {
         if self.broken {
             return Err(EngineFault::Broken);
@@ -506,6 +509,7 @@ impl<A: Answer> Engine<A> {
         requires first { self.old.first ≡ Some place }
         ensures ok { IfOk result (λ report. ReportsFirst self.old report self.new) }
         ensures err { OnErr result (self.new.broken ≡ true) }
+        ensures cost { CostsFirst self.old place steps.old steps.new }
     {
         let next = self.next.unwrap_or(0);
         match report_at(

@@ -1,8 +1,9 @@
 use Rattle.std.proofs.Common.{rules, ◌≡◌, ◌∙◌, ◌<◌, length, ap, map, refl, slice_get, Some}
 use Rattle.std.proofs.lemmas.List.{length-set}
-use Rattle.rsp_engine.specs.Inside.{IsReady, live_of}
+use Rattle.rsp_engine.specs.Inside.{IsReady, live_of, state_of}
 use Rattle.rsp_engine.specs.Passing.{is_overfull_outcome}
 use Rattle.rsp_engine.proofs.Cancelling.{timed_below}
+use Rattle.rsp_engine.proofs.Costing.{costs_first}
 use Rattle.rsp_engine.proofs.Named.{get_index, get_map}
 use Rattle.rsp_engine.proofs.BehindReport.{answers, fits_behind, followed, high, left_there, listed, place_is, prompt_behind, reached, ready_behind, states_behind, store, watches_are, within}
 use Rattle.rsp_engine.specs.World.{Registration}
@@ -153,3 +154,23 @@ returns-in-Ok-clause-ok g c =
       left = left_there _ _ _ _ _ sound c.args.place first live is now c.in-Ok.report.outcome reported (record c.self.inside { queries = c.place_behind-query.new.queries; readers = c.place_behind-query.new.readers; streams = c.let_go.new.streams; ends = c.let_go.new.ends; first = c.first_left-self-inside.result }) refl refl refl refl behind left c.let_go.ensures.less c.let_go.ensures.room kept;
       fits = fits_behind _ _ _ _ _ sound c.args.place first live is now c.in-Ok.report.outcome reported (record c.self.inside { queries = c.place_behind-query.new.queries; readers = c.place_behind-query.new.readers; streams = c.let_go.new.streams; ends = c.let_go.new.ends; first = c.first_left-self-inside.result }) refl refl refl refl behind left c.let_go.ensures.less c.let_go.ensures.room kept;
     })
+
+pub returns-in-Ok-clause-cost : goal.returns-in-Ok-clause-cost
+returns-in-Ok-clause-cost g c =
+    let sound : IsReady g.A.Answer.node g.A.Answer.width g.A.Answer.facts g.A.Answer.spent c.self.inside = (c.self.invariant (rw (← c.self.view_is) at c.requires.ready)).0 in
+    let first : c.self.inside.first ≡ Some c.args.place = rw (← c.self.view_is) at c.requires.first in
+    let live = c.index_mut.result.now in
+    let is : slice_get c.self.inside.queries.items c.args.place.query ≡ Some live = get_index c.self.inside.queries.items c.args.place.query live (listed _ _ _ _ _ sound c.args.place first) c.index_mut.ensures.value in
+    rw (← c.self.view_is)
+    (costs_first (state_of g.A.Answer.facts c.self.inside) c.args.place (live_of g.A.Answer.facts live) _ _
+    (get_map (live_of g.A.Answer.facts) c.self.inside.queries.items c.args.place.query live is) c.report_at.ensures.cost)
+
+pub returns-clause-cost : goal.returns-clause-cost
+returns-clause-cost g c =
+    let sound : IsReady g.A.Answer.node g.A.Answer.width g.A.Answer.facts g.A.Answer.spent c.self.inside = (c.self.invariant (rw (← c.self.view_is) at c.requires.ready)).0 in
+    let first : c.self.inside.first ≡ Some c.args.place = rw (← c.self.view_is) at c.requires.first in
+    let live = c.index_mut.result.now in
+    let is : slice_get c.self.inside.queries.items c.args.place.query ≡ Some live = get_index c.self.inside.queries.items c.args.place.query live (listed _ _ _ _ _ sound c.args.place first) c.index_mut.ensures.value in
+    rw (← c.self.view_is)
+    (costs_first (state_of g.A.Answer.facts c.self.inside) c.args.place (live_of g.A.Answer.facts live) _ _
+    (get_map (live_of g.A.Answer.facts) c.self.inside.queries.items c.args.place.query live is) c.report_at.ensures.cost)
