@@ -1,5 +1,5 @@
 -- A live query that has seen no item, and hasn't reported.
-use Rattle.std.proofs.Common.{◌≡◌, ℕ, ◌+◌, ◌<◌, ◌≤◌, ◌^◌, List, Option, [], ◌∷◌, ◌++◌, map, drop, length, get_or, refl, sym, ap, subst, ◌∙◌, arith}
+use Rattle.std.proofs.Common.{◌≡◌, ℕ, ◌+◌, ◌<◌, ◌≤◌, ◌^◌, false, List, Option, [], ◌∷◌, ◌++◌, map, drop, length, get_or, refl, sym, ap, subst, ◌∙◌, arith}
 use Rattle.std.specs.List.{All, IsDistinct}
 use Rattle.std.proofs.lemmas.List.{append_assoc, drop_all, drop_more, map-append}
 use Rattle.std.proofs.lemmas.List.Elements.{All-cons, All-nil}
@@ -14,6 +14,7 @@ use Rattle.rsp_engine.specs.declared.live_query.StreamWindow.{StreamWindow}
 use Rattle.rsp_engine.specs.Contents.{watches_from}
 use Rattle.rsp_engine.specs.Due.{watched_window}
 use Rattle.rsp_engine.specs.Keeping.{watches_followed}
+use Rattle.rsp_engine.specs.Readers.{IsCalm}
 use Rattle.rsp_engine.specs.Watching.{Asked, IsPolicy, IsPrompt, IsTimed, IsWatching, Tells}
 use Rattle.rsp_engine.specs.World.{Registration}
 
@@ -51,6 +52,9 @@ begun_prompt next arrived ask policy watched = record {
   watching = begun_watching next ask policy watched;
   fresh = λ is. subst (All (IsFreshAt next)) (sym watched) (unseen_fresh next ask.windows);
 }
+
+pub begun_calm : (watched : List Watched) (windows : List StreamWindow) → watched ≡ map (watched_window []) windows → IsCalm watched
+begun_calm watched windows is = subst IsCalm (sym is) (all_unseen (λ (w : Watched). w.fresh ≡ false) windows (λ w. refl))
 
 -- and tells of the items, of which it may see none
 pub begun_tells : (items : List Accepted) (from : ℕ) (query : Registration) (watched : List Watched) → length items ≡ query.first

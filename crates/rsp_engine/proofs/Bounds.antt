@@ -35,7 +35,7 @@ use Rattle.rsp_engine.specs.Accept.{accept, accept_item, accept_stored, accept_t
 use Rattle.rsp_engine.specs.Bounds.{IsWorld}
 use Rattle.rsp_engine.specs.Contents.{watches, watches_from}
 use Rattle.rsp_engine.specs.Kept.{held, watches_of}
-use Rattle.rsp_engine.specs.Reports.{after_report, is_overfull, query_after_report, solutions}
+use Rattle.rsp_engine.specs.Reports.{after_report, is_overfull, query_after_report, reported_at}
 use Rattle.rsp_engine.proofs.Named.{distinct_more, turned}
 
 -- ---- what is kept
@@ -387,7 +387,7 @@ pub told_alike : (world : World) (t : ℕ) (name : List ℕ) (queries : List Que
 told_alike world t name [] = refl
 told_alike world t name (query ∷ queries) = λ i. by (has_name name query.registration) i ∷ told_alike world t name queries i
   where
-    by : (b : Bool) → (if b then record query { preceding = solutions world query.registration t } else query).registration ≡ query.registration
+    by : (b : Bool) → (if b then reported_at world t query else query).registration ≡ query.registration
     by true = refl
     by false = refl
 

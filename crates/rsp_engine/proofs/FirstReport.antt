@@ -30,9 +30,9 @@ use Rattle.rsp_engine.specs.Contents.{facts_over, watches}
 use Rattle.rsp_engine.specs.Left.{IsFirstLeft, left_from}
 use Rattle.rsp_engine.specs.Watching.{name_of}
 use Rattle.rsp_engine.specs.Moments.{Moment}
-use Rattle.rsp_engine.specs.Reports.{after_report, cells_at, facts, is_overfull, live_query, query_after_report, report_of, rows_over, solutions}
+use Rattle.rsp_engine.specs.Reports.{after_report, cells_at, facts, is_overfull, live_query, query_after_report, report_of, reported_at, rows_over, solutions, work_of_report}
 use Rattle.rsp_engine.specs.Steps.{moments_behind, next_step}
-use Rattle.rsp_engine.specs.Stands.{Behind, Follows, HaveSeen, IsState, Live, Precede, Stands, State, asked_in, asked_of, is_read, left_in, next_in, places_left, registration_of, registrations_in, test_in}
+use Rattle.rsp_engine.specs.Stands.{Behind, Follows, HaveSeen, IsState, Live, Precede, Saw, Stands, State, asked_in, asked_of, is_read, left_in, next_in, places_left, registration_of, registrations_in, test_in}
 use Rattle.rsp_engine.specs.Offers.{GivesOf}
 use Rattle.rsp_engine.specs.Passing.{HasContents, ReportsFirst, facts_at, is_overfull_outcome, outcome_over, place_behind, queries_behind}
 use Rattle.rsp_engine.proofs.Left.{gone, waiting_head}
@@ -45,6 +45,8 @@ use Rattle.rsp_engine.proofs.BehindReport.{All-get}
 use Rattle.rsp_engine.proofs.Seen.{name_of_query, seen_at, seen_removed, seen_set, world_at, world_names}
 use Rattle.rsp_engine.proofs.Standing.{head_is, left_here, left_renamed, none_is, waits_renamed}
 
+use Rattle.rsp_engine.proofs.FirstPlace as first_place
+
 -- by what was reported
 full_or_rows : (full : Bool) (given : Outcome) (rows : List (Cells Term)) → given ≡ (if full then outcomes.Overfull else outcomes.Rows rows) → is_overfull_outcome given ≡ full
 full_or_rows true given rows is = ap is_overfull_outcome is
@@ -55,11 +57,15 @@ rows_alike : (reading : Reading) (xs ys : List Fact) → IsSameMultiset fact_eq 
 rows_alike reading xs ys alike =
     same_mapped (cells_at reading.shown) (eval reading.width reading.node xs) (eval reading.width reading.node ys) (same_solutions reading.width reading.node xs ys alike)
 
+-- the facts that pass a test, over the same facts
+read_alike : (test : Fact → Bool) (xs ys zs : List Fact) → IsSameMultiset fact_eq xs (filter test ys) → IsSameMultiset fact_eq ys zs → IsSameMultiset fact_eq xs (filter test zs)
+read_alike test xs ys zs alike same f =
+    alike f ∙ (times-filter fact_same test ys f ∙ (ap (only (test f)) (same f) ∙ sym (times-filter fact_same test zs f)))
+
 -- and those over the facts that its tree reads
 rows_read : (reading : Reading) (xs ys zs : List Fact) → IsSameMultiset fact_eq xs (filter (reads reading.node) ys) → IsSameMultiset fact_eq ys zs → IsSameMultiset (row_eq term_eq) (rows_over reading xs) (rows_over reading zs)
 rows_read reading xs ys zs alike seen q =
-    rows_alike reading xs (filter (reads reading.node) zs)
-    (λ f. alike f ∙ (times-filter fact_same (reads reading.node) ys f ∙ (ap (only (reads reading.node f)) (seen f) ∙ sym (times-filter fact_same (reads reading.node) zs f)))) q
+    rows_alike reading xs (filter (reads reading.node) zs) (read_alike (reads reading.node) xs ys zs alike seen) q
     ∙ ap (λ solutions. times (row_eq term_eq) (map (cells_at reading.shown) solutions) q) (eval-read reading.width (reads reading.node) reading.node (λ fact is. is) zs)
 
 -- one is taken out
@@ -85,49 +91,38 @@ module _ (old new : State) (report : Report) (world : World) (left : List Moment
   seen_now = facts_at world.items old.stored live place.at
 
   found : (q : Query) × (slice_get world.queries place.query ≡ Some q) × (q.registration ≡ query)
-  found = world_at old world stands.queries place.query live given.listed
+  found = first_place.found old place live given.first given.listed world left state stands
 
   names : IsDistinct bytes_eq (map name_of_query world.queries)
-  names = world_names old world stands.queries state.names
+  names = first_place.names old place live given.first given.listed world left state stands
 
   called : name_of_query found.0 ≡ live.name
-  called = ap (λ (r : Registration). r.name) found.2
+  called = first_place.called old place live given.first given.listed world left state stands
 
-  -- the moment is the first
   is_first : left ≡ record { at = place.at; query = live.name } ∷ rest
-  is_first =
-      let here = left_here old world left stands place given.first in
-      let waits = state.waits place given.first in
-      here ∙ waiting_head name_of (test_in old) (asked_in old) (next_in old) place (asked_of live) waits (get_map asked_of old.queries place.query live given.listed)
+  is_first = first_place.is_first old place live given.first given.listed world left state stands
 
-  -- what it needs of the world's items is kept, and it has seen what it saw there
   follows : Follows world.items old.stored old.log live
-  follows = All-get (Follows world.items old.stored old.log) old.queries place.query live stands.fits.follows given.listed
+  follows = first_place.follows old place live given.first given.listed world left state stands
 
   contents : HasContents world.items old.kept place.at (watches live.first live.windows)
-  contents =
-      contents_here old world.items stands.fits place.query live given.listed place.at
-      (subst (λ first. option_map_or (λ (p : Pending). p.at) first (next_in old) ≤ place.at) (sym given.first) (omega arith))
+  contents = first_place.contents old place live given.first given.listed world left state stands
 
-  -- what it sees is what it sees in the world
   seen : IsSameMultiset fact_eq seen_now (facts world query place.at)
-  seen =
-      same-append fact_same old.stored world.stored (facts_over world.items live.first live.windows place.at) (facts_over world.items live.first live.windows place.at) stands.stored (λ q. refl)
+  seen = first_place.seen old place live given.first given.listed world left state stands
 
-  -- and the rows of its last report are those of the world's
-  precedes : Precede live found.0.preceding
-  precedes = seen_at old.queries world.queries place.query live found.0 stands.seen given.listed found.1
+  saw : Saw live found.0
+  saw = first_place.saw old place live given.first given.listed world left state stands
+
+  live_is : live_query world live.name ≡ Some found.0
+  live_is = first_place.live_is old place live given.first given.listed world left state stands
 
   full : is_overfull_outcome report.outcome ≡ is_overfull world query place.at
-  full = full_or_rows _ report.outcome _ (given.outcome world.items follows contents (facts world query place.at) found.0.preceding seen precedes)
+  full = full_or_rows _ report.outcome _ (given.outcome world.items follows contents (facts world query place.at) found.0.preceding seen saw.0)
 
   -- when it reports next is decided as before
   asked_same : asked_of given.now ≡ asked_of live
   asked_same = λ i. record { name = (given.same i).name; policy = (given.same i).reading.policy; windows = (given.same i).reading.windows; watched = given.watched i }
-
-  -- it is the live query of its name
-  live_is : live_query world live.name ≡ Some found.0
-  live_is = subst (λ n. live_query world n ≡ Some found.0) called (find_named world.queries name_of_query place.query found.0 names found.1)
 
   -- ---- the world behind it
 
@@ -182,10 +177,10 @@ module _ (old new : State) (report : Report) (world : World) (left : List Moment
   went_on : new.queries ≡ queries_behind old place given.now false → given.now.reported ≡ true → IsSameMultiset fact_eq given.now.seen (filter (is_read live) seen_now) → IsFirstLeft name_of (test_in old) (asked_in new) (next_in old) place.at (place.query + 1) new.first
       → Stands new (record world { queries = map (query_after_report world place.at live.name) world.queries }) rest
   went_on queries has_told stood first =
-      let told : Query = record found.0 { preceding = solutions world found.0.registration place.at } in
+      let told : Query = reported_at world place.at found.0 in
       let set_is : map (query_after_report world place.at live.name) world.queries ≡ slice_set world.queries place.query told =
       subst (λ n. map (query_after_report world place.at n) world.queries ≡ slice_set world.queries place.query told) called
-      (set_named world.queries name_of_query place.query found.0 (λ q. record q { preceding = solutions world q.registration place.at }) names found.1) in
+      (set_named world.queries name_of_query place.query found.0 (reported_at world place.at) names found.1) in
       let regs_old : registrations_in new ≡ registrations_in old = ap (map registration_of) queries ∙ (set_map registration_of old.queries place.query given.now ∙ (ap (slice_set (registrations_in old) place.query) given.same ∙ set_same (registrations_in old) place.query query (get_map registration_of old.queries place.query live given.listed))) in
       let asked_old : asked_in new ≡ asked_in old = ap (map asked_of) queries ∙ (set_map asked_of old.queries place.query given.now ∙ (ap (slice_set (asked_in old) place.query) asked_same ∙ set_same (asked_in old) place.query (asked_of live) (get_map asked_of old.queries place.query live given.listed))) in
       let regs_world : map (λ (q : Query). q.registration) (slice_set world.queries place.query told) ≡ registrations world = set_map (λ (q : Query). q.registration) world.queries place.query told ∙ set_same (registrations world) place.query found.0.registration (get_map (λ (q : Query). q.registration) world.queries place.query found.0 found.1) in
@@ -197,8 +192,13 @@ module _ (old new : State) (report : Report) (world : World) (left : List Moment
       (rows_read query.reading given.now.seen seen_now (facts world query place.at) stood seen) in
       let told_rows : IsSameMultiset (row_eq term_eq) (rows_over (registration_of given.now).reading given.now.seen) told.preceding = subst (λ r. IsSameMultiset (row_eq term_eq) (rows_over (registration_of given.now).reading given.now.seen) (solutions world r place.at)) (sym found.2) rows in
       let behind_told : Precede given.now told.preceding = subst (λ b. Behind b (rows_over (registration_of given.now).reading given.now.seen) told.preceding) (sym has_told) told_rows in
+      let of_query : IsSameMultiset fact_eq given.now.seen (filter (reads query.reading.node) (facts world query place.at)) = read_alike (reads query.reading.node) given.now.seen seen_now (facts world query place.at) stood seen in
+      let of_now : IsSameMultiset fact_eq given.now.seen (filter (is_read given.now) (facts world query place.at)) =
+      subst (λ (r : Registration). IsSameMultiset fact_eq given.now.seen (filter (reads r.reading.node) (facts world query place.at))) (sym given.same) of_query in
+      let told_seen : IsSameMultiset fact_eq given.now.seen (filter (is_read given.now) told.seen) =
+      subst (λ r. IsSameMultiset fact_eq given.now.seen (filter (is_read given.now) (facts world r place.at))) (sym found.2) of_now in
       let have : HaveSeen new.queries (map (query_after_report world place.at live.name) world.queries) = subst (λ ls. HaveSeen ls (map (query_after_report world place.at live.name) world.queries)) (sym queries)
-      (subst (λ qs. HaveSeen (slice_set old.queries place.query given.now) qs) (sym set_is) (seen_set old.queries world.queries place.query given.now told stands.seen behind_told)) in
+      (subst (λ qs. HaveSeen (slice_set old.queries place.query given.now) qs) (sym set_is) (seen_set old.queries world.queries place.query given.now told stands.seen (behind_told, told_seen))) in
       behind false (map (query_after_report world place.at live.name) world.queries) queries regs have bounds first rest (ap (λ qs. left_from name_of (test_in old) qs (next_in old) place.at (place.query + 1)) asked_old)
 
   stands_behind : (ends : Bool) → is_overfull world query place.at ≡ ends → (ends ≡ false → given.now.reported ≡ true) → (ends ≡ false → IsSameMultiset fact_eq given.now.seen (filter (is_read live) seen_now)) → new.queries ≡ queries_behind old place given.now ends
@@ -210,12 +210,12 @@ module _ (old new : State) (report : Report) (world : World) (left : List Moment
   -- what the world's query reports
   outcome_is : report.outcome ≡ (report_of world found.0 place.at).outcome
   outcome_is = subst (λ (r : Registration). report.outcome ≡ (outcome_over r.reading found.0.preceding (facts world r place.at))) (sym found.2)
-      (given.outcome world.items follows contents (facts world query place.at) found.0.preceding seen precedes)
+      (given.outcome world.items follows contents (facts world query place.at) found.0.preceding seen saw.0)
 
   pub first_given : GivesOf world left report new
   first_given =
       record {
-        step = record { report = report_of world found.0 place.at; after = after_report world found.0.registration place.at; left = moments_behind world found.0.registration place.at rest };
+        step = record { report = report_of world found.0 place.at; work = work_of_report world found.0 place.at; after = after_report world found.0.registration place.at; left = moments_behind world found.0.registration place.at rest };
         is_next = ap (next_step world) is_first ∙ rw live_is refl;
         is_report = λ i. record {
           query = (given.query ∙ sym called) i;

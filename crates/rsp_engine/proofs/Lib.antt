@@ -14,6 +14,9 @@ pub mod Offering
 pub mod FactSets
 pub mod Following
 pub mod OrderedRows
+pub mod FirstPlace
+pub mod StillSet
+pub mod Costing
 pub mod FirstReport
 pub mod ReportSteps
 pub mod Reported
@@ -27,3 +30,8 @@ pub mod Policies
 pub mod KeptEnds
 pub mod Logging
 mod WorldRows
+pub mod PlacesRead
+pub mod Calming
+pub mod ReaderLists
+pub mod EndsRead
+pub mod ReadersBehind

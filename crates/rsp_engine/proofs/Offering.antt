@@ -53,14 +53,14 @@ use Rattle.rsp_engine.specs.Kept.{held, watches_of}
 use Rattle.rsp_engine.specs.Left.{IsFirstLeft, left_from, name_in, reports_at}
 use Rattle.rsp_engine.specs.Moments.{Moment, due_moments, moments, moments_at, moments_from}
 use Rattle.rsp_engine.specs.Passing.{Begins, Passes, unwatched}
-use Rattle.rsp_engine.specs.Stands.{Fits, Follows, HaveSeen, Live, Precede, Stands, State, asked_in, asked_of, cut_of, facts_followed, left_in, next_in, registration_of, registrations_in, test_in, watches_in}
+use Rattle.rsp_engine.specs.Stands.{Fits, Follows, HaveSeen, Live, Saw, Stands, State, asked_in, asked_of, cut_of, facts_followed, left_in, next_in, registration_of, registrations_in, test_in, watches_in}
 use Rattle.rsp_engine.specs.Watching.{Tells, name_of}
 use Rattle.rsp_engine.specs.Bounds.{IsWorld}
 use Rattle.rsp_engine.proofs.Bounds.{delete_keeps, empty_keeps, item_keeps, register_keeps, stored_keeps, tick_keeps, watches_push, without_keeps}
 use Rattle.rsp_engine.proofs.Fitting.{same_regs}
 use Rattle.rsp_engine.proofs.Left.{first_left_is, instants, read_left, same_left, waits_at}
 use Rattle.rsp_engine.proofs.Named.{remove_map, remove_named}
-use Rattle.rsp_engine.proofs.Seen.{name_of_query, precede_new, seen_more, seen_removed, world_at, world_names}
+use Rattle.rsp_engine.proofs.Seen.{name_of_query, saw_new, seen_more, seen_removed, world_at, world_names}
 use Rattle.rsp_engine.proofs.Standing.{any_named, head_is, none_is, same_count, same_live}
 use Rattle.rsp_engine.proofs.Watches.{reports_same}
 
@@ -98,7 +98,7 @@ seen_alike (live ∷ lives) (new ∷ news) [] is have = absurd have
 seen_alike (live ∷ lives) (new ∷ news) (query ∷ queries) is have =
     let first : unwatched live ≡ unwatched new = cc in
     let rest : map unwatched news ≡ map unwatched lives = cc in
-    (subst (λ (l : Live). Precede l query.preceding) first have.0, seen_alike lives news queries rest have.1)
+    (subst (λ (l : Live). Saw l query) first have.0, seen_alike lives news queries rest have.1)
 
 -- an engine that passed to an instant stands for the world with the new items, and for the moments of what became complete and
 -- arrived
@@ -415,7 +415,7 @@ register_leads old name text q live world made begins idle free is good unmixed 
     let regs : registrations_in engine ≡ map (λ (query : Query). query.registration) (world.queries ++ new ∷ []) =
     map_push registration_of old.queries live ∙ (ap (λ qs. qs ++ registration_of live ∷ []) stands.queries
     ∙ (ap (λ r. registrations world ++ r ∷ []) made_is ∙ sym (map_push (λ (query : Query). query.registration) world.queries new))) in
-    let seen = seen_more old.queries world.queries live new stands.seen (precede_new live begins.unreported) in
+    let seen = seen_more old.queries world.queries live new stands.seen (saw_new live new.registration begins.unreported begins.unseen) in
     let fits = fits_begun old live world.items begins stands.fits in
     let bounds : IsWorld after = register_keeps world stands.bounds name (reading_of q) none_live (subst (λ n. n < most_queries) (sym count) few) in (
       after,

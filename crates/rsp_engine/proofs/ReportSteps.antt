@@ -1,5 +1,5 @@
 -- Moments that are worked off one report at a time are worked off as defined.
-use Rattle.std.proofs.Common.{◌≡◌, ℕ, Bool, true, false, List, [], ◌∷◌, map, filter, Option, None, Some, refl, sym, ◌∙◌, ap, subst}
+use Rattle.std.proofs.Common.{◌≡◌, ℕ, ◌+◌, Bool, true, false, List, [], ◌∷◌, map, filter, Option, None, Some, refl, sym, ◌∙◌, ap, subst}
 use Rattle.std.specs.Prelude.{if◌then◌else◌, not, bytes_eq}
 use Rattle.std.specs.List.{find}
 use Rattle.std.specs.Option.{option_map_or}
@@ -8,8 +8,8 @@ use Rattle.rsp_engine.specs.declared.report.Report.{Report}
 use Rattle.rsp_engine.specs.World.{World, Query, Registration}
 use Rattle.rsp_engine.specs.Moments.{Moment}
 use Rattle.rsp_engine.specs.Accept.{has_name, without}
-use Rattle.rsp_engine.specs.Reports.{after_report, is_overfull, live_query, query_after_report, report_of, reports, solutions, world_behind}
-use Rattle.rsp_engine.specs.Steps.{ReportStep, moments_behind, next_step}
+use Rattle.rsp_engine.specs.Reports.{after_report, is_overfull, live_query, query_after_report, report_of, reported_at, reports, work_of_report, work_of_reports, world_behind}
+use Rattle.rsp_engine.specs.Steps.{ReportStep, moments_behind, next_step, next_work}
 
 -- ---- a query that isn't live isn't after a report either
 
@@ -51,7 +51,7 @@ filtered name test (query ∷ queries) none =
 same_name : (world : World) (t : ℕ) (other name : List ℕ) (query : Query) → named name (query_after_report world t other query) ≡ named name query
 same_name world t other name query = by (has_name other query.registration)
   where
-    by : (b : Bool) → named name (if b then record query { preceding = solutions world query.registration t } else query) ≡ named name query
+    by : (b : Bool) → named name (if b then reported_at world t query else query) ≡ named name query
     by true = refl
     by false = refl
 
@@ -84,6 +84,7 @@ step_of world moment left query =
     Some
     (record {
       report = report_of world query moment.at;
+      work = work_of_report world query moment.at;
       after = after_report world query.registration moment.at;
       left = moments_behind world query.registration moment.at left;
     }))
@@ -93,13 +94,16 @@ step_of world moment left query =
 step_same : (a b : ReportStep) → Some a ≡ Some b → a ≡ b
 step_same a b is = cc
 
--- moments worked off: what the world behind them makes, and what each report adds to what those behind it make
-module _ {R : Type 0} (ends : World → R) (adds : Report → R → R) where
+-- moments worked off: what the world behind them makes, and what each report, and the steps that it may take, add to what those
+-- behind it make
+module _ {R : Type 0} (ends : World → R) (adds : Report → ℕ → R → R) where
   abbrev pub worked : World → List Moment → R
   worked world [] = ends world
   worked world (moment ∷ left) =
       option_map_or
-      (λ (query : Query). adds (report_of world query moment.at) (worked (after_report world query.registration moment.at) left))
+      (λ (query : Query).
+      adds (report_of world query moment.at) (work_of_report world query moment.at)
+      (worked (after_report world query.registration moment.at) left))
       (live_query world moment.query)
       (worked world left)
 
@@ -107,7 +111,9 @@ module _ {R : Type 0} (ends : World → R) (adds : Report → R → R) where
   abbrev pub first_by : World → Moment → List Moment → Option Query → R
   first_by world moment left query =
       option_map_or
-      (λ (query : Query). adds (report_of world query moment.at) (worked (after_report world query.registration moment.at) left))
+      (λ (query : Query).
+      adds (report_of world query moment.at) (work_of_report world query moment.at)
+      (worked (after_report world query.registration moment.at) left))
       query
       (worked world left)
 
@@ -124,7 +130,7 @@ module _ {R : Type 0} (ends : World → R) (adds : Report → R → R) where
           → first_by world moment (filter (λ (m : Moment). not (bytes_eq m.query name)) left) query ≡ first_by world moment left query
       kept None rest = rest world none
       kept (Some query) rest =
-          ap (adds (report_of world query moment.at))
+          ap (adds (report_of world query moment.at) (work_of_report world query moment.at))
           (rest (after_report world query.registration moment.at) (lacks_after name world query.registration moment.at none))
 
       by : (b : Bool) → bytes_eq moment.query name ≡ b → Rest
@@ -153,54 +159,81 @@ module _ {R : Type 0} (ends : World → R) (adds : Report → R → R) where
 
   -- they are the report of the next step, and what it leaves worked off
   worked_step : (world : World) (left : List Moment) (step : ReportStep) → next_step world left ≡ Some step
-      → worked world left ≡ adds step.report (worked step.after step.left)
+      → worked world left ≡ adds step.report step.work (worked step.after step.left)
   worked_step world [] step is = cc
   worked_step world (moment ∷ left) step is = by (live_query world moment.query) is (worked_step world left step)
     where
       by : (query : Option Query) → step_of world moment left query ≡ Some step
-          → (next_step world left ≡ Some step → worked world left ≡ adds step.report (worked step.after step.left))
-          → first_by world moment left query ≡ adds step.report (worked step.after step.left)
+          → (next_step world left ≡ Some step → worked world left ≡ adds step.report step.work (worked step.after step.left))
+          → first_by world moment left query ≡ adds step.report step.work (worked step.after step.left)
       by None next later = later next
       by (Some query) next later =
           let same = step_same _ step next in
-          ap (adds (report_of world query moment.at)) (sym (behind_is world query.registration moment.at left))
-          ∙ ap (λ (s : ReportStep). adds s.report (worked s.after s.left)) same
+          ap (adds (report_of world query moment.at) (work_of_report world query moment.at)) (sym (behind_is world query.registration moment.at left))
+          ∙ ap (λ (s : ReportStep). adds s.report s.work (worked s.after s.left)) same
 
 -- ---- reports, and the world behind them
 
-reports_are : (world : World) (left : List Moment) → reports world left ≡ worked (λ _. []) (λ report others. report ∷ others) world left
+reports_are : (world : World) (left : List Moment) → reports world left ≡ worked (λ _. []) (λ report work others. report ∷ others) world left
 reports_are world [] = refl
 reports_are world (moment ∷ left) = by (live_query world moment.query) (λ other. reports_are other left)
   where
     by : (query : Option Query)
-        → ((other : World) → reports other left ≡ worked (λ _. []) (λ report others. report ∷ others) other left)
+        → ((other : World) → reports other left ≡ worked (λ _. []) (λ report work others. report ∷ others) other left)
         → option_map_or
         (λ (query : Query). report_of world query moment.at ∷ reports (after_report world query.registration moment.at) left) query (reports world left)
-        ≡ first_by (λ _. []) (λ report others. report ∷ others) world moment left query
+        ≡ first_by (λ _. []) (λ report work others. report ∷ others) world moment left query
     by None rest = rest world
     by (Some query) rest =
         ap (λ others. report_of world query moment.at ∷ others) (rest (after_report world query.registration moment.at))
 
-world_is : (world : World) (left : List Moment) → world_behind world left ≡ worked (λ after. after) (λ report after. after) world left
+world_is : (world : World) (left : List Moment) → world_behind world left ≡ worked (λ after. after) (λ report work after. after) world left
 world_is world [] = refl
 world_is world (moment ∷ left) = by (live_query world moment.query) (λ other. world_is other left)
   where
     by : (query : Option Query)
-        → ((other : World) → world_behind other left ≡ worked (λ after. after) (λ report after. after) other left)
+        → ((other : World) → world_behind other left ≡ worked (λ after. after) (λ report work after. after) other left)
         → option_map_or (λ (query : Query). world_behind (after_report world query.registration moment.at) left) query (world_behind world left)
-        ≡ first_by (λ after. after) (λ report after. after) world moment left query
+        ≡ first_by (λ after. after) (λ report work after. after) world moment left query
     by None rest = rest world
     by (Some query) rest = rest (after_report world query.registration moment.at)
+
+work_is : (world : World) (left : List Moment) → work_of_reports world left ≡ worked (λ _. 0) (λ report work more. work + more) world left
+work_is world [] = refl
+work_is world (moment ∷ left) = by (live_query world moment.query) (λ other. work_is other left)
+  where
+    by : (query : Option Query)
+        → ((other : World) → work_of_reports other left ≡ worked (λ _. 0) (λ report work more. work + more) other left)
+        → option_map_or
+        (λ (query : Query).
+        work_of_report world query moment.at + work_of_reports (after_report world query.registration moment.at) left)
+        query (work_of_reports world left)
+        ≡ first_by (λ _. 0) (λ report work more. work + more) world moment left query
+    by None rest = rest world
+    by (Some query) rest =
+        ap (λ more. work_of_report world query moment.at + more) (rest (after_report world query.registration moment.at))
 
 pub reports_step : (world : World) (left : List Moment) (step : ReportStep) → next_step world left ≡ Some step
     → reports world left ≡ step.report ∷ reports step.after step.left
 reports_step world left step is =
     reports_are world left
-    ∙ (worked_step (λ _. []) (λ report others. report ∷ others) world left step is
+    ∙ (worked_step (λ _. []) (λ report work others. report ∷ others) world left step is
     ∙ ap (λ others. step.report ∷ others) (sym (reports_are step.after step.left)))
 
 pub world_step : (world : World) (left : List Moment) (step : ReportStep) → next_step world left ≡ Some step
     → world_behind world left ≡ world_behind step.after step.left
 world_step world left step is =
     world_is world left
-    ∙ (worked_step (λ after. after) (λ report after. after) world left step is ∙ sym (world_is step.after step.left))
+    ∙ (worked_step (λ after. after) (λ report work after. after) world left step is ∙ sym (world_is step.after step.left))
+
+pub work_step : (world : World) (left : List Moment) (step : ReportStep) → next_step world left ≡ Some step
+    → work_of_reports world left ≡ step.work + work_of_reports step.after step.left
+work_step world left step is =
+    work_is world left
+    ∙ (worked_step (λ _. 0) (λ report work more. work + more) world left step is
+    ∙ ap (λ more. step.work + more) (sym (work_is step.after step.left)))
+
+-- what the next report may take is a part of that
+pub work_next : (world : World) (left : List Moment) (step : ReportStep) → next_step world left ≡ Some step
+    → next_work world left ≡ step.work
+work_next world left step is = rw is refl

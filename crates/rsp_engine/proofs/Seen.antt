@@ -1,15 +1,17 @@
--- Query by query, the preceding rows of live queries and those of the world's.
+-- Query by query, what live queries saw and what the world's did.
 use Rattle.std.proofs.Common.{◌≡◌, ℕ, zero, suc, List, [], ◌∷◌, ◌++◌, Some, map, remove, slice_get, slice_set, refl, sym, ap, ◌∙◌, subst, false}
 use Rattle.std.specs.List.{IsDistinct}
 use Rattle.std.specs.Prelude.{bytes_eq}
 use Rattle.std.proofs.lemmas.Simd.{map-map}
+use Rattle.rsp_terms.specs.Same.{fact_eq}
+use Rattle.rsp_multiset.specs.Weights.{times}
 use Rattle.rsp_engine.specs.World.{Query, Registration, World, registrations}
-use Rattle.rsp_engine.specs.Stands.{HaveSeen, Live, Precede, State, registration_of, registrations_in}
+use Rattle.rsp_engine.specs.Stands.{HaveSeen, Live, Precede, Saw, State, registration_of, registrations_in}
 use Rattle.rsp_engine.proofs.Named.{get_map}
 
 -- one query more
 pub seen_more : (lives : List Live) (queries : List Query) (live : Live) (query : Query) → HaveSeen lives queries
-    → Precede live query.preceding → HaveSeen (lives ++ live ∷ []) (queries ++ query ∷ [])
+    → Saw live query → HaveSeen (lives ++ live ∷ []) (queries ++ query ∷ [])
 seen_more [] [] live query have same = (same, tt)
 seen_more [] (q ∷ queries) live query have same = absurd have
 seen_more (l ∷ lives) [] live query have same = absurd have
@@ -27,7 +29,7 @@ seen_removed (l ∷ lives) (q ∷ queries) (suc i) have = (have.0, seen_removed 
 
 -- one that has reported
 pub seen_set : (lives : List Live) (queries : List Query) (i : ℕ) (live : Live) (query : Query) → HaveSeen lives queries
-    → Precede live query.preceding → HaveSeen (slice_set lives i live) (slice_set queries i query)
+    → Saw live query → HaveSeen (slice_set lives i live) (slice_set queries i query)
 seen_set [] [] zero live query have same = tt
 seen_set [] [] (suc i) live query have same = tt
 seen_set [] (q ∷ queries) i live query have same = absurd have
@@ -37,19 +39,23 @@ seen_set (l ∷ lives) (q ∷ queries) (suc i) live query have same = (have.0, s
 
 -- the one at a place
 pub seen_at : (lives : List Live) (queries : List Query) (i : ℕ) (live : Live) (query : Query) → HaveSeen lives queries
-    → slice_get lives i ≡ Some live → slice_get queries i ≡ Some query → Precede live query.preceding
+    → slice_get lives i ≡ Some live → slice_get queries i ≡ Some query → Saw live query
 seen_at [] [] i live query have listed other = cc
 seen_at [] (q ∷ queries) i live query have listed other = absurd have
 seen_at (l ∷ lives) [] i live query have listed other = absurd have
 seen_at (l ∷ lives) (q ∷ queries) zero live query have listed other =
     let one : l ≡ live = cc in
     let two : q ≡ query = cc in
-    subst (λ x. Precede x query.preceding) one (subst (λ (y : Query). Precede l y.preceding) two have.0)
+    subst (λ x. Saw x query) one (subst (λ (y : Query). Saw l y) two have.0)
 seen_at (l ∷ lives) (q ∷ queries) (suc i) live query have listed other = seen_at lives queries i live query have.1 listed other
 
--- before the first report there are none
-pub precede_new : (live : Live) → live.reported ≡ false → Precede live []
+-- before the first report there is nothing of either
+precede_new : (live : Live) → live.reported ≡ false → Precede live []
 precede_new live is = rw is refl
+
+pub saw_new : (live : Live) (registration : Registration) → live.reported ≡ false → live.seen ≡ []
+    → Saw live (record { registration = registration; seen = []; preceding = [] })
+saw_new live registration is none = (precede_new live is, λ q. ap (λ facts. times fact_eq facts q) none)
 
 -- ---- the world's queries by those of the engine
 

@@ -13,8 +13,19 @@ use Rattle.rsp_engine.specs.declared.live_query.StreamWindow.{StreamWindow}
 use Rattle.rsp_scope.specs.Contents.{Accepted}
 use Rattle.rsp_engine.specs.Inside.{Parts, asked, fixed, parts_of}
 use Rattle.rsp_engine.specs.Watching.{IsPolicy, IsPrompt, IsTimed, IsWatching, Tells, with_time}
-use Rattle.rsp_engine.specs.Watched.{AreWatchedWith, IsWatchedWith}
+use Rattle.rsp_engine.specs.Watched.{AreWatchedWith, IsMoved, IsWatchedWith}
 use Rattle.rsp_engine.proofs.NewTimes.{tells_more}
+
+-- lists that are read alike, place by place
+pub same_by : {X Y : Type 0} (f : X → Y) (olds news : List X) → length news ≡ length olds
+    → ((k : ℕ) (d : X) → k < length olds → f (get_or news k d) ≡ f (get_or olds k d)) → map f news ≡ map f olds
+same_by f [] [] long same = refl
+same_by f [] (new ∷ news) long same = absurd (omega (arith, long))
+same_by f (old ∷ olds) [] long same = absurd (omega (arith, long))
+same_by f (old ∷ olds) (new ∷ news) long same =
+    let first : f new ≡ f old = same 0 old (omega arith) in
+    let rest : map f news ≡ map f olds = same_by f olds news (omega (arith, long)) (λ k d within. same (suc k) d (omega (arith, within))) in
+    (λ i. first i ∷ rest i)
 
 module _ (stream : List ℕ) (time from : ℕ) where
   -- the first i windows are watched with the item, the others as before
@@ -118,12 +129,7 @@ module _ (stream : List ℕ) (time from : ℕ) where
 
   -- ---- a live query
 
-  -- all but its times is the same, and it watches its windows with the item
-  pub record IsMoved {A : Type 0} (old new : LiveQuery A) : Type 0 where
-    pub parts : parts_of new ≡ parts_of old
-    pub watched : AreWatchedWith stream time from old.windows old.watched.items new.watched.items
-
-  module _ {A : Type 0} (old new : LiveQuery A) (moved : IsMoved old new) where
+  module _ {A : Type 0} (old new : LiveQuery A) (moved : IsMoved stream time from old new) where
     pub moved_watching : IsWatching from (asked old) → IsWatching time (asked new)
     moved_watching is = record {
       policy = subst (λ (p : Parts A). IsPolicy p.query.reading.policy) (sym moved.parts) is.policy;
@@ -147,54 +153,31 @@ module _ (stream : List ℕ) (time from : ℕ) where
   -- ---- the live queries, one after another
 
   module _ {A : Type 0} (olds news : List (LiveQuery A)) where
-    -- the first i watch the item, the others are as before
-    pub record AreMoved (i : ℕ) : Type 0 where
+    -- each watches the item
+    pub record AreMoved : Type 0 where
       pub long : length news ≡ length olds
-      pub done : (k : ℕ) (d : LiveQuery A) → k < i → IsMoved (get_or olds k d) (get_or news k d)
-      pub to_do : (k : ℕ) (d : LiveQuery A) → i ≤ k → get_or news k d ≡ get_or olds k d
+      pub each : (k : ℕ) (d : LiveQuery A) → k < length olds → IsMoved stream time from (get_or olds k d) (get_or news k d)
 
-    module _ (i : ℕ) (end : length news ≤ i) (are : AreMoved i) where
+    module _ (are : AreMoved) where
       pub all_prompt : All (λ (live : LiveQuery A). IsWatching from (asked live)) olds
           → All (λ (live : LiveQuery A). IsPrompt time (Some stream) (asked live)) news
       all_prompt is k d within =
-          moved_prompt (get_or olds k d) (get_or news k d) (are.done k d (omega (arith, end, within))) (is k d (omega (arith, are.long, within)))
+          let inside : k < length olds = omega (arith, are.long, within) in
+          moved_prompt (get_or olds k d) (get_or news k d) (are.each k d inside) (is k d inside)
 
       pub all_tell : (items : List Accepted) (item : Accepted) → item.stream ≡ stream → item.time ≡ time
           → All (λ (live : LiveQuery A). live.first ≤ length items) olds
           → All (λ (live : LiveQuery A). Tells items from (fixed live) live.watched.items) olds
           → All (λ (live : LiveQuery A). Tells (items ++ item ∷ []) from (fixed live) live.watched.items) news
       all_tell items item over at firsts told k d within =
-          moved_tells (get_or olds k d) (get_or news k d) (are.done k d (omega (arith, end, within))) items item over at
-          (firsts k d (omega (arith, are.long, within))) (told k d (omega (arith, are.long, within)))
+          let inside : k < length olds = omega (arith, are.long, within) in
+          moved_tells (get_or olds k d) (get_or news k d) (are.each k d inside) items item over at (firsts k d inside) (told k d inside)
+
+      pub all_parts : map parts_of news ≡ map parts_of olds
+      all_parts = same_by parts_of olds news are.long (λ k d within. (are.each k d within).parts)
 
   -- as many windows as are watched
   pub none_so_far : (windows : List StreamWindow) (watched : List Watched)
       → map (λ (w : Watched). w.window) watched ≡ map (λ (w : StreamWindow). w.shape) windows → AreSoFar 0 windows watched watched
   none_so_far windows watched shapes =
       (refl, sym (length-map windows (λ (w : StreamWindow). w.shape)) ∙ (sym (ap length shapes) ∙ length-map watched (λ (w : Watched). w.window)))
-
-  pub none_moved : {A : Type 0} (olds : List (LiveQuery A)) → AreMoved olds olds 0
-  none_moved olds = record { long = refl; done = λ k d below. absurd (omega (arith, below)); to_do = λ k d late. refl }
-
-  -- one query more
-  pub more_moved : {A : Type 0} (olds news : List (LiveQuery A)) (i : ℕ) (one new : LiveQuery A) → AreMoved olds news i → i < length news
-      → IsMoved (get_or news i one) new → AreMoved olds (set news i new) (i + 1)
-  more_moved olds news i one new are within moved = record {
-    long = length-set news i new ∙ are.long;
-    done = λ k d below.
-        below_more (λ j. IsMoved (get_or olds j d) (get_or (set news i new) j d)) i
-        (λ j less. let other : j ≢ i = omega (arith, less) in
-        subst (IsMoved (get_or olds j d)) (sym (get_or-set_other news i j new d other)) (are.done j d less))
-        (let is_one : get_or news i one ≡ get_or olds i d = get_or_default news i one d within ∙ are.to_do i d (omega arith) in
-        let is_new : new ≡ get_or (set news i new) i d = sym (get_or-set_same news i new d within) in
-        subst (λ old. IsMoved old (get_or (set news i new) i d)) is_one (subst (IsMoved (get_or news i one)) is_new moved)) k below;
-    to_do = λ k d late.
-        let other : k ≢ i = omega (arith, late) in
-        get_or-set_other news i k new d other ∙ are.to_do k d (omega (arith, late));
-  }
-
--- a written value that is seen as the one before it
-pub same_mapped : {X Y : Type 0} (f : X → Y) (xs : List X) (i : ℕ) (x new : X) → f new ≡ f (get_or xs i x) → map f (set xs i new) ≡ map f xs
-same_mapped f [] i x new same = refl
-same_mapped f (y ∷ xs) zero x new same = ap (λ z. z ∷ map f xs) same
-same_mapped f (y ∷ xs) (suc i) x new same = ap (λ zs. f y ∷ zs) (same_mapped f xs i x new same)

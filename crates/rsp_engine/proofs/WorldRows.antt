@@ -41,7 +41,7 @@ use Rattle.rsp_engine.specs.World.{World, Query, Reading, Registration}
 use Rattle.rsp_engine.specs.Readings.{reading_of}
 use Rattle.rsp_engine.specs.Accept.{accept, accept_text, is_live, new_query, starts_overfull}
 use Rattle.rsp_engine.specs.Moments.{Moment, moments}
-use Rattle.rsp_engine.specs.Reports.{facts, reports, world_behind, is_overfull, after_report}
+use Rattle.rsp_engine.specs.Reports.{facts, reports, work_of_reports, world_behind, is_overfull, after_report}
 use Rattle.rsp_engine.specs.Steps.{moments_behind}
 use Rattle.rsp_engine.specs.Kept.{held, kept_items}
 
@@ -403,8 +403,17 @@ item_is_reported_by_both_windows : said_of (query (at_instants (Close ∷ [])) (
 item_is_reported_by_both_windows = refl
 
 report_leaves_its_rows : world_behind ticked (at 10 ∷ [])
-    ≡ record ticked { queries = record (at_tens (codes "q")) { preceding = (Some (iri 3) ∷ []) ∷ (Some (iri 1) ∷ []) ∷ [] } ∷ [] }
+    ≡ record ticked {
+      queries = record (at_tens (codes "q")) {
+        seen = facts ticked (at_tens (codes "q")).registration 10;
+        preceding = (Some (iri 3) ∷ []) ∷ (Some (iri 1) ∷ []) ∷ [];
+      } ∷ [];
+    }
 report_leaves_its_rows = refl
+
+-- a pattern takes no step
+pattern_takes_no_step : work_of_reports ticked (at 10 ∷ []) ≡ 0
+pattern_takes_no_step = refl
 
 -- the query under another stream operator
 abbrev under : Operator → Query → Query
@@ -445,7 +454,7 @@ ending reading = record { name = codes "q"; reading = reading; first = 0 }
 abbrev between : Reading → World
 between reading =
     world (Some 21) two_items
-    (at_tens (codes "p") ∷ record { registration = ending reading; preceding = [] } ∷ at_tens (codes "r") ∷ [])
+    (at_tens (codes "p") ∷ record { registration = ending reading; seen = []; preceding = [] } ∷ at_tens (codes "r") ∷ [])
 
 -- the moments of all at t
 abbrev all_at : ℕ → List Moment

@@ -31,7 +31,8 @@ without name queries = filter (λ (query : Query). not (has_name name query.regi
 
 -- a query that has not reported
 abbrev pub new_query : List ℕ → Reading → ℕ → Query
-new_query name reading first = record { registration = record { name = name; reading = reading; first = first }; preceding = [] }
+new_query name reading first =
+    record { registration = record { name = name; reading = reading; first = first }; seen = []; preceding = [] }
 
 -- a query that has too many rows over no facts can't begin
 abbrev pub starts_overfull : Reading → Bool

@@ -9,6 +9,7 @@ use Rattle.rsp_algebra.specs.declared.tree.Translated.{Translated}
 use Rattle.rsp_scope.specs.Moves.{Followed}
 use Rattle.rsp_engine.specs.declared.engine.Engine.TheInside.{Inside}
 use Rattle.rsp_engine.specs.declared.live_query.LiveQuery.{LiveQuery}
+use Rattle.rsp_engine.specs.Readers.{AreRead}
 use Rattle.rsp_engine.specs.Watching.{Asked}
 use Rattle.rsp_engine.specs.World.{Registration}
 use Rattle.rsp_engine.specs.Stands.{State, Live, IsState}
@@ -102,6 +103,6 @@ pub record IsReady {A : Type 0} (node : A → Node) (width : A → ℕ) (facts :
   pub answers : All (Answers node width facts spent) e.queries.items
   pub room : length e.streams.items ≤ e.ends.cap
 
--- an engine to which memory was refused owes nothing
+-- an engine to which memory was refused owes nothing; of any other the readers of each stream are known
 abbrev pub IsEngine : {A : Type 0} → (A → Node) → (A → ℕ) → (A → List Fact) → (A → Bool) → Inside A → Type 0
-IsEngine node width facts spent e = e.broken ≡ false → IsReady node width facts spent e
+IsEngine node width facts spent e = e.broken ≡ false → IsReady node width facts spent e × AreRead e.readers e.queries.items

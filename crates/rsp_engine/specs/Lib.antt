@@ -18,5 +18,6 @@ pub mod Inside
 pub mod Passing
 pub mod Watching
 pub mod Watched
+pub mod Readers
 pub mod Seeing
 pub mod Keeping

@@ -1,5 +1,5 @@
 -- Words of the way: what the engine's calls do to its state.
-use Rattle.std.specs.Prelude.{◌≡◌, ℕ, ◌+◌, Option, Bool, if◌then◌else◌, true, false, None, Some, List, [], ◌++◌, filter, length, map, remove, slice_get, slice_set, unwrap_or}
+use Rattle.std.specs.Prelude.{◌≡◌, ℕ, ◌+◌, ◌≤◌, Option, Bool, if◌then◌else◌, true, false, None, Some, List, [], ◌++◌, filter, length, map, remove, slice_get, slice_set, unwrap_or}
 use Rattle.std.specs.List.{All}
 use Rattle.rsp_terms.specs.declared.term.Term.{Term}
 use Rattle.rsp_terms.specs.declared.statement.Fact.{Fact}
@@ -10,8 +10,10 @@ use Rattle.rsp_report.specs.Policies.{choice_of, is_mixed}
 use Rattle.rsp_query.specs.Meanings.{registered}
 use Rattle.rsp_query.specs.Queries.{Registered}
 use Rattle.rsp_algebra.specs.Fitting.{IsPlaced}
+use Rattle.rsp_algebra.specs.Meanings.{node_of}
 use Rattle.rsp_algebra.specs.Nodes.{Node}
 use Rattle.rsp_algebra.specs.Overfull.{overfull}
+use Rattle.rsp_algebra.specs.Work.{work}
 use Rattle.rsp_translation.specs.Translation.{IsTranslated}
 use Rattle.rsp_scope.specs.Contents.{Accepted, Watch}
 use Rattle.rsp_scope.specs.Ends.{HasContent}
@@ -91,6 +93,18 @@ facts_at items stored live t = stored ++ facts_over items live.first live.window
 -- and what its tree reads of that
 abbrev pub facts_read_at : List Accepted → List Fact → Live → ℕ → List Fact
 facts_read_at items stored live t = filter (is_read live) (facts_at items stored live t)
+
+-- a live query's report at t takes at most the work that leads from what its answer stands for to what its tree reads then
+abbrev pub CostsReport : Kept → List Fact → Log → ℕ → Live → ℕ → ℕ → Type 0
+CostsReport kept stored log t live before after =
+    (items : List Accepted) → Follows items stored log live → HasContents items kept t (watches live.first live.windows)
+    → after ≤ before + work live.query.width (node_of live.query.tree) live.seen (facts_read_at items stored live t)
+
+-- and so does the report at a place
+abbrev pub CostsFirst : State → Pending → ℕ → ℕ → Type 0
+CostsFirst old place before after =
+    (live : Live) → slice_get old.queries place.query ≡ Some live
+    → CostsReport old.kept old.stored old.log place.at live before after
 
 -- there are items of which a live query's windows have seen a beginning, and whose contents at t are kept
 pub record IsFollowed (kept : Kept) (stored : List Fact) (log : Log) (t : ℕ) (live : Live) : Type 0 where

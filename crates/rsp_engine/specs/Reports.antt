@@ -1,5 +1,5 @@
 -- Definitions: what is reported at a moment (RSP-QL), and working off the moments of an event.
-use Rattle.std.specs.Prelude.{◌≡◌, ℕ, Bool, if◌then◌else◌, Option, None, Some, List, [], ◌∷◌, ◌++◌, map}
+use Rattle.std.specs.Prelude.{◌≡◌, ℕ, ◌+◌, Bool, if◌then◌else◌, Option, None, Some, List, [], ◌∷◌, ◌++◌, map}
 use Rattle.std.specs.List.{find}
 use Rattle.std.specs.Option.{option_map_or}
 use Rattle.rsp_terms.specs.declared.term.Term.{Term}
@@ -8,6 +8,7 @@ use Rattle.rsp_multiset.specs.Rows.{Cells}
 use Rattle.rsp_multiset.specs.Variables as variables
 use Rattle.rsp_algebra.specs.Solutions.{eval}
 use Rattle.rsp_algebra.specs.Overfull.{overfull}
+use Rattle.rsp_algebra.specs.Work.{work}
 use Rattle.rsp_streams_out.specs.Streams.{reported}
 use Rattle.rsp_engine.specs.declared.report.Report.{Report}
 use Rattle.rsp_engine.specs.declared.report.Outcome.{Outcome}
@@ -55,10 +56,19 @@ report_of world query t =
 abbrev pub live_query : World → List ℕ → Option Query
 live_query world name = find (λ (query : Query). has_name name query.registration) world.queries
 
--- the query of this name with the rows of its report at t as those of its last report
+-- the steps that the query's report at t may take: the work from the facts of its last report to those of now
+abbrev pub work_of_report : World → Query → ℕ → ℕ
+work_of_report world query t =
+    work query.registration.reading.width query.registration.reading.node query.seen (facts world query.registration t)
+
+-- the query with its report at t as its last one
+abbrev pub reported_at : World → ℕ → Query → Query
+reported_at world t query =
+    record query { seen = facts world query.registration t; preceding = solutions world query.registration t }
+
+-- the query of this name with its report at t as its last one
 abbrev pub query_after_report : World → ℕ → List ℕ → Query → Query
-query_after_report world t name query =
-    if has_name name query.registration then record query { preceding = solutions world query.registration t } else query
+query_after_report world t name query = if has_name name query.registration then reported_at world t query else query
 
 -- the world after a query's report: an overfull one ends the query
 abbrev pub after_report : World → Registration → ℕ → World
@@ -84,3 +94,13 @@ world_behind world (moment ∷ left) =
     option_map_or (λ (query : Query). world_behind (after_report world query.registration moment.at) left)
     (live_query world moment.query)
     (world_behind world left)
+
+-- the steps that they may take in all
+abbrev pub work_of_reports : World → List Moment → ℕ
+work_of_reports world [] = 0
+work_of_reports world (moment ∷ left) =
+    option_map_or
+    (λ (query : Query).
+    work_of_report world query moment.at + work_of_reports (after_report world query.registration moment.at) left)
+    (live_query world moment.query)
+    (work_of_reports world left)

@@ -1,5 +1,5 @@
 -- Words of the way: what an engine's state is, and which world and which moments left it stands for.
-use Rattle.std.specs.Prelude.{◌≡◌, ℕ, ℤ, pos, ◌+◌, ◌+ℤ◌, ◌-◌, ◌*◌, ◌≤◌, ◌↔◌, Bool, true, false, ◌||◌, not, if◌then◌else◌, Option, None, Some, List, [], ◌∷◌, ⊤, length, map, slice_get, take, bytes_eq, unwrap_or}
+use Rattle.std.specs.Prelude.{◌≡◌, ℕ, ℤ, pos, ◌+◌, ◌+ℤ◌, ◌-◌, ◌*◌, ◌≤◌, ◌↔◌, Bool, true, false, ◌||◌, not, if◌then◌else◌, Option, None, Some, List, [], ◌∷◌, ⊤, filter, length, map, slice_get, take, bytes_eq, unwrap_or}
 use Rattle.std.specs.List.{All, IsDistinct, flat_map}
 use Rattle.std.specs.Option.{is_some, option_map_or, ForSome}
 use Rattle.rsp_spec.specs.Limits.{last_instant}
@@ -132,10 +132,19 @@ Behind true before preceding = IsSameMultiset (row_eq term_eq) before preceding
 abbrev pub Precede : Live → List (Cells Term) → Type 0
 Precede live preceding = Behind live.reported (rows_over (reading_in live) live.seen) preceding
 
--- query by query, the preceding rows are those of the world's query
+-- the live query's tree reads the fact
+abbrev pub is_read : Live → Fact → Bool
+is_read live = reads (node_of live.query.tree)
+
+-- the preceding rows are those of the world's query, and the answer stands for what its tree reads of the facts of its last report
+abbrev pub Saw : Live → Query → Type 0
+Saw live query =
+    Precede live query.preceding × IsSameMultiset fact_eq live.seen (filter (is_read live) query.seen)
+
+-- query by query
 abbrev pub HaveSeen : List Live → List Query → Type 0
 HaveSeen [] [] = ⊤
-HaveSeen (live ∷ lives) (query ∷ queries) = Precede live query.preceding × HaveSeen lives queries
+HaveSeen (live ∷ lives) (query ∷ queries) = Saw live query × HaveSeen lives queries
 HaveSeen _ _ = ⊥
 
 -- what windows saw of these items at their last move
@@ -146,10 +155,6 @@ facts_followed items contents =
 -- what a live query hasn't seen of the stored quads: what came and went since its last report, and all before the first
 abbrev pub unseen : List Fact → Log → Live → Fact → ℤ
 unseen stored log live q = if live.reported then since log live.place q else times fact_eq stored q
-
--- the live query's tree reads the fact
-abbrev pub is_read : Live → Fact → Bool
-is_read live = reads (node_of live.query.tree)
 
 -- a live query's answer stands for what it saw at its last report of the facts that its tree reads, and for no others: what it
 -- hasn't seen of the stored quads leads from there to the stored quads and what its windows saw

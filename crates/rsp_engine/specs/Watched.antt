@@ -1,9 +1,11 @@
--- Words of the way: what a query watches once an item has come over a stream.
-use Rattle.std.specs.Prelude.{◌≡◌, ℕ, ◌≤◌, List, [], ◌∷◌, ⊤, bytes_eq}
+-- Words of the way: what queries watch once an item has come over a stream.
+use Rattle.std.specs.Prelude.{◌≡◌, ℕ, ◌≤◌, ◌<◌, Bool, true, false, List, [], ◌∷◌, ⊤, length, map, slice_index_or, bytes_eq}
 use Rattle.rsp_report.specs.declared.contents.Watched.{Watched}
 use Rattle.rsp_report.specs.Due.{IsFreshAt}
 use Rattle.rsp_report.specs.Seen.{seen_at}
+use Rattle.rsp_engine.specs.declared.live_query.LiveQuery.{LiveQuery}
 use Rattle.rsp_engine.specs.declared.live_query.StreamWindow.{StreamWindow}
+use Rattle.rsp_engine.specs.Inside.{parts_of}
 use Rattle.rsp_engine.specs.Watching.{IsTimed, with_time}
 
 -- a window with the time of a new item, where that is over its stream, and without times that are in no content from `from` -
@@ -20,3 +22,25 @@ AreWatchedWith stream time from [] [] [] = ⊤
 AreWatchedWith stream time from (w ∷ ws) (old ∷ olds) (new ∷ news) =
     IsWatchedWith stream time from w old new × AreWatchedWith stream time from ws olds news
 AreWatchedWith stream time from _ _ _ = ⊥
+
+-- all of a query but its times is the same, and it watches its windows with the item
+pub record IsMoved {A : Type 0} (stream : List ℕ) (time from : ℕ) (old new : LiveQuery A) : Type 0 where
+  pub parts : parts_of new ≡ parts_of old
+  pub watched : AreWatchedWith stream time from old.windows old.watched.items new.watched.items
+
+-- a window that isn't fresh
+abbrev pub calmed : Watched → Watched
+calmed w = record { window = w.window; times = w.times; fresh = false }
+
+-- a query whose windows aren't fresh any more
+pub record IsCalmed {A : Type 0} (old new : LiveQuery A) : Type 0 where
+  pub parts : parts_of new ≡ parts_of old
+  pub watched : new.watched.items ≡ map calmed old.watched.items
+
+-- those that pass changed so, the others not
+pub record AreChanged {X : Type 0} (test : X → Bool) (R : X → X → Type 0) (olds news : List X) : Type 0 where
+  pub long : length news ≡ length olds
+  pub there : (k : ℕ) (d : X) → k < length olds → test (slice_index_or olds k d) ≡ true
+      → R (slice_index_or olds k d) (slice_index_or news k d)
+  pub elsewhere : (k : ℕ) (d : X) → k < length olds → test (slice_index_or olds k d) ≡ false
+      → slice_index_or news k d ≡ slice_index_or olds k d

@@ -29,9 +29,11 @@ pub record Registration : Type 0 where
   pub reading : Reading
   pub first : ℕ
 
--- a live query, with what its reports change: the rows of its last report's solutions, none before the first
+-- a live query, with what its reports change: the facts of its last report, and the rows of the solutions over them; none of
+-- either before the first
 pub record Query : Type 0 where
   pub registration : Registration
+  pub seen : List Fact
   pub preceding : List (Cells Term)
 
 -- the first instant that isn't complete, where one is set; all accepted items, in order, numbered from 0; the stored quads, as

@@ -1,5 +1,6 @@
 // What a new item adds to what live queries watch: its time, to the windows over its stream.
-ghost use Rattle.std.specs.Prelude.{◌≡◌, ◌≤◌, ◌++◌, ◌∷◌, ℕ, [], false, List, map, OnOk, bytes_eq, length, slice_get, drop};
+ghost use Rattle.std.specs.Prelude.{◌≡◌, ◌≤◌, ◌<◌, ◌++◌, ◌∷◌, ℕ, [], false, List, map, OnOk, Some, bytes_eq, length, slice_get};
+ghost use Rattle.std.specs.Prelude.{slice_index_or};
 ghost use Rattle.std.specs.List.{All};
 ghost use Rattle.std.specs.Option.{option_map_or};
 ghost use Rattle.rsp_spec.specs.Limits.{last_instant};
@@ -9,27 +10,33 @@ ghost use Rattle.rsp_report.specs.Due.{IsFreshAt};
 ghost use Rattle.rsp_report.specs.Seen.{seen_at};
 ghost use Rattle.rsp_engine.specs.Inside.{asked, fixed, parts_of};
 ghost use Rattle.rsp_engine.specs.Watching.{IsPrompt, IsTimed, IsWatching, Tells, with_time};
-ghost use Rattle.rsp_engine.specs.Watched.{AreWatchedWith};
+ghost use Rattle.rsp_engine.specs.Readers.{AreRead, is_reader, places_from, readers_of};
+ghost use Rattle.rsp_engine.specs.Watched.{AreChanged, AreWatchedWith, IsCalmed, IsMoved};
+ghost use Rattle.rsp_engine.specs.declared.live_query.LiveQuery.{LiveQuery};
 
 use crate::live_query::{LiveQuery, StreamWindow};
+use crate::readers::Readers;
 use rsp_report::Watched;
 use rsp_scope::forget_times;
 use rsp_terms::Text;
 use std::alloc::{AllocError, Global};
 
-/// Adds the time of an item over a stream to what each query watches, and lets go of times that are in no content from `from`
-/// - 1 ms on. Fails only where memory is refused; some queries may then watch it and others not.
+/// Adds the time of an item to the windows over its stream, which are then fresh and no others, and lets go of their times that
+/// are in no content from `from` - 1 ms on. Fails only where memory is refused; some queries may then watch it and others not.
 pub(crate) fn watch<A>(
     alloc: Global,
     queries: &mut [LiveQuery<A>],
+    readers: &mut Readers,
     stream: &Text,
     time: u64,
     from: u64,
 ) -> Result<(), AllocError>
     requires watching { All (λ live. IsWatching from (asked live)) queries.old }
+    requires read { AreRead readers.old queries.old }
     requires later { from ≤ time }
     requires instant { time ≤ last_instant }
     ensures parts { OnOk result (map parts_of queries.new ≡ map parts_of queries.old) }
+    ensures read { OnOk result (AreRead readers.new queries.new) }
     ensures prompt { OnOk result (All (λ live. IsPrompt time (Some stream.now) (asked live)) queries.new) }
     ensures told { OnOk result ((items : List Accepted) (graph : List Triple)
         → All (λ live. live.first ≤ length items) queries.old
@@ -38,8 +45,65 @@ pub(crate) fn watch<A>(
         live.watched.items)
         queries.new) }
 {
-    for query in 0..queries.len() {
-        watch_query(alloc, &mut queries[query], stream, time, from)?;
+    let newest = stream.share()?;
+    calm(queries, readers);
+    attend(alloc, queries, readers, stream, time, from)?;
+    readers.note(newest);
+    Ok(())
+}
+
+// takes `fresh` back from all windows
+fn calm<A>(queries: &mut [LiveQuery<A>], readers: &Readers)
+    requires { AreRead readers.now queries.old }
+    ensures long { length queries.new ≡ length queries.old }
+    ensures calmed { (k : ℕ) (d : LiveQuery A) → k < length queries.old
+        → IsCalmed (slice_index_or queries.old k d) (slice_index_or queries.new k d) }
+{
+    match readers.newest() {
+        Some(stream) => calm_readers(queries, readers, stream),
+        None => {}
+    }
+}
+
+// takes `fresh` back from the windows of the queries that read the stream
+fn calm_readers<A>(queries: &mut [LiveQuery<A>], readers: &Readers, stream: &Text)
+    requires { readers_of readers.now stream.now ≡ places_from (is_reader stream.now) 0 queries.old }
+    ensures { AreChanged (is_reader stream.now) IsCalmed queries.old queries.new }
+{
+    let places = readers.of(stream);
+    for index in 0..places.len() {
+        let place = places[index];
+        calm_query(&mut queries[place]);
+    }
+}
+
+fn calm_query<A>(live: &mut LiveQuery<A>)
+    ensures { IsCalmed live.old live.new }
+{
+    for window in 0..live.watched.len() {
+        live.watched[window].fresh = false;
+    }
+}
+
+// the queries that read the stream watch the item
+fn attend<A>(
+    alloc: Global,
+    queries: &mut [LiveQuery<A>],
+    readers: &Readers,
+    stream: &Text,
+    time: u64,
+    from: u64,
+) -> Result<(), AllocError>
+    requires watching { All (λ live. IsWatching from (asked live)) queries.old }
+    requires read { readers_of readers.now stream.now ≡ places_from (is_reader stream.now) 0 queries.old }
+    requires later { from ≤ time }
+    requires instant { time ≤ last_instant }
+    ensures { OnOk result (AreChanged (is_reader stream.now) (IsMoved stream.now time from) queries.old queries.new) }
+{
+    let places = readers.of(stream);
+    for index in 0..places.len() {
+        let place = places[index];
+        watch_query(alloc, &mut queries[place], stream, time, from)?;
     }
     Ok(())
 }

@@ -7,10 +7,12 @@ ghost use Rattle.rsp_engine.specs.Accept.{has_name};
 ghost use Rattle.rsp_engine.specs.Inside.{asked, fixed, live_of};
 ghost use Rattle.rsp_engine.specs.Left.{IsFirstLeft};
 ghost use Rattle.rsp_engine.specs.Passing.{is_overfull_outcome};
+ghost use Rattle.rsp_engine.specs.Readers.{AreRead, IsCalm};
 ghost use Rattle.rsp_engine.specs.Watching.{IsPrompt, name_of, reports_by};
 ghost use Rattle.rsp_engine.specs.declared.live_query.LiveQuery.{LiveQuery};
 
 use crate::live_query::LiveQuery;
+use crate::readers::Readers;
 use crate::registering::begun;
 use crate::reporting::report_at;
 use crate::retention::{Arrival, cut_at, end_of, let_go, lower, take, too_many};
@@ -35,6 +37,8 @@ pub struct Engine<A: Answer> {
     next: Option<u64>,
     // in order of registration
     queries: Vec<LiveQuery<A>>,
+    // which of them read which streams
+    readers: Readers,
     // the items that some window still needs
     streams: Streams,
     // room for the ends of the kept items, once a query is gone
@@ -82,11 +86,12 @@ impl<A: Answer> Engine<A> {
     ghost use Rattle.rsp_engine.specs.Inside.{Answers, asked, live_of};
     ghost use Rattle.rsp_engine.specs.Keeping.{accepted_of, excess, watches_followed};
     ghost use Rattle.rsp_engine.specs.Kept.{held};
-    ghost use Rattle.rsp_engine.specs.Passing.{Begins, IsAsked, Passes, ReportsFirst};
+    ghost use Rattle.rsp_engine.specs.Passing.{Begins, CostsFirst, IsAsked, Passes, ReportsFirst};
     ghost use Rattle.rsp_engine.specs.World.{World, empty_world};
     ghost use Rattle.rsp_engine.specs.Moments.{Moment};
     ghost use Rattle.rsp_engine.specs.Stands.{Live, Stands, is_idle, next_in, registrations_in, watches_in};
     ghost use Rattle.rsp_engine.specs.Offers.{Offers, NextReport};
+    ghost use Rattle.rsp_engine.specs.Steps.{next_work};
     ghost use Rattle.rsp_engine.specs.Watching.{IsPrompt};
     ghost use Rattle.rsp_events.specs.Instants.{IsInstant};
 
@@ -98,6 +103,7 @@ impl<A: Answer> Engine<A> {
             alloc,
             next: None,
             queries: Vec::new(alloc),
+            readers: Readers::new(alloc),
             streams: Streams::new(alloc),
             ends: Vec::new(alloc),
             stored: Stored::new(alloc),
@@ -232,12 +238,13 @@ impl<A: Answer> Engine<A> {
         requires free { list_any (has_name query.name) (registrations_in self.old) ≡ false }
         requires begins { Begins self.old (live_of A.facts query) }
         requires prompt { IsPrompt (next_in self.old) self.old.arrived (asked query) }
+        requires calm { IsCalm query.watched.items }
         requires watches { watches_followed query.contents.items ≡ watches query.first query.windows }
         requires answers { Answers A.node A.width A.facts A.spent query }
         ensures ok { OnOk result (self.new ≡ record self.old { queries = self.old.queries ++ live_of A.facts query ∷ [] }) }
         ensures err { IfErr result (λ why. (why ≡ OutOfMemory) × (self.new.broken ≡ true)) }
     {
-        match add(&mut self.queries, query) {
+        match add(self.alloc, &mut self.queries, &mut self.readers, query) {
             Ok(()) => Ok(()),
             Err(AllocError) => {
                 self.broken = true;
@@ -254,7 +261,7 @@ impl<A: Answer> Engine<A> {
         match self.place_of(name) {
             Some(place) => {
                 let cut = self.first_incomplete();
-                self.queries.remove(place);
+                remove_at(&mut self.queries, &mut self.readers, place);
                 lower(
                     self.queries.as_slice(),
                     &mut self.streams,
@@ -367,6 +374,7 @@ impl<A: Answer> Engine<A> {
     {
         end_of(
             self.queries.as_slice(),
+            &self.readers,
             self.streams.accepted(),
             stream,
             time,
@@ -428,6 +436,7 @@ impl<A: Answer> Engine<A> {
         match take(
             self.alloc,
             &mut self.queries,
+            &mut self.readers,
             &mut self.streams,
             &mut self.ends,
             arrival,
@@ -469,12 +478,14 @@ impl<A: Answer> Engine<A> {
     /// The next report of the last event, in order; None exactly where none is left. An overfull report ends its query.
     ///
     /// Fails as `Broken` exactly where memory was refused before, and as `OutOfMemory` where memory is refused, which
-    /// breaks the engine. Takes no memory where no report is left.
+    /// breaks the engine. Takes no memory where no report is left, and at most as many steps as the report's work.
     pub fn next_report<L: Ledger>(
         &mut self,
         steps: &mut Steps<L>,
     ) -> Result<Option<Report>, EngineFault>
         ensures report { NextReport self.old result self.new }
+        ensures cost { (world : World) (left : List Moment) → Stands self.old world left
+            → steps.new ≤ steps.old + next_work world left }
     {
         if self.broken {
             return Err(EngineFault::Broken);
@@ -498,6 +509,7 @@ impl<A: Answer> Engine<A> {
         requires first { self.old.first ≡ Some place }
         ensures ok { IfOk result (λ report. ReportsFirst self.old report self.new) }
         ensures err { OnErr result (self.new.broken ≡ true) }
+        ensures cost { CostsFirst self.old place steps.old steps.new }
     {
         let next = self.next.unwrap_or(0);
         match report_at(
@@ -510,7 +522,12 @@ impl<A: Answer> Engine<A> {
             steps,
         ) {
             Ok(report) => {
-                let query = place_behind(&mut self.queries, place.query, &report.outcome);
+                let query = place_behind(
+                    &mut self.queries,
+                    &mut self.readers,
+                    place.query,
+                    &report.outcome,
+                );
                 let from = Pending {
                     at: place.at,
                     query,
@@ -534,11 +551,33 @@ impl<A: Answer> Engine<A> {
     }
 }
 
-fn add<A: Drop>(queries: &mut Vec<LiveQuery<A>>, query: LiveQuery<A>) -> Result<(), AllocError>
-    ensures { OnOk result (queries.new.items ≡ queries.old.items ++ query ∷ []) }
+// the query goes live behind the others
+fn add<A: Drop>(
+    alloc: Global,
+    queries: &mut Vec<LiveQuery<A>>,
+    readers: &mut Readers,
+    query: LiveQuery<A>,
+) -> Result<(), AllocError>
+    requires read { AreRead readers.old queries.old.items }
+    requires calm { IsCalm query.watched.items }
+    ensures queries { OnOk result (queries.new.items ≡ queries.old.items ++ query ∷ []) }
+    ensures read { OnOk result (AreRead readers.new queries.new.items) }
 {
+    readers.add(alloc, query.windows.as_slice(), queries.len())?;
     queries.push(query)?;
     Ok(())
+}
+
+// the query at a place is no longer live
+fn remove_at<A: Drop>(queries: &mut Vec<LiveQuery<A>>, readers: &mut Readers, place: usize)
+    requires within { place < length queries.old.items }
+    requires read { AreRead readers.old queries.old.items }
+    ensures queries { queries.new.items ≡ remove queries.old.items place }
+    ensures read { AreRead readers.new queries.new.items }
+{
+    let gone = queries.remove(place);
+    readers.remove(place);
+    readers.tidy(gone.windows.as_slice());
 }
 
 // the place of the first moment once every instant before `to` is complete, where those before `next` are worked off
@@ -562,15 +601,22 @@ fn first_moment<A>(
 }
 
 // takes out a query whose report is overfull; gives the place of the query behind it
-fn place_behind<A: Drop>(queries: &mut Vec<LiveQuery<A>>, query: usize, outcome: &Outcome) -> usize
-    requires { query < length queries.old.items }
+fn place_behind<A: Drop>(
+    queries: &mut Vec<LiveQuery<A>>,
+    readers: &mut Readers,
+    query: usize,
+    outcome: &Outcome,
+) -> usize
+    requires within { query < length queries.old.items }
+    requires read { AreRead readers.old queries.old.items }
     ensures place { result ≡ (if is_overfull_outcome outcome.now then query else query + 1) }
     ensures queries { queries.new.items ≡
         (if is_overfull_outcome outcome.now then remove queries.old.items query else queries.old.items) }
+    ensures read { AreRead readers.new queries.new.items }
 {
     match outcome {
         Outcome::Overfull => {
-            queries.remove(query);
+            remove_at(queries, readers, query);
             query
         }
         Outcome::Rows(_) => query + 1,

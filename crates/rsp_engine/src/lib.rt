@@ -11,6 +11,7 @@
 mod arrivals;
 mod engine;
 mod live_query;
+mod readers;
 mod refused;
 mod registering;
 mod report;

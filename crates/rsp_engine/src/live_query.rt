@@ -1,4 +1,7 @@
 // Live queries.
+ghost use Rattle.std.specs.Prelude.{◌≡◌, bytes_eq};
+ghost use Rattle.std.specs.List.{list_any};
+
 use rsp_algebra::Translated;
 use rsp_query::Operator;
 use rsp_report::{Chosen, Watched};
@@ -48,4 +51,16 @@ impl<A> Reader for LiveQuery<A> {
     fn reads(&self, fact: &Fact) -> bool {
         self.query.tree.reads(fact)
     }
+}
+
+/// Whether some window is over the stream.
+pub(crate) fn is_over_some(windows: &[StreamWindow], stream: &Text) -> bool
+    ensures { result ≡ list_any (λ w. bytes_eq stream.now w.stream) windows.now }
+{
+    for window in windows {
+        if *stream == window.stream {
+            return true;
+        }
+    }
+    false
 }

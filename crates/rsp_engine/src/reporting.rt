@@ -16,7 +16,7 @@ ghost use Rattle.rsp_streams_out.specs.Streams.{reported};
 ghost use Rattle.rsp_engine.specs.Contents.{watches};
 ghost use Rattle.rsp_engine.specs.Inside.{Answers, live_of};
 ghost use Rattle.rsp_engine.specs.Keeping.{watches_followed};
-ghost use Rattle.rsp_engine.specs.Passing.{HasContents, IsFollowed, IsReported};
+ghost use Rattle.rsp_engine.specs.Passing.{CostsReport, HasContents, IsFollowed, IsReported};
 ghost use Rattle.rsp_engine.specs.Reports.{cells_at};
 ghost use Rattle.rsp_engine.specs.Stands.{Behind, IsStore, facts_followed, is_read, unseen};
 
@@ -32,8 +32,8 @@ use std::alloc::{AllocError, Global};
 use std::sync::ledger::Ledger;
 
 /// The report of a live query at `at`, in ms since 1970, over the stored quads and the kept items. Where it isn't overfull, the
-/// query has then seen what is logged, and its windows the contents of that instant. Fails only where memory is refused; the
-/// query is then only to be dropped.
+/// query has then seen what is logged, and its windows the contents of that instant. Takes at most the work that leads there.
+/// Fails only where memory is refused; the query is then only to be dropped.
 pub(crate) fn report_at<A: Answer, L: Ledger>(
     alloc: Global,
     live: &mut LiveQuery<A>,
@@ -54,6 +54,7 @@ pub(crate) fn report_at<A: Answer, L: Ledger>(
     ensures variables { IfOk result (λ report. report.variables ≡ live.old.variables) }
     ensures reported { IfOk result (λ report. IsReported A.node A.width A.facts A.spent
         streams.now stored.now log.now at live.old live.new report.outcome) }
+    ensures cost { CostsReport streams.now stored.now log.now at (live_of A.facts live.old) steps.old steps.new }
 {
     let query = live.name.share()?;
     let variables = shared(alloc, live.variables.as_slice())?;
@@ -83,6 +84,7 @@ fn outcome_at<A: Answer, L: Ledger>(
     requires answers { Answers A.node A.width A.facts A.spent live.old }
     ensures reported { IfOk result (IsReported A.node A.width A.facts A.spent
         streams.now stored.now log.now at live.old live.new) }
+    ensures cost { CostsReport streams.now stored.now log.now at (live_of A.facts live.old) steps.old steps.new }
 {
     let mut changes = unseen(live, stored, log)?;
     let mut moved = Changes::new(alloc);

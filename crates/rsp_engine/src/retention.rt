@@ -10,6 +10,8 @@ ghost use Rattle.rsp_scope.specs.Kept.{taken};
 ghost use Rattle.rsp_scope.specs.Needed.{is_needed};
 ghost use Rattle.rsp_scope.specs.declared.item.Item.{Item};
 ghost use Rattle.rsp_engine.specs.Inside.{asked, fixed, parts_of};
+ghost use Rattle.rsp_engine.specs.Contents.{watches};
+ghost use Rattle.rsp_engine.specs.Readers.{AreRead};
 ghost use Rattle.rsp_engine.specs.Keeping.{EndsBy, IsLess, accepted_of, excess, watches_by, watches_followed};
 ghost use Rattle.rsp_engine.specs.Passing.{is_overfull_outcome};
 ghost use Rattle.rsp_engine.specs.Watching.{IsPrompt, IsWatching, Tells};
@@ -18,6 +20,7 @@ ghost use Rattle.rsp_engine.specs.declared.schedule.Pending.{Pending};
 use crate::Outcome;
 use crate::arrivals::watch;
 use crate::live_query::LiveQuery;
+use crate::readers::Readers;
 use crate::schedule::Pending;
 use rsp_scope::{Contents, Streams, later};
 use rsp_spec::limits::MOST_HELD;
@@ -25,19 +28,25 @@ use rsp_terms::{Listed, Text, Triple};
 use std::alloc::{AllocError, Global};
 
 /// Until when the item of this number is needed, in ms since 1970: the greatest closing among the windows of the queries
-/// that contain it; None where none does. Takes no memory.
+/// that contain it; None where none does. Asks the readers of its stream alone. Takes no memory.
 pub(crate) fn end_of<A>(
     queries: &[LiveQuery<A>],
+    readers: &Readers,
     number: u64,
     stream: &Text,
     time: u64,
 ) -> Option<u64>
-    requires { time ≤ 2 ^ 48 }
+    requires time { time ≤ 2 ^ 48 }
+    requires read { AreRead readers.now queries.now }
+    requires watches { All (λ live. watches_followed live.contents.items ≡ watches live.first live.windows) queries.now }
     ensures { (graph : List Triple) → EndsAt (watches_by queries.now)
         (record { number = number; item = record { stream = stream.now; time = time; graph = graph } }) result }
 {
+    let places = readers.of(stream);
     let mut end = None;
-    for live in queries {
+    for index in 0..places.len() {
+        let place = places[index];
+        let live = &queries[place];
         end = later(end, end_by(live.contents.as_slice(), number, stream, time));
     }
     end
@@ -84,18 +93,21 @@ pub(crate) struct Arrival {
 pub(crate) fn take<A>(
     alloc: Global,
     queries: &mut [LiveQuery<A>],
+    readers: &mut Readers,
     streams: &mut Streams,
     ends: &mut Vec<Option<u64>>,
     arrival: Arrival,
     from: u64,
 ) -> Result<Text, AllocError>
     requires watching { All (λ live. IsWatching from (asked live)) queries.old }
+    requires read { AreRead readers.old queries.old }
     requires later { from ≤ arrival.time }
     requires instant { arrival.time ≤ last_instant }
     ensures stream { IfOk result (λ stream. stream ≡ arrival.stream) }
     ensures kept { OnOk result (streams.new ≡ taken streams.old arrival.stream arrival.time arrival.graph arrival.end) }
     ensures room { OnOk result (length streams.new.items ≤ ends.new.cap) }
     ensures parts { OnOk result (map parts_of queries.new ≡ map parts_of queries.old) }
+    ensures read { OnOk result (AreRead readers.new queries.new) }
     ensures prompt { OnOk result (All (λ live. IsPrompt arrival.time (Some arrival.stream) (asked live)) queries.new) }
     ensures told { OnOk result ((items : List Accepted)
         → All (λ live. live.first ≤ length items) queries.old
@@ -105,7 +117,14 @@ pub(crate) fn take<A>(
     let room = streams.count().checked_add(1).ok_or(AllocError)?;
     ends.clear();
     ends.reserve(room)?;
-    watch(alloc, queries, &arrival.stream, arrival.time, from)?;
+    watch(
+        alloc,
+        queries,
+        readers,
+        &arrival.stream,
+        arrival.time,
+        from,
+    )?;
     let graph = arrival.graph.into_vec();
     streams.take(&arrival.stream, arrival.time, graph, arrival.end)?;
     Ok(arrival.stream)

@@ -10,7 +10,7 @@ ghost use Rattle.rsp_engine.specs.Inside.{asked};
 ghost use Rattle.rsp_engine.specs.Left.{IsFirstAt, IsFirstLeft};
 ghost use Rattle.rsp_engine.specs.Watching.{IsPolicy, IsPrompt, is_due_by, is_due_over_by, name_of, reports_by};
 
-use crate::live_query::{LiveQuery, StreamWindow};
+use crate::live_query::{LiveQuery, is_over_some};
 use rsp_report::{due, due_on_item, next_due};
 use rsp_terms::Text;
 
@@ -161,18 +161,6 @@ fn is_due_over<A>(live: &LiveQuery<A>, stream: &Text, next: u64) -> bool
         return false;
     }
     due_on_item(&live.policy, live.watched.as_slice(), next)
-}
-
-// whether some window is over the stream
-fn is_over_some(windows: &[StreamWindow], stream: &Text) -> bool
-    ensures { result ≡ list_any (λ w. bytes_eq stream.now w.stream) windows.now }
-{
-    for window in windows {
-        if *stream == window.stream {
-            return true;
-        }
-    }
-    false
 }
 
 // the first instant from `from` to `next` at which a query reports

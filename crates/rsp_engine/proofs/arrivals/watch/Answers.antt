@@ -1,28 +1,44 @@
-use Rattle.std.proofs.Common.{◌∙◌, refl, arith}
+use Rattle.std.proofs.Common.{◌≡◌, ◌∙◌, Some, ap, map, refl, subst, sym}
+use Rattle.std.specs.List.{All}
 use Rattle.rsp_engine.specs.Inside.{parts_of}
-use Rattle.rsp_engine.proofs.WatchedWith.{all_prompt, all_tell, more_moved, same_mapped}
+use Rattle.rsp_engine.specs.Readers.{IsStill, readers_of, reads}
+use Rattle.rsp_engine.specs.declared.live_query.LiveQuery.{LiveQuery}
+use Rattle.rsp_engine.specs.declared.readers.Readers.{Readers}
+use Rattle.rsp_engine.proofs.Calming.{all_moved, all_still, calmed_watching, places_kept}
+use Rattle.rsp_engine.proofs.PlacesRead.{places_map}
+use Rattle.rsp_engine.proofs.WatchedWith.{all_parts, all_prompt, all_tell, same_by}
 use Rattle.rsp_engine.proofs.arrivals.watch.Goals as goal
 
-pub loop-query-preserved : goal.loop-query-preserved
-loop-query-preserved g c =
-    let queries = c.loop-query.queries in
-    let i = c.loop-query.query in
-    let one = c.index-queries-query.result in
-    let new = c.watch_query.new.live in
+pub attend-requires-clause-watching : goal.attend-requires-clause-watching
+attend-requires-clause-watching g c =
+    calmed_watching c.args.from c.args.queries.now c.calm.new.queries c.calm.ensures.long c.calm.ensures.calmed c.requires.watching
+
+pub attend-requires-clause-read : goal.attend-requires-clause-read
+attend-requires-clause-read g c =
+    let olds = c.args.queries.now in
+    let calm = c.calm.new.queries in
+    let parts : map parts_of calm ≡ map parts_of olds =
+    same_by parts_of olds calm c.calm.ensures.long (λ k d within. (c.calm.ensures.calmed k d within).parts) in
+    places_kept c.args.readers.now c.args.readers.now olds calm c.requires.read (λ s. refl) parts c.args.stream.now
+    ∙ places_map (reads c.args.stream.now) (λ (live : LiveQuery g.row.A.Denot). live.windows) 0 calm
+
+pub returns : goal.returns
+returns g c =
+    let olds = c.args.queries.now in
+    let news = c.attend.new.queries in
+    let stream = c.args.stream.now in
+    let changed = c.in_ok-attend.ensures in
+    let moved = all_moved stream c.args.time c.args.from c.requires.later olds c.calm.new.queries news c.calm.ensures.long c.calm.ensures.calmed changed c.requires.watching in
+    let still = all_still stream c.args.time c.args.from c.requires.later olds c.calm.new.queries news c.calm.ensures.long c.calm.ensures.calmed changed c.requires.watching in
+    let parts = all_parts stream c.args.time c.args.from olds news moved in
+    let newest : c.note.new.self.newest ≡ Some stream = ap (λ (r : Readers). r.newest) c.note.ensures ∙ ap Some c.in_ok-newest.ensures in
     record {
-      parts = same_mapped parts_of queries i one new c.in_ok-watch_query.ensures.parts ∙ c.loop-query.invariant.parts;
-      moved =
-          more_moved c.args.stream.now c.args.time c.args.from c.args.queries.now queries i one new c.loop-query.invariant.moved
-          (omega arith)
-          (record { parts = c.in_ok-watch_query.ensures.parts; watched = c.in_ok-watch_query.ensures.watched });
+      parts = parts;
+      read = record {
+        places = places_kept c.args.readers.now c.note.new.self olds news c.requires.read (λ s. ap (λ (r : Readers). readers_of r s) c.note.ensures) parts;
+        still = subst (λ o. All (IsStill o) news) (sym newest) still;
+      };
+      prompt = all_prompt stream c.args.time c.args.from olds news moved c.requires.watching;
+      told = λ items graph firsts told.
+          all_tell stream c.args.time c.args.from olds news moved items (record { stream = stream; time = c.args.time; graph = graph }) refl refl firsts told;
     }
-
-pub returns-clause-prompt : goal.returns-clause-prompt
-returns-clause-prompt g c =
-    all_prompt c.args.stream.now c.args.time c.args.from c.args.queries.now c.loop-query.queries c.loop-query.query
-    (omega (arith, c.loop-query-test.false)) c.loop-query.invariant.moved c.requires.watching
-
-pub returns-clause-told : goal.returns-clause-told
-returns-clause-told g c items graph firsts told =
-    all_tell c.args.stream.now c.args.time c.args.from c.args.queries.now c.loop-query.queries c.loop-query.query
-    (omega (arith, c.loop-query-test.false)) c.loop-query.invariant.moved items _ refl refl firsts told

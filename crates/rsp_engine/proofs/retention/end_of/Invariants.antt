@@ -1,12 +1,10 @@
-use Rattle.std.proofs.Common.{List, take}
+use Rattle.std.proofs.Common.{ℕ, List, drop}
 use Rattle.rsp_terms.specs.declared.statement.Triple.{Triple}
-use Rattle.rsp_scope.specs.Ends.{EndsAt}
-use Rattle.rsp_engine.specs.Keeping.{watches_by}
+use Rattle.rsp_engine.proofs.EndsRead.{IsSoFar}
 use Rattle.rsp_engine.proofs.retention.end_of.Given as goal
 
-abbrev pub invariant-loop-live : goal.invariant-loop-live
-invariant-loop-live g l =
-    (graph : List Triple)
-    → EndsAt (watches_by (take l.live-index l.queries))
-    (record { number = l.number; item = record { stream = l.stream; time = l.time; graph = graph } })
-    l.end
+abbrev pub invariant-loop-index : goal.invariant-loop-index
+invariant-loop-index g l =
+    (graph : List Triple) (n : ℕ)
+    → IsSoFar n (record { number = l.number; item = record { stream = l.stream; time = l.time; graph = graph } }) l.queries
+    (drop l.index l.places) l.end

@@ -6,7 +6,7 @@ use Rattle.rsp_engine.specs.Passing.{Begins}
 use Rattle.rsp_engine.specs.Readings.{reading_of}
 use Rattle.rsp_engine.specs.Stands.{State, registration_of}
 use Rattle.rsp_engine.specs.World.{Registration}
-use Rattle.rsp_engine.proofs.Begun.{begun_prompt, begun_tells}
+use Rattle.rsp_engine.proofs.Begun.{begun_calm, begun_prompt, begun_tells}
 use Rattle.rsp_engine.proofs.Offering.{begun_offers, breaks, overfull_refuses}
 use Rattle.rsp_engine.proofs.Readiness.{idle_first}
 use Rattle.rsp_engine.proofs.engine.Engine.begin.Goals as goal
@@ -26,6 +26,9 @@ go_live-requires-clause-begins g c =
 pub go_live-requires-clause-prompt : goal.go_live-requires-clause-prompt
 go_live-requires-clause-prompt g c =
     begun_prompt _ _ (asked c.in-Ok-Some.query) (rw c.in-Ok-Some.field-0-is at c.in-Ok-Some.ensures.policy) (rw c.in-Ok-Some.field-0-is at c.in-Ok-Some.ensures.watched)
+
+pub go_live-requires-clause-calm : goal.go_live-requires-clause-calm
+go_live-requires-clause-calm g c = begun_calm c.in-Ok-Some.query.watched.items c.in-Ok-Some.query.windows (rw c.in-Ok-Some.field-0-is at c.in-Ok-Some.ensures.watched)
 
 pub returns-in-Ok-Some : goal.returns-in-Ok-Some
 returns-in-Ok-Some g c = λ text is.

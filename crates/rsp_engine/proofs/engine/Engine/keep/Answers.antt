@@ -8,6 +8,7 @@ use Rattle.rsp_scope.specs.Kept.{Kept, taken}
 use Rattle.rsp_scope.proofs.Needed.{joined}
 use Rattle.rsp_engine.specs.Inside.{IsReady, asked, fixed, parts_of, state_of}
 use Rattle.rsp_engine.specs.Keeping.{accepted_of}
+use Rattle.rsp_engine.specs.Readers.{AreRead}
 use Rattle.rsp_engine.specs.Stands.{State, watches_in}
 use Rattle.rsp_engine.specs.Watching.{IsPrompt, Tells}
 use Rattle.rsp_engine.proofs.Offering.{high_of}
@@ -16,8 +17,11 @@ use Rattle.rsp_engine.proofs.engine.Engine.keep.Goals as goal
 
 pub take-requires-clause-watching : goal.take-requires-clause-watching
 take-requires-clause-watching g c =
-    let sound : IsReady g.A.Answer.node g.A.Answer.width g.A.Answer.facts g.A.Answer.spent c.self.inside = c.self.invariant (rw (← c.self.view_is) at c.requires.ready) in
+    let sound : IsReady g.A.Answer.node g.A.Answer.width g.A.Answer.facts g.A.Answer.spent c.self.inside = (c.self.invariant (rw (← c.self.view_is) at c.requires.ready)).0 in
     rw (c.deref_mut.ensures.value, c.unwrap_or-from.ensures) (all_watching g.A.Answer.facts c.self.inside.queries.items _ _ _ _ sound.state.lives)
+
+pub take-requires-clause-read : goal.take-requires-clause-read
+take-requires-clause-read g c = rw c.deref_mut.ensures.value (c.self.invariant (rw (← c.self.view_is) at c.requires.ready)).1
 
 pub first_moment-self-inside-requires-clause-prompt : goal.first_moment-self-inside-requires-clause-prompt
 first_moment-self-inside-requires-clause-prompt g c =
@@ -28,7 +32,7 @@ first_moment-self-inside-requires-clause-prompt g c =
 
 pub invariant_of-self : goal.invariant_of-self
 invariant_of-self g c = λ broken.
-    let sound : IsReady g.A.Answer.node g.A.Answer.width g.A.Answer.facts g.A.Answer.spent c.self.inside = c.self.invariant (rw (← c.self.view_is) at c.requires.ready) in
+    let sound : IsReady g.A.Answer.node g.A.Answer.width g.A.Answer.facts g.A.Answer.spent c.self.inside = (c.self.invariant (rw (← c.self.view_is) at c.requires.ready)).0 in
     let idle = idle_first (state_of g.A.Answer.facts c.self.inside) (rw (← c.self.view_is) at c.requires.ready) (rw (← c.self.view_is) at c.requires.idle) in
     let here : State = state_of g.A.Answer.facts c.self.inside in
     let later : unwrap_or c.self.inside.next 0 ≤ c.args.arrival.time = rw (← c.self.view_is) at c.requires.later in
@@ -46,12 +50,13 @@ invariant_of-self g c = λ broken.
     λ items firsts told. subst (λ qs. All (λ l. Tells (items ++ accepted_of c.args.arrival ∷ []) (unwrap_or c.self.inside.next 0) (fixed l) l.watched.items) qs) (sym whole) ((rw (c.deref_mut.ensures.value, c.unwrap_or-from.ensures) at c.in-Ok.ensures.told) items firsts told) in
     let prompt = subst (λ qs. All (λ l. IsPrompt c.args.arrival.time (Some c.args.arrival.stream) (asked l)) qs) (sym whole) c.in-Ok.ensures.prompt in
     let timed = timed_taken c.self.inside.streams c.args.arrival.stream c.args.arrival.time _ c.args.arrival.graph c.args.arrival.end later sound.state.timed in
-    ready_passed _ _ _ _ _ sound idle (record c.self.inside { next = Some c.args.arrival.time; queries = with_items c.self.inside.queries c.take.new.queries; streams = c.drop_before.new.self; ends = c.take.new.ends; arrived = Some c.in-Ok.stream; first = c.first_moment-self-inside.result }) (accepted_of c.args.arrival ∷ []) (Some c.args.arrival.stream) c.args.arrival.time took later (high_of c.self.inside.next c.args.arrival.time) refl refl refl (ap Some c.in-Ok.ensures.stream) broken (ap (map parts_of) whole ∙ parts) first kept takes tells
-    (let high = c.requires.instant in omega (arith, high)) (taken_more c.self.inside.streams c.args.arrival.stream c.args.arrival.time c.args.arrival.graph c.args.arrival.end) prompt timed (rw c.drop_before.ensures (room_kept _ c.take.new.streams.items c.take.new.ends.cap c.in-Ok.ensures.room))
+    (ready_passed _ _ _ _ _ sound idle (record c.self.inside { next = Some c.args.arrival.time; queries = with_items c.self.inside.queries c.take.new.queries; readers = c.take.new.readers; streams = c.drop_before.new.self; ends = c.take.new.ends; arrived = Some c.in-Ok.stream; first = c.first_moment-self-inside.result }) (accepted_of c.args.arrival ∷ []) (Some c.args.arrival.stream) c.args.arrival.time took later (high_of c.self.inside.next c.args.arrival.time) refl refl refl (ap Some c.in-Ok.ensures.stream) broken (ap (map parts_of) whole ∙ parts) first kept takes tells
+    (let high = c.requires.instant in omega (arith, high)) (taken_more c.self.inside.streams c.args.arrival.stream c.args.arrival.time c.args.arrival.graph c.args.arrival.end) prompt timed (rw c.drop_before.ensures (room_kept _ c.take.new.streams.items c.take.new.ends.cap c.in-Ok.ensures.room)),
+    subst (λ qs. AreRead c.take.new.readers qs) (sym whole) c.in-Ok.ensures.read)
 
 pub returns-in-Ok-clause-ok : goal.returns-in-Ok-clause-ok
 returns-in-Ok-clause-ok g c =
-    let sound : IsReady g.A.Answer.node g.A.Answer.width g.A.Answer.facts g.A.Answer.spent c.self.inside = c.self.invariant (rw (← c.self.view_is) at c.requires.ready) in
+    let sound : IsReady g.A.Answer.node g.A.Answer.width g.A.Answer.facts g.A.Answer.spent c.self.inside = (c.self.invariant (rw (← c.self.view_is) at c.requires.ready)).0 in
     let idle = idle_first (state_of g.A.Answer.facts c.self.inside) (rw (← c.self.view_is) at c.requires.ready) (rw (← c.self.view_is) at c.requires.idle) in
     let here : State = state_of g.A.Answer.facts c.self.inside in
     let later : unwrap_or c.self.inside.next 0 ≤ c.args.arrival.time = rw (← c.self.view_is) at c.requires.later in
@@ -68,4 +73,4 @@ returns-in-Ok-clause-ok g c =
     → All (λ l. Tells (items ++ accepted_of c.args.arrival ∷ []) (unwrap_or c.self.inside.next 0) (fixed l) l.watched.items) (take c.self.inside.queries.len (c.take.new.queries ++ drop (length c.take.new.queries) c.self.inside.queries.items)) =
     λ items firsts told. subst (λ qs. All (λ l. Tells (items ++ accepted_of c.args.arrival ∷ []) (unwrap_or c.self.inside.next 0) (fixed l) l.watched.items) qs) (sym whole) ((rw (c.deref_mut.ensures.value, c.unwrap_or-from.ensures) at c.in-Ok.ensures.told) items firsts told) in
     rw (← c.self.view_is)
-    (passes _ _ _ _ _ sound idle (record c.self.inside { next = Some c.args.arrival.time; queries = with_items c.self.inside.queries c.take.new.queries; streams = c.drop_before.new.self; ends = c.take.new.ends; arrived = Some c.in-Ok.stream; first = c.first_moment-self-inside.result }) (accepted_of c.args.arrival ∷ []) (Some c.args.arrival.stream) c.args.arrival.time took later (high_of c.self.inside.next c.args.arrival.time) refl refl refl (ap Some c.in-Ok.ensures.stream) (rw (← c.self.view_is) at c.requires.ready) (ap (map parts_of) whole ∙ parts) first kept takes tells)
+    (passes _ _ _ _ _ sound idle (record c.self.inside { next = Some c.args.arrival.time; queries = with_items c.self.inside.queries c.take.new.queries; readers = c.take.new.readers; streams = c.drop_before.new.self; ends = c.take.new.ends; arrived = Some c.in-Ok.stream; first = c.first_moment-self-inside.result }) (accepted_of c.args.arrival ∷ []) (Some c.args.arrival.stream) c.args.arrival.time took later (high_of c.self.inside.next c.args.arrival.time) refl refl refl (ap Some c.in-Ok.ensures.stream) (rw (← c.self.view_is) at c.requires.ready) (ap (map parts_of) whole ∙ parts) first kept takes tells)

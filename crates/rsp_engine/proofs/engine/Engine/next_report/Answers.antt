@@ -1,21 +1,36 @@
 use Rattle.std.proofs.Common.{◌≡◌, ◌∙◌, false, refl}
 use Rattle.rsp_engine.specs.Stands.{IsState}
+use Rattle.rsp_engine.proofs.Costing.{costs_next}
 use Rattle.rsp_engine.proofs.FirstReport.{first_given, first_nearer}
 use Rattle.rsp_engine.proofs.engine.Engine.next_report.Goals as goal
 
-pub returns-in-Ok : goal.returns-in-Ok
-returns-in-Ok g c =
+pub returns-in-Ok-clause-report : goal.returns-in-Ok-clause-report
+returns-in-Ok-clause-report g c =
     let old = c.args.self.now in
-    let sound = c.self.invariant c.if-self.false in
+    let sound = (c.self.invariant c.if-self.false).0 in
     let ready : old.broken ≡ false = rw (← c.self.view_is) c.if-self.false in
     let state : IsState old = rw (← c.self.view_is) sound.state in
     let given = c.in-Ok.ensures.ok in
     record {
-      report = record {
-        was_ready = ready;
-        ready = given.broken ∙ ready;
-        was_busy = rw (ready, given.first) refl;
-        nearer = first_nearer old _ _ given;
-        gives = λ world left stands. first_given old _ _ world left state given stands;
-      };
+      was_ready = ready;
+      ready = given.broken ∙ ready;
+      was_busy = rw (ready, given.first) refl;
+      nearer = first_nearer old _ _ given;
+      gives = λ world left stands. first_given old _ _ world left state given stands;
     }
+
+pub returns-in-Ok-clause-cost : goal.returns-in-Ok-clause-cost
+returns-in-Ok-clause-cost g c =
+    let old = c.args.self.now in
+    let sound = (c.self.invariant c.if-self.false).0 in
+    let state : IsState old = rw (← c.self.view_is) sound.state in
+    λ world left stands.
+        costs_next old c.in-Some.place _ _ state (rw (← c.self.view_is) c.in-Some.is) c.report_first.ensures.cost world left stands
+
+pub returns-clause-cost : goal.returns-clause-cost
+returns-clause-cost g c =
+    let old = c.args.self.now in
+    let sound = (c.self.invariant c.if-self.false).0 in
+    let state : IsState old = rw (← c.self.view_is) sound.state in
+    λ world left stands.
+        costs_next old c.in-Some.place _ _ state (rw (← c.self.view_is) c.in-Some.is) c.report_first.ensures.cost world left stands
