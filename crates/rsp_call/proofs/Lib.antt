@@ -13,6 +13,7 @@ pub mod Generated
 pub mod Counted
 pub mod Voicing
 pub mod Reporting
+pub mod Spending
 pub mod Driving
 pub mod Logging
 pub mod Streamed

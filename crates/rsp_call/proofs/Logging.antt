@@ -362,8 +362,8 @@ answers_cut start before now s t after given cut.Memory ended says =
 same_first : (a b c d : ℕ) → a ∷ b ∷ [] ≡ c ∷ d ∷ [] → a ≡ c
 same_first a b c d is = ap (λ (xs : List ℕ). get_or xs 0 0) is
 
-same_second : (a b c d : ℕ) → a ∷ b ∷ [] ≡ c ∷ d ∷ [] → b ≡ d
-same_second a b c d is = ap (λ (xs : List ℕ). get_or xs 1 0) is
+pub document_still : (a b c d : ℕ) → a ∷ b ∷ [] ≡ c ∷ d ∷ [] → b ≡ d
+document_still a b c d is = ap (λ (xs : List ℕ). get_or xs 1 0) is
 
 -- the log was driven from its start
 log_driven : (start : Start) (before now : SourceSeen) (s t : SinkSeen) (after : Voice) (at_end : Bool) (taken : ℕ) (reader : Reader) (given : List Given) (result : Result Bool Halt) → reader.document ≡ start.document → Came (LogGave at_end most_log_bytes taken reader before now) (LogEnded most_log_bytes reader.document before now) given result → SaysAll (Writes start.form) after s t (run start.world given).said result → AnswersLog start before now s t (status_of_drive result)
@@ -377,6 +377,6 @@ log_driven start before now s t after at_end taken reader given (Err (halt.Cut w
 pub log_answers : (start : Start) (before now : SourceSeen) (s t : SinkSeen) (after : Voice) (at_end : Bool) (most taken most_before document_before : ℕ) (reader : Reader) (l m : Option (List Given)) (engine engine' : State) (result : Result Bool Halt) (status : Status) → most ∷ reader.document ∷ [] ≡ most_before ∷ document_before ∷ [] → most_before ≡ most_log_bytes → document_before ≡ start.document → Stands engine start.world [] → Drove (LogGave at_end most taken reader before now) (LogEnded most reader.document before now) l m [] engine engine' (Writes start.form) after s t result → status ≡ status_of_drive result → AnswersLog start before now s t status
 log_answers start before now s t after at_end most taken most_before document_before reader l m engine engine' result status same is_most is_document stands drove is =
     let same_most : most ≡ most_log_bytes = same_first _ _ _ _ same ∙ is_most in
-    let document : reader.document ≡ start.document = same_second _ _ _ _ same ∙ is_document in
+    let document : reader.document ≡ start.document = document_still _ _ _ _ same ∙ is_document in
     let came = rw same_most at drove.came in
     rw is (log_driven start before now s t after at_end taken reader drove.given result document came (drove.said start.world stands))

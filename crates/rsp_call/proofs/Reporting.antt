@@ -12,7 +12,7 @@ use Rattle.rsp_engine.specs.declared.report.Report.{Report}
 use Rattle.rsp_engine.specs.Accept.{accept}
 use Rattle.rsp_engine.specs.Moments.{Moment, moments}
 use Rattle.rsp_engine.specs.Offers.{GivesFirst, HasNone, Refuses}
-use Rattle.rsp_engine.specs.Reports.{reports, world_behind}
+use Rattle.rsp_engine.specs.Reports.{reports, work_of_reports, world_behind}
 use Rattle.rsp_engine.specs.Stands.{State, Stands, is_idle}
 use Rattle.rsp_engine.specs.World.{World}
 use Rattle.rsp_engine.proofs.ReportSteps.{reports_step, world_step}
@@ -97,7 +97,11 @@ no_refusal [] = refl
 no_refusal (report ∷ reports) = no_refusal reports
 
 abbrev pub told_step : World → List Moment → Step
-told_step after left = record { said = map a_report (reports after left); after = world_behind after left }
+told_step after left = record {
+  said = map a_report (reports after left);
+  work = work_of_reports after left;
+  after = world_behind after left;
+}
 
 -- a content that was taken says the reports of what is left, and leads to the world behind them
 pub record Taken (world : World) (place : Place) (content : Content) (new : State) : Type 0 where

@@ -14,10 +14,10 @@ use Rattle.rsp_words.specs.declared.form.Form.{Form}
 use Rattle.rsp_call.specs.declared.run.RefusedLines.{RefusedLines}
 use Rattle.rsp_call.specs.declared.voice.Voice.{Voice}
 use Rattle.rsp_call.specs.declared.voice.Voice.TheVariants.{Writes}
-use Rattle.rsp_call.specs.Feeding.{AreTimed, AreTimedBatches, batches_given, files_given, given_of, lines_left, run_left, run_turns}
+use Rattle.rsp_call.specs.Feeding.{AreTimed, AreTimedBatches, batches_given, files_given, lines_left, run_left, run_turns}
 use Rattle.rsp_call.specs.Feeds.{Drove, IsTimedBatch, given_in, stop_of}
 use Rattle.rsp_call.specs.Output.{Given, run}
-use Rattle.rsp_call.specs.Replays.{line_given, replayed}
+use Rattle.rsp_call.specs.Replays.{given_of, line_given, replayed}
 use Rattle.rsp_call.specs.Sayings.{Says}
 use Rattle.rsp_words.specs.Words.{Replay}
 use Rattle.rsp_call.proofs.Driving.{all_driven}
@@ -108,8 +108,7 @@ two_given batches x y one more first second =
 -- ---- all of it
 
 pub replayed_is : (replay : Replay) (files : List (List ℕ)) → (run empty_world (given_of replay files)).said ≡ replayed replay files
-replayed_is replay [] = refl
-replayed_is replay (query ∷ files) = refl
+replayed_is replay files = refl
 
 pub run_says : (Gave : List Given → Type 0) (Ended : List Given → Option Cut → Type 0) (all rest : List Given) (engine engine' : State) (form : Form) (after : Voice) (s t : SinkSeen) (result : Result Bool Halt) → Drove Gave Ended (Some all) (Some rest) [] engine engine' (Writes form) after s t result → OnOk result (rest ≡ []) → Stands engine empty_world [] → Says form s t (run empty_world all).said (stop_of result)
 run_says Gave Ended all rest engine engine' form after s t result drove none stands =

@@ -7,8 +7,7 @@ use Rattle.rsp_call.specs.declared.feed.Batch.{Batch}
 use Rattle.rsp_call.specs.declared.run.RefusedLines.{RefusedLines}
 use Rattle.rsp_call.specs.Feeds.{IsTimedBatch, given_in}
 use Rattle.rsp_call.specs.Output.{Given}
-use Rattle.rsp_call.specs.Replays.{given_by, lines_given}
-use Rattle.rsp_words.specs.Words.{Replay}
+use Rattle.rsp_call.specs.Replays.{lines_given}
 
 abbrev pub files_given : List RefusedLines → List Given
 files_given files = flat_map (λ (read : RefusedLines). lines_given read.file read.lines) files
@@ -31,11 +30,6 @@ run_turns files file line batches =
 
 abbrev pub AreTimedBatches : List Batch → Type 0
 AreTimedBatches batches = AllByRecursion IsTimedBatch batches
-
--- the file of the query is the first
-abbrev pub given_of : Replay → List (List ℕ) → List Given
-given_of replay [] = []
-given_of replay (query ∷ files) = given_by replay.streams query replay.store files
 
 -- all items have a time that is an instant
 abbrev pub AreTimed : List (List Event) → Type 0

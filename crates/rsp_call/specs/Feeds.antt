@@ -1,5 +1,5 @@
 -- Words of the way: what a feed gives, and how the work ends that it is driven through.
-use Rattle.std.specs.Prelude.{◌≡◌, Bool, Option, None, Some, Result, Ok, Err, OnOk, List, [], ◌∷◌, ◌++◌, ⊤, map}
+use Rattle.std.specs.Prelude.{◌≡◌, ℕ, ◌+◌, ◌≤◌, Bool, Option, None, Some, Result, Ok, Err, OnOk, List, [], ◌∷◌, ◌++◌, ⊤, map}
 use Rattle.std.specs.Prelude.{option_map, option_to_list}
 use Rattle.std.specs.List.{list_any}
 use Rattle.rsp_events.specs.Instants.{AllTimed, IsTimed}
@@ -94,6 +94,14 @@ pub record Drove (Gave : List Given → Type 0) (Ended : List Given → Option C
   pub taken : Takes left left' given
   pub said : (world : World) → Stands engine world [] → SaysAll voice voice' sink sink' (run world given).said result
   pub stands : OnOk result ((world : World) → Stands engine world [] → Stands engine' (run world given).after [])
+
+-- what a feed gave was worked off, within the steps that its reports may take
+pub record Spends (Gave : List Given → Type 0) (Ended : List Given → Option Cut → Type 0) (left left' : Option (List Given))
+    (before : List Given) (engine : State) (steps steps' : ℕ) (result : Result Bool Halt) : Type 0 where
+  pub given : List Given
+  pub came : Came Gave Ended (before ++ given) result
+  pub taken : Takes left left' given
+  pub within : (world : World) → Stands engine world [] → steps' ≤ steps + (run world given).work
 
 -- how it ended that want of memory alone cuts
 abbrev pub stop_of : Result Bool Halt → Result Bool Stop

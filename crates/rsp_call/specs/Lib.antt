@@ -12,6 +12,7 @@ pub mod Sinks
 pub mod Statuses
 pub mod FileAnswers
 pub mod Answers
+pub mod Costs
 -- Words of the way
 pub mod Reasons
 pub mod Tallies

@@ -1,5 +1,5 @@
 -- Definitions: what is said of what comes, from a world on, and the text of it; and of a log.
-use Rattle.std.specs.Prelude.{ℕ, Bool, true, false, Result, Ok, Err, List, [], ◌∷◌, ◌++◌, map, codes}
+use Rattle.std.specs.Prelude.{ℕ, ◌+◌, Bool, true, false, Result, Ok, Err, List, [], ◌∷◌, ◌++◌, map, codes}
 use Rattle.std.specs.Fmt.{decimal}
 use Rattle.std.specs.List.{flat_map}
 use Rattle.rsp_events.specs.declared.event.Event.{Event}
@@ -16,7 +16,7 @@ use Rattle.rsp_engine.specs.World.{World}
 use Rattle.rsp_engine.specs.declared.refused.Refused.{Refused}
 use Rattle.rsp_engine.specs.Accept.{accept}
 use Rattle.rsp_engine.specs.Moments.{moments}
-use Rattle.rsp_engine.specs.Reports.{reports, world_behind}
+use Rattle.rsp_engine.specs.Reports.{reports, work_of_reports, world_behind}
 use Rattle.rsp_words.specs.declared.form.Form.{Form}
 use Rattle.rsp_words.specs.declared.form.Form.TheVariants.{Table, Json}
 use Rattle.rsp_call.specs.declared.refusals.Place.{Place}
@@ -65,17 +65,20 @@ pub data Given : Type 0 where
   a_block : Block → Given
   a_refused : Place → Reason → Given
 
+-- what is said, the steps that the reports among it may take, and the world behind it
 pub record Step : Type 0 where
   pub said : List Saying
+  pub work : ℕ
   pub after : World
 
 abbrev pub refused : World → Place → Reason → Step
-refused world place reason = record { said = a_refusal place reason ∷ []; after = world }
+refused world place reason = record { said = a_refusal place reason ∷ []; work = 0; after = world }
 
 -- an accepted event says its reports; a refused one says why, and leaves the world
 abbrev pub answer_step : World → Place → Event → Result World Refused → Step
 answer_step world place event (Ok after) = record {
   said = map a_report (reports after (moments world event after));
+  work = work_of_reports after (moments world event after);
   after = world_behind after (moments world event after);
 }
 answer_step world place event (Err why) = refused world place (of_event why)
@@ -91,10 +94,10 @@ step world (a_refused place reason) = refused world place reason
 -- ---- one fold: what all of them say, from a world on, and the world behind them
 
 abbrev pub followed_by : Step → Step → Step
-followed_by first rest = record { said = first.said ++ rest.said; after = rest.after }
+followed_by first rest = record { said = first.said ++ rest.said; work = first.work + rest.work; after = rest.after }
 
 abbrev pub run : World → List Given → Step
-run world [] = record { said = []; after = world }
+run world [] = record { said = []; work = 0; after = world }
 run world (given ∷ more) = followed_by (step world given) (run (step world given).after more)
 
 -- ---- a whole text

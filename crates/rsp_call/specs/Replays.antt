@@ -55,6 +55,9 @@ given_by streams query (Some name) [] = []
 given_by streams query (Some name) (store ∷ files) = given_over streams query name (loaded 1 store) (recordings 2 streams files)
 
 -- the file of the query is the first
+abbrev pub given_of : Replay → List (List ℕ) → List Given
+given_of replay [] = []
+given_of replay (query ∷ files) = given_by replay.streams query replay.store files
+
 abbrev pub replayed : Replay → List (List ℕ) → List Saying
-replayed replay [] = []
-replayed replay (query ∷ files) = (run empty_world (given_by replay.streams query replay.store files)).said
+replayed replay files = (run empty_world (given_of replay files)).said

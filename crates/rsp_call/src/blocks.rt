@@ -1,8 +1,8 @@
 // Working off a batch.
-ghost use Rattle.std.specs.Prelude.{◌≡◌, ◌||◌, IsTrue, OnOk, List, [], map};
+ghost use Rattle.std.specs.Prelude.{◌≡◌, ◌≤◌, ◌+◌, ◌||◌, IsTrue, OnOk, List, [], map};
 ghost use Rattle.rsp_events.specs.Instants.{AllTimed, IsTimed};
 ghost use Rattle.rsp_engine.specs.Moments.{Moment};
-ghost use Rattle.rsp_engine.specs.Reports.{reports, world_behind};
+ghost use Rattle.rsp_engine.specs.Reports.{reports, work_of_reports, world_behind};
 ghost use Rattle.rsp_engine.specs.Stands.{Stands, is_idle};
 ghost use Rattle.rsp_engine.specs.World.{World};
 ghost use Rattle.rsp_call.specs.Feeds.{IsTimedBatch, given_in};
@@ -30,7 +30,8 @@ pub(crate) fn either(a: bool, b: bool) -> bool
     a || b
 }
 
-/// Works off a batch, and says what it gives. The answer is whether something of it was refused.
+/// Works off a batch, and says what it gives, within the steps that its reports may take. The answer is whether something of it was
+/// refused.
 pub(crate) fn work_off<A: Answer, K: Sink, L: Ledger>(
     alloc: Global,
     engine: &mut Engine<A>,
@@ -46,6 +47,8 @@ pub(crate) fn work_off<A: Answer, K: Sink, L: Ledger>(
         → Says voice.old voice.new (K.seen out.old) (K.seen out.new) (run world (given_in batch)).said result }
     ensures stands { OnOk result ((world : World) → Stands engine.old world []
         → Stands engine.new (run world (given_in batch)).after []) }
+    ensures cost { (world : World) → Stands engine.old world []
+        → steps.new ≤ steps.old + (run world (given_in batch)).work }
 {
     match batch {
         Batch::Blocks(blocks) => take_blocks(alloc, engine, blocks, voice, out, steps),
@@ -72,6 +75,8 @@ fn take_blocks<A: Answer, K: Sink, L: Ledger>(
         → Says voice.old voice.new (K.seen out.old) (K.seen out.new) (run_blocks world blocks).said result }
     ensures stands { OnOk result ((world : World) → Stands engine.old world []
         → Stands engine.new (run_blocks world blocks).after []) }
+    ensures cost { (world : World) → Stands engine.old world []
+        → steps.new ≤ steps.old + (run_blocks world blocks).work }
 {
     let mut refused = false;
     for block in blocks.into_vec() {
@@ -98,6 +103,8 @@ fn take_block<A: Answer, K: Sink, L: Ledger>(
         → Says voice.old voice.new (K.seen out.old) (K.seen out.new) (step world (a_block block)).said result }
     ensures stands { OnOk result ((world : World) → Stands engine.old world []
         → Stands engine.new (step world (a_block block)).after []) }
+    ensures cost { (world : World) → Stands engine.old world []
+        → steps.new ≤ steps.old + (step world (a_block block)).work }
 {
     let Block { number, content } = block;
     match offer(engine, content) {
@@ -140,6 +147,8 @@ fn say_reports<A: Answer, K: Sink, L: Ledger>(
         → Tells voice.old voice.new (K.seen out.old) (K.seen out.new) (map a_report (reports world left)) result }
     ensures stands { OnOk result ((world : World) (left : List Moment) → Stands engine.old world left
         → Stands engine.new (world_behind world left) []) }
+    ensures cost { (world : World) (left : List Moment) → Stands engine.old world left
+        → steps.new ≤ steps.old + work_of_reports world left }
 {
     'reports: loop {
         match engine.next_report(steps) {

@@ -3,7 +3,7 @@ ghost use Rattle.std.specs.Prelude.{◌≡◌, IsTrue, OnOk, List, []};
 ghost use Rattle.rsp_io.specs.Seen.{SourceSeen};
 ghost use Rattle.rsp_engine.specs.Stands.{is_idle};
 ghost use Rattle.rsp_call.specs.Output.{Given};
-ghost use Rattle.rsp_call.specs.Feeds.{Drove, IsNothing, status_of_drive, stop_of};
+ghost use Rattle.rsp_call.specs.Feeds.{Drove, IsNothing, Spends, status_of_drive, stop_of};
 
 use crate::blocks::{either, work_off};
 use crate::feed::{Cut, Feed};
@@ -43,6 +43,9 @@ pub(crate) fn drive<S: Source, F: Feed<S>, A: Answer, K: Sink, L: Ledger>(
         → Drove (F.gave feed.new start (S.seen from.new)) (F.ended feed.new start (S.seen from.new))
         (F.left feed.old) (F.left feed.new) before
         engine.old engine.new voice.old voice.new (K.seen out.old) (K.seen out.new) result }
+    ensures cost { (start : SourceSeen) (before : List Given) → F.gave feed.old start (S.seen from.old) before
+        → Spends (F.gave feed.new start (S.seen from.new)) (F.ended feed.new start (S.seen from.new))
+        (F.left feed.old) (F.left feed.new) before engine.old steps.old steps.new result }
 {
     let mut refused = false;
     'batches: loop {

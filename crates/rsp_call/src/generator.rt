@@ -5,6 +5,7 @@ ghost use Rattle.rsp_events.specs.Instants.{IsInstant};
 ghost use Rattle.rsp_engine.specs.World.{empty_world};
 ghost use Rattle.rsp_engine.specs.Stands.{Stands, is_idle};
 ghost use Rattle.rsp_spec.specs.Limits.{most_file_bytes};
+ghost use Rattle.rsp_call.specs.Costs.{work_of};
 ghost use Rattle.rsp_call.specs.FileAnswers.{AnswersFiles};
 ghost use Rattle.rsp_words.specs.declared.form.Form.TheVariants.{Table};
 ghost use Rattle.rsp_call.specs.Generator.{generated};
@@ -121,6 +122,7 @@ pub(crate) fn generate<A: Answer, K: Sink, L: Ledger>(
     requires count { count ≤ 1000000 }
     ensures text { (shelf : ShelfSeen) → AnswersFiles most_file_bytes Table [] (counted count) shelf shelf
         (K.seen out.old) (K.seen out.new) result }
+    ensures cost { steps.new ≤ steps.old + work_of (map a_block (numbered 1 (generated count))) }
 {
     status_of(tell_summary(alloc, engine, count, out, steps))
 }
@@ -136,7 +138,8 @@ fn tell_summary<A: Answer, K: Sink, L: Ledger>(
     requires idle { IsTrue (is_idle engine.old) }
     requires new { Stands engine.old empty_world [] }
     requires count { count ≤ 1000000 }
-    ensures { Says Table (K.seen out.old) (K.seen out.new) (counted count []) result }
+    ensures says { Says Table (K.seen out.old) (K.seen out.new) (counted count []) result }
+    ensures cost { steps.new ≤ steps.old + work_of (map a_block (numbered 1 (generated count))) }
 {
     let mut feed = GenFeed::new(alloc, count);
     let mut nothing = SteadySource::new(Vec::new(alloc), 1);

@@ -8,12 +8,13 @@ ghost use Rattle.rsp_engine.specs.Stands.{Stands, is_idle};
 ghost use Rattle.rsp_engine.specs.World.{empty_world};
 ghost use Rattle.rsp_spec.specs.Limits.{most_file_bytes};
 ghost use Rattle.rsp_call.specs.FileAnswers.{AnswersFiles};
-ghost use Rattle.rsp_call.specs.Feeding.{AreTimed, AreTimedBatches, batches_given, files_given, given_of, run_left};
+ghost use Rattle.rsp_call.specs.Costs.{CostsFiles};
+ghost use Rattle.rsp_call.specs.Feeding.{AreTimed, AreTimedBatches, batches_given, files_given, run_left};
 ghost use Rattle.rsp_call.specs.Feeds.{IsTimedBatch, given_in};
 ghost use Rattle.rsp_call.specs.Output.{a_block, run};
 ghost use Rattle.rsp_words.specs.Playing.{replay_for, stream_for};
 ghost use Rattle.rsp_call.specs.Recordings.{with_tick};
-ghost use Rattle.rsp_call.specs.Replays.{given_by, line_given, played, played_over, query_given, replayed, all_lines_given};
+ghost use Rattle.rsp_call.specs.Replays.{given_by, given_of, line_given, played, played_over, query_given, replayed, all_lines_given};
 ghost use Rattle.rsp_call.specs.Sayings.{Says};
 ghost use Rattle.rsp_call.specs.Shelves.{shelf_seen};
 ghost use Rattle.rsp_call.specs.Summaries.{event_block, numbered};
@@ -61,6 +62,9 @@ pub(crate) fn replay<A: Answer, H: Shelf, K: Sink, L: Ledger>(
         (names_of (replay_for replay.now)) (replayed (replay_for replay.now))
         (shelf_seen (H.files shelf.old) (H.seen shelf.old))
         (shelf_seen (H.files shelf.new) (H.seen shelf.new)) (K.seen out.old) (K.seen out.new) result }
+    ensures cost { CostsFiles most_file_bytes (names_of (replay_for replay.now)) (given_of (replay_for replay.now))
+        (shelf_seen (H.files shelf.old) (H.seen shelf.old))
+        (shelf_seen (H.files shelf.new) (H.seen shelf.new)) steps.old steps.new }
 {
     match read_files(alloc, shelf, replay) {
         Ok(files) => match run_feed(alloc, replay, files.as_slice()) {
@@ -83,9 +87,11 @@ fn tell_feed<A: Answer, K: Sink, L: Ledger>(
     requires idle { IsTrue (is_idle engine.old) }
     requires new { Stands engine.old empty_world [] }
     requires timed { AreTimedBatches (into_iter_items feed.batches) }
-    ensures { Says form (K.seen out.old) (K.seen out.new)
+    ensures says { Says form (K.seen out.old) (K.seen out.new)
         (run empty_world (run_left feed.files feed.file feed.line
         (into_iter_items feed.batches))).said result }
+    ensures cost { steps.new ≤ steps.old + (run empty_world (run_left feed.files feed.file feed.line
+        (into_iter_items feed.batches))).work }
 {
     let mut feed = feed;
     let mut nothing = SteadySource::new(Vec::new(alloc), 1);

@@ -6,6 +6,7 @@ ghost use Rattle.rsp_call.specs.Logs.{start_of};
 ghost use Rattle.rsp_words.specs.Words.{mode_of};
 ghost use Rattle.rsp_call.specs.Shelves.{shelf_seen};
 ghost use Rattle.rsp_call.specs.Answers.{Answers, AnswersLog, AnswersUsage, reads_shelf, reads_source};
+ghost use Rattle.rsp_call.specs.Costs.{Costs, CostsLog};
 
 use crate::checking::check;
 use crate::drive::{drive, status_of_drive};
@@ -34,7 +35,7 @@ const USAGE: &str =
 /// or on `--json` each as a line of JSON. On `run` it reads the files that are named from `shelf`, and writes in the same forms
 /// what recorded streams give. On `check` it reads one file from `shelf` and writes whether the query in it has a fault. On `gen`
 /// it works off events that it makes itself and writes how many reports they gave. On all other words it reads nothing, takes no
-/// memory and writes the usage line.
+/// memory and writes the usage line. It takes at most as many steps as all reports of what it read may.
 pub fn rsp<S: Source, H: Shelf, K: Sink, L: Ledger>(
     alloc: Global,
     words: &[Text],
@@ -49,6 +50,9 @@ pub fn rsp<S: Source, H: Shelf, K: Sink, L: Ledger>(
         (K.seen out.old) (K.seen out.new) result }
     ensures unread { reads_source (mode_of words.now) ≡ false → input.new ≡ input.old }
     ensures shelf { reads_shelf (mode_of words.now) ≡ false → shelf.new ≡ shelf.old }
+    ensures cost { Costs (mode_of words.now)
+        (S.seen input.old) (S.seen input.new) (shelf_seen (H.files shelf.old) (H.seen shelf.old))
+        (shelf_seen (H.files shelf.new) (H.seen shelf.new)) steps.old steps.new }
 {
     match mode_of(words) {
         Some(Mode::Events(form)) => events(alloc, form, input, out, steps),
@@ -93,6 +97,7 @@ fn events<S: Source, K: Sink, L: Ledger>(
     steps: &mut Steps<L>,
 ) -> Status
     ensures log { AnswersLog (start_of form) (S.seen input.old) (S.seen input.new) (K.seen out.old) (K.seen out.new) result }
+    ensures cost { CostsLog 1 (S.seen input.old) (S.seen input.new) steps.old steps.new }
 {
     let mut engine = new_engine(alloc);
     let mut log = LogFeed::new(alloc, LOG, MOST_LOG_BYTES);

@@ -1,5 +1,5 @@
 -- Moments that are worked off one report at a time are worked off as defined.
-use Rattle.std.proofs.Common.{◌≡◌, ℕ, ◌+◌, Bool, true, false, List, [], ◌∷◌, map, filter, Option, None, Some, refl, sym, ◌∙◌, ap, subst}
+use Rattle.std.proofs.Common.{◌≡◌, ℕ, ◌+◌, ◌≤◌, Bool, true, false, List, [], ◌∷◌, map, filter, Option, None, Some, refl, sym, ◌∙◌, ap, subst, arith}
 use Rattle.std.specs.Prelude.{if◌then◌else◌, not, bytes_eq}
 use Rattle.std.specs.List.{find}
 use Rattle.std.specs.Option.{option_map_or}
@@ -237,3 +237,13 @@ work_step world left step is =
 pub work_next : (world : World) (left : List Moment) (step : ReportStep) → next_step world left ≡ Some step
     → next_work world left ≡ step.work
 work_next world left step is = rw is refl
+
+pub work_part : (world : World) (left : List Moment) → next_work world left ≤ work_of_reports world left
+work_part world left = by (next_step world left) refl
+  where
+    by : (step : Option ReportStep) → next_step world left ≡ step → next_work world left ≤ work_of_reports world left
+    by None is = rw is (omega arith)
+    by (Some step) is =
+        let next = work_next world left step is in
+        let all = work_step world left step is in
+        omega (arith, next, all)

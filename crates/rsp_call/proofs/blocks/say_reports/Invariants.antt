@@ -1,5 +1,6 @@
 use Rattle.rsp_engine.specs.Stands.{places_left}
 use Rattle.rsp_call.proofs.Reporting.{Reporting}
+use Rattle.rsp_call.proofs.Spending.{Spending}
 use Rattle.rsp_call.proofs.blocks.say_reports.Given as goal
 
 abbrev pub invariant-reports : goal.invariant-reports
@@ -11,6 +12,7 @@ invariant-reports g l =
     l.voice
     (g.K.Sink.seen l.initial.out)
     (g.K.Sink.seen l.out)
+    × Spending l.initial.engine l.engine l.initial.steps l.steps
 
 abbrev pub decreases-reports : goal.decreases-reports
 decreases-reports g l = places_left l.engine

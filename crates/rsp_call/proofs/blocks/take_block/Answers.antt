@@ -1,5 +1,6 @@
 use Rattle.rsp_call.specs.declared.refusals.Place.TheVariants as place
 use Rattle.rsp_call.proofs.Reporting.{refused_says, taken, taken_says, taken_stands, taken_stops}
+use Rattle.rsp_call.proofs.Spending.{taken_costs}
 use Rattle.rsp_call.proofs.blocks.take_block.Goals as goal
 
 pub returns-in-Err-say_reports-clause-says : goal.returns-in-Err-say_reports-clause-says
@@ -27,3 +28,13 @@ returns-in-Err-clause-says g c world stands =
     stands
     c.refusal-refused.ensures.says
     c.refusal-refused.ensures.refused
+
+pub returns-in-Err-say_reports-clause-cost : goal.returns-in-Err-say_reports-clause-cost
+returns-in-Err-say_reports-clause-cost g c world stands =
+    let is = taken _ _ c.args.block.content (place.Block c.args.block.number) world _ c.in-Ok.ensures stands in
+    taken_costs world (place.Block c.args.block.number) c.args.block.content _ is _ _ (c.say_reports.ensures.cost is.after is.left is.stands)
+
+pub returns-in-Ok-say_reports-clause-cost : goal.returns-in-Ok-say_reports-clause-cost
+returns-in-Ok-say_reports-clause-cost g c world stands =
+    let is = taken _ _ c.args.block.content (place.Block c.args.block.number) world _ c.in-Ok.ensures stands in
+    taken_costs world (place.Block c.args.block.number) c.args.block.content _ is _ _ (c.say_reports.ensures.cost is.after is.left is.stands)

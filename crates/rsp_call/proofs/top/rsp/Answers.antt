@@ -12,3 +12,8 @@ pub returns-in-Some-Generate-clause-answer : goal.returns-in-Some-Generate-claus
 returns-in-Some-Generate-clause-answer g c =
     let asked : mode_of c.args.words.now ≡ Some (generate c.in-Some-Generate.count) = search rules in
     rw asked (c.generate.ensures.text _)
+
+pub returns-in-Some-Generate-clause-cost : goal.returns-in-Some-Generate-clause-cost
+returns-in-Some-Generate-clause-cost g c =
+    let asked : mode_of c.args.words.now ≡ Some (generate c.in-Some-Generate.count) = search rules in
+    rw asked c.generate.ensures.cost
