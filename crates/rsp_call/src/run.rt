@@ -191,11 +191,7 @@ fn refused_line(file: &Text, refused: LineRefused) -> Result<Batch, AllocError>
 
 // ---- what it is made of
 
-fn run_feed(
-    alloc: Global,
-    replay: &Replay<'_>,
-    files: &[Listed<u8>],
-) -> Result<RunFeed, AllocError>
+fn run_feed(alloc: Global, replay: &Replay<'_>, files: &[Listed<u8>]) -> Result<RunFeed, AllocError>
     ensures left { IfOk result (λ feed. run_left feed.files feed.file feed.line (into_iter_items feed.batches)
         ≡ given_of (replay_for replay.now) files.now) }
     ensures timed { IfOk result (λ feed. AreTimedBatches (into_iter_items feed.batches)) }

@@ -44,7 +44,6 @@ use Rattle.rsp_engine.proofs.Bounds.{alike_keeps, without_keeps}
 use Rattle.rsp_engine.proofs.BehindReport.{All-get}
 use Rattle.rsp_engine.proofs.Seen.{name_of_query, seen_at, seen_removed, seen_set, world_at, world_names}
 use Rattle.rsp_engine.proofs.Standing.{head_is, left_here, left_renamed, none_is, waits_renamed}
-
 use Rattle.rsp_engine.proofs.FirstPlace as first_place
 
 -- by what was reported
@@ -90,7 +89,7 @@ module _ (old new : State) (report : Report) (world : World) (left : List Moment
   abbrev seen_now : List Fact
   seen_now = facts_at world.items old.stored live place.at
 
-  found : (q : Query) × (slice_get world.queries place.query ≡ Some q) × (q.registration ≡ query)
+  abbrev found : (q : Query) × (slice_get world.queries place.query ≡ Some q) × (q.registration ≡ query)
   found = first_place.found old place live given.first given.listed world left state stands
 
   names : IsDistinct bytes_eq (map name_of_query world.queries)

@@ -15,7 +15,7 @@ use Rattle.rsp_engine.proofs.Named.{turned}
 -- lists of which a place was taken out, one after another
 module _ {F : Type 0} (place : ℕ) (T : F → List ℕ → Vec ℕ → Bool → Vec ℕ → F → Type 0) (f : F)
     (says : (k : List ℕ) (old : Vec ℕ) (b : Bool) (new : Vec ℕ) (g : F) → T f k old b new g
-        → (b ≡ true) × ((new.items ≡ without place old.items) × (g ≡ f))) where
+    → (b ≡ true) × ((new.items ≡ without place old.items) × (g ≡ f))) where
   pub lowered_lists : (lists kept : List (List ℕ × Vec ℕ)) → RetainsPairs T f lists kept
       → (s : List ℕ) → list_of kept s ≡ without place (list_of lists s)
   lowered_lists [] kept h s = ap (λ l. list_of l s) h

@@ -117,14 +117,7 @@ pub(crate) fn take<A>(
     let room = streams.count().checked_add(1).ok_or(AllocError)?;
     ends.clear();
     ends.reserve(room)?;
-    watch(
-        alloc,
-        queries,
-        readers,
-        &arrival.stream,
-        arrival.time,
-        from,
-    )?;
+    watch(alloc, queries, readers, &arrival.stream, arrival.time, from)?;
     let graph = arrival.graph.into_vec();
     streams.take(&arrival.stream, arrival.time, graph, arrival.end)?;
     Ok(arrival.stream)

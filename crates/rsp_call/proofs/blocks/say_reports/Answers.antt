@@ -7,15 +7,17 @@ reports-init g c = (reporting_nothing _ _ _, spending_nothing _ _)
 
 pub reports-preserved : goal.reports-preserved
 reports-preserved g c =
-    let given = rw c.in-Ok-Some.field-0-is at c.in-Ok-Some.ensures.report in
-    (reporting_more _ _ _ _ _ _ _ _ _ _ c.reports.invariant.0 given c.in-Ok.ensures,
-      spending_more _ _ _ _ _ _ _ c.reports.invariant.1 given c.next_report.ensures.cost)
+    let given = rw c.in-Ok-Some.field-0-is at c.in-Ok-Some.ensures.report in (
+      reporting_more _ _ _ _ _ _ _ _ _ _ c.reports.invariant.0 given c.in-Ok.ensures,
+      spending_more _ _ _ _ _ _ _ c.reports.invariant.1 given c.next_report.ensures.cost,
+    )
 
 pub reports-preserved-in-Ok : goal.reports-preserved-in-Ok
 reports-preserved-in-Ok g c =
-    let given = rw c.in-Ok-Some.field-0-is at c.in-Ok-Some.ensures.report in
-    (reporting_more _ _ _ _ _ _ _ _ _ _ c.reports.invariant.0 given c.in-Ok.ensures,
-      spending_more _ _ _ _ _ _ _ c.reports.invariant.1 given c.next_report.ensures.cost)
+    let given = rw c.in-Ok-Some.field-0-is at c.in-Ok-Some.ensures.report in (
+      reporting_more _ _ _ _ _ _ _ _ _ _ c.reports.invariant.0 given c.in-Ok.ensures,
+      spending_more _ _ _ _ _ _ _ c.reports.invariant.1 given c.next_report.ensures.cost,
+    )
 
 pub returns-in-Err-report-clause-says : goal.returns-in-Err-report-clause-says
 returns-in-Err-report-clause-says g c world left stands =

@@ -10,16 +10,17 @@ loop-block-init g c =
 
 pub loop-block-preserved : goal.loop-block-preserved
 loop-block-preserved g c =
-    let took = c.in-Ok.ensures in
-    (rw
-    c.either-refused.ensures
-    (working_more _ _ _ _ _ _ _ _ _ _ _ _ _ _ _
-    c.loop-block.invariant.0
-    c.in-Some.ensures.steps.0
-    took.idle
-    took.says
-    took.stands),
-      given_more _ _ _ _ _ _ _ _ _ _ c.loop-block.invariant.1 c.in-Some.ensures.steps.0 c.take_block.ensures.cost took.stands)
+    let took = c.in-Ok.ensures in (
+      rw
+          c.either-refused.ensures
+          (working_more _ _ _ _ _ _ _ _ _ _ _ _ _ _ _
+          c.loop-block.invariant.0
+          c.in-Some.ensures.steps.0
+          took.idle
+          took.says
+          took.stands),
+      given_more _ _ _ _ _ _ _ _ _ _ c.loop-block.invariant.1 c.in-Some.ensures.steps.0 c.take_block.ensures.cost took.stands,
+    )
 
 pub take_block-requires-clause-instant : goal.take_block-requires-clause-instant
 take_block-requires-clause-instant g c = next_timed _ _ _ c.loop-block.invariant.0.timed c.in-Some.ensures.steps.0

@@ -15,26 +15,26 @@ returns-in-Ok-run_feed-clause-files g c =
     let replay = replay_for c.args.replay.now in
     let left = rw c.as_slice.ensures at c.in-Ok-run_feed.ensures.left in
     files_told c.args.replay.now.form (names_of replay) (replayed replay) _ _ _ _ c.in-Ok.files c.tell_feed.result _ c.status_of.result
-          c.status_of.ensures
-          (ap (λ given. (run empty_world given).said) left ∙ replayed_is replay c.in-Ok.files)
-          c.in-Ok.ensures.files
-          c.tell_feed.ensures.says
+    c.status_of.ensures
+    (ap (λ given. (run empty_world given).said) left ∙ replayed_is replay c.in-Ok.files)
+    c.in-Ok.ensures.files
+    c.tell_feed.ensures.says
 
 pub returns-in-Ok-clause-files : goal.returns-in-Ok-clause-files
 returns-in-Ok-clause-files g c =
     let replay = replay_for c.args.replay.now in
     files_told c.args.replay.now.form (names_of replay) (replayed replay) _ _ _ _ c.in-Ok.files (Err Memory) _ _
-          refl
-          refl
-          c.in-Ok.ensures.files
-          (record { front = []; rest = replayed replay c.in-Ok.files; whole = refl; written = wrote_nothing _ })
+    refl
+    refl
+    c.in-Ok.ensures.files
+    (record { front = []; rest = replayed replay c.in-Ok.files; whole = refl; written = wrote_nothing _ })
 
 pub returns-clause-files : goal.returns-clause-files
 returns-clause-files g c =
     let replay = replay_for c.args.replay.now in
     files_unread c.args.replay.now.form (names_of replay) (replayed replay) _ _ _ c.in-Err.unread c.status_of_unread.result
-          c.status_of_unread.ensures
-          c.in-Err.ensures.files
+    c.status_of_unread.ensures
+    c.in-Err.ensures.files
 
 pub returns-in-Ok-run_feed-clause-cost : goal.returns-in-Ok-run_feed-clause-cost
 returns-in-Ok-run_feed-clause-cost g c =

@@ -7,12 +7,12 @@ use Rattle.rsp_call.proofs.top.events.Goals as goal
 pub returns-clause-log : goal.returns-clause-log
 returns-clause-log g c =
     log_answers (start_of c.args.form) _ _ _ _ _ _ _ _ _ _ _ _ _ _ _ c.drive-driven.result _
-          c.drive-driven.ensures.settings
-          c.new-log.ensures.most
-          c.new-log.ensures.document
-          c.new_engine-engine.ensures.stands
-          (c.drive-driven.ensures.drove _ [] (c.new-log.ensures.gave _))
-          c.status_of_drive.ensures
+    c.drive-driven.ensures.settings
+    c.new-log.ensures.most
+    c.new-log.ensures.document
+    c.new_engine-engine.ensures.stands
+    (c.drive-driven.ensures.drove _ [] (c.new-log.ensures.gave _))
+    c.status_of_drive.ensures
 
 pub returns-clause-cost : goal.returns-clause-cost
 returns-clause-cost g c =

@@ -24,9 +24,11 @@ invariant_of-self g c = λ _.
     let sound : IsReady g.A.Answer.node g.A.Answer.width g.A.Answer.facts g.A.Answer.spent c.self.inside = (c.self.invariant (rw (← c.self.view_is) at c.requires.ready)).0 in
     let idle = idle_first (state_of g.A.Answer.facts c.self.inside) (rw (← c.self.view_is) at c.requires.ready) (rw (← c.self.view_is) at c.requires.idle) in
     let cut = c.first_incomplete-cut.ensures in
-    let kept = rw (c.as_slice.ensures.value, cut, ← c.self.view_is) at c.lower.ensures.kept in
-    (ready_without _ _ _ _ _ sound idle (record c.self.inside { queries = c.remove_at.new.queries; readers = c.remove_at.new.readers; streams = c.lower.new.streams; ends = c.lower.new.ends }) c.in-Some.place refl refl refl refl refl c.remove_at.ensures.queries c.lower.ensures.less.accepted (c.lower.ensures.less.timed _ sound.state.timed)
-    (fits_without _ _ _ _ _ sound idle (record c.self.inside { queries = c.remove_at.new.queries; readers = c.remove_at.new.readers; streams = c.lower.new.streams; ends = c.lower.new.ends }) c.in-Some.place refl refl refl refl c.remove_at.ensures.queries kept) c.lower.ensures.room, c.remove_at.ensures.read)
+    let kept = rw (c.as_slice.ensures.value, cut, ← c.self.view_is) at c.lower.ensures.kept in (
+      ready_without _ _ _ _ _ sound idle (record c.self.inside { queries = c.remove_at.new.queries; readers = c.remove_at.new.readers; streams = c.lower.new.streams; ends = c.lower.new.ends }) c.in-Some.place refl refl refl refl refl c.remove_at.ensures.queries c.lower.ensures.less.accepted (c.lower.ensures.less.timed _ sound.state.timed)
+          (fits_without _ _ _ _ _ sound idle (record c.self.inside { queries = c.remove_at.new.queries; readers = c.remove_at.new.readers; streams = c.lower.new.streams; ends = c.lower.new.ends }) c.in-Some.place refl refl refl refl c.remove_at.ensures.queries kept) c.lower.ensures.room,
+      c.remove_at.ensures.read,
+    )
 
 pub returns-in-Some : goal.returns-in-Some
 returns-in-Some g c =

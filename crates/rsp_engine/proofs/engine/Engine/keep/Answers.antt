@@ -49,10 +49,11 @@ invariant_of-self g c = λ broken.
     → All (λ l. Tells (items ++ accepted_of c.args.arrival ∷ []) (unwrap_or c.self.inside.next 0) (fixed l) l.watched.items) (take c.self.inside.queries.len (c.take.new.queries ++ drop (length c.take.new.queries) c.self.inside.queries.items)) =
     λ items firsts told. subst (λ qs. All (λ l. Tells (items ++ accepted_of c.args.arrival ∷ []) (unwrap_or c.self.inside.next 0) (fixed l) l.watched.items) qs) (sym whole) ((rw (c.deref_mut.ensures.value, c.unwrap_or-from.ensures) at c.in-Ok.ensures.told) items firsts told) in
     let prompt = subst (λ qs. All (λ l. IsPrompt c.args.arrival.time (Some c.args.arrival.stream) (asked l)) qs) (sym whole) c.in-Ok.ensures.prompt in
-    let timed = timed_taken c.self.inside.streams c.args.arrival.stream c.args.arrival.time _ c.args.arrival.graph c.args.arrival.end later sound.state.timed in
-    (ready_passed _ _ _ _ _ sound idle (record c.self.inside { next = Some c.args.arrival.time; queries = with_items c.self.inside.queries c.take.new.queries; readers = c.take.new.readers; streams = c.drop_before.new.self; ends = c.take.new.ends; arrived = Some c.in-Ok.stream; first = c.first_moment-self-inside.result }) (accepted_of c.args.arrival ∷ []) (Some c.args.arrival.stream) c.args.arrival.time took later (high_of c.self.inside.next c.args.arrival.time) refl refl refl (ap Some c.in-Ok.ensures.stream) broken (ap (map parts_of) whole ∙ parts) first kept takes tells
-    (let high = c.requires.instant in omega (arith, high)) (taken_more c.self.inside.streams c.args.arrival.stream c.args.arrival.time c.args.arrival.graph c.args.arrival.end) prompt timed (rw c.drop_before.ensures (room_kept _ c.take.new.streams.items c.take.new.ends.cap c.in-Ok.ensures.room)),
-    subst (λ qs. AreRead c.take.new.readers qs) (sym whole) c.in-Ok.ensures.read)
+    let timed = timed_taken c.self.inside.streams c.args.arrival.stream c.args.arrival.time _ c.args.arrival.graph c.args.arrival.end later sound.state.timed in (
+      ready_passed _ _ _ _ _ sound idle (record c.self.inside { next = Some c.args.arrival.time; queries = with_items c.self.inside.queries c.take.new.queries; readers = c.take.new.readers; streams = c.drop_before.new.self; ends = c.take.new.ends; arrived = Some c.in-Ok.stream; first = c.first_moment-self-inside.result }) (accepted_of c.args.arrival ∷ []) (Some c.args.arrival.stream) c.args.arrival.time took later (high_of c.self.inside.next c.args.arrival.time) refl refl refl (ap Some c.in-Ok.ensures.stream) broken (ap (map parts_of) whole ∙ parts) first kept takes tells
+          (let high = c.requires.instant in omega (arith, high)) (taken_more c.self.inside.streams c.args.arrival.stream c.args.arrival.time c.args.arrival.graph c.args.arrival.end) prompt timed (rw c.drop_before.ensures (room_kept _ c.take.new.streams.items c.take.new.ends.cap c.in-Ok.ensures.room)),
+      subst (λ qs. AreRead c.take.new.readers qs) (sym whole) c.in-Ok.ensures.read,
+    )
 
 pub returns-in-Ok-clause-ok : goal.returns-in-Ok-clause-ok
 returns-in-Ok-clause-ok g c =

@@ -25,12 +25,12 @@ returns-in-Ok-clause-cost g c =
     let sound = (c.self.invariant c.if-self.false).0 in
     let state : IsState old = rw (← c.self.view_is) sound.state in
     λ world left stands.
-        costs_next old c.in-Some.place _ _ state (rw (← c.self.view_is) c.in-Some.is) c.report_first.ensures.cost world left stands
+    costs_next old c.in-Some.place _ _ state (rw (← c.self.view_is) c.in-Some.is) c.report_first.ensures.cost world left stands
 
-pub returns-clause-cost : goal.returns-clause-cost
-returns-clause-cost g c =
+pub returns-in-Err-clause-cost : goal.returns-in-Err-clause-cost
+returns-in-Err-clause-cost g c =
     let old = c.args.self.now in
     let sound = (c.self.invariant c.if-self.false).0 in
     let state : IsState old = rw (← c.self.view_is) sound.state in
     λ world left stands.
-        costs_next old c.in-Some.place _ _ state (rw (← c.self.view_is) c.in-Some.is) c.report_first.ensures.cost world left stands
+    costs_next old c.in-Some.place _ _ state (rw (← c.self.view_is) c.in-Some.is) c.report_first.ensures.cost world left stands

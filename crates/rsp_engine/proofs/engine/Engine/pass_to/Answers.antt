@@ -31,9 +31,11 @@ invariant_of-self g c = λ broken.
     λ items is. rw (append-nil items) is in
     let prompt = All-weaker (λ l. IsWatching (unwrap_or c.self.inside.next 0) (asked l)) (λ l. IsPrompt c.args.to None (asked l)) (λ l watching. prompt_on (unwrap_or c.self.inside.next 0) c.args.to (asked l) later watching) c.self.inside.queries.items
     (all_watching g.A.Answer.facts c.self.inside.queries.items _ _ _ _ sound.state.lives) in
-    let timed = All-weaker (λ (item : Item). item.time ≤ unwrap_or c.self.inside.next 0) (λ (item : Item). item.time ≤ c.args.to) (λ item early. omega (arith, early, later)) c.self.inside.streams.items sound.state.timed in
-    (ready_passed _ _ _ _ _ sound idle (record c.self.inside { next = Some c.args.to; streams = c.drop_before.new.self; arrived = None; first = c.first_moment-self-inside.result }) [] None c.args.to c.self.inside.streams later (high_of c.self.inside.next c.args.to) refl refl refl refl broken refl first kept takes (λ items firsts told. rw (append-nil items) told)
-    c.requires.instant (omega arith) prompt timed (rw kept (room_kept _ c.self.inside.streams.items c.self.inside.ends.cap sound.room)), (c.self.invariant (rw (← c.self.view_is) at c.requires.ready)).1)
+    let timed = All-weaker (λ (item : Item). item.time ≤ unwrap_or c.self.inside.next 0) (λ (item : Item). item.time ≤ c.args.to) (λ item early. omega (arith, early, later)) c.self.inside.streams.items sound.state.timed in (
+      ready_passed _ _ _ _ _ sound idle (record c.self.inside { next = Some c.args.to; streams = c.drop_before.new.self; arrived = None; first = c.first_moment-self-inside.result }) [] None c.args.to c.self.inside.streams later (high_of c.self.inside.next c.args.to) refl refl refl refl broken refl first kept takes (λ items firsts told. rw (append-nil items) told)
+          c.requires.instant (omega arith) prompt timed (rw kept (room_kept _ c.self.inside.streams.items c.self.inside.ends.cap sound.room)),
+      (c.self.invariant (rw (← c.self.view_is) at c.requires.ready)).1,
+    )
 
 pub returns : goal.returns
 returns g c =

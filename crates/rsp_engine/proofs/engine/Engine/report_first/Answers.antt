@@ -165,8 +165,8 @@ returns-in-Ok-clause-cost g c =
     (costs_first (state_of g.A.Answer.facts c.self.inside) c.args.place (live_of g.A.Answer.facts live) _ _
     (get_map (live_of g.A.Answer.facts) c.self.inside.queries.items c.args.place.query live is) c.report_at.ensures.cost)
 
-pub returns-clause-cost : goal.returns-clause-cost
-returns-clause-cost g c =
+pub returns-in-Err-clause-cost : goal.returns-in-Err-clause-cost
+returns-in-Err-clause-cost g c =
     let sound : IsReady g.A.Answer.node g.A.Answer.width g.A.Answer.facts g.A.Answer.spent c.self.inside = (c.self.invariant (rw (← c.self.view_is) at c.requires.ready)).0 in
     let first : c.self.inside.first ≡ Some c.args.place = rw (← c.self.view_is) at c.requires.first in
     let live = c.index_mut.result.now in
