@@ -31,7 +31,7 @@ takes_more (Some a) None c xs ys first second = absurd first
 takes_more (Some a) (Some b) None xs ys first second = absurd second
 takes_more (Some a) (Some b) (Some c) xs ys first second = first ∙ (ap (λ given. xs ++ given) second ∙ sym (append_assoc xs ys c))
 
-pub takes_no_more : (a b c : Option (List Given)) (xs : List Given) → Takes a b xs → Takes b c [] → Takes a c xs
+takes_no_more : (a b c : Option (List Given)) (xs : List Given) → Takes a b xs → Takes b c [] → Takes a c xs
 takes_no_more a b c xs first second = rw (append-nil xs) at (takes_more a b c xs [] first second)
 
 -- ---- some of a list

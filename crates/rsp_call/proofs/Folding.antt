@@ -7,11 +7,17 @@ sums : (a b c : ℕ) → a + (b + c) ≡ (a + b) + c
 sums a b c = omega arith
 
 pub run-append : (world : World) (xs ys : List Given) → run world (xs ++ ys) ≡ followed_by (run world xs) (run (run world xs).after ys)
-run-append world [] ys = refl
+run-append world [] ys =
+    let rest = run world ys in
+    let same : rest.work ≡ 0 + rest.work = omega arith in
+    λ i. record { said = rest.said; work = same i; after = rest.after }
 run-append world (x ∷ xs) ys =
-    ap (followed_by (step world x)) (run-append (step world x).after xs ys)
+    let first = step world x in
+    let others = run first.after xs in
+    let rest = run others.after ys in
+    ap (followed_by first) (run-append first.after xs ys)
     ∙ (λ i. record {
-      said = sym (append_assoc (step world x).said (run (step world x).after xs).said _) i;
-      work = sums (step world x).work (run (step world x).after xs).work _ i;
-      after = (run (run (step world x).after xs).after ys).after;
+      said = sym (append_assoc first.said others.said rest.said) i;
+      work = sums first.work others.work rest.work i;
+      after = rest.after;
     })

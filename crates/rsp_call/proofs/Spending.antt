@@ -1,5 +1,5 @@
 -- The steps that reports, blocks and batches may take, one behind another.
-use Rattle.std.proofs.Common.{◌≡◌, ℕ, ◌+◌, ◌≤◌, Bool, Unit, Option, Some, None, Result, Ok, Err, List, [], ◌∷◌, ◌++◌, map, length, refl, sym, ◌∙◌, ap, subst, append_assoc, arith}
+use Rattle.std.proofs.Common.{◌≡◌, ℕ, ◌+◌, ◌≤◌, Bool, true, false, Option, Some, None, Result, Ok, Err, List, [], ◌∷◌, ◌++◌, map, length, refl, sym, ◌∙◌, ap, subst, append_assoc, arith}
 use Rattle.std.proofs.lemmas.List.{append-nil, map-append}
 use Rattle.std.specs.Prelude.{OnOk}
 use Rattle.rsp_io.specs.Seen.{SourceSeen}
@@ -27,7 +27,7 @@ use Rattle.rsp_call.specs.Feeds.{Came, Spends, Takes, given_in}
 use Rattle.rsp_call.specs.Logs.{Begins, LogEnded, LogGave}
 use Rattle.rsp_call.specs.Output.{Given, Step, a_block, content_step, run, step}
 use Rattle.rsp_call.specs.Sources.{Took}
-use Rattle.rsp_call.proofs.Driving.{takes_more, takes_no_more, takes_nothing}
+use Rattle.rsp_call.proofs.Driving.{takes_more, takes_nothing}
 use Rattle.rsp_call.proofs.Folding.{run-append}
 use Rattle.rsp_call.proofs.Reporting.{Taken}
 
@@ -115,6 +115,10 @@ given_all old engine all rest a b spending world at = let within = (spending wor
 
 -- ---- batches
 
+-- what was taken where nothing more is given
+taken_so : (a b c : Option (List Given)) (xs : List Given) → Takes a b xs → Takes b c [] → Takes a c xs
+taken_so a b c xs first second = rw (append-nil xs) at (takes_more a b c xs [] first second)
+
 pub record DrivenSpending (Gave Gave' : SourceSeen → List Given → Type 0) (left left' : Option (List Given)) (engine engine' : State) (before after : ℕ) : Type 0 where
   pub given : List Given
   pub came : (start : SourceSeen) (old : List Given) → Gave start old → Gave' start (old ++ given)
@@ -156,7 +160,7 @@ spends_all Gave Mid Gave' Ended l m n old engine a b refused start before driven
     record {
       given = driven.given;
       came = ended start (before ++ driven.given) (driven.came start before gave);
-      taken = takes_no_more l m n driven.given driven.taken taken;
+      taken = taken_so l m n driven.given driven.taken taken;
       within = driven.within;
     }
 
@@ -165,7 +169,7 @@ spends_cut Gave Mid Gave' Ended l m n old engine a b why start before driven end
     record {
       given = driven.given;
       came = ended start (before ++ driven.given) (driven.came start before gave);
-      taken = takes_no_more l m n driven.given driven.taken taken;
+      taken = taken_so l m n driven.given driven.taken taken;
       within = driven.within;
     }
 

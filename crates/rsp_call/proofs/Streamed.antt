@@ -1,8 +1,9 @@
 -- What recorded streams give, a turn at a time; and that it is what they are defined to give.
-use Rattle.std.proofs.Common.{◌≡◌, ℕ, Bool, zero, suc, ◌+◌, ◌<◌, List, [], ◌∷◌, ◌++◌, drop, length, Option, None, Some, Result, refl, subst, sym, ◌∙◌, ap, append_assoc, append-nil, arith}
-use Rattle.std.specs.Prelude.{OnOk}
+use Rattle.std.proofs.Common.{◌≡◌, ℕ, Bool, zero, suc, ◌+◌, ◌<◌, ◌≤◌, List, [], ◌∷◌, ◌++◌, drop, length, Option, None, Some, Result, Ok, refl, subst, sym, ◌∙◌, ap, append_assoc, append-nil, arith}
+use Rattle.std.specs.Prelude.{MatchOption, OnOk}
 use Rattle.std.specs.List.{slice_get}
 use Rattle.std.proofs.lemmas.Grind.{flat_map-append}
+use Rattle.std.proofs.lemmas.Option.{slice_get_past}
 use Rattle.rsp_io.specs.Seen.{SinkSeen}
 use Rattle.rsp_events.specs.declared.refused.LineRefused.{LineRefused}
 use Rattle.rsp_engine.specs.Stands.{State, Stands}
@@ -15,7 +16,7 @@ use Rattle.rsp_call.specs.declared.run.RefusedLines.{RefusedLines}
 use Rattle.rsp_call.specs.declared.voice.Voice.{Voice}
 use Rattle.rsp_call.specs.declared.voice.Voice.TheVariants.{Writes}
 use Rattle.rsp_call.specs.Feeding.{AreTimed, AreTimedBatches, batches_given, files_given, lines_left, run_left, run_turns}
-use Rattle.rsp_call.specs.Feeds.{Drove, IsTimedBatch, given_in, stop_of}
+use Rattle.rsp_call.specs.Feeds.{Drove, IsTimedBatch, TakesFrom, given_in, stop_of}
 use Rattle.rsp_call.specs.Output.{Given, run}
 use Rattle.rsp_call.specs.Replays.{given_of, line_given, replayed}
 use Rattle.rsp_call.specs.Sayings.{Says}
@@ -78,6 +79,21 @@ fewer_batches files file line batches more batch is = rw is (omega arith)
 
 pub no_batch : (files : List RefusedLines) (file line : ℕ) (batches : List Batch) → slice_get files file ≡ None → batches ≡ [] → run_left files file line batches ≡ []
 no_batch files file line batches none is = rw (none_behind files file none, is) refl
+
+empty_by : {X : Type 0} (xs : List X) (count : ℕ) → count ≡ length xs → count ≡ 0 → xs ≡ []
+empty_by [] count is none = refl
+empty_by (x ∷ xs) count is none = absurd (omega (arith, is, none))
+
+-- the next one, or none, of so many
+pub takes_next : (files : List RefusedLines) (file line : ℕ) (old new : List Batch) (count count' : ℕ) (batch : Option Batch) → length files ≤ file → count ≡ length old → count' ≡ length new
+    → MatchOption batch ((count ≡ 0) × (count' ≡ 0)) (λ x. (old ≡ x ∷ new) × (count' + 1 ≡ count))
+    → TakesFrom (Some (run_left files file line old)) (Some (run_left files file line new)) (Ok batch)
+takes_next files file line old new count count' None past long long' steps =
+    let none = slice_get_past files file past in
+    let gone = no_batch files file line old none (empty_by old count long steps.0) in
+    let gone' = no_batch files file line new none (empty_by new count' long' steps.1) in
+    (gone ∙ sym gone', gone')
+takes_next files file line old new count count' (Some batch) past long long' steps = takes_batch files file line old new batch (slice_get_past files file past) steps.0
 
 pub timed_batches : (batches more : List Batch) (batch : Batch) → batches ≡ batch ∷ more → AreTimedBatches batches → IsTimedBatch batch × AreTimedBatches more
 timed_batches batches more batch is timed = subst (λ bs. AreTimedBatches bs) is timed
