@@ -2,7 +2,7 @@
 ghost use Rattle.std.specs.Prelude.{◌≡◌};
 
 use crate::conditions::Always;
-use crate::notation::{Told, answers, turns_out};
+use crate::notation::{Told, answers, goes_on, turns_out};
 use crate::trials::{bounded_join, bounded_left_join};
 use rsp_kinds::KeepingBoth;
 use rsp_multiset::{Changes, Row};
@@ -66,10 +66,8 @@ fn gives_up<B: KeepingBoth<Same>>(
     last: &str,
 ) -> Result<bool, Refused> {
     let mut trial = given;
-    for turn in turns.lines() {
-        if !answers(alloc, &mut trial, Told::Answered, turn)? {
-            return Ok(false);
-        }
+    if !goes_on(alloc, &mut trial, Told::Answered, turns)? {
+        return Ok(false);
     }
     let given_up = answers(alloc, &mut trial, Told::Answered, last).is_err();
     Ok(given_up && trial.operator().full)

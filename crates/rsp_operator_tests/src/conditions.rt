@@ -2,7 +2,8 @@
 use rsp_multiset::Row;
 use rsp_operators::Condition;
 use rsp_terms::{Same, Term};
-use std::alloc::AllocError;
+use rsp_trials::term;
+use std::alloc::{AllocError, Global};
 
 /// True on every row, which it tells at once: asked of a row, it gives up.
 #[derive(Drop)]
@@ -45,4 +46,10 @@ impl Condition<Same> for Equals {
             _ => Ok(false),
         }
     }
+}
+
+/// The condition that the variable's cell is the term of this text.
+pub(crate) fn equal_to(alloc: Global, variable: usize, text: &str) -> Result<Equals, AllocError> {
+    let term = term(alloc, text)?;
+    Ok(Equals { variable, term })
 }

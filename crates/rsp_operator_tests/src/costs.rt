@@ -28,18 +28,50 @@ const MANY: u64 = 500_000;
 // how many pairs of them may come
 const MOST: u64 = 1_000_000;
 
-// so many rows, each with a first cell of its own
-fn rows(alloc: Global, many: u64, last: u64) -> Result<Changes<Row<Term>>, AllocError> {
-    let mut change = Changes::new(alloc);
-    for number in 0..many {
-        change.alter(row(alloc, number, last)?, 1)?;
+// where the cell stands by which the rows of a side differ; in the other place all have one
+#[derive(Clone, Copy)]
+enum Place {
+    First,
+    Second,
+}
+
+fn row(alloc: Global, place: Place, number: u64, other: u64) -> Result<Row<Term>, AllocError> {
+    let own = number.wrapping_add(1);
+    match place {
+        Place::First => numbered(alloc, &[own, 0, other]),
+        Place::Second => numbered(alloc, &[other, own, 0]),
     }
+}
+
+fn add_rows(
+    alloc: Global,
+    change: &mut Changes<Row<Term>>,
+    place: Place,
+    many: u64,
+    other: u64,
+) -> Result<(), AllocError> {
+    for number in 0..many {
+        change.alter(row(alloc, place, number, other)?, 1)?;
+    }
+    Ok(())
+}
+
+// so many rows, each with a cell of its own in this place
+fn rows(
+    alloc: Global,
+    place: Place,
+    many: u64,
+    other: u64,
+) -> Result<Changes<Row<Term>>, AllocError> {
+    let mut change = Changes::new(alloc);
+    add_rows(alloc, &mut change, place, many, other)?;
     Ok(change)
 }
 
-fn row(alloc: Global, number: u64, last: u64) -> Result<Row<Term>, AllocError> {
-    let first = number.wrapping_add(1);
-    numbered(alloc, &[first, 0, last])
+fn single(alloc: Global, row: Row<Term>, by: i64) -> Result<Changes<Row<Term>>, AllocError> {
+    let mut change = Changes::new(alloc);
+    change.alter(row, by)?;
+    Ok(change)
 }
 
 // gives the left's rows and so many of the right's in one change
@@ -48,8 +80,8 @@ fn fill<O: Binary<Same> + Drop>(
     trial: &mut BinaryTrial<O>,
     rights: u64,
 ) -> Result<(), Refused> {
-    let left = rows(alloc, LEFTS, 0)?;
-    let right = rows(alloc, rights, 9)?;
+    let left = rows(alloc, Place::First, LEFTS, 0)?;
+    let right = rows(alloc, Place::First, rights, 9)?;
     trial.change(alloc, &left, &right)?;
     Ok(())
 }
@@ -61,23 +93,32 @@ fn change_one<O: Binary<Same> + Drop>(
     call: u64,
 ) -> Result<(), Refused> {
     let by = if call % 2 == 0 { 1 } else { -1 };
-    let mut change = Changes::new(alloc);
-    change.alter(row(alloc, call / 2, 7)?, by)?;
+    let change = single(alloc, row(alloc, Place::First, call / 2, 7)?, by)?;
     trial.change(alloc, &Changes::new(alloc), &change)?;
     Ok(())
 }
 
-// how many rows are answered after one large change and many small ones
+// one large change and many small ones
+fn change_all<O: Binary<Same> + Drop>(
+    alloc: Global,
+    trial: &mut BinaryTrial<O>,
+    rights: u64,
+) -> Result<(), Refused> {
+    fill(alloc, trial, rights)?;
+    for call in 0..CALLS {
+        change_one(alloc, trial, call)?;
+    }
+    Ok(())
+}
+
+// how many rows are answered after these
 fn answered_after<O: Binary<Same> + Drop>(
     alloc: Global,
     given: BinaryTrial<O>,
     rights: u64,
 ) -> Result<usize, Refused> {
     let mut trial = given;
-    fill(alloc, &mut trial, rights)?;
-    for call in 0..CALLS {
-        change_one(alloc, &mut trial, call)?;
-    }
+    change_all(alloc, &mut trial, rights)?;
     Ok(trial.answers().distinct())
 }
 
@@ -89,45 +130,54 @@ fn sharing(alloc: Global) -> Result<CompatibleSharing, AllocError> {
     Ok(CompatibleSharing::new(Vec::from_slice(alloc, &[0])?))
 }
 
+fn give_left<O: Binary<Same> + Drop>(
+    alloc: Global,
+    trial: &mut BinaryTrial<O>,
+    change: Changes<Row<Term>>,
+) -> Result<(), Refused> {
+    trial.change(alloc, &change, &Changes::new(alloc))?;
+    Ok(())
+}
+
 // row after row of a key goes that has all rows of the left
+fn change_one_key<O: Binary<Same> + Drop>(
+    alloc: Global,
+    trial: &mut BinaryTrial<O>,
+) -> Result<(), Refused> {
+    give_left(alloc, trial, rows(alloc, Place::Second, LEFTS, 1)?)?;
+    for call in 0..CALLS {
+        let gone = single(alloc, row(alloc, Place::Second, call, 1)?, -1)?;
+        give_left(alloc, trial, gone)?;
+    }
+    Ok(())
+}
+
 fn answered_of_one_key<O: Binary<Same> + Drop>(
     alloc: Global,
     given: BinaryTrial<O>,
 ) -> Result<usize, Refused> {
     let mut trial = given;
-    trial.change(alloc, &seconds(alloc, LEFTS, 1)?, &Changes::new(alloc))?;
-    for call in 0..CALLS {
-        let mut change = Changes::new(alloc);
-        change.alter(second(alloc, call, 1)?, -1)?;
-        trial.change(alloc, &change, &Changes::new(alloc))?;
-    }
+    change_one_key(alloc, &mut trial)?;
     Ok(trial.answers().distinct())
 }
 
-// so many rows, each with a second cell of its own, and all with this first one
-fn seconds(alloc: Global, many: u64, first: u64) -> Result<Changes<Row<Term>>, AllocError> {
-    let mut change = Changes::new(alloc);
-    for number in 0..many {
-        change.alter(second(alloc, number, first)?, 1)?;
-    }
-    Ok(change)
+// whether it is refused that many rows meet as many without a key
+fn refuses_many<O: Binary<Same> + Drop>(
+    alloc: Global,
+    trial: &mut BinaryTrial<O>,
+) -> Result<bool, AllocError> {
+    let left = rows(alloc, Place::First, MANY, 0)?;
+    let right = rows(alloc, Place::Second, MANY, 0)?;
+    Ok(trial.change(alloc, &left, &right).is_err())
 }
 
-fn second(alloc: Global, number: u64, first: u64) -> Result<Row<Term>, AllocError> {
-    let second = number.wrapping_add(1);
-    numbered(alloc, &[first, second, 0])
-}
-
-// whether it is too much where many rows meet as many without a key
+// whether that is too much
 fn is_too_much<B: KeepingBoth<Same>>(
     alloc: Global,
     given: BinaryTrial<Bounded<B>>,
 ) -> Result<bool, AllocError> {
     let mut trial = given;
-    let left = rows(alloc, MANY, 0)?;
-    let right = seconds(alloc, MANY, 0)?;
-    let given_up = trial.change(alloc, &left, &right).is_err();
-    Ok(given_up && trial.operator().full)
+    Ok(refuses_many(alloc, &mut trial)? && trial.operator().full)
 }
 
 #[test]
@@ -156,20 +206,16 @@ fn an_outer_join_without_a_key(rt: HostRuntime) -> Result<(), Fail> {
 fn joins_by_key(rt: HostRuntime) -> Result<(), Fail> {
     let alloc = rt.alloc();
     assert!(rt; answered_after(alloc, joined(alloc, &[0])?, 0)? == 0);
-    let joined = left_join(alloc, compatible(alloc)?)?;
-    assert!(rt; answered_after(alloc, joined, 0)? == 100_000);
+    assert!(rt; answered_after(alloc, left_join(alloc, compatible(alloc)?)?, 0)? == 100_000);
     Ok(())
 }
 
 #[test]
 fn negation_by_key(rt: HostRuntime) -> Result<(), Fail> {
     let alloc = rt.alloc();
-    let exists = semi(alloc, compatible(alloc)?)?;
-    assert!(rt; answered_after(alloc, exists, 0)? == 0);
-    let not_exists = anti(alloc, compatible(alloc)?)?;
-    assert!(rt; answered_after(alloc, not_exists, 0)? == 100_000);
-    let minus = anti(alloc, sharing(alloc)?)?;
-    assert!(rt; answered_after(alloc, minus, 0)? == 100_000);
+    assert!(rt; answered_after(alloc, semi(alloc, compatible(alloc)?)?, 0)? == 0);
+    assert!(rt; answered_after(alloc, anti(alloc, compatible(alloc)?)?, 0)? == 100_000);
+    assert!(rt; answered_after(alloc, anti(alloc, sharing(alloc)?)?, 0)? == 100_000);
     Ok(())
 }
 

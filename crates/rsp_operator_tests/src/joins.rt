@@ -1,5 +1,5 @@
 // The maintained join and the union, turn by turn.
-use crate::notation::{Told, are_refused, turns_out};
+use crate::notation::{Told, are_refused, goes_on, turns_out};
 use crate::trials::{WIDTH, joined};
 use rsp_simple_operators::Joining;
 use rsp_trials::{BinaryTrial, Refused};
@@ -46,33 +46,35 @@ _2_||
 const UNIONS: &str = "2*1__ 32_|3*1__ _2_|5*1__ 32_ _2_
 -2*1__|2*1__|";
 
-fn joins_so(alloc: Global, key: &[usize], turns: &str) -> Result<bool, Refused> {
-    turns_out(alloc, joined(alloc, key)?, Told::Answered, turns)
+// whether the join with this key answers as each of the texts tells
+fn joins_so(alloc: Global, key: &[usize], texts: &[&str]) -> Result<bool, Refused> {
+    for turns in texts {
+        if !turns_out(alloc, joined(alloc, key)?, Told::Answered, turns)? {
+            return Ok(false);
+        }
+    }
+    Ok(true)
 }
 
 #[test]
 fn pairs_of_a_key(rt: HostRuntime) -> Result<(), Fail> {
-    for turns in [PAIRS, BOTH] {
-        assert!(rt; joins_so(rt.alloc(), &[0], turns)?, "{turns}");
-    }
+    assert!(rt; joins_so(rt.alloc(), &[0], &[PAIRS, BOTH])?);
     Ok(())
 }
 
 #[test]
 fn without_a_key_each_row_meets_each(rt: HostRuntime) -> Result<(), Fail> {
-    for turns in [PAIRS, BOTH, WITHOUT_KEY, UNBOUND] {
-        assert!(rt; joins_so(rt.alloc(), &[], turns)?, "{turns}");
-    }
+    assert!(rt; joins_so(rt.alloc(), &[], &[PAIRS, BOTH, WITHOUT_KEY, UNBOUND])?);
     Ok(())
 }
 
 // whether it refuses what may not come, and then answers as the turns tell
 fn refuses_and_goes_on(alloc: Global, refused: &str, turns: &str) -> Result<bool, Refused> {
     let mut trial = joined(alloc, &[0])?;
-    if !are_refused(alloc, &mut trial, refused) {
-        return Ok(false);
-    }
-    turns_out(alloc, trial, Told::Answered, turns)
+    Ok(
+        are_refused(alloc, &mut trial, refused)
+            && goes_on(alloc, &mut trial, Told::Answered, turns)?,
+    )
 }
 
 #[test]

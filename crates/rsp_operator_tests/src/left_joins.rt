@@ -1,11 +1,11 @@
 // The outer join, turn by turn.
-use crate::conditions::{Always, Equals};
+use crate::conditions::{Always, equal_to};
 use crate::notation::{Told, turns_out};
 use crate::trials::left_join;
 use rsp_operators::Condition;
 use rsp_outer::CompatibleWhere;
 use rsp_terms::Same;
-use rsp_trials::{Refused, term};
+use rsp_trials::Refused;
 use std::alloc::Global;
 use std::test::Fail;
 
@@ -18,6 +18,16 @@ fn is_joined<C: Condition<Same> + Drop>(
 ) -> Result<bool, Refused> {
     let pairing = CompatibleWhere::new(Vec::from_slice(alloc, key)?, condition);
     turns_out(alloc, left_join(alloc, pairing)?, Told::Answered, turns)
+}
+
+// whether it answers as each of the texts tells, on no condition
+fn are_joined(alloc: Global, key: &[usize], texts: &[&str]) -> Result<bool, Refused> {
+    for turns in texts {
+        if !is_joined(alloc, key, Always {}, turns)? {
+            return Ok(false);
+        }
+    }
+    Ok(true)
 }
 
 // a partner comes and goes
@@ -79,33 +89,32 @@ const OF_THE_RIGHT: &str = "12_|1_4|12_
 
 #[test]
 fn by_key(rt: HostRuntime) -> Result<(), Fail> {
-    for turns in [COMES, BOTH, BACK, COPIES, REPLACED, UNBOUND] {
-        assert!(rt; is_joined(rt.alloc(), &[0], Always {}, turns)?, "{turns}");
-    }
+    assert!(rt;
+        are_joined(
+            rt.alloc(),
+            &[0],
+            &[COMES, BOTH, BACK, COPIES, REPLACED, UNBOUND]
+        )?
+    );
     Ok(())
 }
 
 #[test]
 fn without_a_key(rt: HostRuntime) -> Result<(), Fail> {
-    for turns in [COMES, BOTH, BACK, COPIES, REPLACED, UNBOUND, EACH] {
-        assert!(rt; is_joined(rt.alloc(), &[], Always {}, turns)?, "{turns}");
-    }
+    assert!(rt;
+        are_joined(
+            rt.alloc(),
+            &[],
+            &[COMES, BOTH, BACK, COPIES, REPLACED, UNBOUND, EACH]
+        )?
+    );
     Ok(())
 }
 
 #[test]
 fn on_a_condition(rt: HostRuntime) -> Result<(), Fail> {
-    let term_of_left = term(rt.alloc(), "n:2")?;
-    let of_left = Equals {
-        variable: 1,
-        term: term_of_left,
-    };
-    assert!(rt; is_joined(rt.alloc(), &[0], of_left, OF_THE_LEFT)?);
-    let term_of_right = term(rt.alloc(), "n:3")?;
-    let of_right = Equals {
-        variable: 2,
-        term: term_of_right,
-    };
-    assert!(rt; is_joined(rt.alloc(), &[0], of_right, OF_THE_RIGHT)?);
+    let alloc = rt.alloc();
+    assert!(rt; is_joined(alloc, &[0], equal_to(alloc, 1, "n:2")?, OF_THE_LEFT)?);
+    assert!(rt; is_joined(alloc, &[0], equal_to(alloc, 2, "n:3")?, OF_THE_RIGHT)?);
     Ok(())
 }

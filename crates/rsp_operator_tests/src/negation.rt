@@ -1,12 +1,12 @@
 // Left rows without a partner, and those with one, turn by turn. Each turn tells how the rows without a partner change.
-use crate::conditions::{Always, Equals};
+use crate::conditions::{Always, equal_to};
 use crate::notation::{Told, turns_out};
 use crate::trials::{anti, keyed_anti, keyed_semi, semi};
 use rsp_operators::Condition;
 use rsp_outer::{CompatibleSharing, CompatibleWhere, ExistsOp, MinusOp, NotExistsOp};
-use rsp_terms::{Same, Term};
-use rsp_trials::{BinaryTrial, Refused, term};
-use std::alloc::{AllocError, Global};
+use rsp_terms::Same;
+use rsp_trials::{BinaryTrial, Refused};
+use std::alloc::Global;
 use std::test::Fail;
 
 fn not_exists<C: Condition<Same> + Drop>(
@@ -43,16 +43,28 @@ fn minus(alloc: Global, key: &[usize], turns: &str) -> Result<bool, Refused> {
     turns_out(alloc, trial, Told::Answered, turns)
 }
 
-// true where the variable's cell is this one
-fn equals(alloc: Global, variable: usize, cell: &str) -> Result<Equals, AllocError> {
-    let term: Term = term(alloc, cell)?;
-    Ok(Equals { variable, term })
+// the operators on trial
+#[derive(Clone, Copy)]
+enum Form {
+    NotExists,
+    Exists,
+    Minus,
+    ByKeyAlone,
+}
+
+fn is_answered(alloc: Global, form: Form, key: &[usize], turns: &str) -> Result<bool, Refused> {
+    match form {
+        Form::NotExists => not_exists(alloc, key, Always {}, turns),
+        Form::Exists => exists(alloc, key, Always {}, turns),
+        Form::Minus => minus(alloc, key, turns),
+        Form::ByKeyAlone => by_key_alone(alloc, key, turns),
+    }
 }
 
 // by the first cell as a key, those without a partner and those with one
 fn on_condition(alloc: Global, variable: usize, cell: &str, turns: &str) -> Result<bool, Refused> {
-    let without = not_exists(alloc, &[0], equals(alloc, variable, cell)?, turns)?;
-    Ok(without && exists(alloc, &[0], equals(alloc, variable, cell)?, turns)?)
+    let without = not_exists(alloc, &[0], equal_to(alloc, variable, cell)?, turns)?;
+    Ok(without && exists(alloc, &[0], equal_to(alloc, variable, cell)?, turns)?)
 }
 
 // both sides change in one turn
@@ -123,48 +135,60 @@ const ANY: &str = "12_ 2*34_||12_ 2*34_
 9__|-1*567|
 |-1*568|12_ 2*34_ 9__";
 
+// whether a form of negation answers as each of the texts tells
+fn answers_so(alloc: Global, form: Form, key: &[usize], texts: &[&str]) -> Result<bool, Refused> {
+    for turns in texts {
+        if !is_answered(alloc, form, key, turns)? {
+            return Ok(false);
+        }
+    }
+    Ok(true)
+}
+
 #[test]
 fn not_exists_by_key(rt: HostRuntime) -> Result<(), Fail> {
-    for turns in [BOTH, BACK, COPIES, UNBOUND] {
-        assert!(rt; not_exists(rt.alloc(), &[0], Always {}, turns)?, "{turns}");
-    }
+    assert!(rt;
+        answers_so(
+            rt.alloc(),
+            Form::NotExists,
+            &[0],
+            &[BOTH, BACK, COPIES, UNBOUND]
+        )?
+    );
     Ok(())
 }
 
 #[test]
 fn exists_by_key(rt: HostRuntime) -> Result<(), Fail> {
-    for turns in [BOTH, BACK, COPIES, UNBOUND] {
-        assert!(rt; exists(rt.alloc(), &[0], Always {}, turns)?, "{turns}");
-    }
+    assert!(rt;
+        answers_so(
+            rt.alloc(),
+            Form::Exists,
+            &[0],
+            &[BOTH, BACK, COPIES, UNBOUND]
+        )?
+    );
     Ok(())
 }
 
 #[test]
 fn by_a_key_that_decides(rt: HostRuntime) -> Result<(), Fail> {
-    for turns in [BOTH, BACK, COPIES] {
-        assert!(rt; by_key_alone(rt.alloc(), &[0], turns)?, "{turns}");
-    }
-    assert!(rt; by_key_alone(rt.alloc(), &[], ANY)?);
+    assert!(rt; answers_so(rt.alloc(), Form::ByKeyAlone, &[0], &[BOTH, BACK, COPIES])?);
+    assert!(rt; answers_so(rt.alloc(), Form::ByKeyAlone, &[], &[ANY])?);
     Ok(())
 }
 
 #[test]
 fn minus_asks_for_a_shared_variable(rt: HostRuntime) -> Result<(), Fail> {
-    for turns in [BOTH, BACK, COPIES] {
-        assert!(rt; minus(rt.alloc(), &[0], turns)?, "{turns}");
-    }
-    for turns in [UNBOUND, SHARED] {
-        assert!(rt; minus(rt.alloc(), &[], turns)?, "{turns}");
-    }
+    assert!(rt; answers_so(rt.alloc(), Form::Minus, &[0], &[BOTH, BACK, COPIES])?);
+    assert!(rt; answers_so(rt.alloc(), Form::Minus, &[], &[UNBOUND, SHARED])?);
     Ok(())
 }
 
 #[test]
 fn not_exists_asks_for_none(rt: HostRuntime) -> Result<(), Fail> {
-    for turns in [UNBOUND, NOTHING] {
-        assert!(rt; not_exists(rt.alloc(), &[], Always {}, turns)?, "{turns}");
-        assert!(rt; exists(rt.alloc(), &[], Always {}, turns)?, "{turns}");
-    }
+    assert!(rt; answers_so(rt.alloc(), Form::NotExists, &[], &[UNBOUND, NOTHING])?);
+    assert!(rt; answers_so(rt.alloc(), Form::Exists, &[], &[UNBOUND, NOTHING])?);
     Ok(())
 }
 

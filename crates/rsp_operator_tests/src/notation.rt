@@ -33,10 +33,19 @@ fn number_of(letter: char) -> u64 {
 /// The change by these words, each how often a row comes or, below 0, goes, and its cells: `2*1_3 -1*12_`.
 pub(crate) fn change_of(alloc: Global, words: &str) -> Result<Changes<Row<Term>>, AllocError> {
     let mut change = Changes::new(alloc);
-    for word in words.split_whitespace() {
-        add_word(alloc, &mut change, word)?;
-    }
+    add_words(alloc, &mut change, words)?;
     Ok(change)
+}
+
+fn add_words(
+    alloc: Global,
+    change: &mut Changes<Row<Term>>,
+    words: &str,
+) -> Result<(), AllocError> {
+    for word in words.split_whitespace() {
+        add_word(alloc, change, word)?;
+    }
+    Ok(())
 }
 
 fn add_word(alloc: Global, change: &mut Changes<Row<Term>>, word: &str) -> Result<(), AllocError> {
@@ -45,65 +54,64 @@ fn add_word(alloc: Global, change: &mut Changes<Row<Term>>, word: &str) -> Resul
     change.alter(row_of(alloc, cells)?, by)
 }
 
-/// The changes of both sides, and the one that is to be answered.
-#[derive(Drop)]
-struct Turn {
-    left: Changes<Row<Term>>,
-    right: Changes<Row<Term>>,
-    wanted: Changes<Row<Term>>,
-}
-
-// `LEFT|RIGHT|ROWS`
-fn turn_of(alloc: Global, told: Told, text: &str) -> Result<Turn, AllocError> {
-    let (left, rest) = text.split_once('|').ok_or(AllocError)?;
-    let (right, rows) = rest.split_once('|').ok_or(AllocError)?;
-    let left = change_of(alloc, left)?;
-    let right = change_of(alloc, right)?;
-    let wanted = wanted_of(alloc, told, &left, rows)?;
-    Ok(Turn {
-        left,
-        right,
-        wanted,
-    })
-}
-
-fn wanted_of(
+// whether the answer to the left rows is as the turn's last part tells
+fn is_told(
     alloc: Global,
     told: Told,
     left: &Changes<Row<Term>>,
+    net: &Changes<Row<Term>>,
     rows: &str,
-) -> Result<Changes<Row<Term>>, AllocError> {
-    let rows = change_of(alloc, rows)?;
+) -> Result<bool, AllocError> {
+    let mut rows = change_of(alloc, rows)?;
     match told {
-        Told::Answered => Ok(rows),
-        Told::Others => all_but(alloc, left, &rows),
+        Told::Answered => are_same(alloc, net, &rows),
+        Told::Others => {
+            rows.add_changes(net)?;
+            are_same(alloc, left, &rows)
+        }
     }
 }
 
-fn all_but(
+fn given_right<O: Binary<Same> + Drop>(
     alloc: Global,
-    all: &Changes<Row<Term>>,
-    part: &Changes<Row<Term>>,
-) -> Result<Changes<Row<Term>>, AllocError> {
-    let mut others = Changes::new(alloc);
-    others.add_changes(all)?;
-    others.subtract_changes(part)?;
-    Ok(others)
+    trial: &mut BinaryTrial<O>,
+    left: &Changes<Row<Term>>,
+    right: &str,
+) -> Result<Changes<Row<Term>>, Refused> {
+    let right = change_of(alloc, right)?;
+    trial.change(alloc, left, &right)
 }
 
-/// Whether the operator answers the turn as it tells.
+/// Whether the operator answers the turn as it tells: `LEFT|RIGHT|ROWS`.
 pub(crate) fn answers<O: Binary<Same> + Drop>(
     alloc: Global,
     trial: &mut BinaryTrial<O>,
     told: Told,
     turn: &str,
 ) -> Result<bool, Refused> {
-    let turn = turn_of(alloc, told, turn)?;
-    let net = trial.change(alloc, &turn.left, &turn.right)?;
-    Ok(are_same(alloc, &net, &turn.wanted)?)
+    let (left, rest) = turn.split_once('|').unwrap_or((turn, ""));
+    let (right, rows) = rest.split_once('|').unwrap_or((rest, ""));
+    let left = change_of(alloc, left)?;
+    let net = given_right(alloc, trial, &left, right)?;
+    Ok(is_told(alloc, told, &left, &net, rows)?)
 }
 
-/// Whether the operator answers each turn as it tells, a line each: `LEFT|RIGHT|ROWS`.
+/// Whether the operator answers each turn as it tells, a line each.
+pub(crate) fn goes_on<O: Binary<Same> + Drop>(
+    alloc: Global,
+    trial: &mut BinaryTrial<O>,
+    told: Told,
+    turns: &str,
+) -> Result<bool, Refused> {
+    for turn in turns.lines() {
+        if !answers(alloc, trial, told, turn)? {
+            return Ok(false);
+        }
+    }
+    Ok(true)
+}
+
+/// The same of an operator that is given.
 pub(crate) fn turns_out<O: Binary<Same> + Drop>(
     alloc: Global,
     given: BinaryTrial<O>,
@@ -111,12 +119,7 @@ pub(crate) fn turns_out<O: Binary<Same> + Drop>(
     turns: &str,
 ) -> Result<bool, Refused> {
     let mut trial = given;
-    for turn in turns.lines() {
-        if !answers(alloc, &mut trial, told, turn)? {
-            return Ok(false);
-        }
-    }
-    Ok(true)
+    goes_on(alloc, &mut trial, told, turns)
 }
 
 /// Whether each turn is refused.
@@ -138,9 +141,23 @@ fn single_answers<O: Unary<Same> + Drop>(
     trial: &mut UnaryTrial<O>,
     turn: &str,
 ) -> Result<bool, Refused> {
-    let turn = turn_of(alloc, Told::Answered, turn)?;
-    let net = trial.change(alloc, &turn.left)?;
-    Ok(are_same(alloc, &net, &turn.wanted)?)
+    let (rows, answer) = turn.split_once("||").unwrap_or((turn, ""));
+    let change = change_of(alloc, rows)?;
+    let net = trial.change(alloc, &change)?;
+    Ok(is_told(alloc, Told::Answered, &change, &net, answer)?)
+}
+
+fn single_goes_on<O: Unary<Same> + Drop>(
+    alloc: Global,
+    trial: &mut UnaryTrial<O>,
+    turns: &str,
+) -> Result<bool, Refused> {
+    for turn in turns.lines() {
+        if !single_answers(alloc, trial, turn)? {
+            return Ok(false);
+        }
+    }
+    Ok(true)
 }
 
 /// Whether the operator on one input answers each turn as it tells, a line each: `ROWS||ANSWER`.
@@ -150,10 +167,5 @@ pub(crate) fn single_turns_out<O: Unary<Same> + Drop>(
     turns: &str,
 ) -> Result<bool, Refused> {
     let mut trial = given;
-    for turn in turns.lines() {
-        if !single_answers(alloc, &mut trial, turn)? {
-            return Ok(false);
-        }
-    }
-    Ok(true)
+    single_goes_on(alloc, &mut trial, turns)
 }

@@ -4,7 +4,7 @@ use crate::conditions::{Always, Equals};
 use crate::trials::{anti, joined, keyed_anti, keyed_semi, left_join, semi};
 use rsp_multiset::{Bag, Changes, Count, Row};
 use rsp_operators::Binary;
-use rsp_outer::{CompatibleSharing, CompatibleWhere};
+use rsp_outer::{CompatibleSharing, CompatibleWhere, MinusOp};
 use rsp_terms::{Same, Term};
 use rsp_trials::{BinaryTrial, Numbers, Refused, are_same, numbered, term};
 use std::alloc::{AllocError, Global};
@@ -22,14 +22,23 @@ fn cells_of(number: u64, bound: bool) -> [u64; 3] {
     [first, number / 2 % 3, number / 6 % 2]
 }
 
+fn add_held(
+    alloc: Global,
+    held: &mut Vec<Held>,
+    bag: &Bag<Term>,
+    cells: [u64; 3],
+) -> Result<(), AllocError> {
+    let times = bag.count(&numbered(alloc, &cells)?);
+    if times > 0 {
+        held.push((cells, times))?;
+    }
+    Ok(())
+}
+
 fn held_rows(alloc: Global, bag: &Bag<Term>, bound: bool) -> Result<Vec<Held>, AllocError> {
     let mut held = Vec::new(alloc);
     for number in 0..ROWS {
-        let cells = cells_of(number, bound);
-        let times = bag.count(&numbered(alloc, &cells)?);
-        if times > 0 {
-            held.push((cells, times))?;
-        }
+        add_held(alloc, &mut held, bag, cells_of(number, bound))?;
     }
     Ok(held)
 }
@@ -42,13 +51,24 @@ fn next_change(
     bound: bool,
 ) -> Result<Changes<Row<Term>>, AllocError> {
     let mut change = Changes::new(alloc);
+    add_rows(alloc, numbers, &mut change, bag, bound)?;
+    Ok(change)
+}
+
+fn add_rows(
+    alloc: Global,
+    numbers: &mut Numbers,
+    change: &mut Changes<Row<Term>>,
+    bag: &Bag<Term>,
+    bound: bool,
+) -> Result<(), AllocError> {
     let many = numbers.below(3);
     for _ in 0..many {
         let cells = cells_of(numbers.below(ROWS), bound);
         let choice = numbers.below(5);
-        add_row(alloc, &mut change, bag, &cells, choice)?;
+        add_row(alloc, change, bag, &cells, choice)?;
     }
-    Ok(change)
+    Ok(())
 }
 
 fn add_row(
@@ -59,17 +79,19 @@ fn add_row(
     choice: u64,
 ) -> Result<(), AllocError> {
     let row = numbered(alloc, cells)?;
-    let held = held_after(bag, change, &row)?;
-    change.add(row, count_of(choice, held)?)
+    let by = next_count(bag, change, &row, choice)?;
+    change.add(row, by)
 }
 
-// how often the row is there once the change has been made
-fn held_after(
+// how often the row comes or goes, by how often it is there once the change has been made
+fn next_count(
     bag: &Bag<Term>,
     change: &Changes<Row<Term>>,
     row: &Row<Term>,
+    choice: u64,
 ) -> Result<Count, AllocError> {
-    Count::of_many(bag.count(row))?.checked_add(change.count(row))
+    let held = Count::of_many(bag.count(row))?.checked_add(change.count(row))?;
+    count_of(choice, held)
 }
 
 // once or twice more, once less, or none of it any more
@@ -90,25 +112,34 @@ fn is_right<O: Binary<Same> + Drop>(
     asked: Asked,
 ) -> Result<bool, Refused> {
     let mut trial = given;
+    stays_right(alloc, &mut trial, asked)
+}
+
+fn stays_right<O: Binary<Same> + Drop>(
+    alloc: Global,
+    trial: &mut BinaryTrial<O>,
+    asked: Asked,
+) -> Result<bool, Refused> {
     let mut numbers = Numbers::new(1);
     for _ in 0..CHANGES {
-        if !is_next_right(alloc, &mut trial, &mut numbers, asked)? {
+        change_both(alloc, trial, &mut numbers, asked.bound)?;
+        if !is_anew(alloc, trial, asked)? {
             return Ok(false);
         }
     }
     Ok(true)
 }
 
-fn is_next_right<O: Binary<Same> + Drop>(
+fn change_both<O: Binary<Same> + Drop>(
     alloc: Global,
     trial: &mut BinaryTrial<O>,
     numbers: &mut Numbers,
-    asked: Asked,
-) -> Result<bool, Refused> {
-    let left = next_change(alloc, numbers, trial.lefts(), asked.bound)?;
-    let right = next_change(alloc, numbers, trial.rights(), asked.bound)?;
+    bound: bool,
+) -> Result<(), Refused> {
+    let left = next_change(alloc, numbers, trial.lefts(), bound)?;
+    let right = next_change(alloc, numbers, trial.rights(), bound)?;
     trial.change(alloc, &left, &right)?;
-    Ok(is_anew(alloc, trial, asked)?)
+    Ok(())
 }
 
 fn is_anew<O: Binary<Same> + Drop>(
@@ -134,6 +165,10 @@ fn last_is_one(alloc: Global) -> Result<CompatibleWhere<Equals>, AllocError> {
         term: term(alloc, "n:1")?,
     };
     Ok(CompatibleWhere::new(Vec::new(alloc), condition))
+}
+
+fn minus_by(alloc: Global, key: &[usize]) -> Result<BinaryTrial<MinusOp<Same>>, AllocError> {
+    anti(alloc, CompatibleSharing::new(Vec::from_slice(alloc, key)?))
 }
 
 // where each row binds its first cell
@@ -166,33 +201,40 @@ fn joins(rt: HostRuntime) -> Result<(), Fail> {
 #[test]
 fn left_joins(rt: HostRuntime) -> Result<(), Fail> {
     let alloc = rt.alloc();
-    let keyed = left_join(alloc, compatible(alloc)?)?;
-    let asked = by_key(Answered::Joined, Partners::Compatible);
-    assert!(rt; is_right(alloc, keyed, asked)?);
-    let conditional = left_join(alloc, last_is_one(alloc)?)?;
+    let keyed = by_key(Answered::Joined, Partners::Compatible);
+    assert!(rt; is_right(alloc, left_join(alloc, compatible(alloc)?)?, keyed)?);
     let asked = without_key(Answered::Joined, Partners::LastIsOne);
-    assert!(rt; is_right(alloc, conditional, asked)?);
+    assert!(rt; is_right(alloc, left_join(alloc, last_is_one(alloc)?)?, asked)?);
     Ok(())
 }
 
 #[test]
 fn minus(rt: HostRuntime) -> Result<(), Fail> {
     let alloc = rt.alloc();
-    let trial = anti(alloc, CompatibleSharing::new(Vec::new(alloc)))?;
     let asked = without_key(Answered::Without, Partners::Sharing);
-    assert!(rt; is_right(alloc, trial, asked)?);
+    assert!(rt; is_right(alloc, minus_by(alloc, &[])?, asked)?);
+    let keyed = by_key(Answered::Without, Partners::Sharing);
+    assert!(rt; is_right(alloc, minus_by(alloc, &[0])?, keyed)?);
     Ok(())
 }
 
 #[test]
 fn existence(rt: HostRuntime) -> Result<(), Fail> {
     let alloc = rt.alloc();
-    let exists = semi(alloc, last_is_one(alloc)?)?;
     let asked = without_key(Answered::With, Partners::LastIsOne);
-    assert!(rt; is_right(alloc, exists, asked)?);
-    let not_exists = anti(alloc, compatible(alloc)?)?;
-    let asked = by_key(Answered::Without, Partners::Compatible);
-    assert!(rt; is_right(alloc, not_exists, asked)?);
+    assert!(rt; is_right(alloc, semi(alloc, last_is_one(alloc)?)?, asked)?);
+    let keyed = by_key(Answered::With, Partners::Compatible);
+    assert!(rt; is_right(alloc, semi(alloc, compatible(alloc)?)?, keyed)?);
+    Ok(())
+}
+
+#[test]
+fn absence(rt: HostRuntime) -> Result<(), Fail> {
+    let alloc = rt.alloc();
+    let asked = without_key(Answered::Without, Partners::LastIsOne);
+    assert!(rt; is_right(alloc, anti(alloc, last_is_one(alloc)?)?, asked)?);
+    let keyed = by_key(Answered::Without, Partners::Compatible);
+    assert!(rt; is_right(alloc, anti(alloc, compatible(alloc)?)?, keyed)?);
     Ok(())
 }
 
@@ -203,5 +245,16 @@ fn by_key_alone(rt: HostRuntime) -> Result<(), Fail> {
     assert!(rt; is_right(alloc, keyed_anti(alloc, &[0])?, without)?);
     let with = by_key(Answered::With, Partners::SameFirst);
     assert!(rt; is_right(alloc, keyed_semi(alloc, &[0])?, with)?);
+    Ok(())
+}
+
+// any right row is enough
+#[test]
+fn by_no_key(rt: HostRuntime) -> Result<(), Fail> {
+    let alloc = rt.alloc();
+    let without = without_key(Answered::Without, Partners::Any);
+    assert!(rt; is_right(alloc, keyed_anti(alloc, &[])?, without)?);
+    let with = without_key(Answered::With, Partners::Any);
+    assert!(rt; is_right(alloc, keyed_semi(alloc, &[])?, with)?);
     Ok(())
 }
