@@ -1,5 +1,5 @@
 // Operators on the rows of two children.
-ghost use Rattle.std.specs.Prelude.{◌≡◌, ◌+◌, ◌≤◌, ◌<◌, ℕ, List, length, IfOk, IfSome, IfNone};
+ghost use Rattle.std.specs.Prelude.{◌≡◌, ◌+◌, ◌≤◌, ◌<◌, ◌==◌, ◌&&◌, ℕ, List, length, IfOk, IfSome, IfNone};
 ghost use Rattle.rsp_multiset.specs.Matching.{matching_part};
 ghost use Rattle.rsp_multiset.specs.Rows.{Cells};
 ghost use Rattle.rsp_terms.specs.declared.term.Term.{Term};
@@ -14,13 +14,19 @@ ghost use Rattle.rsp_turns.specs.Turns.{IsTurn, MayTake, HasAnswered, HasTooMany
 ghost use Rattle.rsp_turns.specs.Working.{part_work};
 
 use rsp_kinds::KeepingBoth;
-use rsp_multiset::{Changes, Row};
+use rsp_multiset::{Cell, Changes, Row};
 use rsp_spec::limits::MOST_ROWS;
 use rsp_steps::Steps;
 use rsp_terms::Domain;
 use rsp_turns::Stack;
 use std::alloc::{AllocError, Global};
 use std::sync::ledger::Ledger;
+
+fn are_empty<V: Cell>(left: &Changes<V>, right: &Changes<V>) -> bool
+    ensures { result ≡ ((length left.now == 0) && (length right.now == 0)) }
+{
+    left.is_empty() && right.is_empty()
+}
 
 // how the operator's value changes; where neither child's rows did, it isn't asked
 fn changed<D: Domain, B: KeepingBoth<D>, L: Ledger>(
@@ -54,7 +60,7 @@ fn changed<D: Domain, B: KeepingBoth<D>, L: Ledger>(
         → steps.new ≤ steps.old
         + matching_part term_eq (B.factor operator.old) (B.key operator.old) lefts lefts' rights rights' }
 {
-    if left.is_empty() && right.is_empty() {
+    if are_empty(left, right) {
         return Ok(Some(Changes::new(alloc)));
     }
     operator.answer_within(alloc, left, right, MOST_ROWS as u64, domain, steps)
