@@ -29,6 +29,8 @@ pub mod Begun
 pub mod Policies
 pub mod KeptEnds
 pub mod Logging
+pub mod Soonest
+pub mod DueNext
 mod WorldRows
 pub mod PlacesRead
 pub mod Calming
