@@ -5,9 +5,9 @@ use Rattle.std.specs.Vec.{with_items}
 use Rattle.std.specs.List.{All, list_any}
 use Rattle.std.specs.Option.{option_map_or}
 use Rattle.std.proofs.lemmas.Bool.{and_parts, cases_lt, le-ltb, lt-ltb}
-use Rattle.std.proofs.lemmas.List.{length-map, with_items_is}
+use Rattle.std.proofs.lemmas.List.{get_or-map, length-map, with_items_is}
 use Rattle.std.proofs.lemmas.List.Elements.{All-append, All-cons, All-nil}
-use Rattle.std.proofs.lemmas.Option.{slice_get_within}
+use Rattle.std.proofs.lemmas.Option.{slice_get-get_or, slice_get_within}
 use Rattle.std.proofs.lemmas.Simd.{map-map}
 use Rattle.rsp_spec.specs.Instants.{IsLeastIn}
 use Rattle.rsp_spec.specs.Limits.{last_instant}
@@ -25,8 +25,7 @@ use Rattle.rsp_engine.specs.Readers.{AreRead, IsStill, places_from, reads, windo
 use Rattle.rsp_engine.specs.Sought.{IsDueNext, IsSoonest, IsSoonestAt, first_number, look_behind}
 use Rattle.rsp_engine.specs.Watched.{IsCalmed, calmed}
 use Rattle.rsp_engine.specs.Watching.{Asked, IsWatching, is_due_by, is_due_over_by, name_of, reports_by}
-use Rattle.rsp_engine.proofs.Named.{All-remove, get_index, get_map, set_map, set_same}
-use Rattle.rsp_engine.proofs.Readiness.{mapped, unmapped}
+use Rattle.rsp_engine.proofs.Named.{All-remove, get_map, set_map, set_same}
 use Rattle.rsp_engine.proofs.Soonest.{first_at_next, first_by_number, least_later, look_is}
 
 -- ---- a query that looks at items
@@ -82,8 +81,16 @@ calmed_sought {A} from old new is sought =
 -- ---- what doesn't depend on it
 
 module _ {A : Type 0} (olds news : List (LiveQuery A)) (same : map undated news ≡ map undated olds) where
+  many_dated : length news ≡ length olds
+  many_dated = sym (length-map news undated) ∙ (ap length same ∙ length-map olds undated)
+
+  one_undated : (k : ℕ) (d : LiveQuery A) → k < length news → undated (get_or news k d) ≡ undated (get_or olds k d)
+  one_undated k d within =
+      sym (get_or-map undated news k d (undated d) within)
+      ∙ (ap (λ l. get_or l k (undated d)) same ∙ get_or-map undated olds k d (undated d) (omega (arith, within, many_dated)))
+
   pub all_dated : (P : LiveQuery A → Type 0) → All (λ live. P (undated live)) olds → All (λ live. P (undated live)) news
-  all_dated P all = unmapped P undated news (subst (All P) (sym same) (mapped P undated olds all))
+  all_dated P all k d within = subst P (sym (one_undated k d within)) (all k d (omega (arith, within, many_dated)))
 
   same_by : {Y : Type 0} (f : LiveQuery A → Y) → map (λ live. f (undated live)) news ≡ map (λ live. f (undated live)) olds
   same_by f = sym (map-map f undated news) ∙ (ap (map f) same ∙ map-map f undated olds)
@@ -109,29 +116,29 @@ dated_back queries news same =
 abbrev pub AreSoughtSoFar : {A : Type 0} → ℕ → ℕ → List (LiveQuery A) → Type 0
 AreSoughtSoFar {A} from many queries = (k : ℕ) (d : LiveQuery A) → k < many → k < length queries → IsSought from (get_or queries k d)
 
-module _ {A : Type 0} (from i : ℕ) (olds queries : List (LiveQuery A)) (one : LiveQuery A) (within : i < length queries) (is : one ≡ get_or queries i one)
+module _ {A : Type 0} (from i : ℕ) (olds queries : List (LiveQuery A)) (d : LiveQuery A) (within : i < length queries)
     (same : map undated queries ≡ map undated olds) where
   -- the one of number i watches as before
-  pub watching_there : All (λ live. IsWatching from (asked live)) olds → IsWatching from (asked one)
-  watching_there watching =
-      subst (λ live. IsWatching from (asked live)) (sym is) (all_dated olds queries same (λ live. IsWatching from (asked live)) watching i one within)
+  pub watching_there : All (λ live. IsWatching from (asked live)) olds → IsWatching from (asked (get_or queries i d))
+  watching_there watching = all_dated olds queries same (λ live. IsWatching from (asked live)) watching i d within
 
   module _ (new : LiveQuery A) where
-    pub one_dated : undated new ≡ undated one → map undated (set queries i new) ≡ map undated olds
+    pub one_dated : undated new ≡ undated (get_or queries i d) → map undated (set queries i new) ≡ map undated olds
     one_dated dated =
+        let one = get_or queries i d in
         set_map undated queries i new
         ∙ (ap (slice_set (map undated queries) i) dated
-        ∙ (set_same (map undated queries) i (undated one) (get_map undated queries i one (get_index queries i one within is)) ∙ same))
+        ∙ (set_same (map undated queries) i (undated one) (get_map undated queries i one (slice_get-get_or queries i d within)) ∙ same))
 
     pub sought_so_far : AreSoughtSoFar from i queries → IsSought from new → AreSoughtSoFar from (i + 1) (set queries i new)
-    sought_so_far before sought k d below inside = elim (cases_lt k i) [
+    sought_so_far before sought k e below inside = elim (cases_lt k i) [
       | inl less ↦
-          subst (IsSought from) (sym (get_or-set_other queries i k new d (λ at. omega (arith, at, less))))
-          (before k d less (omega (arith, less, within)))
+          subst (IsSought from) (sym (get_or-set_other queries i k new e (λ at. omega (arith, at, less))))
+          (before k e less (omega (arith, less, within)))
       | inr more ↦
           let at : i ≡ k = omega (arith, below, more) in
-          subst (λ j. IsSought from (get_or (set queries i new) j d)) at
-          (subst (IsSought from) (sym (get_or-set_same queries i new d within)) sought)
+          subst (λ j. IsSought from (get_or (set queries i new) j e)) at
+          (subst (IsSought from) (sym (get_or-set_same queries i new e within)) sought)
     ]
 
 -- ---- other queries

@@ -1,19 +1,14 @@
 -- The first place at one instant.
-use Rattle.std.proofs.Common.{◌≡◌, ℕ, ◌+◌, ◌<◌, ◌≤◌, Bool, false, List, [], ◌∷◌, filter, drop, length, get_or, if◌then◌else◌, Option, None, Some, refl, sym, ap, subst, ◌∙◌, arith}
+use Rattle.std.proofs.Common.{◌≡◌, ℕ, ◌≤◌, Bool, true, false, ◌&&◌, List, [], ◌∷◌, filter, drop, if◌then◌else◌, Option, None, Some, refl, sym, ap, subst, ◌∙◌, arith}
 use Rattle.std.proofs.lemmas.Bool.{le-ltb}
-use Rattle.std.proofs.lemmas.List.{drop_more}
+use Rattle.rsp_report.specs.Due as windows
 use Rattle.rsp_engine.specs.declared.schedule.Pending.{Pending}
 use Rattle.rsp_engine.specs.declared.live_query.LiveQuery.{LiveQuery}
 use Rattle.rsp_engine.specs.Inside.{asked}
 use Rattle.rsp_engine.specs.Left.{IsFirstAt, IsFirstLeft}
+use Rattle.rsp_engine.specs.Readers.{is_reader}
 use Rattle.rsp_engine.specs.Watching.{is_due_by, is_due_over_by, reports_by}
 use Rattle.rsp_engine.proofs.Left.{quiet}
-
--- one that doesn't pass
-pub pass_more : {X : Type 0} (test : X → Bool) (xs : List X) (i : ℕ) (x : X) → i < length xs → x ≡ get_or xs i x → test x ≡ false
-    → filter test (drop i xs) ≡ filter test (drop (i + 1) xs)
-pass_more test xs i x within at fails =
-    ap (filter test) (drop_more xs i x within ∙ ap (λ y. y ∷ drop (i + 1) xs) (sym at)) ∙ rw fails refl
 
 -- the first that passes at the instant itself
 pub here : {Q : Type 0} (name : Q → List ℕ) (test : ℕ → Q → Bool) (queries : List Q) (last t i k : ℕ) → t ≤ last
@@ -25,6 +20,16 @@ here name test queries last t i k within first = (
   λ same. first.0,
   quiet name test queries last t i k first.2,
 )
+
+-- a query that doesn't read the stream isn't due on its items
+pub other_stream : {A : Type 0} (stream : List ℕ) (next : ℕ) (live : LiveQuery A) → is_reader stream live ≡ false
+    → is_due_over_by (asked live) stream next ≡ false
+other_stream stream next live none =
+    ap (λ b. live.policy.tuple && (b && windows.is_due_on_item live.policy live.watched.items next)) none ∙ never live.policy.tuple
+  where
+    never : (b : Bool) → (b && false) ≡ false
+    never true = refl
+    never false = refl
 
 -- at `next` itself by the newest item
 module _ {A : Type 0} (next : ℕ) where

@@ -31,6 +31,7 @@ pub mod KeptEnds
 pub mod Logging
 pub mod Soonest
 pub mod DueNext
+pub mod FirstReader
 mod WorldRows
 pub mod PlacesRead
 pub mod Calming

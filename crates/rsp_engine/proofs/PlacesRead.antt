@@ -61,7 +61,7 @@ module _ {X : Type 0} (test : X → Bool) where
   place_inside listed xs i d is within =
       subst (λ l. get_or l i d < length xs) (sym is) (place_within xs i d (subst (λ l. i < length l) is within))
 
-  low : (n : ℕ) (xs : List X) (k : ℕ) → k < n → among (places n xs) k ≡ false
+  pub low : (n : ℕ) (xs : List X) (k : ℕ) → k < n → among (places n xs) k ≡ false
   low n [] k less = refl
   low n (x ∷ xs) k less = by (test x) (low (suc n) xs k (omega (arith, less)))
     where

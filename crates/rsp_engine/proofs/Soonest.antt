@@ -133,7 +133,7 @@ module _ {X : Type 0} (test : X → Bool) where
       ap (λ b. cond b (x ∷ filter test xs) (filter test xs)) first
       ∙ fails_before xs k (λ m d less inside. none (suc m) d (omega (arith, less)) (omega (arith, inside)))
 
-  fails_between : (xs : List X) (j k : ℕ) → j ≤ k → ((m : ℕ) (d : X) → j ≤ m → m < k → m < length xs → test (get_or xs m d) ≡ false)
+  pub fails_between : (xs : List X) (j k : ℕ) → j ≤ k → ((m : ℕ) (d : X) → j ≤ m → m < k → m < length xs → test (get_or xs m d) ≡ false)
       → filter test (drop j xs) ≡ filter test (drop k xs)
   fails_between xs zero k low none = fails_before xs k (λ m d less inside. none m d (omega arith) less inside)
   fails_between [] (suc j) zero low none = refl
@@ -143,7 +143,7 @@ module _ {X : Type 0} (test : X → Bool) where
       fails_between xs j k (omega (arith, low))
       (λ m d more less inside. none (suc m) d (omega (arith, more)) (omega (arith, less)) (omega (arith, inside)))
 
-  fails_from : (xs : List X) (j : ℕ) → ((m : ℕ) (d : X) → j ≤ m → m < length xs → test (get_or xs m d) ≡ false)
+  pub fails_from : (xs : List X) (j : ℕ) → ((m : ℕ) (d : X) → j ≤ m → m < length xs → test (get_or xs m d) ≡ false)
       → filter test (drop j xs) ≡ []
   fails_from [] zero none = refl
   fails_from [] (suc j) none = refl

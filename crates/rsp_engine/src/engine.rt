@@ -446,7 +446,13 @@ impl<A: Answer> Engine<A> {
         ) {
             Ok(stream) => {
                 let arrived = Some(stream);
-                self.first = first_moment(&mut self.queries, &arrived, self.next, time);
+                self.first = first_moment(
+                    &mut self.queries,
+                    &self.readers,
+                    &arrived,
+                    self.next,
+                    time,
+                );
                 self.arrived = arrived;
                 self.next = Some(time);
                 self.streams.drop_before(cut_at(self.first, time));
@@ -467,7 +473,7 @@ impl<A: Answer> Engine<A> {
         requires instant { to ≤ last_instant + 1 }
         ensures { Passes self.old [] None to self.new }
     {
-        self.first = first_moment(&mut self.queries, &None, self.next, to);
+        self.first = first_moment(&mut self.queries, &self.readers, &None, self.next, to);
         self.arrived = None;
         self.next = Some(to);
         self.streams.drop_before(cut_at(self.first, to));
@@ -533,7 +539,7 @@ impl<A: Answer> Engine<A> {
                     query,
                 };
                 let queries = self.queries.as_slice();
-                self.first = first_left(queries, &self.arrived, next, from);
+                self.first = first_left(queries, &self.readers, &self.arrived, next, from);
                 let_go(
                     queries,
                     &mut self.streams,
@@ -583,11 +589,13 @@ fn remove_at<A: Drop>(queries: &mut Vec<LiveQuery<A>>, readers: &mut Readers, pl
 // the place of the first moment once every instant before `to` is complete, where those before `next` are worked off
 fn first_moment<A>(
     queries: &mut Vec<LiveQuery<A>>,
+    readers: &Readers,
     arrived: &Option<Text>,
     next: Option<u64>,
     to: u64,
 ) -> Option<Pending>
     requires prompt { All (λ live. IsPrompt to arrived.now (asked live)) queries.old.items }
+    requires read { AreRead readers.now queries.old.items }
     requires sought { All (λ live. IsSought (unwrap_or next 0) live) queries.old.items }
     requires later { unwrap_or next to ≤ to }
     requires instant { to ≤ last_instant + 1 }
@@ -601,7 +609,7 @@ fn first_moment<A>(
         at: next.unwrap_or(to),
         query: 0,
     };
-    first_left(queries.as_slice(), arrived, to, from)
+    first_left(queries.as_slice(), readers, arrived, to, from)
 }
 
 // takes out a query whose report is overfull; gives the place of the query behind it

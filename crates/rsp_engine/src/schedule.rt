@@ -7,10 +7,12 @@ ghost use Rattle.rsp_spec.specs.Limits.{last_instant};
 ghost use Rattle.rsp_report.specs.Due.{IsWatched, is_due};
 ghost use Rattle.rsp_engine.specs.Inside.{AreSought, IsSought, asked, undated};
 ghost use Rattle.rsp_engine.specs.Left.{IsFirstAt, IsFirstLeft};
+ghost use Rattle.rsp_engine.specs.Readers.{AreRead, is_reader, places_from, readers_of};
 ghost use Rattle.rsp_engine.specs.Sought.{IsSoonest, first_number, sooner};
 ghost use Rattle.rsp_engine.specs.Watching.{IsPolicy, IsPrompt, IsWatching, is_due_over_by, name_of, reports_by};
 
-use crate::live_query::{LiveQuery, is_over_some};
+use crate::live_query::LiveQuery;
+use crate::readers::Readers;
 use rsp_report::{Chosen, Watched, due_on_item, next_due};
 use rsp_spec::limits::LAST_INSTANT;
 use rsp_terms::Text;
@@ -36,6 +38,7 @@ pub(crate) fn cut_at(first: Option<Pending>, next: u64) -> u64
 /// the newest item, where it just arrived over the stream `arrived`. Takes no memory.
 pub(crate) fn first_left<A>(
     queries: &[LiveQuery<A>],
+    readers: &Readers,
     arrived: &Option<Text>,
     next: u64,
     from: Pending,
@@ -43,6 +46,7 @@ pub(crate) fn first_left<A>(
     requires prompt { All (λ live. IsPrompt next arrived.now (asked live)) queries.now }
     requires next { next ≤ last_instant + 1 }
     requires from { from.at ≤ next }
+    requires read { AreRead readers.now queries.now }
     requires sought { AreSought next (Some from) queries.now }
     ensures first { IsFirstLeft (λ live. name_of (asked live)) (λ t live. reports_by next arrived.now t (asked live)) queries.now
         next from.at from.query result }
@@ -50,7 +54,7 @@ pub(crate) fn first_left<A>(
 {
     match soonest(queries, next) {
         Some(place) => Some(place),
-        None => first_on_item(queries, arrived, next, first_number(from, next)),
+        None => first_on_item(queries, readers, arrived, next, first_number(from, next)),
     }
 }
 
@@ -94,65 +98,84 @@ fn first_number(from: Pending, next: u64) -> usize
 // the first place there, of the queries from a number on
 fn first_on_item<A>(
     queries: &[LiveQuery<A>],
+    readers: &Readers,
     arrived: &Option<Text>,
     next: u64,
     number: usize,
 ) -> Option<Pending>
     requires prompt { All (λ live. IsPrompt next arrived.now (asked live)) queries.now }
     requires next { next ≤ last_instant + 1 }
+    requires read { AreRead readers.now queries.now }
     ensures { IsFirstLeft (λ live. name_of (asked live)) (λ t live. reports_by next arrived.now t (asked live)) queries.now
         next next number result }
 {
-    let query = first_reporting(queries, arrived, next, number)?;
+    let query = first_reporting(queries, readers, arrived, next, number)?;
     Some(Pending { at: next, query })
 }
 
 // the first query from a number on that reports on the newest item, where one just arrived
 fn first_reporting<A>(
     queries: &[LiveQuery<A>],
+    readers: &Readers,
     arrived: &Option<Text>,
     next: u64,
     number: usize,
 ) -> Option<usize>
     requires prompt { All (λ live. IsPrompt next arrived.now (asked live)) queries.now }
     requires next { next ≤ last_instant + 1 }
+    requires read { AreRead readers.now queries.now }
     ensures { IsFirstAt (λ live. reports_by next arrived.now next (asked live)) queries.now number result }
 {
     match arrived {
-        Some(stream) => first_over(queries, stream, next, number),
+        Some(stream) => first_over(queries, readers, stream, next, number),
         None => None,
     }
 }
 
-// the first query from a number on that is due on the newest item, which came over this stream at `next`
+// the first query from a number on that is due on the newest item, which came over this stream at `next`: one of its readers
 fn first_over<A>(
     queries: &[LiveQuery<A>],
+    readers: &Readers,
     stream: &Text,
     next: u64,
     number: usize,
 ) -> Option<usize>
     requires prompt { All (λ live. IsPrompt next (Some stream.now) (asked live)) queries.now }
     requires next { next ≤ last_instant + 1 }
+    requires read { readers_of readers.now stream.now ≡ places_from (is_reader stream.now) 0 queries.now }
     ensures { IsFirstAt (λ live. is_due_over_by (asked live) stream.now next) queries.now number result }
 {
-    for query in number..queries.len() {
-        if is_due_over(&queries[query], stream, next) {
-            return Some(query);
+    let places = readers.of(stream);
+    for index in 0..places.len() {
+        let place = places[index];
+        if is_left_over(&queries[place], number <= place, stream, next) {
+            return Some(place);
         }
     }
     None
 }
 
-// whether a query is due on the newest item, which came over this stream at `next`
+// whether a query is left and due on the newest item, which came over this stream, one that it reads, at `next`
+fn is_left_over<A>(live: &LiveQuery<A>, left: bool, stream: &Text, next: u64) -> bool
+    requires prompt { IsPrompt next (Some stream.now) (asked live.now) }
+    requires next { next ≤ last_instant + 1 }
+    requires reads { is_reader stream.now live.now ≡ true }
+    ensures { result ≡ (left && is_due_over_by (asked live.now) stream.now next) }
+{
+    if left {
+        is_due_over(live, stream, next)
+    } else {
+        false
+    }
+}
+
 fn is_due_over<A>(live: &LiveQuery<A>, stream: &Text, next: u64) -> bool
     requires prompt { IsPrompt next (Some stream.now) (asked live.now) }
     requires next { next ≤ last_instant + 1 }
+    requires reads { is_reader stream.now live.now ≡ true }
     ensures { result ≡ is_due_over_by (asked live.now) stream.now next }
 {
     if !live.policy.tuple {
-        return false;
-    }
-    if !is_over_some(live.windows.as_slice(), stream) {
         return false;
     }
     due_on_item(&live.policy, live.watched.as_slice(), next)

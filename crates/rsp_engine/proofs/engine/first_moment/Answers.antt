@@ -2,7 +2,7 @@ use Rattle.std.proofs.Common.{◌≡◌, map, unwrap_or}
 use Rattle.std.proofs.lemmas.List.Elements.{All-weaker}
 use Rattle.rsp_engine.specs.Inside.{asked, undated}
 use Rattle.rsp_engine.specs.Watching.{IsPrompt, IsWatching}
-use Rattle.rsp_engine.proofs.DueNext.{all_dated, dated_back, sought_from}
+use Rattle.rsp_engine.proofs.DueNext.{all_dated, dated_back, read_dated, sought_from}
 use Rattle.rsp_engine.proofs.engine.first_moment.Goals as goal
 
 pub set_out-requires-clause-watching : goal.set_out-requires-clause-watching
@@ -19,6 +19,12 @@ first_left-requires-clause-prompt g c =
     let same : map undated c.set_out.new.queries ≡ map undated c.args.queries.now.items = rw c.deref_mut.ensures.value at c.set_out.ensures.same in
     rw (c.as_slice.ensures.value, dated_back c.args.queries.now c.set_out.new.queries same)
     (all_dated c.args.queries.now.items c.set_out.new.queries same (λ live. IsPrompt c.args.to c.args.arrived.now (asked live)) c.requires.prompt)
+
+pub first_left-requires-clause-read : goal.first_left-requires-clause-read
+first_left-requires-clause-read g c =
+    let same : map undated c.set_out.new.queries ≡ map undated c.args.queries.now.items = rw c.deref_mut.ensures.value at c.set_out.ensures.same in
+    rw (c.as_slice.ensures.value, dated_back c.args.queries.now c.set_out.new.queries same)
+    (read_dated c.args.queries.now.items c.set_out.new.queries same c.args.readers.now c.requires.read)
 
 pub first_left-requires-clause-sought : goal.first_left-requires-clause-sought
 first_left-requires-clause-sought g c =

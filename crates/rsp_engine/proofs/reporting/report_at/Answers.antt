@@ -16,4 +16,4 @@ look-requires-clause-watched g c = subst (All IsWatched) (sym c.in_ok-outcome.en
 pub returns-clause-reported : goal.returns-clause-reported
 returns-clause-reported g c =
     reported_dated g.A.Answer.node g.A.Answer.width g.A.Answer.facts g.A.Answer.spent c.args.streams.now c.args.stored.now c.args.log.now c.args.at
-    c.args.live.now c.in_ok-outcome.outcome c.outcome_at-outcome.new.live c.look.new.live c.look.ensures.same c.in_ok-outcome.ensures.reported
+    c.args.live.now c.in_ok-outcome.outcome c.outcome_at.new.live c.look.new.live c.look.ensures.same c.in_ok-outcome.ensures.reported

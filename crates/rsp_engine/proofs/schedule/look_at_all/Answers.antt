@@ -9,14 +9,14 @@ loop-query-init g c = record { same = refl; sought = λ k d before within. absur
 pub look-requires-clause-policy : goal.look-requires-clause-policy
 look-requires-clause-policy g c =
     let below : c.loop-query.query < length c.loop-query.queries = omega arith in
-    (watching_there c.args.from c.loop-query.query c.args.queries.now c.loop-query.queries c.index-queries-query.result below c.index-queries-query.is
+    (watching_there c.args.from c.loop-query.query c.args.queries.now c.loop-query.queries c.index-queries-query.result below
     c.loop-query.invariant.same c.requires).policy
 
 pub look-requires-clause-watched : goal.look-requires-clause-watched
 look-requires-clause-watched g c =
     let below : c.loop-query.query < length c.loop-query.queries = omega arith in
     timed_watched c.args.from _
-    (watching_there c.args.from c.loop-query.query c.args.queries.now c.loop-query.queries c.index-queries-query.result below c.index-queries-query.is
+    (watching_there c.args.from c.loop-query.query c.args.queries.now c.loop-query.queries c.index-queries-query.result below
     c.loop-query.invariant.same c.requires).timed
 
 pub loop-query-preserved : goal.loop-query-preserved
@@ -24,11 +24,11 @@ loop-query-preserved g c =
     let below : c.loop-query.query < length c.loop-query.queries = omega arith in
     record {
       same =
-          one_dated c.args.from c.loop-query.query c.args.queries.now c.loop-query.queries c.index-queries-query.result below c.index-queries-query.is
+          one_dated c.args.from c.loop-query.query c.args.queries.now c.loop-query.queries c.index-queries-query.result below
           c.loop-query.invariant.same c.look.new.live c.look.ensures.same;
       sought =
           sought_so_far c.args.from c.loop-query.query c.args.queries.now c.loop-query.queries c.index-queries-query.result below
-          c.index-queries-query.is c.loop-query.invariant.same c.look.new.live c.loop-query.invariant.sought c.look.ensures.sought;
+          c.loop-query.invariant.same c.look.new.live c.loop-query.invariant.sought c.look.ensures.sought;
     }
 
 pub returns-clause-same : goal.returns-clause-same

@@ -1,4 +1,6 @@
-use Rattle.std.proofs.Common.{◌≤◌, arith, length}
+use Rattle.std.proofs.Common.{◌+◌, ◌≤◌, arith, length, subst}
+use Rattle.rsp_engine.specs.declared.live_query.LiveQuery.{LiveQuery}
+use Rattle.rsp_engine.specs.Sought.{IsSoonest, sooner}
 use Rattle.rsp_engine.proofs.Soonest.{all_sooner, one_sooner}
 use Rattle.rsp_engine.proofs.schedule.soonest.Goals as goal
 
@@ -7,9 +9,13 @@ loop-query-init g c = λ k n d below at. absurd (omega (arith, below))
 
 pub loop-query-preserved : goal.loop-query-preserved
 loop-query-preserved g c =
+    let queries = c.args.queries.now in
+    let i = c.loop-query.query in
     rw c.sooner-best.ensures
-    (one_sooner (λ live. live.due) c.args.queries.now c.args.next c.loop-query.query c.index-queries-query.result c.loop-query-test.true
-    c.index-queries-query.is c.loop-query.best c.loop-query.invariant)
+    (subst (λ (live : LiveQuery g.row.A.Denot). IsSoonest (λ (live : LiveQuery g.row.A.Denot). live.due) queries (i + 1) c.args.next (sooner c.loop-query.best live.due i c.args.next))
+    c.index-queries-query.is
+    (one_sooner (λ live. live.due) queries c.args.next i c.index-queries-query.result c.loop-query-test.true
+    c.index-queries-query.is c.loop-query.best c.loop-query.invariant))
 
 pub returns : goal.returns
 returns g c =

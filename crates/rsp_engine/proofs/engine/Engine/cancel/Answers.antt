@@ -28,10 +28,12 @@ invariant_of-self g c = λ _.
     let kept = rw (c.as_slice.ensures.value, cut, ← c.self.view_is) at c.lower.ensures.kept in (
       ready_without _ _ _ _ _ sound idle (record c.self.inside { queries = c.remove_at.new.queries; readers = c.remove_at.new.readers; streams = c.lower.new.streams; ends = c.lower.new.ends }) c.in-Some.place refl refl refl refl refl c.remove_at.ensures.queries c.lower.ensures.less.accepted (c.lower.ensures.less.timed _ sound.state.timed)
           (fits_without _ _ _ _ _ sound idle (record c.self.inside { queries = c.remove_at.new.queries; readers = c.remove_at.new.readers; streams = c.lower.new.streams; ends = c.lower.new.ends }) c.in-Some.place refl refl refl refl c.remove_at.ensures.queries kept) c.lower.ensures.room,
-      c.remove_at.ensures.read,
-      rw c.remove_at.ensures.queries
-          (sought_less (unwrap_or c.self.inside.next 0) c.self.inside.first c.self.inside.queries.items idle
-          (c.self.invariant (rw (← c.self.view_is) at c.requires.ready)).1.1 c.in-Some.place),
+      (
+        c.remove_at.ensures.read,
+        rw c.remove_at.ensures.queries
+            (sought_less (unwrap_or c.self.inside.next 0) c.self.inside.first c.self.inside.queries.items idle
+            (c.self.invariant (rw (← c.self.view_is) at c.requires.ready)).1.1 c.in-Some.place),
+      ),
     )
 
 pub returns-in-Some : goal.returns-in-Some

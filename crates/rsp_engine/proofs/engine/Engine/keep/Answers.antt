@@ -38,6 +38,13 @@ first_moment-self-inside-requires-clause-prompt g c =
     let whole = refilled c.self.inside.queries.len c.take.new.queries (drop (length c.take.new.queries) c.self.inside.queries.items) count in
     rw (whole, c.in-Ok.ensures.stream) c.in-Ok.ensures.prompt
 
+pub first_moment-self-inside-requires-clause-read : goal.first_moment-self-inside-requires-clause-read
+first_moment-self-inside-requires-clause-read g c =
+    let parts = rw c.deref_mut.ensures.value at c.in-Ok.ensures.parts in
+    let count : length c.take.new.queries ≡ c.self.inside.queries.len = sym (length-map c.take.new.queries parts_of) ∙ (ap length parts ∙ (length-map c.self.inside.queries.items parts_of ∙ (ap length (sym c.deref_mut.ensures.value) ∙ c.deref_mut.ensures.len))) in
+    let whole = refilled c.self.inside.queries.len c.take.new.queries (drop (length c.take.new.queries) c.self.inside.queries.items) count in
+    rw whole c.in-Ok.ensures.read
+
 pub first_moment-self-inside-requires-clause-sought : goal.first_moment-self-inside-requires-clause-sought
 first_moment-self-inside-requires-clause-sought g c =
     let parts = rw c.deref_mut.ensures.value at c.in-Ok.ensures.parts in
@@ -72,8 +79,10 @@ invariant_of-self g c = λ broken.
     let timed = timed_taken c.self.inside.streams c.args.arrival.stream c.args.arrival.time _ c.args.arrival.graph c.args.arrival.end later sound.state.timed in (
       ready_passed _ _ _ _ _ sound idle (record c.self.inside { next = Some c.args.arrival.time; queries = c.first_moment-self-inside.new.queries; readers = c.take.new.readers; streams = c.drop_before.new.self; ends = c.take.new.ends; arrived = Some c.in-Ok.stream; first = c.first_moment-self-inside.result }) (accepted_of c.args.arrival ∷ []) (Some c.args.arrival.stream) c.args.arrival.time took later (high_of c.self.inside.next c.args.arrival.time) refl refl refl (ap Some c.in-Ok.ensures.stream) broken (parts_dated mids news same ∙ (ap (map parts_of) whole ∙ parts)) first kept takes tells
           (let high = c.requires.instant in omega (arith, high)) (taken_more c.self.inside.streams c.args.arrival.stream c.args.arrival.time c.args.arrival.graph c.args.arrival.end) prompt timed (rw c.drop_before.ensures (room_kept _ c.take.new.streams.items c.take.new.ends.cap c.in-Ok.ensures.room)),
-      read_dated mids news same c.take.new.readers (subst (λ qs. AreRead c.take.new.readers qs) (sym whole) c.in-Ok.ensures.read),
-      c.first_moment-self-inside.ensures.sought,
+      (
+        read_dated mids news same c.take.new.readers (subst (λ qs. AreRead c.take.new.readers qs) (sym whole) c.in-Ok.ensures.read),
+        c.first_moment-self-inside.ensures.sought,
+      ),
     )
 
 pub returns-in-Ok-clause-ok : goal.returns-in-Ok-clause-ok
