@@ -1,7 +1,6 @@
 -- Queries whose windows aren't fresh any more, and what they watch with an item of another stream or of one that they read.
-use Rattle.std.proofs.Common.{◌≡◌, ℕ, zero, suc, ◌+◌, ◌<◌, ◌≤◌, Bool, true, false, ◌||◌, true≢false, Option, None, Some, List, [], ◌∷◌, ◌++◌, length, map, take, drop, set, get_or, refl, sym, ap, subst, ◌∙◌, arith, add-one, bytes_eq}
-use Rattle.std.specs.List.{All, list_any}
-use Rattle.std.specs.Option.{option_map_or}
+use Rattle.std.proofs.Common.{◌≡◌, ℕ, zero, suc, ◌<◌, ◌≤◌, Bool, true, false, ◌||◌, true≢false, Some, List, [], ◌∷◌, length, map, get_or, refl, sym, ap, subst, ◌∙◌, arith, bytes_eq}
+use Rattle.std.specs.List.{All}
 use Rattle.std.proofs.lemmas.List.{length-map}
 use Rattle.std.proofs.lemmas.List.Elements.{All-weaker}
 use Rattle.rsp_report.specs.declared.contents.Watched.{Watched}
@@ -15,7 +14,7 @@ use Rattle.rsp_engine.specs.Watched.{AreChanged, AreWatchedWith, IsCalmed, IsMov
 use Rattle.rsp_engine.specs.Watching.{IsPolicy, IsTimed, IsWatching, with_time}
 use Rattle.rsp_engine.proofs.DueNext.{calmed_sought}
 use Rattle.rsp_engine.proofs.PlacesRead.{places_map}
-use Rattle.rsp_engine.proofs.WatchedWith.{AreMoved, same_by}
+use Rattle.rsp_engine.proofs.WatchedWith.{AreMoved}
 
 -- ---- windows
 

@@ -1,5 +1,5 @@
 -- When each live query is due next: what an item, an instant, a report and other queries do to it.
-use Rattle.std.proofs.Common.{◌≡◌, ◌⊎◌, inl, inr, ℕ, zero, suc, ◌+◌, ◌-◌, ◌<◌, ◌≤◌, ◌%◌, ◌==◌, Bool, true, false, true≢false, ◌&&◌, ◌||◌, not, min, if◌then◌else◌, List, [], ◌∷◌, ◌++◌, length, map, remove, set, get_or, slice_get, slice_set, Option, None, Some, refl, sym, ap, subst, ◌∙◌, arith, nat_lt, get_or-set_same, get_or-set_other, length-set}
+use Rattle.std.proofs.Common.{◌≡◌, ◌⊎◌, inl, inr, ℕ, zero, suc, ◌+◌, ◌-◌, ◌<◌, ◌≤◌, ◌%◌, ◌==◌, Bool, true, false, true≢false, ◌&&◌, ◌||◌, not, min, if◌then◌else◌, List, [], ◌∷◌, ◌++◌, length, map, remove, set, get_or, slice_get, slice_set, Option, None, Some, refl, sym, ap, subst, ◌∙◌, arith, get_or-set_same, get_or-set_other, length-set}
 use Rattle.std.specs.Global.{Vec}
 use Rattle.std.specs.Vec.{with_items}
 use Rattle.std.specs.List.{All, list_any}
@@ -9,7 +9,6 @@ use Rattle.std.proofs.lemmas.List.{get_or-map, length-map, with_items_is}
 use Rattle.std.proofs.lemmas.List.Elements.{All-append, All-cons, All-nil}
 use Rattle.std.proofs.lemmas.Option.{slice_get-get_or, slice_get_within}
 use Rattle.std.proofs.lemmas.Simd.{map-map}
-use Rattle.rsp_spec.specs.Instants.{IsLeastIn}
 use Rattle.rsp_spec.specs.Limits.{last_instant}
 use Rattle.rsp_spec.specs.Windows.{closes_at}
 use Rattle.rsp_spec.proofs.InstantLaws.{least_alike}
@@ -21,7 +20,7 @@ use Rattle.rsp_engine.specs.declared.live_query.LiveQuery.{LiveQuery}
 use Rattle.rsp_engine.specs.declared.readers.Readers.{Readers}
 use Rattle.rsp_engine.specs.Inside.{AreSought, IsSought, Parts, asked, parts_of, undated}
 use Rattle.rsp_engine.specs.Left.{IsFirstLeft}
-use Rattle.rsp_engine.specs.Readers.{AreRead, IsStill, places_from, reads, windows_of}
+use Rattle.rsp_engine.specs.Readers.{AreRead, IsStill, places_from, reads}
 use Rattle.rsp_engine.specs.Sought.{IsDueNext, IsSoonest, IsSoonestAt, first_number, look_behind}
 use Rattle.rsp_engine.specs.Watched.{IsCalmed, calmed}
 use Rattle.rsp_engine.specs.Watching.{Asked, IsWatching, is_due_by, is_due_over_by, name_of, reports_by}

@@ -1,5 +1,5 @@
 -- The places of those that pass a test, and what is done at them one after another.
-use Rattle.std.proofs.Common.{◌≡◌, ◌≢◌, ℕ, zero, suc, ◌+◌, ◌-◌, ◌<◌, ◌≤◌, Bool, true, false, true≢false, cond, if◌then◌else◌, ◌||◌, List, [], ◌∷◌, ◌++◌, length, map, filter, take, drop, set, get_or, remove, nat_eq, nat_lt, not, length-set, get_or-set_same, get_or-set_other, refl, sym, ap, subst, ◌∙◌, arith, add-one, append_assoc, append-nil, eqb-true}
+use Rattle.std.proofs.Common.{◌≡◌, ◌≢◌, ℕ, zero, suc, ◌+◌, ◌-◌, ◌<◌, ◌≤◌, Bool, true, false, true≢false, cond, if◌then◌else◌, ◌||◌, List, [], ◌∷◌, ◌++◌, length, map, filter, take, drop, set, get_or, remove, nat_eq, nat_lt, not, length-set, get_or-set_same, get_or-set_other, refl, sym, ap, subst, ◌∙◌, arith, add-one, append-nil, eqb-true}
 use Rattle.std.specs.List.{All, list_any}
 use Rattle.std.proofs.lemmas.Bool.Decides.{nat_tests}
 use Rattle.std.proofs.lemmas.List.{drop_all, get_or_default, take_all, take_more}

@@ -118,8 +118,8 @@ pub record IsReady {A : Type 0} (node : A → Node) (width : A → ℕ) (facts :
   pub answers : All (Answers node width facts spent) e.queries.items
   pub room : length e.streams.items ≤ e.ends.cap
 
--- an engine to which memory was refused owes nothing; of any other the readers of each stream are known, and when each query is due
--- next
+-- an engine to which memory was refused owes nothing; of any other the readers of each stream are known, and when each query is
+-- due next
 abbrev pub IsEngine : {A : Type 0} → (A → Node) → (A → ℕ) → (A → List Fact) → (A → Bool) → Inside A → Type 0
 IsEngine node width facts spent e =
     e.broken ≡ false

@@ -22,8 +22,9 @@ use rsp_scope::forget_times;
 use rsp_terms::Text;
 use std::alloc::{AllocError, Global};
 
-/// Adds the time of an item to the windows over its stream, which are then fresh and no others, lets go of their times that are in
-/// no content from `from` - 1 ms on, and finds when their queries are due next, from `from` on. Fails only where memory is refused; some queries may then watch it and others not.
+/// Adds the time of an item to the windows over its stream, which are then fresh and no others, lets go of their times that are
+/// in no content from `from` - 1 ms on, and finds when their queries are due next, from `from` on. Fails only where memory is
+/// refused; some queries may then watch the item and others not.
 pub(crate) fn watch<A>(
     alloc: Global,
     queries: &mut [LiveQuery<A>],

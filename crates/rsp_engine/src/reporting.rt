@@ -35,9 +35,9 @@ use std::alloc::{AllocError, Global};
 use std::sync::ledger::Ledger;
 
 /// The report of a live query at `at`, in ms since 1970, over the stored quads and the kept items. Where it isn't overfull, the
-/// query has then seen what is logged, and its windows the contents of that instant; when it is due next is known from the instant
-/// behind on. Takes at most the work that leads there.
-/// Fails only where memory is refused; the query is then only to be dropped.
+/// query has then seen what is logged, and its windows the contents of that instant. When it is due next is then known from the
+/// instant behind on. Takes at most the work that leads there. Fails only where memory is refused; the query is then only to be
+/// dropped.
 pub(crate) fn report_at<A: Answer, L: Ledger>(
     alloc: Global,
     live: &mut LiveQuery<A>,

@@ -34,8 +34,8 @@ pub(crate) fn cut_at(first: Option<Pending>, next: u64) -> u64
     }
 }
 
-/// The first place from `from` on at which a query reports, up to `next`: below it where the query is due next, at `next` itself by
-/// the newest item, where it just arrived over the stream `arrived`. Takes no memory.
+/// The first place from `from` on at which a query reports, up to `next`: below it where the query is due next, at `next` itself
+/// by the newest item, where it just arrived over the stream `arrived`. Takes no memory.
 pub(crate) fn first_left<A>(
     queries: &[LiveQuery<A>],
     readers: &Readers,
@@ -72,12 +72,7 @@ fn soonest<A>(queries: &[LiveQuery<A>], next: u64) -> Option<Pending>
 }
 
 // the place of the query of this number, where it is due before the best so far
-fn sooner(
-    best: Option<Pending>,
-    due: Option<u64>,
-    query: usize,
-    next: u64,
-) -> Option<Pending>
+fn sooner(best: Option<Pending>, due: Option<u64>, query: usize, next: u64) -> Option<Pending>
     ensures { result ≡ sooner best due query next }
 {
     match due {
@@ -216,8 +211,8 @@ pub(crate) fn look<A>(live: &mut LiveQuery<A>, from: u64)
     live.due = due_from(&live.policy, live.watched.as_slice(), from);
 }
 
-/// The least instant from `from` on at which a query with these windows is due. None where there is none, and where the query looks
-/// at items. Takes no memory.
+/// The least instant from `from` on at which a query with these windows is due, in ms since 1970. None where there is none, and
+/// where the query looks at items. Takes no memory.
 pub(crate) fn due_from(policy: &Chosen, watched: &[Watched], from: u64) -> Option<u64>
     requires policy { IsPolicy policy.now }
     requires watched { All IsWatched watched.now }

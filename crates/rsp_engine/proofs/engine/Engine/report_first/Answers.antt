@@ -147,10 +147,13 @@ invariant_of-self g c = λ _.
     let reported = c.in-Ok.ensures.reported in
     let behind = c.place_behind-query.ensures.queries in
     let left = rw (c.unwrap_or-next.ensures, c.as_slice-queries.ensures.value, c.place_behind-query.ensures.place ∙ place_is c.args.place full) at c.first_left-self-inside.ensures.first in
-    let kept = rw (c.as_slice-queries.ensures.value, c.cut_at.ensures, c.unwrap_or-next.ensures) at c.let_go.ensures.kept in
-    (ready_behind _ _ _ _ _ sound c.args.place first live is c.report_at.new.live c.in-Ok.report.outcome reported (record c.self.inside { queries = c.place_behind-query.new.queries; readers = c.place_behind-query.new.readers; streams = c.let_go.new.streams; ends = c.let_go.new.ends; first = c.first_left-self-inside.result }) refl refl refl refl behind left c.let_go.ensures.less c.let_go.ensures.room kept,
-    (c.place_behind-query.ensures.read,
-    rw (c.unwrap_or-next.ensures, c.as_slice-queries.ensures.value) at c.first_left-self-inside.ensures.sought))
+    let kept = rw (c.as_slice-queries.ensures.value, c.cut_at.ensures, c.unwrap_or-next.ensures) at c.let_go.ensures.kept in (
+      ready_behind _ _ _ _ _ sound c.args.place first live is c.report_at.new.live c.in-Ok.report.outcome reported (record c.self.inside { queries = c.place_behind-query.new.queries; readers = c.place_behind-query.new.readers; streams = c.let_go.new.streams; ends = c.let_go.new.ends; first = c.first_left-self-inside.result }) refl refl refl refl behind left c.let_go.ensures.less c.let_go.ensures.room kept,
+      (
+        c.place_behind-query.ensures.read,
+        rw (c.unwrap_or-next.ensures, c.as_slice-queries.ensures.value) at c.first_left-self-inside.ensures.sought,
+      ),
+    )
 
 pub returns-in-Ok-clause-ok : goal.returns-in-Ok-clause-ok
 returns-in-Ok-clause-ok g c =
