@@ -4,7 +4,7 @@ use Rattle.std.specs.List.{All, IsDistinct}
 use Rattle.std.proofs.lemmas.List.{append_assoc, drop_all, drop_more, map-append}
 use Rattle.std.proofs.lemmas.List.Elements.{All-cons, All-nil}
 use Rattle.rsp_report.specs.declared.contents.Watched.{Watched}
-use Rattle.rsp_report.specs.Due.{IsFreshAt}
+use Rattle.rsp_report.specs.Due.{IsFreshAt, IsWatched}
 use Rattle.rsp_report.specs.Seen.{seen_at}
 use Rattle.rsp_terms.specs.declared.statement.Fact.{Fact}
 use Rattle.rsp_algebra.specs.Changing.{IsSet}
@@ -33,6 +33,9 @@ unseen_shapes : (windows : List StreamWindow)
     → map (λ (watched : Watched). watched.window) (map (watched_window []) windows) ≡ map (λ (w : StreamWindow). w.shape) windows
 unseen_shapes [] = refl
 unseen_shapes (w ∷ ws) = ap (λ shapes. w.shape ∷ shapes) (unseen_shapes ws)
+
+pub begun_watched : (watched : List Watched) (windows : List StreamWindow) → watched ≡ map (watched_window []) windows → All IsWatched watched
+begun_watched watched windows is = subst (All IsWatched) (sym is) (all_unseen IsWatched windows (λ w. (unseen_timed 0 w).watched))
 
 -- it watches its windows
 pub begun_watching : (next : ℕ) (ask : Asked) → IsPolicy ask.policy → ask.watched ≡ map (watched_window []) ask.windows → IsWatching next ask

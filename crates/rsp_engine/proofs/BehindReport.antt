@@ -5,7 +5,7 @@ use Rattle.std.specs.List.{All, IsDistinct}
 use Rattle.std.specs.Option.{option_map_or}
 use Rattle.std.proofs.lemmas.List.{length-map}
 use Rattle.std.proofs.lemmas.List.Elements.{All-set, All-weaker}
-use Rattle.std.proofs.lemmas.Option.{get_or_from_slice_get, slice_get_within}
+use Rattle.std.proofs.lemmas.Option.{get_or_from_slice_get, same_Some, slice_get_within}
 use Rattle.rsp_spec.specs.Limits.{last_instant}
 use Rattle.rsp_terms.specs.declared.statement.Fact.{Fact}
 use Rattle.rsp_algebra.specs.Nodes.{Node}
@@ -18,14 +18,15 @@ use Rattle.rsp_engine.specs.declared.schedule.Pending.{Pending}
 use Rattle.rsp_engine.specs.declared.live_query.LiveQuery.{LiveQuery}
 use Rattle.rsp_engine.specs.declared.report.Outcome.{Outcome}
 use Rattle.rsp_engine.specs.Contents.{watches}
-use Rattle.rsp_engine.specs.Inside.{Answers, IsReady, asked, live_of, state_of}
+use Rattle.rsp_engine.specs.Inside.{Answers, AreSought, IsReady, IsSought, asked, live_of, state_of}
 use Rattle.rsp_engine.specs.Keeping.{IsLess, watches_by, watches_followed}
 use Rattle.rsp_engine.specs.Kept.{watches_of}
 use Rattle.rsp_engine.specs.Left.{IsFirstLeft, IsWaiting}
 use Rattle.rsp_engine.specs.Passing.{IsFollowed, IsReported, is_overfull_outcome, place_behind, queries_behind}
 use Rattle.rsp_engine.specs.Stands.{Fits, Follows, IsLive, IsStore, Live, State, asked_in, asked_of, cut_of, next_in, registration_of, registrations_in, test_in, watches_in}
-use Rattle.rsp_engine.specs.Watching.{IsPrompt, Tells, name_of, reports_by}
+use Rattle.rsp_engine.specs.Watching.{IsPrompt, IsWatching, Tells, name_of, reports_by}
 use Rattle.rsp_engine.specs.World.{Registration}
+use Rattle.rsp_engine.proofs.DueNext.{sought_gone, sought_on}
 use Rattle.rsp_engine.proofs.Fitting.{contents_here, told_later}
 use Rattle.rsp_engine.proofs.Left.{waits_at}
 use Rattle.rsp_engine.proofs.Named.{All-remove, distinct_removed, get_map, remove_map, set_map, set_same}
@@ -96,6 +97,14 @@ module _ {A : Type 0} (node : A → Node) (width : A → ℕ) (facts : A → Lis
     is_live : IsLive (next_in here) e.arrived e.streams.accepted (cut_of here) (live_of facts live)
     is_live = All-get (IsLive (next_in here) e.arrived e.streams.accepted (cut_of here)) here.queries place.query (live_of facts live) ready.state.lives listed_live
 
+    pub watching : IsWatching (next_in here) (asked live)
+    watching = is_live.prompt.watching
+
+    reports_here : reports_by (next_in here) e.arrived place.at (asked live) ≡ true
+    reports_here =
+        let same = same_Some _ _ (sym waits.listed ∙ get_map asked_of here.queries place.query (live_of facts live) listed_live) in
+        subst (λ a. reports_by (next_in here) e.arrived place.at a ≡ true) same waits.reports
+
     pub watches_are : watches_followed live.contents.items ≡ watches live.first live.windows
     watches_are = is_live.watches
 
@@ -135,6 +144,16 @@ module _ {A : Type 0} (node : A → Node) (width : A → ℕ) (facts : A → Lis
 
       reg_now : registration_of (live_of facts now) ≡ registration_of (live_of facts live)
       reg_now = reported.same
+
+      -- each query behind is looked at from the place behind on
+      pub sought_behind : (ends : Bool) → AreSought (next_in here) e.first e.queries.items → IsSought (place.at + 1) now
+          → AreSought (next_in here) (Some (record { at = place.at; query = place_behind place ends })) (behind ends)
+      sought_behind true sought own =
+          subst (AreSought (next_in here) (Some (record { at = place.at; query = place.query }))) (sym (remove_set e.queries.items place.query now))
+          (sought_gone (next_in here) e.arrived place e.queries.items live now waits.within is (subst (λ f. AreSought (next_in here) f e.queries.items) first sought))
+      sought_behind false sought own =
+          sought_on (next_in here) e.arrived place e.queries.items live now waits.within is
+          (subst (λ f. AreSought (next_in here) f e.queries.items) first sought) reports_here asked_now own
 
       -- the query that reported is one as before
       live_now : (cut : ℕ) → place.at ≤ cut → IsLive (next_in here) e.arrived e.streams.accepted cut (live_of facts now)

@@ -1,7 +1,6 @@
 -- Queries whose windows aren't fresh any more, and what they watch with an item of another stream or of one that they read.
-use Rattle.std.proofs.Common.{◌≡◌, ℕ, zero, suc, ◌+◌, ◌<◌, ◌≤◌, Bool, true, false, ◌||◌, true≢false, Option, None, Some, List, [], ◌∷◌, ◌++◌, length, map, take, drop, set, get_or, refl, sym, ap, subst, ◌∙◌, arith, add-one, bytes_eq}
-use Rattle.std.specs.List.{All, list_any}
-use Rattle.std.specs.Option.{option_map_or}
+use Rattle.std.proofs.Common.{◌≡◌, ℕ, zero, suc, ◌<◌, ◌≤◌, Bool, true, false, ◌||◌, true≢false, Some, List, [], ◌∷◌, length, map, get_or, refl, sym, ap, subst, ◌∙◌, arith, bytes_eq}
+use Rattle.std.specs.List.{All}
 use Rattle.std.proofs.lemmas.List.{length-map}
 use Rattle.std.proofs.lemmas.List.Elements.{All-weaker}
 use Rattle.rsp_report.specs.declared.contents.Watched.{Watched}
@@ -9,12 +8,13 @@ use Rattle.rsp_report.specs.Seen.{seen_at}
 use Rattle.rsp_engine.specs.declared.live_query.LiveQuery.{LiveQuery}
 use Rattle.rsp_engine.specs.declared.live_query.StreamWindow.{StreamWindow}
 use Rattle.rsp_engine.specs.declared.readers.Readers.{Readers}
-use Rattle.rsp_engine.specs.Inside.{Parts, asked, parts_of}
+use Rattle.rsp_engine.specs.Inside.{IsSought, Parts, asked, parts_of}
 use Rattle.rsp_engine.specs.Readers.{AreRead, IsCalm, IsStill, is_reader, places_from, reads, readers_of, windows_of}
 use Rattle.rsp_engine.specs.Watched.{AreChanged, AreWatchedWith, IsCalmed, IsMoved, IsWatchedWith, calmed}
 use Rattle.rsp_engine.specs.Watching.{IsPolicy, IsTimed, IsWatching, with_time}
+use Rattle.rsp_engine.proofs.DueNext.{calmed_sought}
 use Rattle.rsp_engine.proofs.PlacesRead.{places_map}
-use Rattle.rsp_engine.proofs.WatchedWith.{AreMoved, same_by}
+use Rattle.rsp_engine.proofs.WatchedWith.{AreMoved}
 
 -- ---- windows
 
@@ -74,15 +74,16 @@ module _ (stream : List ℕ) (time from : ℕ) (low : from ≤ time) where
   -- ---- one query
 
   module _ {A : Type 0} where
-    other_moved : (old new : LiveQuery A) → IsCalmed old new → IsWatching from (asked old) → is_reader stream old ≡ false
+    other_moved : (old new : LiveQuery A) → IsCalmed old new → IsWatching from (asked old) → IsSought from old → is_reader stream old ≡ false
         → IsMoved stream time from old new
-    other_moved old new is watching none =
+    other_moved old new is watching sought none =
         let long : length old.windows ≡ length old.watched.items =
         sym (length-map old.windows (λ (w : StreamWindow). w.shape)) ∙ (sym (ap length watching.shapes) ∙ length-map old.watched.items (λ (w : Watched). w.window)) in
         record {
           parts = is.parts;
           watched = subst (AreWatchedWith stream time from old.windows old.watched.items) (sym is.watched)
               (others_watch old.windows old.watched.items long watching.timed none);
+          sought = calmed_sought from old new is sought;
         }
 
     reader_moved : (old between new : LiveQuery A) → IsCalmed old between → IsMoved stream time from between new → IsMoved stream time from old new
@@ -91,6 +92,7 @@ module _ (stream : List ℕ) (time from : ℕ) (low : from ≤ time) where
       watched = uncalmed old.windows old.watched.items new.watched.items
           (subst (λ (p : Parts A). AreWatchedWith stream time from p.query.reading.windows (map calmed old.watched.items) new.watched.items) is.parts
           (subst (λ ws. AreWatchedWith stream time from between.windows ws new.watched.items) is.watched moved.watched));
+      sought = moved.sought;
     }
 
     -- ---- all queries
@@ -98,7 +100,7 @@ module _ (stream : List ℕ) (time from : ℕ) (low : from ≤ time) where
     module _ (olds between news : List (LiveQuery A)) (long : length between ≡ length olds)
         (calm : (k : ℕ) (d : LiveQuery A) → k < length olds → IsCalmed (get_or olds k d) (get_or between k d))
         (changed : AreChanged (is_reader stream) (IsMoved stream time from) between news)
-        (watching : All (λ live. IsWatching from (asked live)) olds) where
+        (watching : All (λ live. IsWatching from (asked live)) olds) (sought : All (λ live. IsSought from live) olds) where
       same_reader : (k : ℕ) (d : LiveQuery A) → k < length olds → is_reader stream (get_or between k d) ≡ is_reader stream (get_or olds k d)
       same_reader k d within = ap (λ (p : Parts A). reads stream p.query.reading.windows) (calm k d within).parts
 
@@ -114,7 +116,7 @@ module _ (stream : List ℕ) (time from : ℕ) (low : from ≤ time) where
               reader_moved (get_or olds k d) (get_or between k d) (get_or news k d) (calm k d within) (changed.there k d inside is)
           by k d within inside false is =
               subst (IsMoved stream time from (get_or olds k d)) (sym (changed.elsewhere k d inside is))
-              (other_moved (get_or olds k d) (get_or between k d) (calm k d within) (watching k d within) (sym (same_reader k d within) ∙ is))
+              (other_moved (get_or olds k d) (get_or between k d) (calm k d within) (watching k d within) (sought k d within) (sym (same_reader k d within) ∙ is))
 
       -- no others have fresh windows
       pub all_still : All (IsStill (Some stream)) news
@@ -158,7 +160,7 @@ places_kept {A} readers now olds news are same parts stream =
 
 -- a query that has nothing fresh is calmed already
 pub calm_is : {A : Type 0} (live : LiveQuery A) → IsCalm live.watched.items → IsCalmed live live
-calm_is live calm = record { parts = refl; watched = calm_already live.watched.items calm }
+calm_is live calm = record { parts = refl; watched = calm_already live.watched.items calm; due = refl }
 
 -- what was taken back from the readers is taken back from all
 pub calm_all : {A : Type 0} (stream : List ℕ) (olds news : List (LiveQuery A)) → All (IsStill (Some stream)) olds

@@ -29,6 +29,9 @@ pub mod Begun
 pub mod Policies
 pub mod KeptEnds
 pub mod Logging
+pub mod Soonest
+pub mod DueNext
+pub mod FirstReader
 mod WorldRows
 pub mod PlacesRead
 pub mod Calming

@@ -1,5 +1,5 @@
 -- The places of those that pass a test, and what is done at them one after another.
-use Rattle.std.proofs.Common.{◌≡◌, ◌≢◌, ℕ, zero, suc, ◌+◌, ◌-◌, ◌<◌, ◌≤◌, Bool, true, false, true≢false, cond, if◌then◌else◌, ◌||◌, List, [], ◌∷◌, ◌++◌, length, map, filter, take, drop, set, get_or, remove, nat_eq, nat_lt, not, length-set, get_or-set_same, get_or-set_other, refl, sym, ap, subst, ◌∙◌, arith, add-one, append_assoc, append-nil, eqb-true}
+use Rattle.std.proofs.Common.{◌≡◌, ◌≢◌, ℕ, zero, suc, ◌+◌, ◌-◌, ◌<◌, ◌≤◌, Bool, true, false, true≢false, cond, if◌then◌else◌, ◌||◌, List, [], ◌∷◌, ◌++◌, length, map, filter, take, drop, set, get_or, remove, nat_eq, nat_lt, not, length-set, get_or-set_same, get_or-set_other, refl, sym, ap, subst, ◌∙◌, arith, add-one, append-nil, eqb-true}
 use Rattle.std.specs.List.{All, list_any}
 use Rattle.std.proofs.lemmas.Bool.Decides.{nat_tests}
 use Rattle.std.proofs.lemmas.List.{drop_all, get_or_default, take_all, take_more}
@@ -61,7 +61,7 @@ module _ {X : Type 0} (test : X → Bool) where
   place_inside listed xs i d is within =
       subst (λ l. get_or l i d < length xs) (sym is) (place_within xs i d (subst (λ l. i < length l) is within))
 
-  low : (n : ℕ) (xs : List X) (k : ℕ) → k < n → among (places n xs) k ≡ false
+  pub low : (n : ℕ) (xs : List X) (k : ℕ) → k < n → among (places n xs) k ≡ false
   low n [] k less = refl
   low n (x ∷ xs) k less = by (test x) (low (suc n) xs k (omega (arith, less)))
     where

@@ -12,13 +12,16 @@ use Rattle.rsp_algebra.proofs.SameFacts.{SameFacts, same_overfull}
 use Rattle.rsp_terms.specs.declared.term.Term.{Term}
 use Rattle.rsp_multiset.specs.Rows.{Cells}
 use Rattle.rsp_multiset.specs.Weights.{only}
+use Rattle.rsp_scope.specs.Kept.{Kept}
+use Rattle.rsp_scope.specs.Logged.{Log}
 use Rattle.rsp_scope.proofs.Takings.{times-filter}
 use Rattle.rsp_streams_out.specs.Streams.{reported}
 use Rattle.rsp_engine.specs.declared.live_query.LiveQuery.{LiveQuery}
+use Rattle.rsp_engine.specs.declared.report.Outcome.{Outcome}
 use Rattle.rsp_engine.specs.declared.report.Outcome.TheVariants as outcomes
-use Rattle.rsp_engine.specs.Inside.{Answers, live_of}
+use Rattle.rsp_engine.specs.Inside.{Answers, live_of, undated}
 use Rattle.rsp_engine.specs.Reports.{cells_at}
-use Rattle.rsp_engine.specs.Passing.{IsOutcomeOver}
+use Rattle.rsp_engine.specs.Passing.{IsOutcomeOver, IsReported}
 use Rattle.rsp_engine.specs.Stands.{Behind, is_read}
 
 module _ {A : Type 0} (node : A → Node) (width : A → ℕ) (facts : A → List Fact) (spent : A → Bool) (live : LiveQuery A)
@@ -61,3 +64,41 @@ module _ {A : Type 0} (node : A → Node) (width : A → ℕ) (facts : A → Lis
       let of_node = subst (λ n. rows ≡ (reported live.operator preceding (map (cells_at live.query.value.shown) (eval live.query.value.width n (read seen))))) answers.node_is of_width in
       let of_all = of_node ∙ ap (λ solutions. reported live.operator preceding (map (cells_at live.query.value.shown) solutions)) (eval-read live.query.value.width (reads tree) tree (λ fact is. is) seen) in
       rw fits (ap outcomes.Rows of_all)
+
+-- ---- a report doesn't depend on when its query is due next
+
+module _ {A : Type 0} (node : A → Node) (width : A → ℕ) (facts : A → List Fact) (spent : A → Bool)
+    (kept : Kept) (stored : List Fact) (log : Log) (t : ℕ) (live : LiveQuery A) (given : Outcome) where
+  abbrev Was : LiveQuery A → Type 0
+  Was new = IsReported node width facts spent kept stored log t live new given
+
+  without_date : (new : LiveQuery A) → Was new → Was (undated new)
+  without_date new was = record {
+    outcome = was.outcome;
+    same = was.same;
+    watched = was.watched;
+    windows = was.windows;
+    at = was.at;
+    told = was.told;
+    answers = λ rows.
+        let answers = was.answers rows in
+        record { node_is = answers.node_is; width_is = answers.width_is; ready = answers.ready; set = answers.set };
+    follows = was.follows;
+  }
+
+  with_date : (new : LiveQuery A) → Was (undated new) → Was new
+  with_date new was = record {
+    outcome = was.outcome;
+    same = was.same;
+    watched = was.watched;
+    windows = was.windows;
+    at = was.at;
+    told = was.told;
+    answers = λ rows.
+        let answers = was.answers rows in
+        record { node_is = answers.node_is; width_is = answers.width_is; ready = answers.ready; set = answers.set };
+    follows = was.follows;
+  }
+
+  pub reported_dated : (one new : LiveQuery A) → undated new ≡ undated one → Was one → Was new
+  reported_dated one new same was = with_date new (subst Was (sym same) (without_date one was))

@@ -1,9 +1,9 @@
 -- A query's windows, one after another, as they are watched with a new item.
-use Rattle.std.proofs.Common.{◌≡◌, ℕ, zero, suc, ◌+◌, ◌<◌, ◌≤◌, List, [], ◌∷◌, ◌++◌, ◌≢◌, Bool, false, Some, length, map, set, get_or, below_more, length-set, get_or-set_same, get_or-set_other, refl, sym, ap, subst, ◌∙◌, arith, add-one}
+use Rattle.std.proofs.Common.{◌≡◌, ℕ, zero, suc, ◌+◌, ◌<◌, ◌≤◌, List, [], ◌∷◌, ◌++◌, Bool, false, Some, length, map, set, get_or, refl, sym, ap, subst, ◌∙◌, arith, add-one}
 use Rattle.std.specs.Prelude.{bytes_eq, slice_get}
 use Rattle.std.specs.List.{All}
 use Rattle.std.specs.Option.{option_map_or}
-use Rattle.std.proofs.lemmas.List.{get_or_default, length-map, nil_from_length}
+use Rattle.std.proofs.lemmas.List.{length-map, nil_from_length}
 use Rattle.std.proofs.lemmas.List.Elements.{All-cons, All-nil}
 use Rattle.rsp_report.specs.declared.contents.Watched.{Watched}
 use Rattle.rsp_report.specs.Due.{IsFreshAt}
@@ -11,7 +11,7 @@ use Rattle.rsp_report.specs.Seen.{seen_at}
 use Rattle.rsp_engine.specs.declared.live_query.LiveQuery.{LiveQuery}
 use Rattle.rsp_engine.specs.declared.live_query.StreamWindow.{StreamWindow}
 use Rattle.rsp_scope.specs.Contents.{Accepted}
-use Rattle.rsp_engine.specs.Inside.{Parts, asked, fixed, parts_of}
+use Rattle.rsp_engine.specs.Inside.{IsSought, Parts, asked, fixed, parts_of}
 use Rattle.rsp_engine.specs.Watching.{IsPolicy, IsPrompt, IsTimed, IsWatching, Tells, with_time}
 use Rattle.rsp_engine.specs.Watched.{AreWatchedWith, IsMoved, IsWatchedWith}
 use Rattle.rsp_engine.proofs.NewTimes.{tells_more}
@@ -127,6 +127,9 @@ module _ (stream : List ℕ) (time from : ℕ) where
   all_new P each (w ∷ ws) [] news are = absurd are
   all_new P each (w ∷ ws) (old ∷ olds) [] are = absurd are
 
+  pub all_timed : (ws : List StreamWindow) (olds news : List Watched) → AreWatchedWith stream time from ws olds news → All (IsTimed time) news
+  all_timed ws olds news are = all_new (IsTimed time) (λ w old new each. each.timed) ws olds news are
+
   -- ---- a live query
 
   module _ {A : Type 0} (old new : LiveQuery A) (moved : IsMoved stream time from old new) where
@@ -135,7 +138,7 @@ module _ (stream : List ℕ) (time from : ℕ) where
       policy = subst (λ (p : Parts A). IsPolicy p.query.reading.policy) (sym moved.parts) is.policy;
       shapes = same_shapes old.windows old.watched.items new.watched.items moved.watched
           ∙ (is.shapes ∙ ap (λ (p : Parts A). map (λ (w : StreamWindow). w.shape) p.query.reading.windows) (sym moved.parts));
-      timed = all_new (IsTimed time) (λ w old new each. each.timed) old.windows old.watched.items new.watched.items moved.watched;
+      timed = all_timed old.windows old.watched.items new.watched.items moved.watched;
     }
 
     pub moved_prompt : IsWatching from (asked old) → IsPrompt time (Some stream) (asked new)
@@ -172,6 +175,9 @@ module _ (stream : List ℕ) (time from : ℕ) where
       all_tell items item over at firsts told k d within =
           let inside : k < length olds = omega (arith, are.long, within) in
           moved_tells (get_or olds k d) (get_or news k d) (are.each k d inside) items item over at (firsts k d inside) (told k d inside)
+
+      pub all_due : All (λ (live : LiveQuery A). IsSought from live) news
+      all_due k d within = let inside : k < length olds = omega (arith, are.long, within) in (are.each k d inside).sought
 
       pub all_parts : map parts_of news ≡ map parts_of olds
       all_parts = same_by parts_of olds news are.long (λ k d within. (are.each k d within).parts)

@@ -1,5 +1,5 @@
 -- Words of the way: the engine's fields as its state, and what holds of them, for every kind of answer.
-use Rattle.std.specs.Prelude.{◌≡◌, ℕ, ◌≤◌, Bool, false, List, length, map}
+use Rattle.std.specs.Prelude.{◌≡◌, ℕ, ◌<◌, ◌≤◌, Bool, false, Option, None, List, length, map, slice_index_or, unwrap_or}
 use Rattle.std.specs.List.{All}
 use Rattle.rsp_terms.specs.declared.statement.Fact.{Fact}
 use Rattle.rsp_algebra.specs.Changing.{IsSet}
@@ -9,7 +9,9 @@ use Rattle.rsp_algebra.specs.declared.tree.Translated.{Translated}
 use Rattle.rsp_scope.specs.Moves.{Followed}
 use Rattle.rsp_engine.specs.declared.engine.Engine.TheInside.{Inside}
 use Rattle.rsp_engine.specs.declared.live_query.LiveQuery.{LiveQuery}
+use Rattle.rsp_engine.specs.declared.schedule.Pending.{Pending}
 use Rattle.rsp_engine.specs.Readers.{AreRead}
+use Rattle.rsp_engine.specs.Sought.{IsDueNext, look_of}
 use Rattle.rsp_engine.specs.Watching.{Asked}
 use Rattle.rsp_engine.specs.World.{Registration}
 use Rattle.rsp_engine.specs.Stands.{State, Live, IsState}
@@ -55,7 +57,20 @@ fixed live =
 abbrev pub asked : {A : Type 0} → LiveQuery A → Asked
 asked live = record { name = live.name; policy = live.policy; windows = live.windows; watched = live.watched.items }
 
--- all of a live query but the times that it watches
+-- it is known when it is due next, from an instant on
+abbrev pub IsSought : {A : Type 0} → ℕ → LiveQuery A → Type 0
+IsSought from live = IsDueNext from (asked live) live.due
+
+-- this is known of each, from where it is still to be looked at on
+abbrev pub AreSought : {A : Type 0} → ℕ → Option Pending → List (LiveQuery A) → Type 0
+AreSought {A} next first queries =
+    (i : ℕ) (d : LiveQuery A) → i < length queries → IsSought (look_of next first i) (slice_index_or queries i d)
+
+-- all of a live query but when it is due next
+abbrev pub undated : {A : Type 0} → LiveQuery A → LiveQuery A
+undated live = record live { due = None }
+
+-- all of a live query but the times that it watches and when it is due next
 pub record Parts (A : Type 0) : Type 0 where
   pub query : Registration
   pub translated : Translated
@@ -103,6 +118,10 @@ pub record IsReady {A : Type 0} (node : A → Node) (width : A → ℕ) (facts :
   pub answers : All (Answers node width facts spent) e.queries.items
   pub room : length e.streams.items ≤ e.ends.cap
 
--- an engine to which memory was refused owes nothing; of any other the readers of each stream are known
+-- an engine to which memory was refused owes nothing; of any other the readers of each stream are known, and when each query is
+-- due next
 abbrev pub IsEngine : {A : Type 0} → (A → Node) → (A → ℕ) → (A → List Fact) → (A → Bool) → Inside A → Type 0
-IsEngine node width facts spent e = e.broken ≡ false → IsReady node width facts spent e × AreRead e.readers e.queries.items
+IsEngine node width facts spent e =
+    e.broken ≡ false
+    → IsReady node width facts spent e × (AreRead e.readers e.queries.items
+    × AreSought (unwrap_or e.next 0) e.first e.queries.items)

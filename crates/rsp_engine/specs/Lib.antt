@@ -21,3 +21,4 @@ pub mod Watched
 pub mod Readers
 pub mod Seeing
 pub mod Keeping
+pub mod Sought

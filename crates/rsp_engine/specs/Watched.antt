@@ -5,7 +5,7 @@ use Rattle.rsp_report.specs.Due.{IsFreshAt}
 use Rattle.rsp_report.specs.Seen.{seen_at}
 use Rattle.rsp_engine.specs.declared.live_query.LiveQuery.{LiveQuery}
 use Rattle.rsp_engine.specs.declared.live_query.StreamWindow.{StreamWindow}
-use Rattle.rsp_engine.specs.Inside.{parts_of}
+use Rattle.rsp_engine.specs.Inside.{IsSought, parts_of}
 use Rattle.rsp_engine.specs.Watching.{IsTimed, with_time}
 
 -- a window with the time of a new item, where that is over its stream, and without times that are in no content from `from` -
@@ -23,10 +23,12 @@ AreWatchedWith stream time from (w ∷ ws) (old ∷ olds) (new ∷ news) =
     IsWatchedWith stream time from w old new × AreWatchedWith stream time from ws olds news
 AreWatchedWith stream time from _ _ _ = ⊥
 
--- all of a query but its times is the same, and it watches its windows with the item
+-- all of a query but its times is the same, it watches its windows with the item, and it is known when it is due next, from
+-- `from` on
 pub record IsMoved {A : Type 0} (stream : List ℕ) (time from : ℕ) (old new : LiveQuery A) : Type 0 where
   pub parts : parts_of new ≡ parts_of old
   pub watched : AreWatchedWith stream time from old.windows old.watched.items new.watched.items
+  pub sought : IsSought from new
 
 -- a window that isn't fresh
 abbrev pub calmed : Watched → Watched
@@ -36,6 +38,7 @@ calmed w = record { window = w.window; times = w.times; fresh = false }
 pub record IsCalmed {A : Type 0} (old new : LiveQuery A) : Type 0 where
   pub parts : parts_of new ≡ parts_of old
   pub watched : new.watched.items ≡ map calmed old.watched.items
+  pub due : new.due ≡ old.due
 
 -- those that pass changed so, the others not
 pub record AreChanged {X : Type 0} (test : X → Bool) (R : X → X → Type 0) (olds news : List X) : Type 0 where

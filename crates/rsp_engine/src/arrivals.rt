@@ -8,7 +8,7 @@ ghost use Rattle.rsp_terms.specs.declared.statement.Triple.{Triple};
 ghost use Rattle.rsp_scope.specs.Contents.{Accepted};
 ghost use Rattle.rsp_report.specs.Due.{IsFreshAt};
 ghost use Rattle.rsp_report.specs.Seen.{seen_at};
-ghost use Rattle.rsp_engine.specs.Inside.{asked, fixed, parts_of};
+ghost use Rattle.rsp_engine.specs.Inside.{IsSought, asked, fixed, parts_of};
 ghost use Rattle.rsp_engine.specs.Watching.{IsPrompt, IsTimed, IsWatching, Tells, with_time};
 ghost use Rattle.rsp_engine.specs.Readers.{AreRead, is_reader, places_from, readers_of};
 ghost use Rattle.rsp_engine.specs.Watched.{AreChanged, AreWatchedWith, IsCalmed, IsMoved};
@@ -16,13 +16,15 @@ ghost use Rattle.rsp_engine.specs.declared.live_query.LiveQuery.{LiveQuery};
 
 use crate::live_query::{LiveQuery, StreamWindow};
 use crate::readers::Readers;
+use crate::schedule::look;
 use rsp_report::Watched;
 use rsp_scope::forget_times;
 use rsp_terms::Text;
 use std::alloc::{AllocError, Global};
 
-/// Adds the time of an item to the windows over its stream, which are then fresh and no others, and lets go of their times that
-/// are in no content from `from` - 1 ms on. Fails only where memory is refused; some queries may then watch it and others not.
+/// Adds the time of an item to the windows over its stream, which are then fresh and no others, lets go of their times that are
+/// in no content from `from` - 1 ms on, and finds when their queries are due next, from `from` on. Fails only where memory is
+/// refused; some queries may then watch the item and others not.
 pub(crate) fn watch<A>(
     alloc: Global,
     queries: &mut [LiveQuery<A>],
@@ -33,9 +35,11 @@ pub(crate) fn watch<A>(
 ) -> Result<(), AllocError>
     requires watching { All (λ live. IsWatching from (asked live)) queries.old }
     requires read { AreRead readers.old queries.old }
+    requires sought { All (λ live. IsSought from live) queries.old }
     requires later { from ≤ time }
     requires instant { time ≤ last_instant }
     ensures parts { OnOk result (map parts_of queries.new ≡ map parts_of queries.old) }
+    ensures sought { OnOk result (All (λ live. IsSought from live) queries.new) }
     ensures read { OnOk result (AreRead readers.new queries.new) }
     ensures prompt { OnOk result (All (λ live. IsPrompt time (Some stream.now) (asked live)) queries.new) }
     ensures told { OnOk result ((items : List Accepted) (graph : List Triple)
@@ -121,11 +125,13 @@ fn watch_query<A>(
     ensures parts { OnOk result (parts_of live.new ≡ parts_of live.old) }
     ensures watched { OnOk result (AreWatchedWith stream.now time from live.old.windows
         live.old.watched.items live.new.watched.items) }
+    ensures sought { OnOk result (IsSought from live.new) }
 {
     for window in 0..live.watched.len() {
         let over = is_over(live.windows.as_slice(), window, stream);
         watch_window(alloc, &mut live.watched[window], over, time, from)?;
     }
+    look(live, from);
     Ok(())
 }
 

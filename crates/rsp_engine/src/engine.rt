@@ -4,7 +4,7 @@ ghost use Rattle.std.specs.Prelude.{None, Some, false, if◌then◌else◌, leng
 ghost use Rattle.std.specs.List.{All, list_any};
 ghost use Rattle.rsp_spec.specs.Limits.{last_instant, most_queries, most_triples};
 ghost use Rattle.rsp_engine.specs.Accept.{has_name};
-ghost use Rattle.rsp_engine.specs.Inside.{asked, fixed, live_of};
+ghost use Rattle.rsp_engine.specs.Inside.{AreSought, IsSought, asked, fixed, live_of, undated};
 ghost use Rattle.rsp_engine.specs.Left.{IsFirstLeft};
 ghost use Rattle.rsp_engine.specs.Passing.{is_overfull_outcome};
 ghost use Rattle.rsp_engine.specs.Readers.{AreRead, IsCalm};
@@ -15,8 +15,8 @@ use crate::live_query::LiveQuery;
 use crate::readers::Readers;
 use crate::registering::begun;
 use crate::reporting::report_at;
-use crate::retention::{Arrival, cut_at, end_of, let_go, lower, take, too_many};
-use crate::schedule::{Pending, first_left};
+use crate::retention::{Arrival, end_of, let_go, lower, take, too_many};
+use crate::schedule::{Pending, cut_at, first_left, set_out};
 use crate::storing::{delete, insert};
 use crate::texts::{Asked, read};
 use crate::{EngineFault, Outcome, Refused, Report};
@@ -83,7 +83,7 @@ impl<A: Answer> Engine<A> {
     ghost use Rattle.rsp_engine.specs.declared.refused.Refused.TheVariants.{OutOfMemory};
     ghost use Rattle.rsp_engine.specs.Accept.{has_name};
     ghost use Rattle.rsp_engine.specs.Contents.{watches};
-    ghost use Rattle.rsp_engine.specs.Inside.{Answers, asked, live_of};
+    ghost use Rattle.rsp_engine.specs.Inside.{Answers, IsSought, asked, live_of};
     ghost use Rattle.rsp_engine.specs.Keeping.{accepted_of, excess, watches_followed};
     ghost use Rattle.rsp_engine.specs.Kept.{held};
     ghost use Rattle.rsp_engine.specs.Passing.{Begins, CostsFirst, IsAsked, Passes, ReportsFirst};
@@ -224,7 +224,8 @@ impl<A: Answer> Engine<A> {
         ensures { (text : List ℕ) → parse text ≡ Ok (registered asked.query.value)
             → Offers self.old (Event.Register name text) result self.new }
     {
-        match begun(self.alloc, name, asked, self.streams.accepted()) {
+        let next = self.first_incomplete();
+        match begun(self.alloc, name, asked, self.streams.accepted(), next) {
             Ok(Some(query)) => self.go_live(query),
             Ok(None) => Err(Refused::StartOverfull),
             Err(AllocError) => Err(self.break_off()),
@@ -239,6 +240,7 @@ impl<A: Answer> Engine<A> {
         requires begins { Begins self.old (live_of A.facts query) }
         requires prompt { IsPrompt (next_in self.old) self.old.arrived (asked query) }
         requires calm { IsCalm query.watched.items }
+        requires sought { IsSought (next_in self.old) query }
         requires watches { watches_followed query.contents.items ≡ watches query.first query.windows }
         requires answers { Answers A.node A.width A.facts A.spent query }
         ensures ok { OnOk result (self.new ≡ record self.old { queries = self.old.queries ++ live_of A.facts query ∷ [] }) }
@@ -444,8 +446,13 @@ impl<A: Answer> Engine<A> {
         ) {
             Ok(stream) => {
                 let arrived = Some(stream);
-                let queries = self.queries.as_slice();
-                self.first = first_moment(queries, &arrived, self.next, time);
+                self.first = first_moment(
+                    &mut self.queries,
+                    &self.readers,
+                    &arrived,
+                    self.next,
+                    time,
+                );
                 self.arrived = arrived;
                 self.next = Some(time);
                 self.streams.drop_before(cut_at(self.first, time));
@@ -466,8 +473,7 @@ impl<A: Answer> Engine<A> {
         requires instant { to ≤ last_instant + 1 }
         ensures { Passes self.old [] None to self.new }
     {
-        let queries = self.queries.as_slice();
-        self.first = first_moment(queries, &None, self.next, to);
+        self.first = first_moment(&mut self.queries, &self.readers, &None, self.next, to);
         self.arrived = None;
         self.next = Some(to);
         self.streams.drop_before(cut_at(self.first, to));
@@ -533,7 +539,7 @@ impl<A: Answer> Engine<A> {
                     query,
                 };
                 let queries = self.queries.as_slice();
-                self.first = first_left(queries, &self.arrived, next, from);
+                self.first = first_left(queries, &self.readers, &self.arrived, next, from);
                 let_go(
                     queries,
                     &mut self.streams,
@@ -582,22 +588,28 @@ fn remove_at<A: Drop>(queries: &mut Vec<LiveQuery<A>>, readers: &mut Readers, pl
 
 // the place of the first moment once every instant before `to` is complete, where those before `next` are worked off
 fn first_moment<A>(
-    queries: &[LiveQuery<A>],
+    queries: &mut Vec<LiveQuery<A>>,
+    readers: &Readers,
     arrived: &Option<Text>,
     next: Option<u64>,
     to: u64,
 ) -> Option<Pending>
-    requires prompt { All (λ live. IsPrompt to arrived.now (asked live)) queries.now }
+    requires prompt { All (λ live. IsPrompt to arrived.now (asked live)) queries.old.items }
+    requires read { AreRead readers.now queries.old.items }
+    requires sought { All (λ live. IsSought (unwrap_or next 0) live) queries.old.items }
     requires later { unwrap_or next to ≤ to }
     requires instant { to ≤ last_instant + 1 }
-    ensures { IsFirstLeft (λ live. name_of (asked live)) (λ t live. reports_by to arrived.now t (asked live)) queries.now to
-        (unwrap_or next to) 0 result }
+    ensures same { map undated queries.new.items ≡ map undated queries.old.items }
+    ensures first { IsFirstLeft (λ live. name_of (asked live)) (λ t live. reports_by to arrived.now t (asked live))
+        queries.new.items to (unwrap_or next to) 0 result }
+    ensures sought { AreSought to result queries.new.items }
 {
+    set_out(queries, next, to);
     let from = Pending {
         at: next.unwrap_or(to),
         query: 0,
     };
-    first_left(queries, arrived, to, from)
+    first_left(queries.as_slice(), readers, arrived, to, from)
 }
 
 // takes out a query whose report is overfull; gives the place of the query behind it

@@ -36,6 +36,9 @@ pub struct LiveQuery<A> {
     pub place: u64,
     /// Each window with the times of the items over its stream that the query may see.
     pub watched: Vec<Watched>,
+    /// The least instant at which it is due, from where it is still to be looked at on, in ms since 1970. None where there is
+    /// none, and where it looks at items.
+    pub due: Option<u64>,
     /// Each window with its content as of the last report.
     pub contents: Vec<Contents>,
     pub answer: A,

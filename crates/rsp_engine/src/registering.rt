@@ -6,7 +6,7 @@ ghost use Rattle.rsp_algebra.specs.Meanings.{node_of};
 ghost use Rattle.rsp_shapes.specs.Visible.{name_of};
 ghost use Rattle.rsp_engine.specs.Accept.{new_query};
 ghost use Rattle.rsp_engine.specs.Due.{watched_window};
-ghost use Rattle.rsp_engine.specs.Inside.{Answers, fixed};
+ghost use Rattle.rsp_engine.specs.Inside.{Answers, IsSought, fixed};
 ghost use Rattle.rsp_engine.specs.Contents.{watches};
 ghost use Rattle.rsp_engine.specs.Keeping.{IsUnmoved, watches_followed};
 ghost use Rattle.rsp_engine.specs.Watching.{IsPolicy};
@@ -14,6 +14,7 @@ ghost use Rattle.rsp_engine.specs.Passing.{IsAsked, IsBegun};
 ghost use Rattle.rsp_engine.specs.Readings as readings;
 
 use crate::live_query::{LiveQuery, StreamWindow};
+use crate::schedule::due_from;
 use crate::texts::Asked;
 use rsp_algebra::Answer;
 use rsp_query::WindowClause;
@@ -103,17 +104,19 @@ fn unmoved(alloc: Global, clauses: &[WindowClause], first: u64) -> Result<Vec<Co
 }
 
 /// The live query of a query without fault, over no facts; None exactly where it has too many rows over none. It sees the items
-/// from number `first` on. Fails only where memory is refused.
+/// from number `first` on, and is looked at from the instant `from` on, in ms since 1970. Fails only where memory is refused.
 pub(crate) fn begun<A: Answer>(
     alloc: Global,
     name: Text,
     asked: Asked,
     first: u64,
+    from: u64,
 ) -> Result<Option<LiveQuery<A>>, AllocError>
     requires { IsAsked asked }
     ensures query { IfOk result (IsBegun name (registered asked.query.value) first) }
     ensures policy { IfOk result (λ live. IfSome live (λ live. IsPolicy live.policy)) }
     ensures watched { IfOk result (λ live. IfSome live (λ live. live.watched.items ≡ map (watched_window []) live.windows)) }
+    ensures sought { IfOk result (λ live. IfSome live (λ live. IsSought from live)) }
     ensures seen { IfOk result (λ live. IfSome live (λ live. A.facts live.answer ≡ [])) }
     ensures unmoved { IfOk result (λ live. IfSome live (λ live. All IsUnmoved live.contents.items)) }
     ensures watches { IfOk result (λ live. IfSome live (λ live.
@@ -122,7 +125,7 @@ pub(crate) fn begun<A: Answer>(
 {
     match A::start(alloc, &asked.made)? {
         None => Ok(None),
-        Some(answer) => Ok(Some(live_query(alloc, name, asked, first, answer)?)),
+        Some(answer) => Ok(Some(live_query(alloc, name, asked, first, from, answer)?)),
     }
 }
 
@@ -131,6 +134,7 @@ fn live_query<A: Answer>(
     name: Text,
     asked: Asked,
     first: u64,
+    from: u64,
     answer: A,
 ) -> Result<LiveQuery<A>, AllocError>
     requires asked { IsAsked asked }
@@ -143,6 +147,7 @@ fn live_query<A: Answer>(
     ensures reported { IfOk result (λ live. live.reported ≡ false) }
     ensures policy { IfOk result (λ live. IsPolicy live.policy) }
     ensures watched { IfOk result (λ live. live.watched.items ≡ map (watched_window []) live.windows) }
+    ensures sought { IfOk result (λ live. IsSought from live) }
     ensures seen { IfOk result (λ live. A.facts live.answer ≡ []) }
     ensures unmoved { IfOk result (λ live. All IsUnmoved live.contents.items) }
     ensures watches { IfOk result (λ live. watches_followed live.contents.items ≡ watches first live.windows) }
@@ -156,6 +161,7 @@ fn live_query<A: Answer>(
     let variables = names_of(alloc, &query.variables, made.shown.as_slice())?;
     let windows = stream_windows(alloc, &query.windows)?;
     let watched = unwatched(alloc, &query.windows)?;
+    let due = due_from(&policy, watched.as_slice(), from);
     let contents = unmoved(alloc, &query.windows, first)?;
     Ok(LiveQuery {
         name,
@@ -169,6 +175,7 @@ fn live_query<A: Answer>(
         reported: false,
         place: 0,
         watched,
+        due,
         contents,
         answer,
     })

@@ -8,19 +8,22 @@ ghost use Rattle.rsp_terms.specs.declared.statement.Fact.{Fact};
 ghost use Rattle.rsp_multiset.specs.Rows.{Cells, row_eq};
 ghost use Rattle.rsp_multiset.specs.Weights.{IsChanged, IsSameMultiset, only, times, weight};
 ghost use Rattle.rsp_algebra.specs.Solutions.{eval};
+ghost use Rattle.rsp_report.specs.Due.{IsWatched};
 ghost use Rattle.rsp_scope.specs.Contents.{Accepted};
 ghost use Rattle.rsp_scope.specs.Ends.{HasContent};
 ghost use Rattle.rsp_scope.specs.Moves.{Followed, HasSeen, IsReached};
 ghost use Rattle.rsp_streams_out.specs.Rows.{in_order};
 ghost use Rattle.rsp_streams_out.specs.Streams.{reported};
 ghost use Rattle.rsp_engine.specs.Contents.{watches};
-ghost use Rattle.rsp_engine.specs.Inside.{Answers, live_of};
+ghost use Rattle.rsp_engine.specs.Inside.{Answers, IsSought, live_of};
 ghost use Rattle.rsp_engine.specs.Keeping.{watches_followed};
 ghost use Rattle.rsp_engine.specs.Passing.{CostsReport, HasContents, IsFollowed, IsReported};
 ghost use Rattle.rsp_engine.specs.Reports.{cells_at};
 ghost use Rattle.rsp_engine.specs.Stands.{Behind, IsStore, facts_followed, is_read, unseen};
+ghost use Rattle.rsp_engine.specs.Watching.{IsPolicy};
 
 use crate::rows::{changed_rows, shown_rows};
+use crate::schedule::look;
 use crate::{LiveQuery, Outcome, Report};
 use rsp_algebra::{Answer, Turn};
 use rsp_multiset::{Changes, Row};
@@ -32,8 +35,9 @@ use std::alloc::{AllocError, Global};
 use std::sync::ledger::Ledger;
 
 /// The report of a live query at `at`, in ms since 1970, over the stored quads and the kept items. Where it isn't overfull, the
-/// query has then seen what is logged, and its windows the contents of that instant. Takes at most the work that leads there.
-/// Fails only where memory is refused; the query is then only to be dropped.
+/// query has then seen what is logged, and its windows the contents of that instant. When it is due next is then known from the
+/// instant behind on. Takes at most the work that leads there. Fails only where memory is refused; the query is then only to be
+/// dropped.
 pub(crate) fn report_at<A: Answer, L: Ledger>(
     alloc: Global,
     live: &mut LiveQuery<A>,
@@ -44,6 +48,8 @@ pub(crate) fn report_at<A: Answer, L: Ledger>(
     steps: &mut Steps<L>,
 ) -> Result<Report, AllocError>
     requires instant { at ≤ last_instant + 1 }
+    requires policy { IsPolicy live.old.policy }
+    requires watched { All IsWatched live.old.watched.items }
     requires store { IsStore stored.now }
     requires watches { watches_followed live.old.contents.items ≡ watches live.old.first live.old.windows }
     requires reached { All (λ (seen : Followed). IsReached seen.at at) live.old.contents.items }
@@ -54,11 +60,13 @@ pub(crate) fn report_at<A: Answer, L: Ledger>(
     ensures variables { IfOk result (λ report. report.variables ≡ live.old.variables) }
     ensures reported { IfOk result (λ report. IsReported A.node A.width A.facts A.spent
         streams.now stored.now log.now at live.old live.new report.outcome) }
+    ensures sought { OnOk result (IsSought (at + 1) live.new) }
     ensures cost { CostsReport streams.now stored.now log.now at (live_of A.facts live.old) steps.old steps.new }
 {
     let query = live.name.share()?;
     let variables = shared(alloc, live.variables.as_slice())?;
     let outcome = outcome_at(alloc, live, streams, stored, log, at, steps)?;
+    look(live, at + 1);
     Ok(Report {
         query,
         at,

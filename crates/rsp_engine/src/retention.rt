@@ -1,7 +1,6 @@
 // The items that are kept: until when each is needed, and letting go of the others.
 ghost use Rattle.std.specs.Prelude.{◌≡◌, ◌≤◌, ◌+◌, ◌^◌, ◌++◌, ◌∷◌, ℕ, List, [], None, Some, true, false, OnOk, IfOk, length, map};
 ghost use Rattle.std.specs.List.{All};
-ghost use Rattle.std.specs.Option.{option_map_or};
 ghost use Rattle.rsp_spec.specs.Limits.{last_instant, most_triples};
 ghost use Rattle.rsp_terms.specs.declared.statement.Triple.{Triple};
 ghost use Rattle.rsp_scope.specs.Contents.{Accepted, Numbered, Watch};
@@ -9,19 +8,17 @@ ghost use Rattle.rsp_scope.specs.Ends.{as_accepted, AreEnds, EndsAt, IsKept};
 ghost use Rattle.rsp_scope.specs.Kept.{taken};
 ghost use Rattle.rsp_scope.specs.Needed.{is_needed};
 ghost use Rattle.rsp_scope.specs.declared.item.Item.{Item};
-ghost use Rattle.rsp_engine.specs.Inside.{asked, fixed, parts_of};
+ghost use Rattle.rsp_engine.specs.Inside.{IsSought, asked, fixed, parts_of};
 ghost use Rattle.rsp_engine.specs.Contents.{watches};
 ghost use Rattle.rsp_engine.specs.Readers.{AreRead};
 ghost use Rattle.rsp_engine.specs.Keeping.{EndsBy, IsLess, accepted_of, excess, watches_by, watches_followed};
 ghost use Rattle.rsp_engine.specs.Passing.{is_overfull_outcome};
 ghost use Rattle.rsp_engine.specs.Watching.{IsPrompt, IsWatching, Tells};
-ghost use Rattle.rsp_engine.specs.declared.schedule.Pending.{Pending};
 
 use crate::Outcome;
 use crate::arrivals::watch;
 use crate::live_query::LiveQuery;
 use crate::readers::Readers;
-use crate::schedule::Pending;
 use rsp_scope::{Contents, Streams, later};
 use rsp_spec::limits::MOST_HELD;
 use rsp_terms::{Listed, Text, Triple};
@@ -101,12 +98,14 @@ pub(crate) fn take<A>(
 ) -> Result<Text, AllocError>
     requires watching { All (λ live. IsWatching from (asked live)) queries.old }
     requires read { AreRead readers.old queries.old }
+    requires sought { All (λ live. IsSought from live) queries.old }
     requires later { from ≤ arrival.time }
     requires instant { arrival.time ≤ last_instant }
     ensures stream { IfOk result (λ stream. stream ≡ arrival.stream) }
     ensures kept { OnOk result (streams.new ≡ taken streams.old arrival.stream arrival.time arrival.graph arrival.end) }
     ensures room { OnOk result (length streams.new.items ≤ ends.new.cap) }
     ensures parts { OnOk result (map parts_of queries.new ≡ map parts_of queries.old) }
+    ensures sought { OnOk result (All (λ live. IsSought from live) queries.new) }
     ensures read { OnOk result (AreRead readers.new queries.new) }
     ensures prompt { OnOk result (All (λ live. IsPrompt arrival.time (Some arrival.stream) (asked live)) queries.new) }
     ensures told { OnOk result ((items : List Accepted)
@@ -121,16 +120,6 @@ pub(crate) fn take<A>(
     let graph = arrival.graph.into_vec();
     streams.take(&arrival.stream, arrival.time, graph, arrival.end)?;
     Ok(arrival.stream)
-}
-
-/// The instant of the first moment left, and `next` where none is.
-pub(crate) fn cut_at(first: Option<Pending>, next: u64) -> u64
-    ensures { result ≡ option_map_or (λ (place : Pending). place.at) first next }
-{
-    match first {
-        Some(place) => place.at,
-        None => next,
-    }
 }
 
 /// Lets go of what isn't needed behind a report: by queries that go on, or without one that was overfull.

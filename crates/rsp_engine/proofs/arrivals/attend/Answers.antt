@@ -36,7 +36,7 @@ loop-index-preserved g c =
     more_done (IsMoved c.args.stream.now c.args.time c.args.from) (is_reader c.args.stream.now) c.of-places.result.now c.args.queries.now
     c.loop-index.queries c.loop-index.index 0 (c.of-places.ensures ∙ c.requires.read) within c.loop-index.invariant
     c.index-queries-place.result c.watch_query.new.live
-    (record { parts = c.in_ok-watch_query.ensures.parts; watched = c.in_ok-watch_query.ensures.watched })
+    (record { parts = c.in_ok-watch_query.ensures.parts; watched = c.in_ok-watch_query.ensures.watched; sought = c.in_ok-watch_query.ensures.sought })
 
 pub returns : goal.returns
 returns g c =

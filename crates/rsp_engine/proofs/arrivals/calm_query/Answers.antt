@@ -12,6 +12,7 @@ loop-window-preserved g c =
     let below : i < length old.items = omega (arith, old.ok.0) in
     record {
       parts = c.loop-window.invariant.parts;
+      due = c.loop-window.invariant.due;
       watched =
           ap (λ l. set l i (calmed one)) is
           ∙ more_mapped calmed old.items i one (calmed one) below (subst (λ l. one ≡ get_or l i one) is c.index_mut.ensures.value) refl;
@@ -24,5 +25,6 @@ returns g c =
     let end : length old.items ≤ i = omega (arith, old.ok.0) in
     record {
       parts = c.loop-window.invariant.parts;
+      due = c.loop-window.invariant.due;
       watched = c.loop-window.invariant.watched ∙ all_mapped calmed old.items i end;
     }

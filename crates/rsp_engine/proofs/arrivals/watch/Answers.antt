@@ -6,7 +6,7 @@ use Rattle.rsp_engine.specs.declared.live_query.LiveQuery.{LiveQuery}
 use Rattle.rsp_engine.specs.declared.readers.Readers.{Readers}
 use Rattle.rsp_engine.proofs.Calming.{all_moved, all_still, calmed_watching, places_kept}
 use Rattle.rsp_engine.proofs.PlacesRead.{places_map}
-use Rattle.rsp_engine.proofs.WatchedWith.{all_parts, all_prompt, all_tell, same_by}
+use Rattle.rsp_engine.proofs.WatchedWith.{all_due, all_parts, all_prompt, all_tell, same_by}
 use Rattle.rsp_engine.proofs.arrivals.watch.Goals as goal
 
 pub attend-requires-clause-watching : goal.attend-requires-clause-watching
@@ -28,12 +28,13 @@ returns g c =
     let news = c.attend.new.queries in
     let stream = c.args.stream.now in
     let changed = c.in_ok-attend.ensures in
-    let moved = all_moved stream c.args.time c.args.from c.requires.later olds c.calm.new.queries news c.calm.ensures.long c.calm.ensures.calmed changed c.requires.watching in
-    let still = all_still stream c.args.time c.args.from c.requires.later olds c.calm.new.queries news c.calm.ensures.long c.calm.ensures.calmed changed c.requires.watching in
+    let moved = all_moved stream c.args.time c.args.from c.requires.later olds c.calm.new.queries news c.calm.ensures.long c.calm.ensures.calmed changed c.requires.watching c.requires.sought in
+    let still = all_still stream c.args.time c.args.from c.requires.later olds c.calm.new.queries news c.calm.ensures.long c.calm.ensures.calmed changed c.requires.watching c.requires.sought in
     let parts = all_parts stream c.args.time c.args.from olds news moved in
     let newest : c.note.new.self.newest ≡ Some stream = ap (λ (r : Readers). r.newest) c.note.ensures ∙ ap Some c.in_ok-newest.ensures in
     record {
       parts = parts;
+      sought = all_due stream c.args.time c.args.from olds news moved;
       read = record {
         places = places_kept c.args.readers.now c.note.new.self olds news c.requires.read (λ s. ap (λ (r : Readers). readers_of r s) c.note.ensures) parts;
         still = subst (λ o. All (IsStill o) news) (sym newest) still;

@@ -1,8 +1,13 @@
-use Rattle.std.proofs.Common.{◌∙◌, false, ap, arith}
+use Rattle.std.proofs.Common.{◌∙◌, false, ap, arith, subst, sym}
 use Rattle.std.specs.Prelude.{bytes_eq, slice_get}
 use Rattle.std.specs.Option.{option_map_or}
 use Rattle.rsp_engine.specs.declared.live_query.StreamWindow.{StreamWindow}
-use Rattle.rsp_engine.proofs.WatchedWith.{all_so_far, more_so_far, so_far_long, timed_before}
+use Rattle.rsp_engine.specs.declared.live_query.LiveQuery.{LiveQuery}
+use Rattle.rsp_engine.specs.Inside.{Parts, parts_of}
+use Rattle.rsp_engine.specs.Watched.{AreWatchedWith}
+use Rattle.rsp_engine.specs.Watching.{IsPolicy}
+use Rattle.rsp_engine.proofs.Watches.{timed_watched}
+use Rattle.rsp_engine.proofs.WatchedWith.{all_so_far, all_timed, more_so_far, so_far_long, timed_before}
 use Rattle.rsp_engine.proofs.arrivals.watch_query.Goals as goal
 
 pub watch_window-requires-clause-timed : goal.watch_window-requires-clause-timed
@@ -39,8 +44,25 @@ loop-window-preserved g c =
           c.in_ok-watch_window.ensures.seen;
     }
 
+pub look-requires-clause-policy : goal.look-requires-clause-policy
+look-requires-clause-policy g c =
+    subst (λ (p : Parts g.row.A.Denot). IsPolicy p.query.reading.policy) (sym c.loop-window.invariant.parts) c.requires.watching.policy
+
+pub look-requires-clause-watched : goal.look-requires-clause-watched
+look-requires-clause-watched g c =
+    let live = c.args.live.now in
+    timed_watched c.args.time c.loop-window.live.watched.items
+    (all_timed c.args.stream.now c.args.time c.args.from live.windows live.watched.items c.loop-window.live.watched.items
+    (all_so_far c.args.stream.now c.args.time c.args.from c.loop-window.window live.windows live.watched.items
+    c.loop-window.live.watched.items c.loop-window.invariant.watched (omega (arith, live.watched.ok.0))))
+
+pub returns-clause-parts : goal.returns-clause-parts
+returns-clause-parts g c = ap (λ (l : LiveQuery g.row.A.Denot). parts_of l) c.look.ensures.same ∙ c.loop-window.invariant.parts
+
 pub returns-clause-watched : goal.returns-clause-watched
 returns-clause-watched g c =
     let live = c.args.live.now in
-    all_so_far c.args.stream.now c.args.time c.args.from c.loop-window.window live.windows live.watched.items
-    c.loop-window.live.watched.items c.loop-window.invariant.watched (omega (arith, live.watched.ok.0))
+    subst (AreWatchedWith c.args.stream.now c.args.time c.args.from live.windows live.watched.items)
+    (sym (ap (λ (l : LiveQuery g.row.A.Denot). l.watched.items) c.look.ensures.same))
+    (all_so_far c.args.stream.now c.args.time c.args.from c.loop-window.window live.windows live.watched.items
+    c.loop-window.live.watched.items c.loop-window.invariant.watched (omega (arith, live.watched.ok.0)))

@@ -1,5 +1,9 @@
-use Rattle.rsp_engine.proofs.Begun.{none_set}
+use Rattle.std.proofs.Common.{◌∙◌}
+use Rattle.rsp_engine.proofs.Begun.{begun_watched, none_set}
 use Rattle.rsp_engine.proofs.registering.live_query.Goals as goal
+
+pub due_from-due-requires-clause-watched : goal.due_from-due-requires-clause-watched
+due_from-due-requires-clause-watched g c = begun_watched _ _ (c.as_slice-2.ensures.value ∙ c.in_ok-watched.ensures)
 
 pub returns-clause-answers : goal.returns-clause-answers
 returns-clause-answers g c =

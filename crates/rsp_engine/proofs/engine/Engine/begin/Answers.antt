@@ -30,6 +30,9 @@ go_live-requires-clause-prompt g c =
 pub go_live-requires-clause-calm : goal.go_live-requires-clause-calm
 go_live-requires-clause-calm g c = begun_calm c.in-Ok-Some.query.watched.items c.in-Ok-Some.query.windows (rw c.in-Ok-Some.field-0-is at c.in-Ok-Some.ensures.watched)
 
+pub go_live-requires-clause-sought : goal.go_live-requires-clause-sought
+go_live-requires-clause-sought g c = rw (c.in-Ok-Some.field-0-is, c.first_incomplete-next.ensures) at c.in-Ok-Some.ensures.sought
+
 pub returns-in-Ok-Some : goal.returns-in-Ok-Some
 returns-in-Ok-Some g c = λ text is.
     let old = c.args.self.now in

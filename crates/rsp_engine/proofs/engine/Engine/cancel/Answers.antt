@@ -1,7 +1,8 @@
-use Rattle.std.proofs.Common.{[], refl}
+use Rattle.std.proofs.Common.{[], refl, unwrap_or}
 use Rattle.rsp_engine.specs.Inside.{IsReady, state_of}
 use Rattle.rsp_engine.specs.Stands.{Stands}
 use Rattle.rsp_engine.proofs.Cancelling.{fits_without, lives, timed_below}
+use Rattle.rsp_engine.proofs.DueNext.{sought_less}
 use Rattle.rsp_engine.proofs.Offering.{cancel_leads, no_query_refuses}
 use Rattle.rsp_engine.proofs.Readiness.{idle_first, ready_without}
 use Rattle.rsp_engine.proofs.engine.Engine.cancel.Goals as goal
@@ -17,7 +18,7 @@ lower-requires-clause-timed g c =
     timed_below c.self.inside.streams.items _ sound.state.next_high sound.state.timed
 
 pub remove_at-requires-clause-read : goal.remove_at-requires-clause-read
-remove_at-requires-clause-read g c = (c.self.invariant (rw (← c.self.view_is) at c.requires.ready)).1
+remove_at-requires-clause-read g c = (c.self.invariant (rw (← c.self.view_is) at c.requires.ready)).1.0
 
 pub invariant_of-self : goal.invariant_of-self
 invariant_of-self g c = λ _.
@@ -27,7 +28,12 @@ invariant_of-self g c = λ _.
     let kept = rw (c.as_slice.ensures.value, cut, ← c.self.view_is) at c.lower.ensures.kept in (
       ready_without _ _ _ _ _ sound idle (record c.self.inside { queries = c.remove_at.new.queries; readers = c.remove_at.new.readers; streams = c.lower.new.streams; ends = c.lower.new.ends }) c.in-Some.place refl refl refl refl refl c.remove_at.ensures.queries c.lower.ensures.less.accepted (c.lower.ensures.less.timed _ sound.state.timed)
           (fits_without _ _ _ _ _ sound idle (record c.self.inside { queries = c.remove_at.new.queries; readers = c.remove_at.new.readers; streams = c.lower.new.streams; ends = c.lower.new.ends }) c.in-Some.place refl refl refl refl c.remove_at.ensures.queries kept) c.lower.ensures.room,
-      c.remove_at.ensures.read,
+      (
+        c.remove_at.ensures.read,
+        rw c.remove_at.ensures.queries
+            (sought_less (unwrap_or c.self.inside.next 0) c.self.inside.first c.self.inside.queries.items idle
+            (c.self.invariant (rw (← c.self.view_is) at c.requires.ready)).1.1 c.in-Some.place),
+      ),
     )
 
 pub returns-in-Some : goal.returns-in-Some

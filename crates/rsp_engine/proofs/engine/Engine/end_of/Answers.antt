@@ -10,7 +10,7 @@ use Rattle.rsp_engine.proofs.Readiness.{unmapped}
 use Rattle.rsp_engine.proofs.engine.Engine.end_of.Goals as goal
 
 pub end_of-requires-clause-read : goal.end_of-requires-clause-read
-end_of-requires-clause-read g c = rw c.as_slice.ensures.value (c.self.invariant (rw (← c.self.view_is) at c.requires.ready)).1
+end_of-requires-clause-read g c = rw c.as_slice.ensures.value (c.self.invariant (rw (← c.self.view_is) at c.requires.ready)).1.0
 
 pub end_of-requires-clause-watches : goal.end_of-requires-clause-watches
 end_of-requires-clause-watches g c =

@@ -1,4 +1,4 @@
-use Rattle.std.proofs.Common.{◌≡◌, ◌∙◌, ◌++◌, ◌∷◌, ◌≤◌, List, [], Some, ap, arith, drop, length, map, refl, subst, sym, take, unwrap_or}
+use Rattle.std.proofs.Common.{◌≡◌, ◌∙◌, ◌++◌, ◌∷◌, ◌≤◌, List, [], Some, ap, arith, drop, length, map, refl, subst, sym, unwrap_or}
 use Rattle.std.proofs.lemmas.List.{length-map}
 use Rattle.std.specs.List.{All}
 use Rattle.std.specs.Vec.{with_items}
@@ -11,6 +11,7 @@ use Rattle.rsp_engine.specs.Keeping.{accepted_of}
 use Rattle.rsp_engine.specs.Readers.{AreRead}
 use Rattle.rsp_engine.specs.Stands.{State, watches_in}
 use Rattle.rsp_engine.specs.Watching.{IsPrompt, Tells}
+use Rattle.rsp_engine.proofs.DueNext.{all_dated, all_sought, parts_dated, read_dated}
 use Rattle.rsp_engine.proofs.Offering.{high_of}
 use Rattle.rsp_engine.proofs.Readiness.{all_watching, idle_first, passes, ready_passed, refilled, room_kept, taken_more, timed_taken}
 use Rattle.rsp_engine.proofs.engine.Engine.keep.Goals as goal
@@ -20,15 +21,36 @@ take-requires-clause-watching g c =
     let sound : IsReady g.A.Answer.node g.A.Answer.width g.A.Answer.facts g.A.Answer.spent c.self.inside = (c.self.invariant (rw (← c.self.view_is) at c.requires.ready)).0 in
     rw (c.deref_mut.ensures.value, c.unwrap_or-from.ensures) (all_watching g.A.Answer.facts c.self.inside.queries.items _ _ _ _ sound.state.lives)
 
+pub take-requires-clause-sought : goal.take-requires-clause-sought
+take-requires-clause-sought g c =
+    let idle = idle_first (state_of g.A.Answer.facts c.self.inside) (rw (← c.self.view_is) at c.requires.ready) (rw (← c.self.view_is) at c.requires.idle) in
+    rw (c.deref_mut.ensures.value, c.unwrap_or-from.ensures)
+    (all_sought (unwrap_or c.self.inside.next 0) c.self.inside.first c.self.inside.queries.items idle
+    (c.self.invariant (rw (← c.self.view_is) at c.requires.ready)).1.1)
+
 pub take-requires-clause-read : goal.take-requires-clause-read
-take-requires-clause-read g c = rw c.deref_mut.ensures.value (c.self.invariant (rw (← c.self.view_is) at c.requires.ready)).1
+take-requires-clause-read g c = rw c.deref_mut.ensures.value (c.self.invariant (rw (← c.self.view_is) at c.requires.ready)).1.0
 
 pub first_moment-self-inside-requires-clause-prompt : goal.first_moment-self-inside-requires-clause-prompt
 first_moment-self-inside-requires-clause-prompt g c =
     let parts = rw c.deref_mut.ensures.value at c.in-Ok.ensures.parts in
     let count : length c.take.new.queries ≡ c.self.inside.queries.len = sym (length-map c.take.new.queries parts_of) ∙ (ap length parts ∙ (length-map c.self.inside.queries.items parts_of ∙ (ap length (sym c.deref_mut.ensures.value) ∙ c.deref_mut.ensures.len))) in
     let whole = refilled c.self.inside.queries.len c.take.new.queries (drop (length c.take.new.queries) c.self.inside.queries.items) count in
-    rw (c.as_slice-queries.ensures.value, whole, c.in-Ok.ensures.stream) c.in-Ok.ensures.prompt
+    rw (whole, c.in-Ok.ensures.stream) c.in-Ok.ensures.prompt
+
+pub first_moment-self-inside-requires-clause-read : goal.first_moment-self-inside-requires-clause-read
+first_moment-self-inside-requires-clause-read g c =
+    let parts = rw c.deref_mut.ensures.value at c.in-Ok.ensures.parts in
+    let count : length c.take.new.queries ≡ c.self.inside.queries.len = sym (length-map c.take.new.queries parts_of) ∙ (ap length parts ∙ (length-map c.self.inside.queries.items parts_of ∙ (ap length (sym c.deref_mut.ensures.value) ∙ c.deref_mut.ensures.len))) in
+    let whole = refilled c.self.inside.queries.len c.take.new.queries (drop (length c.take.new.queries) c.self.inside.queries.items) count in
+    rw whole c.in-Ok.ensures.read
+
+pub first_moment-self-inside-requires-clause-sought : goal.first_moment-self-inside-requires-clause-sought
+first_moment-self-inside-requires-clause-sought g c =
+    let parts = rw c.deref_mut.ensures.value at c.in-Ok.ensures.parts in
+    let count : length c.take.new.queries ≡ c.self.inside.queries.len = sym (length-map c.take.new.queries parts_of) ∙ (ap length parts ∙ (length-map c.self.inside.queries.items parts_of ∙ (ap length (sym c.deref_mut.ensures.value) ∙ c.deref_mut.ensures.len))) in
+    let whole = refilled c.self.inside.queries.len c.take.new.queries (drop (length c.take.new.queries) c.self.inside.queries.items) count in
+    rw (whole, ← c.unwrap_or-from.ensures) c.in-Ok.ensures.sought
 
 pub invariant_of-self : goal.invariant_of-self
 invariant_of-self g c = λ broken.
@@ -39,20 +61,28 @@ invariant_of-self g c = λ broken.
     let parts = rw c.deref_mut.ensures.value at c.in-Ok.ensures.parts in
     let count : length c.take.new.queries ≡ c.self.inside.queries.len = sym (length-map c.take.new.queries parts_of) ∙ (ap length parts ∙ (length-map c.self.inside.queries.items parts_of ∙ (ap length (sym c.deref_mut.ensures.value) ∙ c.deref_mut.ensures.len))) in
     let whole = refilled c.self.inside.queries.len c.take.new.queries (drop (length c.take.new.queries) c.self.inside.queries.items) count in
-    let first = rw (c.as_slice-queries.ensures.value, c.in-Ok.ensures.stream) at c.first_moment-self-inside.ensures in
+    let mids = (with_items c.self.inside.queries c.take.new.queries).items in
+    let news = c.first_moment-self-inside.new.queries.items in
+    let same = c.first_moment-self-inside.ensures.same in
+    let first = rw c.in-Ok.ensures.stream at c.first_moment-self-inside.ensures.first in
     let kept = rw (c.in-Ok.ensures.kept, c.cut_at.ensures) at c.drop_before.ensures in
     let took : Kept = taken c.self.inside.streams c.args.arrival.stream c.args.arrival.time c.args.arrival.graph c.args.arrival.end in
     let takes : (items : List Accepted) → IsKept (unwrap_or c.self.inside.next 0) (watches_in here) items c.self.inside.streams → IsKept (unwrap_or c.self.inside.next 0) (watches_in here) (items ++ accepted_of c.args.arrival ∷ []) took =
     λ items is. joined (unwrap_or c.self.inside.next 0) (watches_in here) items c.self.inside.streams (accepted_of c.args.arrival) c.args.arrival.end is later
     (subst (λ n. EndsAt (watches_in here) (record { number = n; item = accepted_of c.args.arrival }) c.args.arrival.end) is.accepted (rw (← c.self.view_is) at c.requires.end)) in
     let tells : (items : List Accepted) → All (λ l. l.first ≤ length items) c.self.inside.queries.items → All (λ l. Tells items (unwrap_or c.self.inside.next 0) (fixed l) l.watched.items) c.self.inside.queries.items
-    → All (λ l. Tells (items ++ accepted_of c.args.arrival ∷ []) (unwrap_or c.self.inside.next 0) (fixed l) l.watched.items) (take c.self.inside.queries.len (c.take.new.queries ++ drop (length c.take.new.queries) c.self.inside.queries.items)) =
-    λ items firsts told. subst (λ qs. All (λ l. Tells (items ++ accepted_of c.args.arrival ∷ []) (unwrap_or c.self.inside.next 0) (fixed l) l.watched.items) qs) (sym whole) ((rw (c.deref_mut.ensures.value, c.unwrap_or-from.ensures) at c.in-Ok.ensures.told) items firsts told) in
-    let prompt = subst (λ qs. All (λ l. IsPrompt c.args.arrival.time (Some c.args.arrival.stream) (asked l)) qs) (sym whole) c.in-Ok.ensures.prompt in
+    → All (λ l. Tells (items ++ accepted_of c.args.arrival ∷ []) (unwrap_or c.self.inside.next 0) (fixed l) l.watched.items) news =
+    λ items firsts told. all_dated mids news same (λ l. Tells (items ++ accepted_of c.args.arrival ∷ []) (unwrap_or c.self.inside.next 0) (fixed l) l.watched.items)
+    (subst (λ qs. All (λ l. Tells (items ++ accepted_of c.args.arrival ∷ []) (unwrap_or c.self.inside.next 0) (fixed l) l.watched.items) qs) (sym whole) ((rw (c.deref_mut.ensures.value, c.unwrap_or-from.ensures) at c.in-Ok.ensures.told) items firsts told)) in
+    let prompt = all_dated mids news same (λ l. IsPrompt c.args.arrival.time (Some c.args.arrival.stream) (asked l))
+    (subst (λ qs. All (λ l. IsPrompt c.args.arrival.time (Some c.args.arrival.stream) (asked l)) qs) (sym whole) c.in-Ok.ensures.prompt) in
     let timed = timed_taken c.self.inside.streams c.args.arrival.stream c.args.arrival.time _ c.args.arrival.graph c.args.arrival.end later sound.state.timed in (
-      ready_passed _ _ _ _ _ sound idle (record c.self.inside { next = Some c.args.arrival.time; queries = with_items c.self.inside.queries c.take.new.queries; readers = c.take.new.readers; streams = c.drop_before.new.self; ends = c.take.new.ends; arrived = Some c.in-Ok.stream; first = c.first_moment-self-inside.result }) (accepted_of c.args.arrival ∷ []) (Some c.args.arrival.stream) c.args.arrival.time took later (high_of c.self.inside.next c.args.arrival.time) refl refl refl (ap Some c.in-Ok.ensures.stream) broken (ap (map parts_of) whole ∙ parts) first kept takes tells
+      ready_passed _ _ _ _ _ sound idle (record c.self.inside { next = Some c.args.arrival.time; queries = c.first_moment-self-inside.new.queries; readers = c.take.new.readers; streams = c.drop_before.new.self; ends = c.take.new.ends; arrived = Some c.in-Ok.stream; first = c.first_moment-self-inside.result }) (accepted_of c.args.arrival ∷ []) (Some c.args.arrival.stream) c.args.arrival.time took later (high_of c.self.inside.next c.args.arrival.time) refl refl refl (ap Some c.in-Ok.ensures.stream) broken (parts_dated mids news same ∙ (ap (map parts_of) whole ∙ parts)) first kept takes tells
           (let high = c.requires.instant in omega (arith, high)) (taken_more c.self.inside.streams c.args.arrival.stream c.args.arrival.time c.args.arrival.graph c.args.arrival.end) prompt timed (rw c.drop_before.ensures (room_kept _ c.take.new.streams.items c.take.new.ends.cap c.in-Ok.ensures.room)),
-      subst (λ qs. AreRead c.take.new.readers qs) (sym whole) c.in-Ok.ensures.read,
+      (
+        read_dated mids news same c.take.new.readers (subst (λ qs. AreRead c.take.new.readers qs) (sym whole) c.in-Ok.ensures.read),
+        c.first_moment-self-inside.ensures.sought,
+      ),
     )
 
 pub returns-in-Ok-clause-ok : goal.returns-in-Ok-clause-ok
@@ -64,14 +94,18 @@ returns-in-Ok-clause-ok g c =
     let parts = rw c.deref_mut.ensures.value at c.in-Ok.ensures.parts in
     let count : length c.take.new.queries ≡ c.self.inside.queries.len = sym (length-map c.take.new.queries parts_of) ∙ (ap length parts ∙ (length-map c.self.inside.queries.items parts_of ∙ (ap length (sym c.deref_mut.ensures.value) ∙ c.deref_mut.ensures.len))) in
     let whole = refilled c.self.inside.queries.len c.take.new.queries (drop (length c.take.new.queries) c.self.inside.queries.items) count in
-    let first = rw (c.as_slice-queries.ensures.value, c.in-Ok.ensures.stream) at c.first_moment-self-inside.ensures in
+    let mids = (with_items c.self.inside.queries c.take.new.queries).items in
+    let news = c.first_moment-self-inside.new.queries.items in
+    let same = c.first_moment-self-inside.ensures.same in
+    let first = rw c.in-Ok.ensures.stream at c.first_moment-self-inside.ensures.first in
     let kept = rw (c.in-Ok.ensures.kept, c.cut_at.ensures) at c.drop_before.ensures in
     let took : Kept = taken c.self.inside.streams c.args.arrival.stream c.args.arrival.time c.args.arrival.graph c.args.arrival.end in
     let takes : (items : List Accepted) → IsKept (unwrap_or c.self.inside.next 0) (watches_in here) items c.self.inside.streams → IsKept (unwrap_or c.self.inside.next 0) (watches_in here) (items ++ accepted_of c.args.arrival ∷ []) took =
     λ items is. joined (unwrap_or c.self.inside.next 0) (watches_in here) items c.self.inside.streams (accepted_of c.args.arrival) c.args.arrival.end is later
     (subst (λ n. EndsAt (watches_in here) (record { number = n; item = accepted_of c.args.arrival }) c.args.arrival.end) is.accepted (rw (← c.self.view_is) at c.requires.end)) in
     let tells : (items : List Accepted) → All (λ l. l.first ≤ length items) c.self.inside.queries.items → All (λ l. Tells items (unwrap_or c.self.inside.next 0) (fixed l) l.watched.items) c.self.inside.queries.items
-    → All (λ l. Tells (items ++ accepted_of c.args.arrival ∷ []) (unwrap_or c.self.inside.next 0) (fixed l) l.watched.items) (take c.self.inside.queries.len (c.take.new.queries ++ drop (length c.take.new.queries) c.self.inside.queries.items)) =
-    λ items firsts told. subst (λ qs. All (λ l. Tells (items ++ accepted_of c.args.arrival ∷ []) (unwrap_or c.self.inside.next 0) (fixed l) l.watched.items) qs) (sym whole) ((rw (c.deref_mut.ensures.value, c.unwrap_or-from.ensures) at c.in-Ok.ensures.told) items firsts told) in
+    → All (λ l. Tells (items ++ accepted_of c.args.arrival ∷ []) (unwrap_or c.self.inside.next 0) (fixed l) l.watched.items) news =
+    λ items firsts told. all_dated mids news same (λ l. Tells (items ++ accepted_of c.args.arrival ∷ []) (unwrap_or c.self.inside.next 0) (fixed l) l.watched.items)
+    (subst (λ qs. All (λ l. Tells (items ++ accepted_of c.args.arrival ∷ []) (unwrap_or c.self.inside.next 0) (fixed l) l.watched.items) qs) (sym whole) ((rw (c.deref_mut.ensures.value, c.unwrap_or-from.ensures) at c.in-Ok.ensures.told) items firsts told)) in
     rw (← c.self.view_is)
-    (passes _ _ _ _ _ sound idle (record c.self.inside { next = Some c.args.arrival.time; queries = with_items c.self.inside.queries c.take.new.queries; readers = c.take.new.readers; streams = c.drop_before.new.self; ends = c.take.new.ends; arrived = Some c.in-Ok.stream; first = c.first_moment-self-inside.result }) (accepted_of c.args.arrival ∷ []) (Some c.args.arrival.stream) c.args.arrival.time took later (high_of c.self.inside.next c.args.arrival.time) refl refl refl (ap Some c.in-Ok.ensures.stream) (rw (← c.self.view_is) at c.requires.ready) (ap (map parts_of) whole ∙ parts) first kept takes tells)
+    (passes _ _ _ _ _ sound idle (record c.self.inside { next = Some c.args.arrival.time; queries = c.first_moment-self-inside.new.queries; readers = c.take.new.readers; streams = c.drop_before.new.self; ends = c.take.new.ends; arrived = Some c.in-Ok.stream; first = c.first_moment-self-inside.result }) (accepted_of c.args.arrival ∷ []) (Some c.args.arrival.stream) c.args.arrival.time took later (high_of c.self.inside.next c.args.arrival.time) refl refl refl (ap Some c.in-Ok.ensures.stream) (rw (← c.self.view_is) at c.requires.ready) (parts_dated mids news same ∙ (ap (map parts_of) whole ∙ parts)) first kept takes tells)

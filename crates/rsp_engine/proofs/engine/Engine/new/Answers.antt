@@ -1,4 +1,4 @@
-use Rattle.std.proofs.Common.{ap, map, refl}
+use Rattle.std.proofs.Common.{ap, arith, map, refl}
 use Rattle.rsp_engine.specs.Inside.{live_of}
 use Rattle.rsp_engine.proofs.Offering.{new_stands}
 use Rattle.rsp_engine.proofs.ReadersBehind.{read_none}
@@ -8,7 +8,10 @@ use Rattle.rsp_engine.proofs.engine.Engine.new.Goals as goal
 pub invariant_of-result : goal.invariant_of-result
 invariant_of-result g c = λ _. (
   ready_new _ _ _ _ _ refl c.new.ensures.items c.new-3.ensures c.new-5.ensures refl refl,
-  read_none c.new-2.result c.new.result.items c.new.ensures.items c.new-2.ensures.readers,
+  (
+    read_none c.new-2.result c.new.result.items c.new.ensures.items c.new-2.ensures.readers,
+    rw c.new.ensures.items (λ i d within. absurd (omega (arith, within))),
+  ),
 )
 
 pub returns : goal.returns

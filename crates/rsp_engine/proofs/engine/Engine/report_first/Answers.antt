@@ -5,9 +5,10 @@ use Rattle.rsp_engine.specs.Passing.{is_overfull_outcome}
 use Rattle.rsp_engine.proofs.Cancelling.{timed_below}
 use Rattle.rsp_engine.proofs.Costing.{costs_first}
 use Rattle.rsp_engine.proofs.Named.{get_index, get_map}
-use Rattle.rsp_engine.proofs.BehindReport.{answers, fits_behind, followed, high, left_there, listed, place_is, prompt_behind, reached, ready_behind, states_behind, store, watches_are, within}
+use Rattle.rsp_engine.proofs.BehindReport.{answers, fits_behind, followed, high, left_there, listed, place_is, prompt_behind, reached, ready_behind, sought_behind, states_behind, store, watches_are, watching, within}
 use Rattle.rsp_engine.specs.World.{Registration}
 use Rattle.rsp_engine.proofs.ReadersBehind.{read_set}
+use Rattle.rsp_engine.proofs.Watches.{timed_watched}
 use Rattle.rsp_engine.proofs.engine.Engine.report_first.Goals as goal
 
 pub index_mut-requires : goal.index_mut-requires
@@ -22,6 +23,22 @@ report_at-requires-clause-instant g c =
     let sound : IsReady g.A.Answer.node g.A.Answer.width g.A.Answer.facts g.A.Answer.spent c.self.inside = (c.self.invariant (rw (← c.self.view_is) at c.requires.ready)).0 in
     let first : c.self.inside.first ≡ Some c.args.place = rw (← c.self.view_is) at c.requires.first in
     high _ _ _ _ _ sound c.args.place first
+
+pub report_at-requires-clause-policy : goal.report_at-requires-clause-policy
+report_at-requires-clause-policy g c =
+    let sound : IsReady g.A.Answer.node g.A.Answer.width g.A.Answer.facts g.A.Answer.spent c.self.inside = (c.self.invariant (rw (← c.self.view_is) at c.requires.ready)).0 in
+    let first : c.self.inside.first ≡ Some c.args.place = rw (← c.self.view_is) at c.requires.first in
+    let live = c.index_mut.result.now in
+    let is : slice_get c.self.inside.queries.items c.args.place.query ≡ Some live = get_index c.self.inside.queries.items c.args.place.query live (listed _ _ _ _ _ sound c.args.place first) c.index_mut.ensures.value in
+    (watching _ _ _ _ _ sound c.args.place first live is).policy
+
+pub report_at-requires-clause-watched : goal.report_at-requires-clause-watched
+report_at-requires-clause-watched g c =
+    let sound : IsReady g.A.Answer.node g.A.Answer.width g.A.Answer.facts g.A.Answer.spent c.self.inside = (c.self.invariant (rw (← c.self.view_is) at c.requires.ready)).0 in
+    let first : c.self.inside.first ≡ Some c.args.place = rw (← c.self.view_is) at c.requires.first in
+    let live = c.index_mut.result.now in
+    let is : slice_get c.self.inside.queries.items c.args.place.query ≡ Some live = get_index c.self.inside.queries.items c.args.place.query live (listed _ _ _ _ _ sound c.args.place first) c.index_mut.ensures.value in
+    timed_watched _ _ (watching _ _ _ _ _ sound c.args.place first live is).timed
 
 pub report_at-requires-clause-store : goal.report_at-requires-clause-store
 report_at-requires-clause-store g c =
@@ -74,7 +91,7 @@ place_behind-query-requires-clause-read g c =
     let live = c.index_mut.result.now in
     let is : slice_get c.self.inside.queries.items c.args.place.query ≡ Some live = get_index c.self.inside.queries.items c.args.place.query live (listed _ _ _ _ _ sound c.args.place first) c.index_mut.ensures.value in
     let reported = c.in-Ok.ensures.reported in
-    read_set c.self.inside.readers c.self.inside.queries.items c.args.place.query live c.report_at.new.live (c.self.invariant (rw (← c.self.view_is) at c.requires.ready)).1 is
+    read_set c.self.inside.readers c.self.inside.queries.items c.args.place.query live c.report_at.new.live (c.self.invariant (rw (← c.self.view_is) at c.requires.ready)).1.0 is
     (ap (λ (r : Registration). r.reading.windows) reported.same) reported.watched
 
 pub first_left-self-inside-requires-clause-prompt : goal.first_left-self-inside-requires-clause-prompt
@@ -92,6 +109,21 @@ first_left-self-inside-requires-clause-from g c =
     let sound : IsReady g.A.Answer.node g.A.Answer.width g.A.Answer.facts g.A.Answer.spent c.self.inside = (c.self.invariant (rw (← c.self.view_is) at c.requires.ready)).0 in
     let first : c.self.inside.first ≡ Some c.args.place = rw (← c.self.view_is) at c.requires.first in
     rw c.unwrap_or-next.ensures (within _ _ _ _ _ sound c.args.place first)
+
+pub first_left-self-inside-requires-clause-read : goal.first_left-self-inside-requires-clause-read
+first_left-self-inside-requires-clause-read g c = rw c.as_slice-queries.ensures.value c.place_behind-query.ensures.read
+
+pub first_left-self-inside-requires-clause-sought : goal.first_left-self-inside-requires-clause-sought
+first_left-self-inside-requires-clause-sought g c =
+    let sound : IsReady g.A.Answer.node g.A.Answer.width g.A.Answer.facts g.A.Answer.spent c.self.inside = (c.self.invariant (rw (← c.self.view_is) at c.requires.ready)).0 in
+    let first : c.self.inside.first ≡ Some c.args.place = rw (← c.self.view_is) at c.requires.first in
+    let live = c.index_mut.result.now in
+    let is : slice_get c.self.inside.queries.items c.args.place.query ≡ Some live = get_index c.self.inside.queries.items c.args.place.query live (listed _ _ _ _ _ sound c.args.place first) c.index_mut.ensures.value in
+    let reported = c.in-Ok.ensures.reported in
+    let full = is_overfull_outcome c.in-Ok.report.outcome in
+    rw (c.as_slice-queries.ensures.value, c.place_behind-query.ensures.queries, c.place_behind-query.ensures.place ∙ place_is c.args.place full, c.unwrap_or-next.ensures)
+    (sought_behind _ _ _ _ _ sound c.args.place first live is c.report_at.new.live c.in-Ok.report.outcome reported full
+    (c.self.invariant (rw (← c.self.view_is) at c.requires.ready)).1.1 c.in-Ok.ensures.sought)
 
 pub let_go-requires-clause-room : goal.let_go-requires-clause-room
 let_go-requires-clause-room g c =
@@ -114,9 +146,14 @@ invariant_of-self g c = λ _.
     let full = is_overfull_outcome c.in-Ok.report.outcome in
     let reported = c.in-Ok.ensures.reported in
     let behind = c.place_behind-query.ensures.queries in
-    let left = rw (c.unwrap_or-next.ensures, c.as_slice-queries.ensures.value, c.place_behind-query.ensures.place ∙ place_is c.args.place full) at c.first_left-self-inside.ensures in
-    let kept = rw (c.as_slice-queries.ensures.value, c.cut_at.ensures, c.unwrap_or-next.ensures) at c.let_go.ensures.kept in
-    (ready_behind _ _ _ _ _ sound c.args.place first live is c.report_at.new.live c.in-Ok.report.outcome reported (record c.self.inside { queries = c.place_behind-query.new.queries; readers = c.place_behind-query.new.readers; streams = c.let_go.new.streams; ends = c.let_go.new.ends; first = c.first_left-self-inside.result }) refl refl refl refl behind left c.let_go.ensures.less c.let_go.ensures.room kept, c.place_behind-query.ensures.read)
+    let left = rw (c.unwrap_or-next.ensures, c.as_slice-queries.ensures.value, c.place_behind-query.ensures.place ∙ place_is c.args.place full) at c.first_left-self-inside.ensures.first in
+    let kept = rw (c.as_slice-queries.ensures.value, c.cut_at.ensures, c.unwrap_or-next.ensures) at c.let_go.ensures.kept in (
+      ready_behind _ _ _ _ _ sound c.args.place first live is c.report_at.new.live c.in-Ok.report.outcome reported (record c.self.inside { queries = c.place_behind-query.new.queries; readers = c.place_behind-query.new.readers; streams = c.let_go.new.streams; ends = c.let_go.new.ends; first = c.first_left-self-inside.result }) refl refl refl refl behind left c.let_go.ensures.less c.let_go.ensures.room kept,
+      (
+        c.place_behind-query.ensures.read,
+        rw (c.unwrap_or-next.ensures, c.as_slice-queries.ensures.value) at c.first_left-self-inside.ensures.sought,
+      ),
+    )
 
 pub returns-in-Ok-clause-ok : goal.returns-in-Ok-clause-ok
 returns-in-Ok-clause-ok g c =
@@ -128,7 +165,7 @@ returns-in-Ok-clause-ok g c =
     let full = is_overfull_outcome c.in-Ok.report.outcome in
     let reported = c.in-Ok.ensures.reported in
     let behind = c.place_behind-query.ensures.queries in
-    let left = rw (c.unwrap_or-next.ensures, c.as_slice-queries.ensures.value, c.place_behind-query.ensures.place ∙ place_is c.args.place full) at c.first_left-self-inside.ensures in
+    let left = rw (c.unwrap_or-next.ensures, c.as_slice-queries.ensures.value, c.place_behind-query.ensures.place ∙ place_is c.args.place full) at c.first_left-self-inside.ensures.first in
     let kept = rw (c.as_slice-queries.ensures.value, c.cut_at.ensures, c.unwrap_or-next.ensures) at c.let_go.ensures.kept in
     rw (← c.self.view_is)
     (record {
