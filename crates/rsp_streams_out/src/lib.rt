@@ -26,4 +26,4 @@ pub use printing::PrintedRows;
 pub use reading::{Reading, read_by};
 pub use rsp_report::Operator;
 pub use text::{overfull_text, printed_text, report_text, row_text};
-pub use turning::{turn, turn_printed};
+pub use turning::{turn, turn_owned, turn_printed};
