@@ -1,7 +1,8 @@
 -- Rows that are given away: each copy counts, cells that are left stay, and a change of rows is cut entry by entry.
-use Rattle.std.proofs.Common.{◌≡◌, ℕ, ◌+◌, Bool, true, false, nat_eq, List, [], ◌∷◌, ◌++◌, ℤ, pos, ◌+ℤ◌, ◌*ℤ◌, refl, sym, ap, ◌∙◌, true≢false, arith}
+use Rattle.std.proofs.Common.{◌≡◌, ℕ, ◌+◌, Bool, true, false, ◌||◌, nat_eq, List, [], ◌∷◌, ◌++◌, ℤ, pos, ◌+ℤ◌, ◌*ℤ◌, refl, sym, ap, ◌∙◌, true≢false, arith}
 use Rattle.std.proofs.lemmas.Int.{ints}
-use Rattle.std.specs.Cmp.{unsigned_Decides}
+use Rattle.std.specs.Cmp.{nat_eq_equiv, unsigned_Decides}
+use Rattle.std.specs.List.{list_any}
 use Rattle.rsp_multiset.specs.Rows.{Cells, row_eq}
 use Rattle.rsp_multiset.specs.Variables.{cell, among, cells_at}
 use Rattle.rsp_multiset.specs.Weights.{only, times, total, weight}
@@ -12,13 +13,12 @@ one_more : (b : Bool) (n : ℕ) → only b (pos n) +ℤ only b (pos 1) ≡ only 
 one_more true n = omega (arith, ints)
 one_more false n = omega (arith, ints)
 
-pub none_more : (b : Bool) (n : ℤ) → n ≡ n +ℤ only b (pos 0)
-none_more true n = omega (arith, ints)
-none_more false n = omega (arith, ints)
+pub none_more : (b : Bool) (held n : ℤ) → n ≡ pos 0 → held ≡ held +ℤ only b n
+none_more true held n none = omega (arith, ints, none)
+none_more false held n none = omega (arith, ints)
 
 module _ {E : Type 0} (eq : E → E → Bool) where
-  -- a row put at the end
-  pub pushed : (before after : List E) (x q : E) → after ≡ before ++ x ∷ [] → times eq after q ≡ times eq before q +ℤ only (eq q x) (pos 1)
+  pushed : (before after : List E) (x q : E) → after ≡ before ++ x ∷ [] → times eq after q ≡ times eq before q +ℤ only (eq q x) (pos 1)
   pushed before after x q is =
       let split = sum_z-append (λ y. only (eq q y) (pos 1)) before (x ∷ []) in
       let there = ap (λ xs. times eq xs q) is in
@@ -26,8 +26,7 @@ module _ {E : Type 0} (eq : E → E → Bool) where
 
   -- one copy more
   pub copied : (before after : List E) (x q : E) (n : ℕ) (whole : ℤ) → after ≡ before ++ x ∷ []
-      → times eq before q +ℤ only (eq q x) (pos 1) ≡ whole +ℤ only (eq q x) (pos n)
-      → times eq after q +ℤ only (eq q x) (pos 1) ≡ whole +ℤ only (eq q x) (pos (n + 1))
+      → times eq before q ≡ whole +ℤ only (eq q x) (pos n) → times eq after q ≡ whole +ℤ only (eq q x) (pos (n + 1))
   copied before after x q n whole is held =
       let more = pushed before after x q is in
       let step = one_more (eq q x) n in
@@ -63,7 +62,13 @@ cells-alike [] row other alike = refl
 cells-alike (v ∷ variables) row other alike = λ i.
     alike v (first_among v variables) i ∷ cells-alike variables row other (λ w h. alike w (later_among v variables w h)) i
 
--- the cells for other variables than that whose cell was taken out
-pub cells-left : {V : Type 0} (variables : List ℕ) (v : ℕ) (before after : Cells V) → among variables v ≡ false
+turned-among : (v : ℕ) (variables : List ℕ) → list_any (λ w. nat_eq w v) variables ≡ among variables v
+turned-among v [] = refl
+turned-among v (w ∷ variables) = λ i. nat_eq_equiv.symm w v i || turned-among v variables i
+
+-- the cells for variables among which that isn't whose cell was taken out
+pub cells-left : {V : Type 0} (variables : List ℕ) (v : ℕ) (before after : Cells V) → list_any (λ w. nat_eq w v) variables ≡ false
     → ((w : ℕ) → nat_eq w v ≡ false → cell after w ≡ cell before w) → cells_at variables after ≡ cells_at variables before
-cells-left variables v before after none others = cells-alike variables after before (λ w there. others w (apart v w variables none there))
+cells-left variables v before after none others =
+    let absent = sym (turned-among v variables) ∙ none in
+    cells-alike variables after before (λ w there. others w (apart v w variables absent there))

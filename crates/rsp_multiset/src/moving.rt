@@ -1,5 +1,5 @@
 // Rows that changes give away.
-ghost use Rattle.std.specs.Prelude.{◌≡◌, ◌+ℤ◌, neg_ℤ, pos, List, Option, OnOk, IfOk};
+ghost use Rattle.std.specs.Prelude.{◌≡◌, ◌+◌, ◌+ℤ◌, neg_ℤ, pos, List, Option, IfSome, IfNone, OnOk, IfOk};
 ghost use Rattle.rsp_multiset.specs.Rows.{row_eq};
 ghost use Rattle.rsp_multiset.specs.Variables.{cells_at};
 ghost use Rattle.rsp_multiset.specs.Weights.{only, weight, total, times, above};
@@ -53,7 +53,7 @@ pub fn changes_at<V: Cell>(
     Ok(cut)
 }
 
-// the row so many times where it comes in
+// the row so many times where it comes in: copies of it, and last of all itself
 fn push_incoming<V: Cell>(
     row: Row<V>,
     count: Count,
@@ -62,23 +62,31 @@ fn push_incoming<V: Cell>(
     ensures { OnOk result ((q : List (Option V)) → times (row_eq V.eq) rows.new.items q
         ≡ times (row_eq V.eq) rows.old.items q +ℤ only (row_eq V.eq q row) (above count)) }
 {
-    if count.is_negative() {
+    let Some(copies) = further_copies(count) else {
         return Ok(());
-    }
-    push_copies(row, count.size(), rows)
+    };
+    push_copies(&row, copies, rows)?;
+    rows.push(row)?;
+    Ok(())
 }
 
-// the row so many times, last of all itself
-fn push_copies<V: Cell>(row: Row<V>, count: u64, rows: &mut Vec<Row<V>>) -> Result<(), AllocError>
-    ensures { OnOk result ((q : List (Option V)) → times (row_eq V.eq) rows.new.items q
-        ≡ times (row_eq V.eq) rows.old.items q +ℤ only (row_eq V.eq q row) (pos count)) }
+// how many copies stand beside a row that comes in; None where it doesn't
+fn further_copies(count: Count) -> Option<u64>
+    ensures some { IfSome result (λ copies. above count ≡ pos (copies + 1)) }
+    ensures none { IfNone result (above count ≡ pos 0) }
 {
-    if count == 0 {
-        return Ok(());
+    if count.is_negative() {
+        return None;
     }
-    for _ in 1..count {
+    count.size().checked_sub(1)
+}
+
+fn push_copies<V: Cell>(row: &Row<V>, copies: u64, rows: &mut Vec<Row<V>>) -> Result<(), AllocError>
+    ensures { OnOk result ((q : List (Option V)) → times (row_eq V.eq) rows.new.items q
+        ≡ times (row_eq V.eq) rows.old.items q +ℤ only (row_eq V.eq q row.now) (pos copies)) }
+{
+    for _ in 0..copies {
         rows.push(row.share()?)?;
     }
-    rows.push(row)?;
     Ok(())
 }

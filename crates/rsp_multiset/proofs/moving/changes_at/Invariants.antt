@@ -8,4 +8,4 @@ abbrev pub invariant-loop-row : goal.invariant-loop-row
 invariant-loop-row g l =
     (q : List (Option g.row.V.Denot)) → weight (row_eq g.V.PartialEq.eq) l.cut q
     +ℤ total (λ row. only (row_eq g.V.PartialEq.eq q (cells_at l.variables row)) (pos 1)) l.row-iterator
-    ≡ total (λ row. only (row_eq g.V.PartialEq.eq q (cells_at l.variables row)) (pos 1)) l.initial.changes
+    ≡ total (λ row. only (row_eq g.V.PartialEq.eq q (cells_at l.variables row)) (pos 1)) l.fn.changes

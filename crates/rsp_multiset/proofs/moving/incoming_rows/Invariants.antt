@@ -7,4 +7,4 @@ use Rattle.rsp_multiset.proofs.moving.incoming_rows.Given as goal
 abbrev pub invariant-loop-row : goal.invariant-loop-row
 invariant-loop-row g l =
     (q : List (Option g.row.V.Denot)) → times (row_eq g.V.PartialEq.eq) l.rows.items q +ℤ weight (row_eq g.V.PartialEq.eq) (part above l.row-iterator) q
-    ≡ weight (row_eq g.V.PartialEq.eq) (part above l.initial.changes) q
+    ≡ weight (row_eq g.V.PartialEq.eq) (part above l.fn.changes) q

@@ -5,5 +5,5 @@ use Rattle.rsp_multiset.proofs.moving.push_copies.Given as goal
 
 abbrev pub invariant-loop : goal.invariant-loop
 invariant-loop g l =
-    (q : List (Option g.row.V.Denot)) → times (row_eq g.V.PartialEq.eq) l.rows.items q +ℤ only (row_eq g.V.PartialEq.eq q l.row) (pos 1)
+    (q : List (Option g.row.V.Denot)) → times (row_eq g.V.PartialEq.eq) l.rows.items q
     ≡ times (row_eq g.V.PartialEq.eq) l.fn.rows.items q +ℤ only (row_eq g.V.PartialEq.eq q l.row) (pos l.counter)
