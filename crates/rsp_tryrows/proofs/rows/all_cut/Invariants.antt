@@ -1,0 +1,6 @@
+use Rattle.std.proofs.Common.{◌≡◌, ◌++◌, map}
+use Rattle.rsp_tryrows.specs.Reports.{cells_at}
+use Rattle.rsp_tryrows.proofs.rows.all_cut.Given as goal
+
+abbrev pub invariant-loop-row : goal.invariant-loop-row
+invariant-loop-row l = l.all ++ map (cells_at l.shown) l.row-iterator.rest.items ≡ map (cells_at l.shown) l.fn.rows.items

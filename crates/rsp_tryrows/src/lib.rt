@@ -1,0 +1,4 @@
+//! A trial of the engine's rows.
+#![tactic(auto)]
+
+mod rows;
