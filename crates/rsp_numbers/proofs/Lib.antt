@@ -1,0 +1,5 @@
+pub mod Entries
+pub mod Vacancies
+pub mod Given
+pub mod Counts
+pub mod Forgetting

@@ -1,0 +1,72 @@
+// The places of a table, and the list of those that are free.
+ghost use Rattle.std.specs.Prelude.{◌≡◌, ◌+◌, ◌≤◌, Some, IsSome, OnOk, OnErr, IfOk, length, vec_capacity};
+ghost use Rattle.rsp_numbers.specs.Numbering.{term_at, IsNext, with_term};
+ghost use Rattle.rsp_numbers.specs.Tables.{AreFree};
+
+use crate::place::Numbered;
+use rsp_multiset::Count;
+use rsp_terms::Term;
+use std::alloc::AllocError;
+
+/// The term that the number has.
+#[tactic(auto, using(crate::proofs::Entries::within))]
+pub(crate) fn term_of(places: &[Option<Numbered>], number: u64) -> &Term
+    requires { IsSome (term_at places.now number) }
+    ensures { term_at places.now number ≡ Some result.now }
+{
+    match &places[number as usize] {
+        Some(numbered) => &numbered.term,
+        None => unreachable!(),
+    }
+}
+
+/// Puts the term at a free place, or behind the last where there is none. Answers its number. Fails only where memory is refused,
+/// and then changes nothing.
+pub(crate) fn place_term(
+    places: &mut Vec<Option<Numbered>>,
+    free: &mut Vec<u64>,
+    term: Term,
+) -> Result<u64, AllocError>
+    requires free { AreFree places.old.items free.old.items }
+    requires room { length places.old.items ≤ vec_capacity free.old }
+    ensures next { IfOk result (λ n. IsNext places.old.items n) }
+    ensures placed { IfOk result (λ n. places.new.items ≡ with_term places.old.items n term) }
+    ensures free { AreFree places.new.items free.new.items }
+    ensures room { length places.new.items ≤ vec_capacity free.new }
+    ensures counted { OnOk result (length places.new.items + length free.old.items
+        ≡ length places.old.items + length free.new.items + 1) }
+    ensures err { OnErr result (places.new.items ≡ places.old.items) }
+    ensures err_free { OnErr result (free.new.items ≡ free.old.items) }
+{
+    let numbered = Numbered {
+        term,
+        holders: Count::zero(),
+    };
+    match free.pop() {
+        Some(number) => {
+            places[number as usize] = Some(numbered);
+            Ok(number)
+        }
+        None => push_place(places, free, numbered),
+    }
+}
+
+// puts it behind the last place, with room among the free numbers for one more
+fn push_place(
+    places: &mut Vec<Option<Numbered>>,
+    free: &mut Vec<u64>,
+    numbered: Numbered,
+) -> Result<u64, AllocError>
+    requires none { free.old.items ≡ [] }
+    requires room { length places.old.items ≤ vec_capacity free.old }
+    ensures last { IfOk result (λ n. n ≡ length places.old.items) }
+    ensures pushed { OnOk result (places.new.items ≡ places.old.items ++ Some numbered ∷ []) }
+    ensures room { length places.new.items ≤ vec_capacity free.new }
+    ensures free { free.new.items ≡ [] }
+    ensures err { OnErr result (places.new.items ≡ places.old.items) }
+{
+    let number = places.len();
+    free.reserve(number + 1)?;
+    places.push(Some(numbered))?;
+    Ok(number as u64)
+}
