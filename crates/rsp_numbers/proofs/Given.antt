@@ -1,5 +1,5 @@
 -- The number that a term is given, and what the table says then.
-use Rattle.std.proofs.Common.{◌≡◌, ◌≢◌, ◌<◌, ◌≤◌, ◌+◌, ℕ, Bool, true, false, cond, nat_eq, List, [], length, ℤ, pos, Option, Some, None, Result, Ok, Err, IfOk, OnErr, refl, sym, ap, subst, ◌∙◌, inl, inr, true≢false, arith}
+use Rattle.std.proofs.Common.{◌≡◌, ◌<◌, ◌≤◌, ◌+◌, ℕ, Bool, true, false, cond, nat_eq, List, [], length, ℤ, pos, Option, Some, None, Result, Ok, Err, IfOk, OnErr, refl, sym, ap, subst, ◌∙◌, inl, inr, true≢false, arith}
 use Rattle.std.specs.Map.{lookup}
 use Rattle.std.specs.Option.{unwrap_or}
 use Rattle.std.proofs.lemmas.Bool.{eqb-true, eq-eqb}
@@ -10,7 +10,7 @@ use Rattle.rsp_terms.specs.declared.term.Term.TheVariants.{Iri}
 use Rattle.rsp_terms.specs.Same.{term_eq, term_same}
 use Rattle.rsp_numbers.specs.declared.place.Numbered.{Numbered}
 use Rattle.rsp_numbers.specs.Numbering.{Places, term_in, term_at, holders, shown, IsNumberOf, IsKnownNumber, IsNewTerm, IsNext, with_term, IsGiven}
-use Rattle.rsp_numbers.specs.Tables.{AreNumbers}
+use Rattle.rsp_numbers.specs.Tables.{AreFree, AreNumbers, IsTable}
 use Rattle.rsp_numbers.proofs.Entries.{term_at-with_entry, holders-with_entry, unheld}
 
 pub next-near : (places : Places) (n : ℕ) → IsNext places n → n ≤ length places
@@ -124,3 +124,18 @@ module _ {E : Type 0} (before : Places) (term : Term) (after : Places) (entries 
       → (m : ℕ) → holders after m ≡ holders before m
   given-counts (Ok n) given err m = given-holders before term n after given m
   given-counts (Err e) given same m = ap (λ places. holders places m) same
+
+-- the table once a new term has been put there, the map has it, and the free numbers are what is left of them
+pub table-given : {places after : Places} {entries more : List (Term × ℕ)} {free rest : List ℕ} {room wider : ℕ} {term : Term} {n : ℕ} → IsTable places entries free room
+    → IsNext places n → after ≡ with_term places n term → lookup (term_eq term) entries ≡ None
+    → ((q : Term) → lookup (term_eq q) more ≡ cond (term_eq term q) (Some n) (lookup (term_eq q) entries)) → length more ≡ length entries + 1
+    → AreFree after rest → length after + length free ≡ length places + length rest + 1 → length after ≤ wider → IsTable after more rest wider
+table-given {places} {after} {entries} {more} {free} {rest} {room} {wider} {term} {n} table next is absent update longer free_are sizes roomy =
+    let counted = table.counted in
+    record {
+      numbers_are =
+          subst (λ p. AreNumbers p more) (sym is) (numbers-given places entries table.numbers_are more term n next absent update);
+      free_are = free_are;
+      counted = omega arith;
+      roomy = roomy;
+    }

@@ -2,4 +2,5 @@ pub mod Entries
 pub mod Vacancies
 pub mod Given
 pub mod Counts
-pub mod Forgetting
+pub mod Left
+pub mod WorkedTables

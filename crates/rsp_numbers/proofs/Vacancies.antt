@@ -1,5 +1,5 @@
 -- Which numbers are free, once one of them has been given a term.
-use Rattle.std.proofs.Common.{◌≡◌, ◌<◌, ◌≤◌, ◌+◌, ℕ, Bool, true, false, cond, ◌&&◌, nat_lt, nat_eq, List, [], ◌∷◌, ◌++◌, length, ℤ, pos, ◌+ℤ◌, ◌≤ℤ◌, Option, Some, None, IsSome, is_some, is_none, refl, sym, ap, ◌∙◌, ⊎_elim, true≢false, arith}
+use Rattle.std.proofs.Common.{◌≡◌, ◌<◌, ◌≤◌, ◌+◌, ℕ, Bool, true, false, cond, ◌&&◌, nat_lt, nat_eq, List, [], ◌∷◌, ◌++◌, length, set, ℤ, pos, ◌+ℤ◌, ◌≤ℤ◌, Option, Some, None, IsSome, is_some, is_none, refl, sym, ap, ◌∙◌, ⊎_elim, true≢false, arith}
 use Rattle.std.proofs.lemmas.Bool.{ltb-true, ltb-false, lt-ltb, le-ltb, eq-eqb, cases_lt}
 use Rattle.std.proofs.lemmas.Int.{ints}
 use Rattle.rsp_multiset.specs.Weights.{only, times}
@@ -115,3 +115,12 @@ module _ (places : Places) (free : List ℕ) (free_are : AreFree places free) wh
         by : (c : Bool) → cond c (pos 0) (vacancy places q) ≡ pos 0
         by true = refl
         by false = no_vacancy q
+
+-- ---- the table with something put at a free place, or behind the last
+
+pub at_place : (places : Places) (n : ℕ) (entry : Option Numbered) → n < length places → set places n entry ≡ with_entry places n entry
+at_place places n entry below = sym (ap (λ b. cond b (set places n entry) (places ++ entry ∷ [])) (lt-ltb n (length places) below))
+
+pub at_last : (places : Places) (entry : Option Numbered) → places ++ entry ∷ [] ≡ with_entry places (length places) entry
+at_last places entry =
+    sym (ap (λ b. cond b (set places (length places) entry) (places ++ entry ∷ [])) (le-ltb (length places) (length places) (omega arith)))

@@ -117,7 +117,7 @@ impl Numbers {
 }
 
 impl Domain for Numbers {
-    ghost use Rattle.std.specs.Prelude.{◌≡◌, OnErr, IfOk};
+    ghost use Rattle.std.specs.Prelude.{◌≡◌, ℕ, OnErr, IfOk};
     ghost use Rattle.rsp_numbers.specs.Numbering.{Places, shown as shown_term, holders, IsKnownNumber, IsGiven};
     ghost use Rattle.rsp_numbers.specs.Apart.{numbers_told_apart};
 
@@ -139,11 +139,11 @@ impl Domain for Numbers {
 
     fn keep(&mut self, term: Term) -> Result<u64, AllocError>
         ensures kept { IfOk result (λ value. IsKnownNumber self.new value × (shown_term self.new value ≡ term)) }
-        ensures known { (value : u64) → IsKnownNumber self.old value
+        ensures known { (value : ℕ) → IsKnownNumber self.old value
             → IsKnownNumber self.new value × (shown_term self.new value ≡ shown_term self.old value) }
         ensures err { OnErr result (self.new ≡ self.old) }
         ensures given { IfOk result (λ value. IsGiven self.old term value self.new) }
-        ensures holders { (value : u64) → holders self.new value ≡ holders self.old value }
+        ensures holders { (value : ℕ) → holders self.new value ≡ holders self.old value }
     {
         number_term(&mut self.places, &mut self.numbers, &mut self.free, term)
     }

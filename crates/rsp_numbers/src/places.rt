@@ -1,10 +1,9 @@
 // The places of a table, and the list of those that are free.
-ghost use Rattle.std.specs.Prelude.{◌≡◌, ◌+◌, ◌≤◌, Some, IsSome, OnOk, OnErr, IfOk, length, vec_capacity};
-ghost use Rattle.rsp_numbers.specs.Numbering.{term_at, IsNext, with_term};
+ghost use Rattle.std.specs.Prelude.{◌≡◌, ◌+◌, ◌≤◌, [], Some, IsSome, OnOk, OnErr, IfOk, length, vec_capacity};
+ghost use Rattle.rsp_numbers.specs.Numbering.{term_at, IsNext, with_entry};
 ghost use Rattle.rsp_numbers.specs.Tables.{AreFree};
 
 use crate::place::Numbered;
-use rsp_multiset::Count;
 use rsp_terms::Term;
 use std::alloc::AllocError;
 
@@ -20,17 +19,17 @@ pub(crate) fn term_of(places: &[Option<Numbered>], number: u64) -> &Term
     }
 }
 
-/// Puts the term at a free place, or behind the last where there is none. Answers its number. Fails only where memory is refused,
-/// and then changes nothing.
-pub(crate) fn place_term(
+/// Puts it at a free place, or behind the last where there is none. Answers its number. Fails only where memory is refused, and then
+/// changes nothing.
+pub(crate) fn place_entry(
     places: &mut Vec<Option<Numbered>>,
     free: &mut Vec<u64>,
-    term: Term,
+    numbered: Numbered,
 ) -> Result<u64, AllocError>
     requires free { AreFree places.old.items free.old.items }
     requires room { length places.old.items ≤ vec_capacity free.old }
     ensures next { IfOk result (λ n. IsNext places.old.items n) }
-    ensures placed { IfOk result (λ n. places.new.items ≡ with_term places.old.items n term) }
+    ensures placed { IfOk result (λ n. places.new.items ≡ with_entry places.old.items n (Some numbered)) }
     ensures free { AreFree places.new.items free.new.items }
     ensures room { length places.new.items ≤ vec_capacity free.new }
     ensures counted { OnOk result (length places.new.items + length free.old.items
@@ -38,31 +37,30 @@ pub(crate) fn place_term(
     ensures err { OnErr result (places.new.items ≡ places.old.items) }
     ensures err_free { OnErr result (free.new.items ≡ free.old.items) }
 {
-    let numbered = Numbered {
-        term,
-        holders: Count::zero(),
-    };
     match free.pop() {
         Some(number) => {
             places[number as usize] = Some(numbered);
             Ok(number)
         }
-        None => push_place(places, free, numbered),
+        None => push_entry(places, free, numbered),
     }
 }
 
 // puts it behind the last place, with room among the free numbers for one more
-fn push_place(
+fn push_entry(
     places: &mut Vec<Option<Numbered>>,
     free: &mut Vec<u64>,
     numbered: Numbered,
 ) -> Result<u64, AllocError>
+    requires free { AreFree places.old.items free.old.items }
     requires none { free.old.items ≡ [] }
     requires room { length places.old.items ≤ vec_capacity free.old }
-    ensures last { IfOk result (λ n. n ≡ length places.old.items) }
-    ensures pushed { OnOk result (places.new.items ≡ places.old.items ++ Some numbered ∷ []) }
+    ensures next { IfOk result (λ n. IsNext places.old.items n) }
+    ensures placed { IfOk result (λ n. places.new.items ≡ with_entry places.old.items n (Some numbered)) }
+    ensures free { AreFree places.new.items free.new.items }
     ensures room { length places.new.items ≤ vec_capacity free.new }
-    ensures free { free.new.items ≡ [] }
+    ensures longer { OnOk result (length places.new.items ≡ length places.old.items + 1) }
+    ensures none { free.new.items ≡ [] }
     ensures err { OnErr result (places.new.items ≡ places.old.items) }
 {
     let number = places.len();

@@ -4,9 +4,10 @@ ghost use Rattle.rsp_numbers.specs.Numbering.{holders, shown, IsKnownNumber, IsG
 ghost use Rattle.rsp_numbers.specs.Tables.{IsTable};
 
 use crate::place::Numbered;
-use crate::places::place_term;
+use crate::places::place_entry;
 use indexmap::IndexMap;
 use indexmap::map::Entry;
+use rsp_multiset::Count;
 use rsp_terms::Term;
 use std::alloc::AllocError;
 
@@ -43,8 +44,11 @@ fn give_number(
     match numbers.entry(term)? {
         Entry::Occupied(found) => Ok(*found.get()),
         Entry::Vacant(place) => {
-            let shared = place.key().share()?;
-            let number = place_term(places, free, shared)?;
+            let numbered = Numbered {
+                term: place.key().share()?,
+                holders: Count::zero(),
+            };
+            let number = place_entry(places, free, numbered)?;
             place.insert(number);
             Ok(number)
         }

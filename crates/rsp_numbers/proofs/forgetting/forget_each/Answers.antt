@@ -1,7 +1,7 @@
 use Rattle.std.proofs.Common.{◌∙◌, ◌+◌, drop, get_or, ap, sym}
 use Rattle.std.proofs.lemmas.List.{drop_more}
 use Rattle.rsp_numbers.specs.Accounts.{left_at}
-use Rattle.rsp_numbers.proofs.Forgetting.{left-more}
+use Rattle.rsp_numbers.proofs.Left.{left-more}
 use Rattle.rsp_numbers.proofs.forgetting.forget_each.Goals as goal
 
 pub loop-number-preserved : goal.loop-number-preserved

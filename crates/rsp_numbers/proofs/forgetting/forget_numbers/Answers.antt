@@ -1,4 +1,4 @@
-use Rattle.rsp_numbers.proofs.Forgetting.{known-left}
+use Rattle.rsp_numbers.proofs.Left.{known-left}
 use Rattle.rsp_numbers.proofs.forgetting.forget_numbers.Goals as goal
 
 pub returns-clause-known : goal.returns-clause-known
