@@ -79,11 +79,13 @@ module _ (before after : Places) (long : length after ≡ length before) (same :
 pub known-fewer : (before after : Places) → ((m : ℕ) (term : Term) → term_at after m ≡ Some term → term_at before m ≡ Some term)
     → (n : ℕ) → term_at after n ≡ term_at before n → IsKnownNumber before n → IsKnownNumber after n × (shown after n ≡ shown before n)
 known-fewer before after fewer n same known =
-    let shows : shown after n ≡ shown before n = ap (λ o. unwrap_or o (Iri [])) same in
-    (record {
-      here = same ∙ known.here ∙ ap Some (sym shows);
-      alone = λ m there. known.alone m (fewer m (shown after n) there ∙ ap Some shows);
-    }, shows)
+    let shows : shown after n ≡ shown before n = ap (λ o. unwrap_or o (Iri [])) same in (
+      record {
+        here = same ∙ known.here ∙ ap Some (sym shows);
+        alone = λ m there. known.alone m (fewer m (shown after n) there ∙ ap Some shows);
+      },
+      shows,
+    )
 
 pub known-same : (before after : Places) → ((m : ℕ) → term_at after m ≡ term_at before m) → (n : ℕ) → IsKnownNumber before n → IsKnownNumber after n × (shown after n ≡ shown before n)
 known-same before after same n known = known-fewer before after (λ m term there. sym (same m) ∙ there) n (same n) known
@@ -137,5 +139,5 @@ pub released_cells : (before after : ℤ) (cells : Cells ℕ) (n : ℕ) (one les
     → before ≡ after +ℤ times (option_eq nat_eq) cells (Some n)
 released_cells before after cells n one less is opposite sum =
     let fewer : held_by less cells n ≡ neg_ℤ (times (option_eq nat_eq) cells (Some n)) =
-        ap (λ z. held_by z cells n) (opposite ∙ ap neg_ℤ is) ∙ held_by-less cells n in
+    ap (λ z. held_by z cells n) (opposite ∙ ap neg_ℤ is) ∙ held_by-less cells n in
     omega (arith, ints)

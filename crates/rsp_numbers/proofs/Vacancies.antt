@@ -89,7 +89,7 @@ module _ (places : Places) (free : List ℕ) (free_are : AreFree places free) wh
         by false h =
             let none : vacancy places n ≡ pos 0 = ap (λ b. only b (pos 1)) h in
             let held : vacancy places n ≡ times nat_eq rest n +ℤ pos 1 =
-                held-popped n ∙ ap (λ b. times nat_eq rest n +ℤ only b (pos 1)) (eq-eqb n n refl) in
+            held-popped n ∙ ap (λ b. times nat_eq rest n +ℤ only b (pos 1)) (eq-eqb n n refl) in
             absurd (one_more (times nat_eq rest n) (times-ge nat_eq rest n) (sym held ∙ none))
 
     pub free-popped : (entry : Numbered) → AreFree (with_entry places n (Some entry)) rest

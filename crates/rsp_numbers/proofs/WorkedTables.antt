@@ -46,21 +46,25 @@ pub first-number : (places after : Places) (term : Term) (n : ℕ) → length pl
 first-number places after term n none (inl own) = absurd (none-some term (sym (past places n (omega arith)) ∙ own.0))
 first-number places after term n none (inr new) =
     let near = next-near places n new.1 in
-    let start : n ≡ 0 = omega arith in
-    (start, record {
-      single = length-given places after term n 0 0 new.2 start none;
-      first = here-given places after term n 0 (inr new) start;
-    })
+    let start : n ≡ 0 = omega arith in (
+      start,
+      record {
+        single = length-given places after term n 0 0 new.2 start none;
+        first = here-given places after term n 0 (inr new) start;
+      },
+    )
 
 -- on a table with one place that is free
 pub reused-number : (places after : Places) (term : Term) (n : ℕ) → IsOnly places None → IsGiven places term n after → (n ≡ 0) × IsOnly after (Some term)
 reused-number places after term n one (inl own) = absurd (none-some term (only-at places None one n term own.0).1)
 reused-number places after term n one (inr new) =
-    let start = place new.1 in
-    (start, record {
-      single = length-given places after term n 0 1 new.2 start one.single;
-      first = here-given places after term n 0 (inr new) start;
-    })
+    let start = place new.1 in (
+      start,
+      record {
+        single = length-given places after term n 0 1 new.2 start one.single;
+        first = here-given places after term n 0 (inr new) start;
+      },
+    )
   where
     place : IsNext places n → n ≡ 0
     place (inl free) = let below = free.0 in let single = one.single in omega arith

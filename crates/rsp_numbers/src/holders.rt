@@ -97,11 +97,7 @@ fn add_cell(
     }
 }
 
-fn add_holders(
-    places: &mut Vec<Option<Numbered>>,
-    number: u64,
-    by: Count,
-) -> Result<(), AllocError>
+fn add_holders(places: &mut Vec<Option<Numbered>>, number: u64, by: Count) -> Result<(), AllocError>
     requires { IsSome (term_at places.old.items number) }
     ensures size { length places.new.items ≡ length places.old.items }
     ensures terms { (n : ℕ) → term_at places.new.items n ≡ term_at places.old.items n }

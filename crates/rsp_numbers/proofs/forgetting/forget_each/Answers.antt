@@ -11,10 +11,14 @@ loop-number-preserved c =
     let met = c.args.met.now in
     let i = c.loop-number.number-index in (
       c.forget_number.ensures.table,
-      (c.forget_number.ensures.size ∙ c.loop-number.invariant.1,
-        (λ n.
-            left-more before after (get_or met i 0) (drop (i + 1) met) c.forget_number.ensures.terms c.forget_number.ensures.holders n
-            ∙ ap (λ numbers. left_at before numbers n) (sym (drop_more met i 0 c.loop-number-test.true))
-            ∙ c.loop-number.invariant.2 n,
-          λ n. c.forget_number.ensures.holders n ∙ c.loop-number.invariant.3 n)),
+      (
+        c.forget_number.ensures.size ∙ c.loop-number.invariant.1,
+        (
+          λ n.
+              left-more before after (get_or met i 0) (drop (i + 1) met) c.forget_number.ensures.terms c.forget_number.ensures.holders n
+              ∙ ap (λ numbers. left_at before numbers n) (sym (drop_more met i 0 c.loop-number-test.true))
+              ∙ c.loop-number.invariant.2 n,
+          λ n. c.forget_number.ensures.holders n ∙ c.loop-number.invariant.3 n,
+        ),
+      ),
     )

@@ -13,9 +13,13 @@ loop-cell-preserved c =
     let before = c.loop-cell.places.items in
     let after = c.add_cell.new.places.items in (
       c.add_cell.ensures.size ∙ c.loop-cell.invariant.0,
-      (λ n. c.add_cell.ensures.terms n ∙ c.loop-cell.invariant.1 n,
-        (rest_known first before after c.args.by c.args.cells.now c.loop-cell.cell-index c.cell-item.result c.loop-cell-test.true c.cell-item.is
-            c.loop-cell.invariant.2,
+      (
+        λ n. c.add_cell.ensures.terms n ∙ c.loop-cell.invariant.1 n,
+        (
+          rest_known first before after c.args.by c.args.cells.now c.loop-cell.cell-index c.cell-item.result c.loop-cell-test.true c.cell-item.is
+              c.loop-cell.invariant.2,
           cell_counted first before after c.args.by c.args.cells.now c.loop-cell.cell-index c.cell-item.result c.loop-cell-test.true
-          c.cell-item.is c.in_ok-add_cell.ensures.sum c.loop-cell.invariant.3)),
+              c.cell-item.is c.in_ok-add_cell.ensures.sum c.loop-cell.invariant.3,
+        ),
+      ),
     )

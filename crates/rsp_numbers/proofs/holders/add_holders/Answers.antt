@@ -30,14 +30,14 @@ returns-clause-sum c =
     let here = get_or_read c.args.places.now.items c.args.number c.index_mut.result.now below c.index_mut.ensures.value None in
     on_ok_weaker c.add_to_place.result
     (λ sum.
-        holders-added c.args.places.now.items c.args.number c.add_to_place.new.place below c.args.by
-        (sum ∙ ap (λ e. holders_in e +ℤ c.args.by) here))
+    holders-added c.args.places.now.items c.args.number c.add_to_place.new.place below c.args.by
+    (sum ∙ ap (λ e. holders_in e +ℤ c.args.by) here))
     c.add_to_place.ensures.sum
 
 pub returns-clause-err : goal.returns-clause-err
 returns-clause-err c =
     on_err_weaker c.add_to_place.result
     (λ same.
-        ap (set c.args.places.now.items c.args.number) (same ∙ c.index_mut.ensures.value)
-        ∙ set-get_or c.args.places.now.items c.args.number c.index_mut.result.now)
+    ap (set c.args.places.now.items c.args.number) (same ∙ c.index_mut.ensures.value)
+    ∙ set-get_or c.args.places.now.items c.args.number c.index_mut.result.now)
     c.add_to_place.ensures.err

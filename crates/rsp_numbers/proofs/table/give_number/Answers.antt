@@ -16,7 +16,9 @@ returns-in-Vacant-clause-given c =
     let same : c.share.result ≡ c.args.term = search rules in
     inr (
       new-term c.args.places.now.items c.args.numbers.now.entries c.requires.numbers_are c.args.term absent,
-      (c.in_ok-number.ensures.next,
+      (
+        c.in_ok-number.ensures.next,
         c.in_ok-number.ensures.placed
-        ∙ (λ i. with_entry c.args.places.now.items c.in_ok-number.number (Some (record { term = same i; holders = c.zero.ensures i })))),
+            ∙ (λ i. with_entry c.args.places.now.items c.in_ok-number.number (Some (record { term = same i; holders = c.zero.ensures i }))),
+      ),
     )

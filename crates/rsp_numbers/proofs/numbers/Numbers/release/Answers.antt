@@ -8,6 +8,6 @@ pub returns-clause-account : goal.returns-clause-account
 returns-clause-account c =
     on_ok_weaker c.count_number.result
     (λ sum n.
-        (λ i. holders (sym c.self.view_is i) n)
-        ∙ released _ _ (nat_eq n c.args.number) c.one.result c.opposite.result c.one.ensures c.opposite.ensures (sum n))
+    (λ i. holders (sym c.self.view_is i) n)
+    ∙ released _ _ (nat_eq n c.args.number) c.one.result c.opposite.result c.one.ensures c.opposite.ensures (sum n))
     c.count_number.ensures.sum
