@@ -1,5 +1,5 @@
 // When the kept items end.
-ghost use Rattle.std.specs.Prelude.{◌≡◌, ◌-◌, ◌<◌, ◌≤◌, false, length, slice_index_or};
+ghost use Rattle.std.specs.Prelude.{◌≡◌, ◌-◌, ◌<◌, length, nat_lt, slice_index_or};
 ghost use Rattle.rsp_scope.specs.Runs.{ending_of};
 ghost use Rattle.rsp_scope.specs.declared.ends.Ending.{Ending};
 
@@ -15,7 +15,7 @@ pub(crate) struct Ending {
     pub triples: u64,
 }
 
-/// Endings, each not before the one in front of it.
+/// Endings, each not before the one in front of it. It grows at both ends.
 #[derive(Drop)]
 pub(crate) struct Run {
     triples: u64,
@@ -35,8 +35,8 @@ impl Model for Run {
 }
 
 impl Run {
-    ghost use Rattle.std.specs.Prelude.{◌≡◌, ◌+◌, ◌++◌, ◌∷◌, ◌≤◌, ℕ, [], List, cond, IfOk, OnErr, drop, length, min, take};
-    ghost use Rattle.std.specs.Prelude.{sum_by};
+    ghost use Rattle.std.specs.Prelude.{◌≡◌, ◌==◌, ◌+◌, ◌-◌, ◌∷◌, ◌<◌, ◌≤◌, ℕ, [], cond, IfOk, OnErr, drop, length, min, nat_lt};
+    ghost use Rattle.std.specs.Prelude.{slice_index_or, sum_by};
     ghost use Rattle.rsp_scope.specs.Kept.{triples_of};
     ghost use Rattle.rsp_scope.specs.Runs.{ending_of, over_items, reaching, triples_in};
     ghost use Rattle.rsp_scope.specs.declared.ends.Ending.{Ending};
@@ -54,13 +54,14 @@ impl Run {
         })
     }
 
-    /// Puts the ending last, unless the last one is later. Gives whether it did. Fails only where memory is refused.
+    /// Puts the ending last, unless the last one is later, and else first, unless the first one is earlier. Gives whether it
+    /// did either. Fails only where memory is refused.
     pub(crate) fn put(&mut self, ending: Ending) -> Result<bool, AllocError>
-        ensures ok { IfOk result (λ done. self.new ≡ cond done (self.old ++ ending ∷ []) self.old) }
+        ensures ok { IfOk result (λ done. (f : Ending → ℕ) → sum_by f self.new ≡ sum_by f self.old + cond done (f ending) 0) }
         ensures err { OnErr result (self.new ≡ self.old) }
     {
         if is_later(&self.rising, ending.end) {
-            return Ok(false);
+            return self.put_first(ending);
         }
         let Some(triples) = self.triples.checked_add(ending.triples) else {
             return Err(AllocError);
@@ -68,6 +69,35 @@ impl Run {
         self.rising.push_back(ending)?;
         self.triples = triples;
         Ok(true)
+    }
+
+    fn put_first(&mut self, ending: Ending) -> Result<bool, AllocError>
+        ensures ok { IfOk result (λ done. (f : Ending → ℕ) → sum_by f self.new ≡ sum_by f self.old + cond done (f ending) 0) }
+        ensures err { OnErr result (self.new ≡ self.old) }
+    {
+        if is_earlier(&self.rising, ending.end) {
+            return Ok(false);
+        }
+        let Some(triples) = self.triples.checked_add(ending.triples) else {
+            return Err(AllocError);
+        };
+        self.rising.push_front(ending)?;
+        self.triples = triples;
+        Ok(true)
+    }
+
+    /// Whether the last ending is after this instant.
+    pub(crate) fn is_later(&self, end: u64) -> bool
+        ensures { (d : Ending) → 0 < length self.now → result ≡ nat_lt end (slice_index_or self.now (length self.now - 1) d).end }
+    {
+        is_later(&self.rising, end)
+    }
+
+    /// Whether the first ending is before this instant.
+    pub(crate) fn is_earlier(&self, end: u64) -> bool
+        ensures { (d : Ending) → 0 < length self.now → result ≡ nat_lt (slice_index_or self.now 0 d).end end }
+    {
+        is_earlier(&self.rising, end)
     }
 
     /// Lets go of the endings before `next`. They stand in front.
@@ -96,6 +126,12 @@ impl Run {
             triples -= ending.triples;
         }
         triples
+    }
+
+    pub(crate) fn is_empty(&self) -> bool
+        ensures { result ≡ (length self.now == 0) }
+    {
+        self.rising.is_empty()
     }
 
     pub(crate) fn len(&self) -> usize
@@ -146,11 +182,21 @@ pub(crate) fn ending_of(item: &Item) -> Ending
 
 // whether the last ending is after this instant
 fn is_later(rising: &VecDeque<Ending, Global>, end: u64) -> bool
-    ensures { result ≡ false → (d : Ending) → 0 < length rising.now.items
-        → (slice_index_or rising.now.items (length rising.now.items - 1) d).end ≤ end }
+    ensures { (d : Ending) → 0 < length rising.now.items
+        → result ≡ nat_lt end (slice_index_or rising.now.items (length rising.now.items - 1) d).end }
 {
     match rising.back() {
         Some(last) => end < last.end,
+        None => false,
+    }
+}
+
+// whether the first ending is before this instant
+fn is_earlier(rising: &VecDeque<Ending, Global>, end: u64) -> bool
+    ensures { (d : Ending) → 0 < length rising.now.items → result ≡ nat_lt (slice_index_or rising.now.items 0 d).end end }
+{
+    match rising.front() {
+        Some(first) => first.end < end,
         None => false,
     }
 }

@@ -1,15 +1,18 @@
-use Rattle.std.proofs.Common.{sym, subst, arith}
+use Rattle.std.proofs.Common.{◌-◌, length, slice_index_or, sym, subst, arith}
 use Rattle.std.specs.List.Sorted.{IsNonDecreasingBy}
 use Rattle.std.proofs.lemmas.Grind.{common_steps}
 use Rattle.std.proofs.lemmas.List.Sorted.{IsNonDecreasingBy-push}
 use Rattle.std.proofs.lemmas.List.Sums.{sum_by_push}
 use Rattle.rsp_scope.specs.declared.ends.Ending.{Ending}
+use Rattle.rsp_scope.proofs.Risings.{not-later}
 use Rattle.rsp_scope.proofs.ends.Run.put.Goals as goal
 
 pub invariant_of-self-2 : goal.invariant_of-self-2
 invariant_of-self-2 c =
+    let es = c.self.inside.rising.items in
     record {
       order = subst (λ l. IsNonDecreasingBy (λ (e : Ending). e.end) l) (sym c.in_ok-push_back.ensures.items)
-          (IsNonDecreasingBy-push (λ (e : Ending). e.end) c.self.inside.rising.items c.args.ending c.self.invariant.order (c.is_later.ensures c.if-is_later.false));
+          (IsNonDecreasingBy-push (λ (e : Ending). e.end) es c.args.ending c.self.invariant.order
+          (λ d some. not-later c.is_later.result c.args.ending.end (slice_index_or es (length es - 1) d).end (c.is_later.ensures d some) c.if-is_later.false));
       triples = grind (arith, common_steps, sum_by_push (λ (e : Ending). e.triples) c.self.inside.rising.items c.args.ending);
     }
