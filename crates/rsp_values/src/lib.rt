@@ -9,7 +9,9 @@ mod aggregates;
 mod evaluation;
 mod extremes;
 mod nodes;
+mod reading;
 mod sums;
 
 pub use aggregates::aggregate_value;
-pub use evaluation::{truth, value};
+pub use evaluation::{truth, truth_in, value, value_in};
+pub use reading::ReadRow;
