@@ -61,15 +61,23 @@ impl<B: KeepingBoth<Same>> Binary<Same> for Bounded<B> {
 // whether it answers as the turns tell, and gives up at the last one, since more pairs came than may
 fn gives_up<B: KeepingBoth<Same>>(
     alloc: Global,
-    given: BinaryTrial<Bounded<B>>,
+    mut trial: BinaryTrial<Bounded<B>>,
     turns: &str,
     last: &str,
 ) -> Result<bool, Refused> {
-    let mut trial = given;
-    if !goes_on(alloc, &mut trial, Told::Answered, turns)? {
+    gives_up_at(alloc, &mut trial, turns, last)
+}
+
+fn gives_up_at<B: KeepingBoth<Same>>(
+    alloc: Global,
+    trial: &mut BinaryTrial<Bounded<B>>,
+    turns: &str,
+    last: &str,
+) -> Result<bool, Refused> {
+    if !goes_on(alloc, trial, Told::Answered, turns)? {
         return Ok(false);
     }
-    let given_up = answers(alloc, &mut trial, Told::Answered, last).is_err();
+    let given_up = answers(alloc, trial, Told::Answered, last).is_err();
     Ok(given_up && trial.operator().full)
 }
 

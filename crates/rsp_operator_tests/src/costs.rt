@@ -114,10 +114,9 @@ fn change_all<O: Binary<Same> + Drop>(
 // how many rows are answered after these
 fn answered_after<O: Binary<Same> + Drop>(
     alloc: Global,
-    given: BinaryTrial<O>,
+    mut trial: BinaryTrial<O>,
     rights: u64,
 ) -> Result<usize, Refused> {
-    let mut trial = given;
     change_all(alloc, &mut trial, rights)?;
     Ok(trial.answers().distinct())
 }
@@ -154,9 +153,8 @@ fn change_one_key<O: Binary<Same> + Drop>(
 
 fn answered_of_one_key<O: Binary<Same> + Drop>(
     alloc: Global,
-    given: BinaryTrial<O>,
+    mut trial: BinaryTrial<O>,
 ) -> Result<usize, Refused> {
-    let mut trial = given;
     change_one_key(alloc, &mut trial)?;
     Ok(trial.answers().distinct())
 }
@@ -174,9 +172,8 @@ fn refuses_many<O: Binary<Same> + Drop>(
 // whether that is too much
 fn is_too_much<B: KeepingBoth<Same>>(
     alloc: Global,
-    given: BinaryTrial<Bounded<B>>,
+    mut trial: BinaryTrial<Bounded<B>>,
 ) -> Result<bool, AllocError> {
-    let mut trial = given;
     Ok(refuses_many(alloc, &mut trial)? && trial.operator().full)
 }
 

@@ -4,6 +4,7 @@ ghost use Rattle.std.specs.Prelude.{◌≡◌, ◌<◌};
 use crate::scans::fact;
 use rsp_index::FactStore;
 use rsp_steps::Steps;
+use rsp_terms::Fact;
 use std::alloc::{AllocError, Global};
 use std::marker::Brand;
 use std::sync::ledger::{Blank, Ledger};
@@ -22,9 +23,13 @@ const CHANGES: [Change; 7] = [
     ("a:2", 2, false, 1),
 ];
 
+fn takes(store: &mut FactStore, fact: &Fact, by: i64) -> bool {
+    store.alter(fact, by).is_ok()
+}
+
 fn alters(alloc: Global, store: &mut FactStore, object: &str, by: i64) -> Result<bool, AllocError> {
     let fact = fact(alloc, "", "a:s", object)?;
-    Ok(store.alter(&fact, by).is_ok())
+    Ok(takes(store, &fact, by))
 }
 
 fn how_many<L: Ledger>(alloc: Global, blank: Blank, store: &FactStore) -> Result<usize, AllocError>

@@ -1,7 +1,9 @@
 // The maintained join and the union, turn by turn.
 use crate::notation::{Told, are_refused, goes_on, turns_out};
 use crate::trials::{WIDTH, joined};
+use rsp_operators::Binary;
 use rsp_simple_operators::Joining;
+use rsp_terms::Same;
 use rsp_trials::{BinaryTrial, Refused};
 use std::alloc::Global;
 use std::test::Fail;
@@ -68,13 +70,22 @@ fn without_a_key_each_row_meets_each(rt: HostRuntime) -> Result<(), Fail> {
     Ok(())
 }
 
+fn refuse_and_go_on<O: Binary<Same> + Drop>(
+    alloc: Global,
+    trial: &mut BinaryTrial<O>,
+    refused: &str,
+    turns: &str,
+) -> Result<bool, Refused> {
+    if !are_refused(alloc, trial, refused) {
+        return Ok(false);
+    }
+    goes_on(alloc, trial, Told::Answered, turns)
+}
+
 // whether it refuses what may not come, and then answers as the turns tell
 fn refuses_and_goes_on(alloc: Global, refused: &str, turns: &str) -> Result<bool, Refused> {
     let mut trial = joined(alloc, &[0])?;
-    Ok(
-        are_refused(alloc, &mut trial, refused)
-            && goes_on(alloc, &mut trial, Told::Answered, turns)?,
-    )
+    refuse_and_go_on(alloc, &mut trial, refused, turns)
 }
 
 #[test]

@@ -82,6 +82,19 @@ fn given_right<O: Binary<Same> + Drop>(
     trial.change(alloc, left, &right)
 }
 
+fn answers_sides<O: Binary<Same> + Drop>(
+    alloc: Global,
+    trial: &mut BinaryTrial<O>,
+    told: Told,
+    left: &str,
+    right: &str,
+    rows: &str,
+) -> Result<bool, Refused> {
+    let left = change_of(alloc, left)?;
+    let net = given_right(alloc, trial, &left, right)?;
+    Ok(is_told(alloc, told, &left, &net, rows)?)
+}
+
 /// Whether the operator answers the turn as it tells: `LEFT|RIGHT|ROWS`.
 pub(crate) fn answers<O: Binary<Same> + Drop>(
     alloc: Global,
@@ -91,9 +104,7 @@ pub(crate) fn answers<O: Binary<Same> + Drop>(
 ) -> Result<bool, Refused> {
     let (left, rest) = turn.split_once('|').unwrap_or((turn, ""));
     let (right, rows) = rest.split_once('|').unwrap_or((rest, ""));
-    let left = change_of(alloc, left)?;
-    let net = given_right(alloc, trial, &left, right)?;
-    Ok(is_told(alloc, told, &left, &net, rows)?)
+    answers_sides(alloc, trial, told, left, right, rows)
 }
 
 /// Whether the operator answers each turn as it tells, a line each.
@@ -114,11 +125,10 @@ pub(crate) fn goes_on<O: Binary<Same> + Drop>(
 /// The same of an operator that is given.
 pub(crate) fn turns_out<O: Binary<Same> + Drop>(
     alloc: Global,
-    given: BinaryTrial<O>,
+    mut trial: BinaryTrial<O>,
     told: Told,
     turns: &str,
 ) -> Result<bool, Refused> {
-    let mut trial = given;
     goes_on(alloc, &mut trial, told, turns)
 }
 
@@ -163,9 +173,8 @@ fn single_goes_on<O: Unary<Same> + Drop>(
 /// Whether the operator on one input answers each turn as it tells, a line each: `ROWS||ANSWER`.
 pub(crate) fn single_turns_out<O: Unary<Same> + Drop>(
     alloc: Global,
-    given: UnaryTrial<O>,
+    mut trial: UnaryTrial<O>,
     turns: &str,
 ) -> Result<bool, Refused> {
-    let mut trial = given;
     single_goes_on(alloc, &mut trial, turns)
 }

@@ -108,10 +108,9 @@ fn count_of(choice: u64, held: Count) -> Result<Count, AllocError> {
 // whether each of the changes leads to the value made anew
 fn is_right<O: Binary<Same> + Drop>(
     alloc: Global,
-    given: BinaryTrial<O>,
+    mut trial: BinaryTrial<O>,
     asked: Asked,
 ) -> Result<bool, Refused> {
-    let mut trial = given;
     stays_right(alloc, &mut trial, asked)
 }
 
@@ -138,7 +137,16 @@ fn change_both<O: Binary<Same> + Drop>(
 ) -> Result<(), Refused> {
     let left = next_change(alloc, numbers, trial.lefts(), bound)?;
     let right = next_change(alloc, numbers, trial.rights(), bound)?;
-    trial.change(alloc, &left, &right)?;
+    give(alloc, trial, &left, &right)
+}
+
+fn give<O: Binary<Same> + Drop>(
+    alloc: Global,
+    trial: &mut BinaryTrial<O>,
+    left: &Changes<Row<Term>>,
+    right: &Changes<Row<Term>>,
+) -> Result<(), Refused> {
+    trial.change(alloc, left, right)?;
     Ok(())
 }
 

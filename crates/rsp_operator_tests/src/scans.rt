@@ -120,9 +120,23 @@ fn scanned(
     variables: Variables,
     domain: &mut Noting,
 ) -> Result<Changes<Row<Term>>, AllocError> {
-    let scan = scan_of(alloc, variables)?;
     let facts = facts(alloc)?;
-    scan.apply(alloc, &facts, domain)
+    scanned_of(alloc, variables, &facts, domain)
+}
+
+fn scanned_of(
+    alloc: Global,
+    variables: Variables,
+    facts: &Changes<Fact>,
+    domain: &mut Noting,
+) -> Result<Changes<Row<Term>>, AllocError> {
+    let scan = scan_of(alloc, variables)?;
+    scan.apply(alloc, facts, domain)
+}
+
+fn are_rows(alloc: Global, net: &Changes<Row<Term>>, rows: &[Line]) -> Result<bool, AllocError> {
+    let wanted = change(alloc, rows)?;
+    are_same(alloc, net, &wanted)
 }
 
 // whether these rows are answered, and the domain takes in so many terms
@@ -134,8 +148,7 @@ fn answers(
 ) -> Result<bool, AllocError> {
     let mut domain = Noting { taken: 0 };
     let net = scanned(alloc, variables, &mut domain)?;
-    let wanted = change(alloc, rows)?;
-    Ok(domain.taken == terms && are_same(alloc, &net, &wanted)?)
+    Ok(domain.taken == terms && are_rows(alloc, &net, rows)?)
 }
 
 const BOTH_BOUND: [Line; 2] = [(&["a:1", "a:2"], 1), (&["a:1", "a:1"], -1)];
