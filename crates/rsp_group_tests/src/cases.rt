@@ -1,5 +1,5 @@
 // Small cases. A row has a key, a value, and a place for the aggregate.
-use crate::column::{Asked, begins_with, gives, groups, of_values, rows_counted};
+use crate::column::{Asked, Trial, begins_with, gives, groups, of_values, rows_counted};
 use crate::values::Line;
 use rsp_functions::Kind;
 use std::alloc::Global;
@@ -16,12 +16,23 @@ fn answer(
     turns: &[Turn],
 ) -> Result<bool, Fail> {
     let mut trial = groups(alloc, keys, aggregates)?;
+    gives_each(alloc, &mut trial, turns)
+}
+
+fn gives_each(alloc: Global, trial: &mut Trial, turns: &[Turn]) -> Result<bool, Fail> {
     for (given, wanted) in turns {
-        if !gives(alloc, &mut trial, given, wanted)? {
+        if !gives(alloc, trial, given, wanted)? {
             return Ok(false);
         }
     }
     Ok(true)
+}
+
+// whether they do by the first cell as a key, with this aggregate of all values and of each once
+fn both_answer(alloc: Global, kind: Kind, turns: &[Turn]) -> Result<bool, Fail> {
+    let each = answer(alloc, &[0], &[of_values(kind, false)], turns)?;
+    let once = answer(alloc, &[0], &[of_values(kind, true)], turns)?;
+    Ok(each && once)
 }
 
 #[test]
@@ -262,25 +273,22 @@ fn two_aggregates_stand_in_a_row(rt: HostRuntime) -> Result<(), Fail> {
 
 #[test]
 fn the_least_goes_while_a_copy_stays(rt: HostRuntime) -> Result<(), Fail> {
-    for distinct in [false, true] {
-        let held = answer(
-            rt.alloc(),
-            &[0],
-            &[of_values(Kind::Min, distinct)],
-            &[
-                (
-                    &[(&["a", "i1", ""], 2), (&["a", "i2", ""], 1)],
-                    &[(&["a", "", "i1"], 1)],
-                ),
-                (&[(&["a", "i1", ""], -1)], &[]),
-                (
-                    &[(&["a", "i1", ""], -1)],
-                    &[(&["a", "", "i1"], -1), (&["a", "", "i2"], 1)],
-                ),
-            ],
-        )?;
-        assert!(rt; held);
-    }
+    let held = both_answer(
+        rt.alloc(),
+        Kind::Min,
+        &[
+            (
+                &[(&["a", "i1", ""], 2), (&["a", "i2", ""], 1)],
+                &[(&["a", "", "i1"], 1)],
+            ),
+            (&[(&["a", "i1", ""], -1)], &[]),
+            (
+                &[(&["a", "i1", ""], -1)],
+                &[(&["a", "", "i1"], -1), (&["a", "", "i2"], 1)],
+            ),
+        ],
+    )?;
+    assert!(rt; held);
     Ok(())
 }
 
@@ -307,195 +315,174 @@ fn two_texts_of_a_number_are_two_values(rt: HostRuntime) -> Result<(), Fail> {
 
 #[test]
 fn what_spoils_a_sum_comes_and_goes(rt: HostRuntime) -> Result<(), Fail> {
-    for distinct in [false, true] {
-        let held = answer(
-            rt.alloc(),
-            &[0],
-            &[of_values(Kind::Sum, distinct)],
-            &[
-                (&[(&["a", "i2", ""], 1)], &[(&["a", "", "i2"], 1)]),
-                (
-                    &[(&["a", "", ""], 2)],
-                    &[(&["a", "", "i2"], -1), (&["a", "", ""], 1)],
-                ),
-                (&[(&["a", "", ""], -1)], &[]),
-                (
-                    &[(&["a", "", ""], -1)],
-                    &[(&["a", "", ""], -1), (&["a", "", "i2"], 1)],
-                ),
-                (
-                    &[(&["a", "sx", ""], 1)],
-                    &[(&["a", "", "i2"], -1), (&["a", "", ""], 1)],
-                ),
-                (
-                    &[(&["a", "sx", ""], -1)],
-                    &[(&["a", "", ""], -1), (&["a", "", "i2"], 1)],
-                ),
-            ],
-        )?;
-        assert!(rt; held);
-    }
+    let held = both_answer(
+        rt.alloc(),
+        Kind::Sum,
+        &[
+            (&[(&["a", "i2", ""], 1)], &[(&["a", "", "i2"], 1)]),
+            (
+                &[(&["a", "", ""], 2)],
+                &[(&["a", "", "i2"], -1), (&["a", "", ""], 1)],
+            ),
+            (&[(&["a", "", ""], -1)], &[]),
+            (
+                &[(&["a", "", ""], -1)],
+                &[(&["a", "", ""], -1), (&["a", "", "i2"], 1)],
+            ),
+            (
+                &[(&["a", "sx", ""], 1)],
+                &[(&["a", "", "i2"], -1), (&["a", "", ""], 1)],
+            ),
+            (
+                &[(&["a", "sx", ""], -1)],
+                &[(&["a", "", ""], -1), (&["a", "", "i2"], 1)],
+            ),
+        ],
+    )?;
+    assert!(rt; held);
     Ok(())
 }
 
 #[test]
 fn what_spoils_an_average_comes_and_goes(rt: HostRuntime) -> Result<(), Fail> {
-    for distinct in [false, true] {
-        let held = answer(
-            rt.alloc(),
-            &[0],
-            &[of_values(Kind::Avg, distinct)],
-            &[
-                (&[(&["a", "i2", ""], 1)], &[(&["a", "", "d2"], 1)]),
-                (
-                    &[(&["a", "", ""], 2)],
-                    &[(&["a", "", "d2"], -1), (&["a", "", ""], 1)],
-                ),
-                (&[(&["a", "", ""], -1)], &[]),
-                (
-                    &[(&["a", "", ""], -1)],
-                    &[(&["a", "", ""], -1), (&["a", "", "d2"], 1)],
-                ),
-                (
-                    &[(&["a", "sx", ""], 1)],
-                    &[(&["a", "", "d2"], -1), (&["a", "", ""], 1)],
-                ),
-                (
-                    &[(&["a", "sx", ""], -1)],
-                    &[(&["a", "", ""], -1), (&["a", "", "d2"], 1)],
-                ),
-            ],
-        )?;
-        assert!(rt; held);
-    }
+    let held = both_answer(
+        rt.alloc(),
+        Kind::Avg,
+        &[
+            (&[(&["a", "i2", ""], 1)], &[(&["a", "", "d2"], 1)]),
+            (
+                &[(&["a", "", ""], 2)],
+                &[(&["a", "", "d2"], -1), (&["a", "", ""], 1)],
+            ),
+            (&[(&["a", "", ""], -1)], &[]),
+            (
+                &[(&["a", "", ""], -1)],
+                &[(&["a", "", ""], -1), (&["a", "", "d2"], 1)],
+            ),
+            (
+                &[(&["a", "sx", ""], 1)],
+                &[(&["a", "", "d2"], -1), (&["a", "", ""], 1)],
+            ),
+            (
+                &[(&["a", "sx", ""], -1)],
+                &[(&["a", "", ""], -1), (&["a", "", "d2"], 1)],
+            ),
+        ],
+    )?;
+    assert!(rt; held);
     Ok(())
 }
 
 #[test]
 fn an_error_spoils_the_least_as_long_as_it_is_in(rt: HostRuntime) -> Result<(), Fail> {
-    for distinct in [false, true] {
-        let held = answer(
-            rt.alloc(),
-            &[0],
-            &[of_values(Kind::Min, distinct)],
-            &[
-                (&[(&["a", "i2", ""], 1)], &[(&["a", "", "i2"], 1)]),
-                (
-                    &[(&["a", "", ""], 2)],
-                    &[(&["a", "", "i2"], -1), (&["a", "", ""], 1)],
-                ),
-                (&[(&["a", "", ""], -1)], &[]),
-                (
-                    &[(&["a", "", ""], -1)],
-                    &[(&["a", "", ""], -1), (&["a", "", "i2"], 1)],
-                ),
-            ],
-        )?;
-        assert!(rt; held);
-    }
+    let held = both_answer(
+        rt.alloc(),
+        Kind::Min,
+        &[
+            (&[(&["a", "i2", ""], 1)], &[(&["a", "", "i2"], 1)]),
+            (
+                &[(&["a", "", ""], 2)],
+                &[(&["a", "", "i2"], -1), (&["a", "", ""], 1)],
+            ),
+            (&[(&["a", "", ""], -1)], &[]),
+            (
+                &[(&["a", "", ""], -1)],
+                &[(&["a", "", ""], -1), (&["a", "", "i2"], 1)],
+            ),
+        ],
+    )?;
+    assert!(rt; held);
     Ok(())
 }
 
 #[test]
 fn an_error_spoils_the_greatest_as_long_as_it_is_in(rt: HostRuntime) -> Result<(), Fail> {
-    for distinct in [false, true] {
-        let held = answer(
-            rt.alloc(),
-            &[0],
-            &[of_values(Kind::Max, distinct)],
-            &[
-                (&[(&["a", "i2", ""], 1)], &[(&["a", "", "i2"], 1)]),
-                (
-                    &[(&["a", "", ""], 2)],
-                    &[(&["a", "", "i2"], -1), (&["a", "", ""], 1)],
-                ),
-                (&[(&["a", "", ""], -1)], &[]),
-                (
-                    &[(&["a", "", ""], -1)],
-                    &[(&["a", "", ""], -1), (&["a", "", "i2"], 1)],
-                ),
-            ],
-        )?;
-        assert!(rt; held);
-    }
+    let held = both_answer(
+        rt.alloc(),
+        Kind::Max,
+        &[
+            (&[(&["a", "i2", ""], 1)], &[(&["a", "", "i2"], 1)]),
+            (
+                &[(&["a", "", ""], 2)],
+                &[(&["a", "", "i2"], -1), (&["a", "", ""], 1)],
+            ),
+            (&[(&["a", "", ""], -1)], &[]),
+            (
+                &[(&["a", "", ""], -1)],
+                &[(&["a", "", ""], -1), (&["a", "", "i2"], 1)],
+            ),
+        ],
+    )?;
+    assert!(rt; held);
     Ok(())
 }
 
 #[test]
 fn an_error_counts_nothing(rt: HostRuntime) -> Result<(), Fail> {
-    for distinct in [false, true] {
-        let held = answer(
-            rt.alloc(),
-            &[0],
-            &[of_values(Kind::Count, distinct)],
-            &[
-                (&[(&["a", "i2", ""], 1)], &[(&["a", "", "i1"], 1)]),
-                (&[(&["a", "", ""], 2)], &[]),
-                (
-                    &[(&["a", "sx", ""], 1)],
-                    &[(&["a", "", "i1"], -1), (&["a", "", "i2"], 1)],
-                ),
-                (&[(&["a", "", ""], -2)], &[]),
-            ],
-        )?;
-        assert!(rt; held);
-    }
+    let held = both_answer(
+        rt.alloc(),
+        Kind::Count,
+        &[
+            (&[(&["a", "i2", ""], 1)], &[(&["a", "", "i1"], 1)]),
+            (&[(&["a", "", ""], 2)], &[]),
+            (
+                &[(&["a", "sx", ""], 1)],
+                &[(&["a", "", "i1"], -1), (&["a", "", "i2"], 1)],
+            ),
+            (&[(&["a", "", ""], -2)], &[]),
+        ],
+    )?;
+    assert!(rt; held);
     Ok(())
 }
 
 #[test]
 fn a_sum_passes_the_range_and_comes_back(rt: HostRuntime) -> Result<(), Fail> {
-    for distinct in [false, true] {
-        let held = answer(
-            rt.alloc(),
-            &[0],
-            &[of_values(Kind::Sum, distinct)],
-            &[
-                (
-                    &[(&["a", "i9223372036854775807", ""], 1)],
-                    &[(&["a", "", "i9223372036854775807"], 1)],
-                ),
-                (
-                    &[(&["a", "i1", ""], 1)],
-                    &[
-                        (&["a", "", "i9223372036854775807"], -1),
-                        (&["a", "", ""], 1),
-                    ],
-                ),
-                (
-                    &[(&["a", "i1", ""], -1)],
-                    &[
-                        (&["a", "", ""], -1),
-                        (&["a", "", "i9223372036854775807"], 1),
-                    ],
-                ),
-            ],
-        )?;
-        assert!(rt; held);
-    }
+    let held = both_answer(
+        rt.alloc(),
+        Kind::Sum,
+        &[
+            (
+                &[(&["a", "i9223372036854775807", ""], 1)],
+                &[(&["a", "", "i9223372036854775807"], 1)],
+            ),
+            (
+                &[(&["a", "i1", ""], 1)],
+                &[
+                    (&["a", "", "i9223372036854775807"], -1),
+                    (&["a", "", ""], 1),
+                ],
+            ),
+            (
+                &[(&["a", "i1", ""], -1)],
+                &[
+                    (&["a", "", ""], -1),
+                    (&["a", "", "i9223372036854775807"], 1),
+                ],
+            ),
+        ],
+    )?;
+    assert!(rt; held);
     Ok(())
 }
 
 #[test]
 fn the_last_decimal_goes(rt: HostRuntime) -> Result<(), Fail> {
-    for distinct in [false, true] {
-        let held = answer(
-            rt.alloc(),
-            &[0],
-            &[of_values(Kind::Sum, distinct)],
-            &[
-                (
-                    &[(&["a", "d1.5", ""], 1), (&["a", "i2", ""], 1)],
-                    &[(&["a", "", "d3.5"], 1)],
-                ),
-                (
-                    &[(&["a", "d1.5", ""], -1)],
-                    &[(&["a", "", "d3.5"], -1), (&["a", "", "i2"], 1)],
-                ),
-            ],
-        )?;
-        assert!(rt; held);
-    }
+    let held = both_answer(
+        rt.alloc(),
+        Kind::Sum,
+        &[
+            (
+                &[(&["a", "d1.5", ""], 1), (&["a", "i2", ""], 1)],
+                &[(&["a", "", "d3.5"], 1)],
+            ),
+            (
+                &[(&["a", "d1.5", ""], -1)],
+                &[(&["a", "", "d3.5"], -1), (&["a", "", "i2"], 1)],
+            ),
+        ],
+    )?;
+    assert!(rt; held);
     Ok(())
 }
 
@@ -543,51 +530,54 @@ fn values_and_not_rows_make_an_average(rt: HostRuntime) -> Result<(), Fail> {
 
 #[test]
 fn the_least_of_terms_of_each_kind(rt: HostRuntime) -> Result<(), Fail> {
-    for distinct in [false, true] {
-        let held = answer(
-            rt.alloc(),
-            &[0],
-            &[of_values(Kind::Min, distinct)],
-            &[
-                (
-                    &[
-                        (&["a", "_b", ""], 1),
-                        (&["a", "x:1", ""], 1),
-                        (&["a", "i5", ""], 1),
-                        (&["a", "sz", ""], 1),
-                    ],
-                    &[(&["a", "", "_b"], 1)],
-                ),
-                (
-                    &[(&["a", "_b", ""], -1)],
-                    &[(&["a", "", "_b"], -1), (&["a", "", "x:1"], 1)],
-                ),
-                (
-                    &[(&["a", "x:1", ""], -1)],
-                    &[(&["a", "", "x:1"], -1), (&["a", "", "i5"], 1)],
-                ),
-                (
-                    &[(&["a", "i5", ""], -1)],
-                    &[(&["a", "", "i5"], -1), (&["a", "", "sz"], 1)],
-                ),
-            ],
-        )?;
-        assert!(rt; held);
-    }
+    let held = both_answer(
+        rt.alloc(),
+        Kind::Min,
+        &[
+            (
+                &[
+                    (&["a", "_b", ""], 1),
+                    (&["a", "x:1", ""], 1),
+                    (&["a", "i5", ""], 1),
+                    (&["a", "sz", ""], 1),
+                ],
+                &[(&["a", "", "_b"], 1)],
+            ),
+            (
+                &[(&["a", "_b", ""], -1)],
+                &[(&["a", "", "_b"], -1), (&["a", "", "x:1"], 1)],
+            ),
+            (
+                &[(&["a", "x:1", ""], -1)],
+                &[(&["a", "", "x:1"], -1), (&["a", "", "i5"], 1)],
+            ),
+            (
+                &[(&["a", "i5", ""], -1)],
+                &[(&["a", "", "i5"], -1), (&["a", "", "sz"], 1)],
+            ),
+        ],
+    )?;
+    assert!(rt; held);
     Ok(())
+}
+
+fn takes_so_many_rows(alloc: Global) -> Result<bool, Fail> {
+    let mut trial = groups(alloc, &[0], &[rows_counted()])?;
+    takes_no_more(alloc, &mut trial)
+}
+
+fn takes_no_more(alloc: Global, trial: &mut Trial) -> Result<bool, Fail> {
+    let all = gives(
+        alloc,
+        trial,
+        &[(&["a", "", ""], 4294967296)],
+        &[(&["a", "", "i4294967296"], 1)],
+    )?;
+    Ok(all && gives(alloc, trial, &[(&["a", "", ""], 1)], &[]).is_err())
 }
 
 #[test]
 fn a_group_has_at_most_so_many_rows(rt: HostRuntime) -> Result<(), Fail> {
-    let alloc = rt.alloc();
-    let mut trial = groups(alloc, &[0], &[rows_counted()])?;
-    let all = gives(
-        alloc,
-        &mut trial,
-        &[(&["a", "", ""], 4294967296)],
-        &[(&["a", "", "i4294967296"], 1)],
-    )?;
-    assert!(rt; all);
-    assert!(rt; gives(alloc, &mut trial, &[(&["a", "", ""], 1)], &[]).is_err());
+    assert!(rt; takes_so_many_rows(rt.alloc())?);
     Ok(())
 }

@@ -5,7 +5,7 @@ use crate::values::{Line, change};
 use rsp_aggregates::Folding;
 use rsp_functions::Kind;
 use rsp_groups::{Aggregated, GroupOp, Grouping};
-use rsp_multiset::Row;
+use rsp_multiset::{Changes, Row};
 use rsp_operators::Computed;
 use rsp_terms::{Same, Term};
 use rsp_trials::{Refused, UnaryTrial, are_same};
@@ -76,6 +76,17 @@ fn aggregated(alloc: Global, asked: &Asked) -> Aggregated<Column, Folding> {
     }
 }
 
+fn all_aggregated(
+    alloc: Global,
+    aggregates: &[Asked],
+) -> Result<Vec<Aggregated<Column, Folding>>, AllocError> {
+    let mut made = Vec::new(alloc);
+    for asked in aggregates {
+        made.push(aggregated(alloc, asked))?;
+    }
+    Ok(made)
+}
+
 fn grouping(
     alloc: Global,
     keys: &[usize],
@@ -83,14 +94,12 @@ fn grouping(
 ) -> Result<Grouping<Column, Folding>, AllocError>
     ensures { IfOk result (λ made. made.width ≡ 3) }
 {
-    let mut made = Vec::new(alloc);
-    for asked in aggregates {
-        made.push(aggregated(alloc, asked))?;
-    }
+    let keys = Vec::from_slice(alloc, keys)?;
+    let aggregates = all_aggregated(alloc, aggregates)?;
     Ok(Grouping {
         width: 3,
-        keys: Vec::from_slice(alloc, keys)?,
-        aggregates: made,
+        keys,
+        aggregates,
     })
 }
 
@@ -105,6 +114,25 @@ pub(crate) fn groups(
     Ok(UnaryTrial::new(alloc, operator, 3, Vec::new(alloc)))
 }
 
+fn over_nothing(
+    alloc: Global,
+    keys: &[usize],
+    aggregates: &[Asked],
+) -> Result<Changes<Row<Term>>, AllocError> {
+    let grouping = grouping(alloc, keys, aggregates)?;
+    let operator = GroupOp::new(alloc, grouping)?;
+    operator.over_nothing(alloc, &mut Same::new())
+}
+
+fn is_of_lines(
+    alloc: Global,
+    net: &Changes<Row<Term>>,
+    wanted: &[Line],
+) -> Result<bool, AllocError> {
+    let wanted = change(alloc, wanted)?;
+    are_same(alloc, net, &wanted)
+}
+
 /// Whether the groups' value over no rows is of these lines.
 pub(crate) fn begins_with(
     alloc: Global,
@@ -112,11 +140,8 @@ pub(crate) fn begins_with(
     aggregates: &[Asked],
     wanted: &[Line],
 ) -> Result<bool, AllocError> {
-    let grouping = grouping(alloc, keys, aggregates)?;
-    let operator = GroupOp::new(alloc, grouping)?;
-    let mut domain = Same::new();
-    let net = operator.over_nothing(alloc, &mut domain)?;
-    are_same(alloc, &net, &change(alloc, wanted)?)
+    let net = over_nothing(alloc, keys, aggregates)?;
+    is_of_lines(alloc, &net, wanted)
 }
 
 /// Gives the groups the change of these lines, and tells whether they answer that of the wanted ones.
@@ -126,6 +151,7 @@ pub(crate) fn gives(
     lines: &[Line],
     wanted: &[Line],
 ) -> Result<bool, Refused> {
-    let net = trial.change(alloc, &change(alloc, lines)?)?;
-    Ok(are_same(alloc, &net, &change(alloc, wanted)?)?)
+    let change = change(alloc, lines)?;
+    let net = trial.change(alloc, &change)?;
+    Ok(is_of_lines(alloc, &net, wanted)?)
 }

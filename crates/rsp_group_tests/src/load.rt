@@ -11,24 +11,40 @@ const ROWS: u64 = 200_000;
 
 const CHANGES: u64 = 20_000;
 
+fn key_cell(alloc: Global, key: u64) -> Result<Option<Term>, AllocError> {
+    let text = format!(in alloc; "x:{key}")?;
+    value(alloc, text.as_str())
+}
+
+fn number_cell(alloc: Global, number: u64) -> Result<Option<Term>, AllocError> {
+    let text = format!(in alloc; "{number}")?;
+    Ok(Some(integer(alloc, text.as_str())?))
+}
+
 // the row of a key's number and a value's
 fn row(alloc: Global, key: u64, number: u64) -> Result<Row<Term>, AllocError> {
-    let key = format!(in alloc; "x:{key}")?;
-    let number = format!(in alloc; "{number}")?;
-    let mut cells = Vec::new(alloc);
-    cells.push(value(alloc, key.as_str())?)?;
-    cells.push(Some(integer(alloc, number.as_str())?))?;
-    cells.push(None)?;
+    let key = key_cell(alloc, key)?;
+    let number = number_cell(alloc, number)?;
+    let cells = Vec::from_array(alloc, [key, number, None])?;
     Ok(Row::new(cells))
+}
+
+fn add_rows(
+    alloc: Global,
+    rows: &mut Changes<Row<Term>>,
+    one_group: bool,
+) -> Result<(), AllocError> {
+    for number in 0..ROWS {
+        let key = if one_group { 0 } else { number };
+        rows.alter(row(alloc, key, number + 1)?, 1)?;
+    }
+    Ok(())
 }
 
 // a row of each value, all of one group or each of its own
 fn many_rows(alloc: Global, one_group: bool) -> Result<Changes<Row<Term>>, AllocError> {
     let mut rows = Changes::new(alloc);
-    for number in 0..ROWS {
-        let key = if one_group { 0 } else { number };
-        rows.alter(row(alloc, key, number + 1)?, 1)?;
-    }
+    add_rows(alloc, &mut rows, one_group)?;
     Ok(rows)
 }
 
@@ -41,10 +57,10 @@ fn value_at(place: u64, from_greatest: bool) -> u64 {
     }
 }
 
-fn filled(alloc: Global, asked: &Asked, one_group: bool) -> Result<Trial, Fail> {
-    let mut trial = groups(alloc, &[0], &[*asked])?;
-    trial.change(alloc, &many_rows(alloc, one_group)?)?;
-    Ok(trial)
+fn fill(alloc: Global, trial: &mut Trial, one_group: bool) -> Result<(), Fail> {
+    let rows = many_rows(alloc, one_group)?;
+    trial.change(alloc, &rows)?;
+    Ok(())
 }
 
 // takes a row out; how many rows of the value change
@@ -56,16 +72,28 @@ fn row_goes(alloc: Global, trial: &mut Trial, key: u64, number: u64) -> Result<u
 }
 
 // takes row after row out; whether each changes so many rows of the value
-fn rows_go(alloc: Global, asked: &Asked, one_group: bool, wanted: usize) -> Result<bool, Fail> {
-    let mut trial = filled(alloc, asked, one_group)?;
+fn each_goes(
+    alloc: Global,
+    trial: &mut Trial,
+    from_greatest: bool,
+    one_group: bool,
+    wanted: usize,
+) -> Result<bool, Fail> {
     for place in 0..CHANGES {
-        let number = value_at(place, matches!(asked.kind, Kind::Max));
+        let number = value_at(place, from_greatest);
         let key = if one_group { 0 } else { number.wrapping_sub(1) };
-        if row_goes(alloc, &mut trial, key, number)? != wanted {
+        if row_goes(alloc, trial, key, number)? != wanted {
             return Ok(false);
         }
     }
     Ok(true)
+}
+
+fn rows_go(alloc: Global, asked: &Asked, one_group: bool, wanted: usize) -> Result<bool, Fail> {
+    let mut trial = groups(alloc, &[0], &[*asked])?;
+    fill(alloc, &mut trial, one_group)?;
+    let from_greatest = matches!(asked.kind, Kind::Max);
+    each_goes(alloc, &mut trial, from_greatest, one_group, wanted)
 }
 
 #[test]

@@ -175,11 +175,26 @@ fn row(
     third: Option<Term>,
     alloc: Global,
 ) -> Result<Row<Term>, AllocError> {
-    let mut cells = Vec::new(alloc);
-    cells.push(key)?;
-    cells.push(second)?;
-    cells.push(third)?;
+    let cells = Vec::from_array(alloc, [key, second, third])?;
     Ok(Row::new(cells))
+}
+
+// adds the group's row, if it has rows, made anew
+fn add_group(
+    alloc: Global,
+    rows: &mut Changes<Row<Term>>,
+    asked: &Asked,
+    counts: &Counts,
+    group: usize,
+) -> Result<(), AllocError>
+    requires { group < 3 }
+{
+    if rows_in(&times(counts, group, false)) == 0 {
+        return Ok(());
+    }
+    let found = aggregate(alloc, asked, counts, group)?;
+    let key = key(alloc, group)?;
+    rows.alter(row(key, None, found, alloc)?, 1)
 }
 
 // the groups' rows, made anew
@@ -190,15 +205,36 @@ fn all_rows(
 ) -> Result<Changes<Row<Term>>, AllocError> {
     let mut rows = Changes::new(alloc);
     for group in 0..3 {
-        if rows_in(&times(counts, group, false)) > 0 {
-            let found = aggregate(alloc, asked, counts, group)?;
-            rows.alter(row(key(alloc, group)?, None, found, alloc)?, 1)?;
-        }
+        add_group(alloc, &mut rows, asked, counts, group)?;
     }
     Ok(rows)
 }
 
-// takes some copies of a value out of a group, or puts some in
+fn row_at(alloc: Global, group: usize, place: usize) -> Result<Row<Term>, AllocError>
+    requires { place < 6 }
+{
+    let key = key(alloc, group)?;
+    let value = value(alloc, VALUES[place])?;
+    row(key, value, None, alloc)
+}
+
+// takes some copies of a value out of a group, or puts some in, and tells how many
+fn count_turn(numbers: &mut Numbers, counts: &mut Counts, group: usize, place: usize) -> i64
+    requires group { group < 3 }
+    requires place { place < 6 }
+{
+    let many = numbers.below(3) as u32 + 1;
+    let goes = numbers.below(2) == 0;
+    let held = counts[group * 6 + place];
+    if goes && held >= many {
+        counts[group * 6 + place] = held - many;
+        return -i64::from(many);
+    }
+    counts[group * 6 + place] = held.wrapping_add(many);
+    i64::from(many)
+}
+
+// what comes or goes next
 fn turn(
     alloc: Global,
     numbers: &mut Numbers,
@@ -206,50 +242,51 @@ fn turn(
 ) -> Result<Changes<Row<Term>>, AllocError> {
     let group = numbers.below(3) as usize;
     let place = numbers.below(6) as usize;
-    let many = numbers.below(3) as u32 + 1;
-    let goes = numbers.below(2) == 0 && counts[group * 6 + place] >= many;
+    let by = count_turn(numbers, counts, group, place);
+    let row = row_at(alloc, group, place)?;
     let mut change = Changes::new(alloc);
-    let cells = row(
-        key(alloc, group)?,
-        value(alloc, VALUES[place])?,
-        None,
-        alloc,
-    )?;
-    if goes {
-        counts[group * 6 + place] -= many;
-        change.alter(cells, -i64::from(many))?;
-    } else {
-        counts[group * 6 + place] = counts[group * 6 + place].wrapping_add(many);
-        change.alter(cells, i64::from(many))?;
-    }
+    change.alter(row, by)?;
     Ok(change)
 }
 
-// gives the groups a change; whether all their answers come to the rows made anew
-fn agree_once(
+fn change_next(
     alloc: Global,
-    asked: &Asked,
     trial: &mut Trial,
     numbers: &mut Numbers,
     counts: &mut Counts,
-) -> Result<bool, Fail> {
+) -> Result<(), Fail> {
     let change = turn(alloc, numbers, counts)?;
     trial.change(alloc, &change)?;
-    let rows = all_rows(alloc, asked, counts)?;
-    Ok(are_same(alloc, trial.answers(), &rows)?)
+    Ok(())
 }
 
-// whether the answers of a thousand changes always come to the rows made anew
-fn agree(alloc: Global, asked: &Asked, seed: u64) -> Result<bool, Fail> {
-    let mut trial = groups(alloc, &[0], &[*asked])?;
+// whether all answers come to the rows made anew
+fn is_anew(
+    alloc: Global,
+    asked: &Asked,
+    trial: &Trial,
+    counts: &Counts,
+) -> Result<bool, AllocError> {
+    let rows = all_rows(alloc, asked, counts)?;
+    are_same(alloc, trial.answers(), &rows)
+}
+
+// whether the answers of a thousand changes always do
+fn stay_anew(alloc: Global, asked: &Asked, trial: &mut Trial, seed: u64) -> Result<bool, Fail> {
     let mut numbers = Numbers::new(seed);
     let mut counts: Counts = [0; 18];
     for _ in 0..1000 {
-        if !agree_once(alloc, asked, &mut trial, &mut numbers, &mut counts)? {
+        change_next(alloc, trial, &mut numbers, &mut counts)?;
+        if !is_anew(alloc, asked, trial, &counts)? {
             return Ok(false);
         }
     }
     Ok(true)
+}
+
+fn agree(alloc: Global, asked: &Asked, seed: u64) -> Result<bool, Fail> {
+    let mut trial = groups(alloc, &[0], &[*asked])?;
+    stay_anew(alloc, asked, &mut trial, seed)
 }
 
 fn both_agree(alloc: Global, kind: Kind) -> Result<bool, Fail> {

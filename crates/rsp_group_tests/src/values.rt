@@ -67,8 +67,17 @@ pub(crate) fn row(alloc: Global, cells: &[&'static str]) -> Result<Row<Term>, Al
 /// The change by these lines.
 pub(crate) fn change(alloc: Global, lines: &[Line]) -> Result<Changes<Row<Term>>, AllocError> {
     let mut made = Changes::new(alloc);
+    add_lines(alloc, &mut made, lines)?;
+    Ok(made)
+}
+
+fn add_lines(
+    alloc: Global,
+    made: &mut Changes<Row<Term>>,
+    lines: &[Line],
+) -> Result<(), AllocError> {
     for (cells, by) in lines {
         made.alter(row(alloc, cells)?, *by)?;
     }
-    Ok(made)
+    Ok(())
 }
