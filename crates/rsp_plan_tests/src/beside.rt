@@ -9,7 +9,7 @@ use rsp_multiset::{Bag, Changes, Row};
 use rsp_steps::Steps;
 use rsp_terms::{Fact, Term};
 use rsp_trials::{Numbers, Refused, are_same};
-use std::alloc::Global;
+use std::alloc::{AllocError, Global};
 use std::sync::ledger::{Blank, Ledger};
 
 /// What two answers told of the same changes.
@@ -63,66 +63,97 @@ fn told_of_turns(alloc: Global, first: &Turn, second: &Turn) -> Result<Told, Ref
     }
 }
 
-// the same where the solutions are the same too
-fn with_solutions<A: Answer, B: Answer>(
-    told: Told,
-    first: &Trial<A>,
-    second: &Trial<B>,
-) -> Result<Told, Refused> {
-    match told {
-        Told::Alike(rows) => {
-            if are_same_rows(&first.solutions()?, &second.solutions()?) {
-                Ok(Told::Alike(rows))
-            } else {
-                Ok(Told::Apart)
-            }
-        }
-        _ => Ok(told),
-    }
+/// Two answers of one query.
+#[derive(Drop)]
+struct Both<A: Answer, B: Answer> {
+    first: Trial<A>,
+    second: Trial<B>,
 }
 
-// what both tell of the changes
-fn both_told<A: Answer, B: Answer, L: Ledger>(
-    alloc: Global,
-    first: &mut Trial<A>,
-    second: &mut Trial<B>,
-    changes: &Changes<Fact>,
-    steps: &mut Steps<L>,
-) -> Result<Told, Refused> {
-    let turn = first.change(changes, steps)?;
-    let other = second.change(changes, steps)?;
-    let told = told_of_turns(alloc, &turn, &other)?;
-    with_solutions(told, first, second)
-}
+impl<A: Answer, B: Answer> Both<A, B> {
+    // over no facts; None where one is overfull
+    fn start(alloc: Global, query: &Translated) -> Result<Option<Both<A, B>>, AllocError>
+        requires { IsPlaced query.now }
+    {
+        let Some(first) = Trial::start(alloc, query)? else {
+            return Ok(None);
+        };
+        let Some(second) = Trial::start(alloc, query)? else {
+            return Ok(None);
+        };
+        Ok(Some(Both { first, second }))
+    }
 
-// gives both so many changes, as long as they tell the same
-fn go_together<A: Answer, B: Answer, L: Ledger>(
-    alloc: Global,
-    first: &mut Trial<A>,
-    second: &mut Trial<B>,
-    many: usize,
-    steps: &mut Steps<L>,
-) -> Result<Run, Refused> {
-    let mut numbers = Numbers::new(1);
-    let mut rows = 0usize;
-    for done in 0..many {
-        let changes = next_changes(alloc, &mut numbers, first.facts())?;
-        match both_told(alloc, first, second, &changes, steps)? {
-            Told::Alike(more) => rows = rows.saturating_add(more),
-            last => {
-                return Ok(Run {
-                    changes: done,
-                    rows,
-                    last,
-                });
+    fn have_same_solutions(&self) -> Result<bool, Refused> {
+        let first = self.first.solutions()?;
+        let second = self.second.solutions()?;
+        Ok(are_same_rows(&first, &second))
+    }
+
+    // the same where the solutions are the same too
+    fn with_solutions(&self, told: Told) -> Result<Told, Refused> {
+        match told {
+            Told::Alike(rows) => {
+                if self.have_same_solutions()? {
+                    Ok(Told::Alike(rows))
+                } else {
+                    Ok(Told::Apart)
+                }
             }
+            _ => Ok(told),
         }
     }
-    Ok(Run {
-        changes: many,
-        rows,
-        last: Told::Alike(0),
-    })
+
+    // what both tell of the changes
+    fn told<L: Ledger>(
+        &mut self,
+        alloc: Global,
+        changes: &Changes<Fact>,
+        steps: &mut Steps<L>,
+    ) -> Result<Told, Refused> {
+        let turn = self.first.change(changes, steps)?;
+        let other = self.second.change(changes, steps)?;
+        let told = told_of_turns(alloc, &turn, &other)?;
+        self.with_solutions(told)
+    }
+
+    fn told_next<L: Ledger>(
+        &mut self,
+        alloc: Global,
+        numbers: &mut Numbers,
+        steps: &mut Steps<L>,
+    ) -> Result<Told, Refused> {
+        let changes = next_changes(alloc, numbers, self.first.facts())?;
+        self.told(alloc, &changes, steps)
+    }
+
+    // gives both so many changes, as long as they tell the same
+    fn go_together<L: Ledger>(
+        &mut self,
+        alloc: Global,
+        many: usize,
+        steps: &mut Steps<L>,
+    ) -> Result<Run, Refused> {
+        let mut numbers = Numbers::new(1);
+        let mut rows = 0usize;
+        for done in 0..many {
+            match self.told_next(alloc, &mut numbers, steps)? {
+                Told::Alike(more) => rows = rows.saturating_add(more),
+                last => {
+                    return Ok(Run {
+                        changes: done,
+                        rows,
+                        last,
+                    });
+                }
+            }
+        }
+        Ok(Run {
+            changes: many,
+            rows,
+            last: Told::Alike(0),
+        })
+    }
 }
 
 /// What the two answers of this query tell of these changes, which are their first.
@@ -137,14 +168,11 @@ pub(crate) fn first_told<A: Answer, B: Answer, L: Ledger>(
     requires parts { blank.parts ≡ L.parts }
     requires some { 0 < blank.parts }
 {
-    let Some(mut first) = Trial::<A>::start(alloc, query)? else {
-        return Ok(None);
-    };
-    let Some(mut second) = Trial::<B>::start(alloc, query)? else {
+    let Some(mut both) = Both::<A, B>::start(alloc, query)? else {
         return Ok(None);
     };
     let mut steps: Steps<L> = Steps::new(blank);
-    Ok(Some(both_told(alloc, &mut first, &mut second, changes, &mut steps)?))
+    Ok(Some(both.told(alloc, changes, &mut steps)?))
 }
 
 /// How far the two answers of this query go together, in so many changes at most.
@@ -159,12 +187,9 @@ pub(crate) fn run_beside<A: Answer, B: Answer, L: Ledger>(
     requires parts { blank.parts ≡ L.parts }
     requires some { 0 < blank.parts }
 {
-    let Some(mut first) = Trial::<A>::start(alloc, query)? else {
-        return Ok(None);
-    };
-    let Some(mut second) = Trial::<B>::start(alloc, query)? else {
+    let Some(mut both) = Both::<A, B>::start(alloc, query)? else {
         return Ok(None);
     };
     let mut steps: Steps<L> = Steps::new(blank);
-    Ok(Some(go_together(alloc, &mut first, &mut second, many, &mut steps)?))
+    Ok(Some(both.go_together(alloc, many, &mut steps)?))
 }

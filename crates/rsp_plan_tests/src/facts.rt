@@ -73,16 +73,18 @@ fn spot(alloc: Global, number: u64) -> Result<Spot, AllocError> {
 /// The fact of this number.
 pub(crate) fn fact(alloc: Global, number: u64) -> Result<Fact, AllocError> {
     let spot = spot(alloc, number / 18)?;
+    let triple = triple(alloc, number)?;
+    Ok(Fact { spot, triple })
+}
+
+fn triple(alloc: Global, number: u64) -> Result<Triple, AllocError> {
     let subject = subject(alloc, number)?;
     let predicate = predicate(alloc, number / 2)?;
     let object = object(alloc, number / 2, number / 6)?;
-    Ok(Fact {
-        spot,
-        triple: Triple {
-            subject,
-            predicate,
-            object,
-        },
+    Ok(Triple {
+        subject,
+        predicate,
+        object,
     })
 }
 
@@ -93,11 +95,20 @@ pub(crate) fn next_changes(
     there: &Changes<Fact>,
 ) -> Result<Changes<Fact>, AllocError> {
     let mut changes = Changes::new(alloc);
-    for _ in 0..numbers.below(4) + 1 {
-        let fact = fact(alloc, numbers.below(FACTS))?;
-        turn(&mut changes, there, fact)?;
-    }
+    add_next(alloc, &mut changes, numbers, there)?;
     Ok(changes)
+}
+
+fn add_next(
+    alloc: Global,
+    changes: &mut Changes<Fact>,
+    numbers: &mut Numbers,
+    there: &Changes<Fact>,
+) -> Result<(), AllocError> {
+    for _ in 0..numbers.below(4) + 1 {
+        turn(changes, there, fact(alloc, numbers.below(FACTS))?)?;
+    }
+    Ok(())
 }
 
 // the fact comes or goes, unless it does so already
@@ -112,21 +123,46 @@ fn turn(changes: &mut Changes<Fact>, there: &Changes<Fact>, fact: Fact) -> Resul
 /// So many facts of `p:m` that come in the window, and as many of `p:n` that come to the default graph.
 pub(crate) fn many(alloc: Global, count: u64) -> Result<Changes<Fact>, AllocError> {
     let mut changes = Changes::new(alloc);
-    for number in 0..count {
-        changes.alter(numbered(alloc, Spot::Window(0), "p:m", number)?, 1)?;
-        changes.alter(numbered(alloc, Spot::Default, "p:n", number)?, 1)?;
-    }
+    add_many(alloc, &mut changes, count)?;
     Ok(changes)
 }
 
-fn numbered(alloc: Global, spot: Spot, predicate: &str, number: u64) -> Result<Fact, AllocError> {
-    let name = format!(in alloc; "i:{number}")?;
-    Ok(Fact {
-        spot,
-        triple: Triple {
-            subject: iri(alloc, name.as_str())?,
-            predicate: iri(alloc, predicate)?,
-            object: iri(alloc, "i:1")?,
-        },
+fn add_many(alloc: Global, changes: &mut Changes<Fact>, count: u64) -> Result<(), AllocError> {
+    for number in 0..count {
+        let triple = numbered(alloc, "p:m", number)?;
+        changes.alter(in_window(triple), 1)?;
+        let triple = numbered(alloc, "p:n", number)?;
+        changes.alter(in_default_graph(triple), 1)?;
+    }
+    Ok(())
+}
+
+fn in_window(triple: Triple) -> Fact {
+    Fact {
+        spot: Spot::Window(0),
+        triple,
+    }
+}
+
+fn in_default_graph(triple: Triple) -> Fact {
+    Fact {
+        spot: Spot::Default,
+        triple,
+    }
+}
+
+fn numbered(alloc: Global, predicate: &str, number: u64) -> Result<Triple, AllocError> {
+    let subject = numbered_item(alloc, number)?;
+    let predicate = iri(alloc, predicate)?;
+    let object = iri(alloc, "i:1")?;
+    Ok(Triple {
+        subject,
+        predicate,
+        object,
     })
+}
+
+fn numbered_item(alloc: Global, number: u64) -> Result<Term, AllocError> {
+    let name = format!(in alloc; "i:{number}")?;
+    iri(alloc, name.as_str())
 }
