@@ -117,13 +117,22 @@ fn an_unbound_variable_fits_each_term(rt: HostRuntime) -> Result<(), Fail> {
     Ok(())
 }
 
+fn push_both_kinds(alloc: Global, facts: &mut Vec<Fact>, name: &str) -> Result<(), AllocError> {
+    facts.push(fact(alloc, name, "p:v", name)?)?;
+    facts.push(fact(alloc, name, "p:m", name)?)?;
+    Ok(())
+}
+
+fn push_number(alloc: Global, facts: &mut Vec<Fact>, number: u32) -> Result<(), AllocError> {
+    let name = format!(in alloc; "a:{number}")?;
+    push_both_kinds(alloc, facts, &name)
+}
+
 // so many facts of each of two predicates
 fn two_kinds(alloc: Global, count: u32) -> Result<Vec<Fact>, AllocError> {
     let mut facts = Vec::new(alloc);
     for number in 0..count {
-        let name = format!(in alloc; "a:{number}")?;
-        facts.push(fact(alloc, &name, "p:v", &name)?)?;
-        facts.push(fact(alloc, &name, "p:m", &name)?)?;
+        push_number(alloc, &mut facts, number)?;
     }
     Ok(facts)
 }

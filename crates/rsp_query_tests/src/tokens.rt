@@ -1,6 +1,6 @@
 // Texts and their tokens, worked out by hand from the standard's grammar.
-use rsp_lex::{TokenKind, tokens};
-use std::alloc::Global;
+use rsp_lex::{Token, TokenKind, tokens};
+use std::alloc::{AllocError, Global};
 use std::test::Fail;
 
 fn name_of(kind: TokenKind) -> &'static str {
@@ -20,27 +20,41 @@ fn name_of(kind: TokenKind) -> &'static str {
     }
 }
 
-// each token's kind and bytes, each with a bar behind it, or the fault's text
-fn told(alloc: Global, text: &str) -> Result<Vec<u8>, Fail> {
-    let mut out = Vec::new(alloc);
+// the token's kind and bytes, and a bar behind them
+fn push_token(out: &mut Vec<u8>, text: &str, token: &Token) -> Result<(), Fail> {
+    let bytes = text
+        .as_bytes()
+        .get(token.start..token.end)
+        .ok_or("a place within the text")?;
+    out.extend_from_slice(name_of(token.kind).as_bytes())?;
+    out.push(b' ')?;
+    out.extend_from_slice(bytes)?;
+    out.push(b'|')?;
+    Ok(())
+}
+
+fn push_tokens(out: &mut Vec<u8>, text: &str, all: &[Token]) -> Result<(), Fail> {
+    for token in all {
+        push_token(out, text, token)?;
+    }
+    Ok(())
+}
+
+// each token as above, or the fault's text
+fn push_told(alloc: Global, out: &mut Vec<u8>, text: &str) -> Result<(), Fail> {
     match tokens(alloc, text) {
-        Ok(all) => {
-            for token in all.as_slice() {
-                out.extend_from_slice(name_of(token.kind).as_bytes())?;
-                out.push(b' ')?;
-                out.extend_from_slice(
-                    text.as_bytes()
-                        .get(token.start..token.end)
-                        .ok_or("a place within the text")?,
-                )?;
-                out.push(b'|')?;
-            }
-        }
+        Ok(all) => push_tokens(out, text, all.as_slice()),
         Err(fault) => {
             let text = format!(in alloc; "{fault}")?;
             out.extend_from_slice(text.as_bytes())?;
+            Ok(())
         }
     }
+}
+
+fn told(alloc: Global, text: &str) -> Result<Vec<u8>, Fail> {
+    let mut out = Vec::new(alloc);
+    push_told(alloc, &mut out, text)?;
     Ok(out)
 }
 
@@ -187,18 +201,26 @@ const REPEATED: [(&str, usize, usize); 6] = [
     ("1.1e", 16_384, 16_385),
 ];
 
+fn repeated(alloc: Global, piece: &str, count: usize) -> Result<String, AllocError> {
+    let mut text = String::new(alloc);
+    for _ in 0..count {
+        text.push_str(piece)?;
+    }
+    Ok(text)
+}
+
+fn how_many(alloc: Global, piece: &str, count: usize) -> Result<usize, Fail> {
+    let text = repeated(alloc, piece, count)?;
+    match tokens(alloc, text.as_str()) {
+        Ok(all) => Ok(all.as_slice().len()),
+        Err(_) => Err("tokens".into()),
+    }
+}
+
 #[test]
 fn hostile_texts_end_soon(rt: HostRuntime) -> Result<(), Fail> {
-    let alloc = rt.alloc();
     for (piece, count, wanted) in &REPEATED {
-        let mut text = String::new(alloc);
-        for _ in 0..*count {
-            text.push_str(piece)?;
-        }
-        match tokens(alloc, text.as_str()) {
-            Ok(all) => assert_eq!(rt; all.as_slice().len(), *wanted, "{piece}"),
-            Err(_) => return Err("tokens".into()),
-        }
+        assert_eq!(rt; how_many(rt.alloc(), piece, *count)?, *wanted, "{piece}");
     }
     Ok(())
 }

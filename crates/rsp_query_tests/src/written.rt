@@ -1,22 +1,31 @@
 // Texts of expressions and how far they are read, worked out by hand from the standard's grammar and the profile.
-use rsp_lex::tokens;
+use rsp_lex::{Token, tokens};
 use rsp_read_expressions::aggregate_expression;
 use rsp_said::said;
 use rsp_written::{Halt, Said};
 use std::alloc::Global;
 use std::test::Fail;
 
+fn said_of(alloc: Global, text: &str, token: &Token) -> Result<Said, Fail> {
+    let part = text
+        .get(token.start..token.end)
+        .ok_or("a place within the text")?;
+    Ok(said(alloc, token.kind, part, token.start)?)
+}
+
+fn push_said(alloc: Global, all: &mut Vec<Said>, text: &str, found: &[Token]) -> Result<(), Fail> {
+    for token in found {
+        all.push(said_of(alloc, text, token)?)?;
+    }
+    Ok(())
+}
+
 fn all_said(alloc: Global, text: &str) -> Result<Vec<Said>, Fail> {
     let Ok(found) = tokens(alloc, text) else {
         return Err("no tokens".into());
     };
     let mut all = Vec::new(alloc);
-    for token in found.as_slice() {
-        let part = text
-            .get(token.start..token.end)
-            .ok_or("a place within the text")?;
-        all.push(said(alloc, token.kind, part, token.start)?)?;
-    }
+    push_said(alloc, &mut all, text, found.as_slice())?;
     Ok(all)
 }
 
@@ -126,13 +135,16 @@ fn each_text_is_read_as_far_as_an_expression_goes(rt: HostRuntime) -> Result<(),
     Ok(())
 }
 
-#[test]
-fn a_long_row_of_signs_is_no_depth(rt: HostRuntime) -> Result<(), Fail> {
-    let alloc = rt.alloc();
+fn long_row_told(alloc: Global) -> Result<String, Fail> {
     let mut text = String::from_str(alloc, "?x")?;
     for _ in 0..6_000 {
         text.push_str(" + 1")?;
     }
-    assert_eq!(rt; told(alloc, text.as_str())?.as_str(), "to 24002");
+    told(alloc, text.as_str())
+}
+
+#[test]
+fn a_long_row_of_signs_is_no_depth(rt: HostRuntime) -> Result<(), Fail> {
+    assert_eq!(rt; long_row_told(rt.alloc())?.as_str(), "to 24002");
     Ok(())
 }
