@@ -40,8 +40,9 @@ MIXES = ["REPORT CLOSE TICK TUPLE", "REPORT CHANGE AND NONEMPTY AND CHANGE TICK 
 class QueryWriter:
     """Writes one query. `seen` is the list of names that are visible so far in the group at hand."""
 
-    def __init__(self, dice, fault, scale="seconds", is_storing=False):
+    def __init__(self, dice, fault, scale="seconds", is_storing=False, streams=None):
         self.dice, self.fault, self.made, self.is_storing = dice, fault, 0, is_storing
+        self.streams = streams or STREAMS
         self.spans, self.steps, self.scale = SPANS[scale], STEPS[scale], scale
         self.windows = [f"<w:{place}>" for place in range(1, 1 + dice.choice([1, 1, 1, 1, 2, 2, 3, 5]))]
 
@@ -357,7 +358,7 @@ class QueryWriter:
         is_odd = self.scale == "seconds" and self.chance(0.15)
         width = self.dice.choice(ODD_SPANS if is_odd else self.spans)
         start = "" if self.chance(0.7) else self.dice.choice(STARTS)
-        return f"FROM NAMED WINDOW {name} ON {self.dice.choice(STREAMS)} [RANGE {width}{step}{start}]"
+        return f"FROM NAMED WINDOW {name} ON {self.dice.choice(self.streams)} [RANGE {width}{step}{start}]"
 
     def whole(self):
         """All triples of all windows, and all that is stored, so that each difference of them can be seen."""

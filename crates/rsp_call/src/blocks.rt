@@ -30,8 +30,8 @@ pub(crate) fn either(a: bool, b: bool) -> bool
     a || b
 }
 
-/// Works off a batch, and says what it gives, within the steps that its reports may take. The answer is whether something of it was
-/// refused.
+/// Works off a batch, and says what it gives, within the steps that its reports may take. The answer is whether something of it
+/// was refused.
 pub(crate) fn work_off<A: Answer, K: Sink, L: Ledger>(
     alloc: Global,
     engine: &mut Engine<A>,

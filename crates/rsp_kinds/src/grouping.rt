@@ -26,7 +26,14 @@ use std::alloc::{AllocError, Global};
 
 impl<D: Domain, C: Computed<D> + Drop, F: Fold> Keeping<D> for GroupOp<D, C, F> {
     ghost use Rattle.std.specs.Prelude.{map};
+    ghost use Rattle.rsp_multiset.specs.Rows.{row_eq};
+    ghost use Rattle.rsp_multiset.specs.RowSame.{row_decides};
+    ghost use Rattle.rsp_multiset.proofs.SameLists.{same-map};
+    ghost use Rattle.rsp_terms.specs.Same.{term_eq, term_same};
+    ghost use Rattle.std.specs.Option.{option_eq};
     ghost use Rattle.rsp_groups.specs.Standing.{GroupStands};
+    ghost use Rattle.rsp_groups.specs.Values.{by_variable};
+    ghost use Rattle.rsp_kinds.specs.AlikeGroups.{alike_group, alike_groups, alike_grouped};
     ghost use Rattle.rsp_kinds.specs.MovedGroups.{moved_groups};
 
     fn over_nothing(
@@ -42,6 +49,22 @@ impl<D: Domain, C: Computed<D> + Drop, F: Fold> Keeping<D> for GroupOp<D, C, F> 
         (λ g. GroupStands F.stands F.aggregate (map (λ a. C.of a.argument) operator.grouping.aggregates.items)
         (map (λ a. F.aggregate a.fold) operator.grouping.aggregates.items) g.rows g.folds.items)
         operator.groups.entries rows alike stands };
+
+    ghost stands_alike = { λ operator domain rows others same stands. alike_groups D.Value.eq (D.knows domain) (D.shown domain)
+        operator.grouping.width operator.grouping.keys.items
+        (λ g. GroupStands F.stands F.aggregate (map (λ a. C.of a.argument) operator.grouping.aggregates.items)
+        (map (λ a. F.aggregate a.fold) operator.grouping.aggregates.items) g.rows g.folds.items)
+        operator.groups.entries rows others
+        (λ g. alike_group F.stands F.aggregate (map (λ a. C.of a.argument) operator.grouping.aggregates.items)
+        (map (λ a. F.aggregate a.fold) operator.grouping.aggregates.items) g.rows g.folds.items F.stands_alike)
+        same stands };
+
+    ghost values_alike = { λ operator rows others same. alike_grouped
+        (λ a group. F.aggregate a.fold (map (C.of a.argument) group))
+        (λ a rows others same. F.aggregates_alike a.fold (map (C.of a.argument) rows) (map (C.of a.argument) others)
+        (same-map (row_decides term_same) (option_eq term_eq) (C.of a.argument) rows others same))
+        operator.grouping.width operator.grouping.keys.items
+        (by_variable (λ a. a.variable) operator.grouping.aggregates.items) rows others same };
 }
 
 /// The groups by these keys with these aggregates, over no rows. Fails only where memory is refused.

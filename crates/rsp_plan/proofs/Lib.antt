@@ -1,5 +1,6 @@
 pub mod Carrying
 pub mod Operating
+pub mod Still
 pub mod Begun
 pub mod Binding
 pub mod Paired

@@ -53,6 +53,32 @@ fn begun<D: Domain, O: Keeping<D>>(
     sum(net, &first)
 }
 
+// how the operator's value changes; where the child's rows didn't, it isn't asked
+fn later<D: Domain, O: Keeping<D>>(
+    alloc: Global,
+    operator: &mut O,
+    child: &Changes<Row<D::Value>>,
+    domain: &mut D,
+) -> Result<Changes<Row<D::Value>>, AllocError>
+    requires { MayBeGiven (O.width operator.old) (O.key operator.old) (D.knows domain.old) (D.shown domain.old)
+        (O.stands operator.old domain.old) child.now }
+    ensures width { O.width operator.new ≡ O.width operator.old }
+    ensures key { O.key operator.new ≡ O.key operator.old }
+    ensures value { O.value operator.new ≡ O.value operator.old }
+    ensures known { (v : D.Value) → D.knows domain.old v
+        → IsShownAlike (D.shown domain.old) (D.knows domain.new) (D.shown domain.new) v }
+    ensures rows { IfOk result (λ net. AnswersFit D.Value.eq (O.width operator.old) (D.knows domain.new) net) }
+    ensures law { IfOk result (λ net. (before after : List (Cells Term)) → O.stands operator.old domain.old before
+        → Leads (D.shown domain.old) before child.now after
+        → O.stands operator.new domain.new after
+        × Leads (D.shown domain.new) (O.value operator.old before) net (O.value operator.old after)) }
+{
+    if child.is_empty() {
+        return Ok(Changes::new(alloc));
+    }
+    operator.apply(alloc, child, domain)
+}
+
 // how the operator's value changes, or comes about
 fn applied<D: Domain, O: Keeping<D>>(
     alloc: Global,
@@ -77,7 +103,7 @@ fn applied<D: Domain, O: Keeping<D>>(
     if starts {
         begun(alloc, operator, child, domain)
     } else {
-        operator.apply(alloc, child, domain)
+        later(alloc, operator, child, domain)
     }
 }
 

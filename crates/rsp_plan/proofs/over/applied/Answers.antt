@@ -11,7 +11,7 @@ returns-then-starts-clause-law g c =
 
 pub returns-else-starts-clause-law : goal.returns-else-starts-clause-law
 returns-else-starts-clause-law g c =
-    ok_led c.apply.result c.apply.ensures.law
+    ok_led c.later.result c.later.ensures.law
     (λ net led.
-    applied-later (g.D.Domain.shown c.args.domain.now) (g.D.Domain.shown c.apply.new.domain) (g.O.Unary.value c.args.operator.now) (g.O.Unary.stands c.args.operator.now c.args.domain.now)
-    (g.O.Unary.stands c.apply.new.self c.apply.new.domain) c.args.child.now net c.args.starts c.if-starts.false led)
+    applied-later (g.D.Domain.shown c.args.domain.now) (g.D.Domain.shown c.later.new.domain) (g.O.Unary.value c.args.operator.now) (g.O.Unary.stands c.args.operator.now c.args.domain.now)
+    (g.O.Unary.stands c.later.new.operator c.later.new.domain) c.args.child.now net c.args.starts c.if-starts.false led)

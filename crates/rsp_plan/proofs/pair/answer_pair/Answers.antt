@@ -3,28 +3,28 @@ use Rattle.rsp_plan.proofs.Carrying.{both_some, none_led}
 use Rattle.rsp_plan.proofs.Paired.{pair-may, pair-law, pair-more, pair-few}
 use Rattle.rsp_plan.proofs.pair.answer_pair.Goals as goal
 
-pub answer_within-requires : goal.answer_within-requires
-answer_within-requires g c =
+pub changed-requires : goal.changed-requires
+changed-requires g c =
     pair-may g.met.D.Value.Cell.identical (g.D.Domain.knows c.args.domain.now) (g.D.Domain.shown c.args.domain.now) (g.B.Binary.width c.args.operator.now) (g.B.Binary.key c.args.operator.now)
     (g.B.Binary.factor c.args.operator.now) (g.B.Binary.value c.args.operator.now) (g.B.Binary.stands c.args.operator.now c.args.domain.now) c.in-Some-pop.left c.in-Some.right
     c.args.pending.now c.pop.new.self c.pop-2.new.self c.in-Some.ensures.some c.in-Some-pop.ensures.some (g.met.D.Domain.told_apart c.args.domain.now) c.requires
 
 pub returns-clause-law : goal.returns-clause-law
 returns-clause-law g c =
-    both_some c.answer_within.result c.answer_within.ensures.rows c.answer_within.ensures.law
+    both_some c.changed.result c.changed.ensures.rows c.changed.ensures.law
     (λ net fit led.
     pair-law g.met.D.Value.Cell.identical (g.D.Domain.knows c.args.domain.now) (g.D.Domain.shown c.args.domain.now) (g.B.Binary.width c.args.operator.now) (g.B.Binary.key c.args.operator.now)
     (g.B.Binary.factor c.args.operator.now) (g.B.Binary.value c.args.operator.now) (g.B.Binary.stands c.args.operator.now c.args.domain.now) c.in-Some-pop.left c.in-Some.right
     c.args.pending.now c.pop.new.self c.pop-2.new.self c.in-Some.ensures.some c.in-Some-pop.ensures.some
     (g.met.B.KeepingBoth.nothing c.args.operator.now)
-    (g.D.Domain.knows c.answer_within.new.domain) (g.D.Domain.shown c.answer_within.new.domain) c.answer_within.ensures.known (g.B.Binary.width c.answer_within.new.self) (g.B.Binary.key c.answer_within.new.self)
-    (g.B.Binary.factor c.answer_within.new.self) (g.B.Binary.value c.answer_within.new.self) (g.B.Binary.stands c.answer_within.new.self c.answer_within.new.domain)
-    c.answer_within.ensures.width c.answer_within.ensures.key c.answer_within.ensures.factor c.answer_within.ensures.value
+    (g.D.Domain.knows c.changed.new.domain) (g.D.Domain.shown c.changed.new.domain) c.changed.ensures.known (g.B.Binary.width c.changed.new.operator) (g.B.Binary.key c.changed.new.operator)
+    (g.B.Binary.factor c.changed.new.operator) (g.B.Binary.value c.changed.new.operator) (g.B.Binary.stands c.changed.new.operator c.changed.new.domain)
+    c.changed.ensures.width c.changed.ensures.key c.changed.ensures.factor c.changed.ensures.value
     net fit led)
 
 pub returns-clause-more : goal.returns-clause-more
 returns-clause-more g c =
-    none_led c.answer_within.result c.answer_within.ensures.more
+    none_led c.changed.result c.changed.ensures.more
     (λ more.
     pair-more g.met.D.Value.Cell.identical (g.D.Domain.knows c.args.domain.now) (g.D.Domain.shown c.args.domain.now) (g.B.Binary.width c.args.operator.now) (g.B.Binary.key c.args.operator.now)
     (g.B.Binary.factor c.args.operator.now) (g.B.Binary.value c.args.operator.now) (g.B.Binary.stands c.args.operator.now c.args.domain.now) c.in-Some-pop.left c.in-Some.right
@@ -36,4 +36,4 @@ returns-clause-cost g c =
     pair-few g.met.D.Value.Cell.identical (g.D.Domain.knows c.args.domain.now) (g.D.Domain.shown c.args.domain.now) (g.B.Binary.width c.args.operator.now) (g.B.Binary.key c.args.operator.now)
     (g.B.Binary.factor c.args.operator.now) (g.B.Binary.value c.args.operator.now) (g.B.Binary.stands c.args.operator.now c.args.domain.now) c.in-Some-pop.left c.in-Some.right
     c.args.pending.now c.pop.new.self c.pop-2.new.self c.in-Some.ensures.some c.in-Some-pop.ensures.some
-    c.args.steps.now c.answer_within.new.steps c.answer_within.ensures.cost
+    c.args.steps.now c.changed.new.steps c.changed.ensures.cost
