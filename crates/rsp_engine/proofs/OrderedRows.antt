@@ -1,6 +1,5 @@
 -- The rows of a report are the solutions, in order.
-use Rattle.std.proofs.Common.{◌≡◌, ◌≢◌, ◌*ℤ◌, ℕ, Bool, List, true, false, [], ◌∷◌, ℤ, pos, ◌+ℤ◌, map, refl, sym, ◌∙◌, ap, arith}
-use Rattle.std.proofs.lemmas.Int.{ints}
+use Rattle.std.proofs.Common.{◌≡◌, ◌≢◌, ℕ, List, [], ℤ, pos, ◌+ℤ◌, map, refl, sym, ◌∙◌, ap}
 use Rattle.std.specs.Prelude.{Result, Ok, Err, IfOk}
 use Rattle.rsp_multiset.specs.Weights.{IsChanged, only, times, total, weight}
 use Rattle.rsp_multiset.specs.RowSame.{row_decides}
@@ -32,21 +31,6 @@ ordered_ok (Ok out) rows cut_rows shown bag held cut_is order =
 ordered_ok (Err why) rows cut_rows shown bag held cut_is order = tt
 
 -- ---- changes of rows
-
-scaled : (b : Bool) (n : ℤ) → n *ℤ only b (pos 1) ≡ only b n
-scaled true n = omega (arith, ints)
-scaled false n = omega (arith, ints)
-
--- one entry more, with the cells that are shown
-pub cut_more : (before after left rest : List (Cells Term × ℤ)) (row cut : Cells Term) (n : ℤ) (whole : ℤ) (shown : List ℕ) (q : Cells Term) → left ≡ (row, n) ∷ rest → cut ≡ cells_at shown row
-    → weight (row_eq term_eq) after q ≡ weight (row_eq term_eq) before q +ℤ only (row_eq term_eq q cut) n
-    → weight (row_eq term_eq) before q +ℤ total (λ row. only (row_eq term_eq q (cells_at shown row)) (pos 1)) left ≡ whole
-    → weight (row_eq term_eq) after q +ℤ total (λ row. only (row_eq term_eq q (cells_at shown row)) (pos 1)) rest ≡ whole
-cut_more before after left rest row cut n whole shown q is same altered whole_is =
-    let front = ap (total (λ row. only (row_eq term_eq q (cells_at shown row)) (pos 1))) is in
-    let there = ap (λ c. only (row_eq term_eq q c) n) same in
-    let once = scaled (row_eq term_eq q (cells_at shown row)) n in
-    omega (arith, ints, front, there, once, altered, whole_is)
 
 -- a change of rows, with the cells that are shown, is one of the rows with these cells
 pub cut_changed : (shown : List ℕ) (before after : List (Cells Term)) (net cut : List (Cells Term × ℤ))

@@ -102,7 +102,7 @@ fn outcome_at<A: Answer, L: Ledger>(
     match live.answer.change(&changes, steps)? {
         Turn::Overfull => Ok(Outcome::Overfull),
         Turn::Net(net) => {
-            let rows = told_rows(alloc, live, &net)?;
+            let rows = told_rows(alloc, live, net)?;
             live.reported = true;
             Ok(Outcome::Rows(rows))
         }
@@ -186,12 +186,12 @@ fn shared(alloc: Global, texts: &[Text]) -> Result<Listed<Text>, AllocError>
 fn told_rows<A: Answer>(
     alloc: Global,
     live: &LiveQuery<A>,
-    net: &Changes<Row<Term>>,
+    net: Changes<Row<Term>>,
 ) -> Result<PrintedRows, AllocError>
     requires { A.spent live.now.answer ≡ false }
     ensures { IfOk result (λ rows. (facts : List Fact) (before preceding : List (Cells Term))
         → IsSameMultiset fact_eq (A.facts live.now.answer) facts
-        → IsChanged (row_eq term_eq) before net.now
+        → IsChanged (row_eq term_eq) before net
         (eval (A.width live.now.answer) (A.node live.now.answer) (A.facts live.now.answer))
         → Behind live.now.reported (map (cells_at live.now.query.value.shown) before) preceding
         → rows ≡ reported live.now.operator preceding (map (cells_at live.now.query.value.shown)
@@ -213,5 +213,5 @@ fn all_rows<A: Answer>(alloc: Global, live: &LiveQuery<A>) -> Result<PrintedRows
         (eval (A.width live.now.answer) (A.node live.now.answer) facts))) }
 {
     let solutions = live.answer.solutions()?;
-    shown_rows(alloc, &solutions, live.query.shown.as_slice())
+    shown_rows(alloc, solutions, live.query.shown.as_slice())
 }

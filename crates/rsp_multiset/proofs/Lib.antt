@@ -13,3 +13,4 @@ pub mod Columns
 pub mod Distincts
 pub mod Between
 pub mod KeySets
+mod GivenRows

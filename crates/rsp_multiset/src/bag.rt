@@ -1,7 +1,7 @@
 // Bags of rows.
 ghost use Rattle.std.specs.Prelude.{◌≡◌, pos, ◌+ℤ◌, IfOk};
 
-use crate::{Cell, Changes, Count, Row};
+use crate::{Cell, Changes, Count, Row, incoming_rows};
 use std::alloc::{AllocError, Global};
 use std::marker::Model;
 
@@ -26,9 +26,9 @@ impl<V: Cell> Model for Bag<V> {
 }
 
 impl<V: Cell> Bag<V> {
-    ghost use Rattle.std.specs.Prelude.{◌≡◌, ◌<◌, ◌+◌, pos, ◌+ℤ◌, ◌≤ℤ◌, ◌<ℤ◌, ℤ, List, Option, [], ◌∷◌, drop, length, slice_get, Some, OnOk, OnErr};
+    ghost use Rattle.std.specs.Prelude.{◌≡◌, ◌<◌, ◌+◌, pos, ◌+ℤ◌, ◌≤ℤ◌, ◌<ℤ◌, ℤ, List, Option, [], ◌∷◌, drop, length, slice_get, Some, OnOk, OnErr, IfOk};
     ghost use Rattle.rsp_multiset.specs.Rows.{row_eq};
-    ghost use Rattle.rsp_multiset.specs.Weights.{only, weight, cardinality, AreCounts};
+    ghost use Rattle.rsp_multiset.specs.Weights.{only, weight, times, cardinality, AreCounts};
 
     /// A bag without rows. Takes no memory.
     pub fn new(alloc: Global) -> Bag<V>
@@ -95,6 +95,15 @@ impl<V: Cell> Bag<V> {
         let _rows = self.rows;
         let (row, count) = self.counts.counted_at(index);
         (row, count.size())
+    }
+
+    /// The rows, each as often as it is there. The last copy of each is the row of the bag itself. Fails only where memory is
+    /// refused.
+    pub fn into_rows(self, alloc: Global) -> Result<Vec<Row<V>>, AllocError>
+        ensures { IfOk result (λ rows. (q : List (Option V)) → times (row_eq V.eq) rows.items q ≡ weight (row_eq V.eq) self q) }
+    {
+        let Bag { counts, rows: _ } = self;
+        incoming_rows(alloc, counts)
     }
 }
 

@@ -1,5 +1,5 @@
 // Rows by their variables.
-ghost use Rattle.std.specs.Prelude.{◌≡◌, nat_eq, if◌then◌else◌, None, IfOk};
+ghost use Rattle.std.specs.Prelude.{◌≡◌, ℕ, nat_eq, false, if◌then◌else◌, None, IfOk};
 ghost use Rattle.rsp_multiset.specs.Variables.{row_by, cell, among, extension, projection, cells_at};
 
 use crate::row::share_cell;
@@ -52,6 +52,15 @@ impl<V: Cell> Row<V> {
         ensures { IfOk result (λ row. row ≡ cells_at variables.now self.now) }
     {
         let cells = chosen_cells(*self.cells.allocator(), variables, self.cells())?;
+        Ok(Row { cells })
+    }
+
+    /// The row's cells for these variables, in their order. The row gives them away: only the cell of a variable that stands here
+    /// more than once is shared. Fails only where memory is refused.
+    pub fn into_cells_at(self, variables: &[usize]) -> Result<Row<V>, AllocError>
+        ensures { IfOk result (λ row. row ≡ cells_at variables.now self) }
+    {
+        let cells = moved_cells(self.into_cells(), variables)?;
         Ok(Row { cells })
     }
 }
@@ -148,5 +157,47 @@ fn cell_at<V: Cell>(row: &[Option<V>], variable: usize) -> Result<Option<V>, All
     match row.get(variable) {
         Some(Some(value)) => Ok(Some(value.share()?)),
         _ => Ok(None),
+    }
+}
+
+fn moved_cells<V: Cell>(
+    mut row: Vec<Option<V>>,
+    variables: &[usize],
+) -> Result<Vec<Option<V>>, AllocError>
+    ensures { IfOk result (λ cells. cells.items ≡ cells_at variables.now row.items) }
+{
+    let mut cells = Vec::new(*row.allocator());
+    for index in 0..variables.len() {
+        let later = &variables[index + 1..];
+        cells.push(moved_cell(&mut row, variables[index], later)?)?;
+    }
+    Ok(cells)
+}
+
+// what the row binds the variable to: given away, unless a later one is the same
+fn moved_cell<V: Cell>(
+    row: &mut Vec<Option<V>>,
+    variable: usize,
+    later: &[usize],
+) -> Result<Option<V>, AllocError>
+    ensures cell { IfOk result (λ made. made ≡ cell row.old.items variable) }
+    ensures later { cells_at later.now row.new.items ≡ cells_at later.now row.old.items }
+{
+    if later.contains(&variable) {
+        cell_at(row.as_slice(), variable)
+    } else {
+        Ok(taken_cell(row, variable))
+    }
+}
+
+// takes out what the row binds the variable to
+fn taken_cell<V: Cell>(row: &mut Vec<Option<V>>, variable: usize) -> Option<V>
+    ensures cell { result ≡ cell row.old.items variable }
+    ensures others { (v : ℕ) → nat_eq v variable ≡ false → cell row.new.items v ≡ cell row.old.items v }
+{
+    if variable < row.len() {
+        row[variable].take()
+    } else {
+        None
     }
 }

@@ -5,7 +5,7 @@ use Rattle.std.specs.Prelude.{Result, Ok, Err, IfOk}
 use Rattle.std.specs.Ordering.{is_gt}
 use Rattle.rsp_multiset.specs.Rows.{Cells, row_eq}
 use Rattle.rsp_multiset.specs.RowSame.{row_decides}
-use Rattle.rsp_multiset.specs.Weights.{only, times, weight, above, Holds, IsChanged}
+use Rattle.rsp_multiset.specs.Weights.{only, times, weight, above, Holds, IsChanged, IsSameMultiset}
 use Rattle.rsp_terms.specs.declared.term.Term.{Term}
 use Rattle.rsp_terms.specs.Same.{term_eq, term_same}
 use Rattle.rsp_streams_out.specs.Rows.{in_order, put_in, row_order}
@@ -50,6 +50,11 @@ module _ (change : List (Cells Term × ℤ)) (preceding present : List (Cells Te
       → Holds (row_eq term_eq) bag (less (row_eq term_eq) present preceding)
   new_rows bag is q = is q ∙ new_counts q ∙ sym (less-times (row_eq term_eq) (row_decides term_same) present preceding q)
 
+  pub new_among : (rows : List (Cells Term))
+      → ((q : Cells Term) → times (row_eq term_eq) rows q ≡ above (weight (row_eq term_eq) change q))
+      → IsSameMultiset (row_eq term_eq) rows (less (row_eq term_eq) present preceding)
+  new_among rows is q = is q ∙ new_counts q ∙ sym (less-times (row_eq term_eq) (row_decides term_same) present preceding q)
+
   -- what it takes out
   pub gone_counts : (q : Cells Term) → above (neg_ℤ (weight (row_eq term_eq) change q)) ≡ excess (row_eq term_eq) preceding present q
   gone_counts q =
@@ -62,6 +67,11 @@ module _ (change : List (Cells Term × ℤ)) (preceding present : List (Cells Te
       → ((q : Cells Term) → weight (row_eq term_eq) bag q ≡ above (neg_ℤ (weight (row_eq term_eq) change q)))
       → Holds (row_eq term_eq) bag (less (row_eq term_eq) preceding present)
   gone_rows bag is q = is q ∙ gone_counts q ∙ sym (less-times (row_eq term_eq) (row_decides term_same) preceding present q)
+
+  pub gone_among : (rows : List (Cells Term))
+      → ((q : Cells Term) → times (row_eq term_eq) rows q ≡ above (neg_ℤ (weight (row_eq term_eq) change q)))
+      → IsSameMultiset (row_eq term_eq) rows (less (row_eq term_eq) preceding present)
+  gone_among rows is q = is q ∙ gone_counts q ∙ sym (less-times (row_eq term_eq) (row_decides term_same) preceding present q)
 
 pub in_order_ok : {E : Type 0} (result : Result (List (Cells Term)) E) (rows : List (Cells Term)) (bag : List (Cells Term × ℤ))
     → ((q : Cells Term) → times (row_eq term_eq) rows q ≡ weight (row_eq term_eq) bag q)

@@ -2,7 +2,7 @@
 //!
 //! `turn` gives the rows that a stream operator reports, from the solutions of now or from their change since the preceding
 //! report, in the byte order of the rows' texts, and rows of one text by their cells; so the list depends on the rows as a
-//! multiset alone. `read_by` says which of
+//! multiset alone. `turn_owned` gives the same of what it is given by value, and moves the rows. `read_by` says which of
 //! the two the operator reads, or neither. `report_text`, `report_json` and `overfull_text` append exactly the defined text of
 //! a report. `rows_of` and `ordered` are the parts of `turn`: a bag's rows, each as often as it is there, and rows in order.
 //! Above: the engine orders rows, the program writes reports. Below: terms, their printing, rows, and the names of the
@@ -26,4 +26,4 @@ pub use printing::PrintedRows;
 pub use reading::{Reading, read_by};
 pub use rsp_report::Operator;
 pub use text::{overfull_text, printed_text, report_text, row_text};
-pub use turning::{turn, turn_printed};
+pub use turning::{turn, turn_owned, turn_printed};

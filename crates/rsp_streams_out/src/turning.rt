@@ -1,7 +1,7 @@
 // What a stream operator reports.
 ghost use Rattle.std.specs.Prelude.{◌≡◌, List, IfOk};
 ghost use Rattle.rsp_multiset.specs.Rows.{Cells, row_eq};
-ghost use Rattle.rsp_multiset.specs.Weights.{Holds, times, weight};
+ghost use Rattle.rsp_multiset.specs.Weights.{Holds, IsSameMultiset, times, weight};
 ghost use Rattle.rsp_terms.specs.declared.term.Term.{Term};
 ghost use Rattle.rsp_terms.specs.Same.{term_eq};
 ghost use Rattle.rsp_streams_out.specs.Rows.{in_order};
@@ -9,7 +9,7 @@ ghost use Rattle.rsp_streams_out.specs.Streams.{reported};
 ghost use Rattle.rsp_streams_out.specs.Turning.{times_reported, StandsFor};
 
 use crate::{PrintedRows, printed, rows_of};
-use rsp_multiset::{Bag, Changes, Row, negative, positive};
+use rsp_multiset::{Bag, Changes, Row, incoming_rows, negative, outgoing_rows, positive};
 use rsp_report::Operator;
 use rsp_terms::{Listed, Term};
 use std::alloc::{AllocError, Global};
@@ -52,6 +52,26 @@ pub fn turn_printed(
     }
 }
 
+/// The same of a change and of solutions that are given away: their rows are moved, and only further copies of a row are shared.
+pub fn turn_owned(
+    alloc: Global,
+    operator: Operator,
+    change: Changes<Row<Term>>,
+    solutions: Bag<Term>,
+) -> Result<PrintedRows, AllocError>
+    ensures rows { IfOk result (λ rows. (preceding present : List (Cells Term))
+        → StandsFor operator change solutions preceding present → rows ≡ reported operator preceding present) }
+    ensures counts { IfOk result (λ rows. (preceding present : List (Cells Term))
+        → StandsFor operator change solutions preceding present
+        → (q : Cells Term) → times (row_eq term_eq) rows q ≡ times_reported operator preceding present q) }
+{
+    match operator {
+        Operator::Rstream => in_their_order(alloc, solutions.into_rows(alloc)?),
+        Operator::Istream => in_their_order(alloc, incoming_rows(alloc, change)?),
+        Operator::Dstream => in_their_order(alloc, outgoing_rows(alloc, change)?),
+    }
+}
+
 // the rows of a bag, in order
 fn in_order_of(alloc: Global, bag: &Bag<Term>) -> Result<PrintedRows, AllocError>
     ensures rows { IfOk result (λ rows. (wanted : List (Cells Term))
@@ -59,4 +79,14 @@ fn in_order_of(alloc: Global, bag: &Bag<Term>) -> Result<PrintedRows, AllocError
     ensures counts { IfOk result (λ rows. (q : Cells Term) → times (row_eq term_eq) rows q ≡ weight (row_eq term_eq) bag.now q) }
 {
     printed(alloc, rows_of(alloc, bag)?)
+}
+
+// the rows, in order
+fn in_their_order(alloc: Global, rows: Vec<Row<Term>>) -> Result<PrintedRows, AllocError>
+    ensures rows { IfOk result (λ out. (wanted : List (Cells Term))
+        → IsSameMultiset (row_eq term_eq) rows.items wanted → out ≡ in_order wanted) }
+    ensures counts { IfOk result (λ out. (q : Cells Term)
+        → times (row_eq term_eq) out q ≡ times (row_eq term_eq) rows.items q) }
+{
+    printed(alloc, Listed::from_vec(rows))
 }

@@ -1,4 +1,5 @@
 mod CharacterRows
+mod Numbered
 pub mod CharacterSteps
 pub mod Injective
 mod TermRows

@@ -1,27 +1,33 @@
 // Shared text.
 ghost use Rattle.std.specs.Prelude.{◌≡◌, IfOk};
 ghost use Rattle.std.specs.Str.{IsAscii};
+ghost use Rattle.rsp_terms.specs.TextNumbers.{text_number};
 
 use std::alloc::{AllocError, Global};
 use std::cmp::Ordering;
-use std::hash::{Hash, Hasher};
+use std::hash::{BuildHasher, BuildHasherDefault, FoldHasher, Hash, Hasher};
 use std::marker::Model;
 use std::rc::RcStr;
 use std::{fmt, str};
 
-/// A text that can be shared without a copy of its bytes. Texts compare by their bytes.
+/// A text that can be shared without a copy of its bytes. Texts compare by their bytes. Each keeps the number that the hasher of
+/// std's maps gives for them, so that they are read once, however often it is looked up.
 #[derive(Drop)]
 pub struct Text {
     shared: RcStr<Global>,
+    number: u64,
 }
 
 impl Model for Text {
-    ghost use Rattle.std.specs.Prelude.{List, ℕ};
+    ghost use Rattle.std.specs.Prelude.{◌≡◌, List, ℕ};
     ghost use Rattle.std.specs.Rc.{rc_str_bytes};
+    ghost use Rattle.rsp_terms.specs.TextNumbers.{text_number};
 
     ghost Value = { List ℕ };
 
     ghost view = { λ t. rc_str_bytes t.shared };
+
+    ghost invariant = { λ t. t.number ≡ text_number (rc_str_bytes t.shared) };
 }
 
 impl Text {
@@ -30,7 +36,8 @@ impl Text {
         ensures { IfOk result (λ made. made ≡ text.now) }
     {
         let shared = RcStr::from_str(alloc, text)?;
-        Ok(Text { shared })
+        let number = number_of(text);
+        Ok(Text { shared, number })
     }
 
     /// The characters.
@@ -45,8 +52,18 @@ impl Text {
         ensures { IfOk result (λ other. other ≡ self.now) }
     {
         let shared = self.shared.clone()?;
-        Ok(Text { shared })
+        Ok(Text {
+            shared,
+            number: self.number,
+        })
     }
+}
+
+// what the hasher of std's maps gives for the bytes
+fn number_of(text: &str) -> u64
+    ensures { result ≡ text_number text.now }
+{
+    BuildHasherDefault::<FoldHasher>::new().hash_one(text)
 }
 
 /// A text of ASCII characters, from their bytes. Fails only where memory is refused.
@@ -70,6 +87,10 @@ impl PartialEq for Text {
     ghost laws = { partial_equiv_from_equiv nat_list_eq_equiv };
 
     fn eq(&self, other: &Text) -> bool {
+        // one comparison tells most unequal texts apart
+        if self.number != other.number {
+            return false;
+        }
         self.as_str() == other.as_str()
     }
 }
@@ -116,13 +137,14 @@ impl Hash for Text {
     ghost use Rattle.std.specs.Hash as fed;
     ghost use Rattle.std.specs.Cmp.Lexicographic.{bytes_decides};
     ghost use Rattle.std.proofs.Common.{ap};
+    ghost use Rattle.rsp_terms.specs.TextNumbers.{text_number};
 
-    ghost hash_input = { fed.str };
+    ghost hash_input = { λ t. fed.u64 (text_number t) };
 
-    ghost respects_eq = { λ a b same. ap fed.str ((bytes_decides a b).0 same) };
+    ghost respects_eq = { λ a b same. ap (λ t. fed.u64 (text_number t)) ((bytes_decides a b).0 same) };
 
     fn hash<H: Hasher>(&self, state: &mut H) {
-        self.as_str().hash(state);
+        state.write_u64(self.number);
     }
 }
 

@@ -1,0 +1,17 @@
+use Rattle.std.proofs.Common.{◌+ℤ◌, sym, ap, ◌∙◌}
+use Rattle.rsp_multiset.specs.Rows.{row_eq}
+use Rattle.rsp_multiset.specs.Weights.{only, times, above}
+use Rattle.rsp_multiset.proofs.GivenRows.{copied, none_more}
+use Rattle.rsp_multiset.proofs.moving.push_incoming.Goals as goal
+
+pub returns-in-None : goal.returns-in-None
+returns-in-None g c = λ q.
+    let eq = row_eq g.V.PartialEq.eq in
+    none_more (eq q c.args.row) (times eq c.args.rows.now.items q) (above c.args.count) c.in-None.ensures.none
+
+pub returns : goal.returns
+returns g c = λ q.
+    let eq = row_eq g.V.PartialEq.eq in
+    let before = times eq c.args.rows.now.items q in
+    copied eq c.push_copies.new.rows.items _ c.args.row q c.in-Some.copies before c.in_ok-push.ensures.items (c.in_ok-push_copies.ensures q)
+    ∙ ap (λ n. before +ℤ only (eq q c.args.row) n) (sym c.in-Some.ensures.some)
