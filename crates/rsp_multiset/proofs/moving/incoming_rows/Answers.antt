@@ -29,5 +29,5 @@ returns g c = λ q.
     let none = rest_all (λ p. p) c.loop-row.row-iterator c.next.new.self c.next.result c.in-None.is c.next.ensures.steps in
     let end = ap (λ es. weight eq (part above es) q) none in
     let before = c.loop-row.invariant q in
-    let all = weight-part (lists_equiv (options_equiv g.met.V.Eq.laws)) above refl c.args.changes c.into_counts.ensures.changes.distinct q in
+    let all = weight-part (lists_equiv (options_equiv g.met.V.Eq.laws)) above refl c.args.changes c.into_counts-row-items.ensures.changes.distinct q in
     omega (arith, ints, end, before, all)

@@ -4,10 +4,11 @@ use Rattle.rsp_multiset.specs.Weights.{only, times, above}
 use Rattle.rsp_multiset.proofs.GivenRows.{copied, none_more}
 use Rattle.rsp_multiset.proofs.moving.push_incoming.Goals as goal
 
-pub returns-in-None : goal.returns-in-None
-returns-in-None g c = λ q.
+pub returns-in_default : goal.returns-in_default
+returns-in_default g c = λ q.
     let eq = row_eq g.V.PartialEq.eq in
-    none_more (eq q c.args.row) (times eq c.args.rows.now.items q) (above c.args.count) c.in-None.ensures.none
+    let none = rw c.in_default.is at c.further_copies.ensures.none in
+    none_more (eq q c.args.row) (times eq c.args.rows.now.items q) (above c.args.count) none
 
 pub returns : goal.returns
 returns g c = λ q.
