@@ -20,7 +20,7 @@ use Rattle.rsp_events.specs.declared.directives.Directive.TheVariants.{Tick}
 use Rattle.rsp_events.specs.Lines.{has_body, is_end, is_passed}
 use Rattle.rsp_events.specs.Blocks.{blocks, whole_blocks}
 use Rattle.rsp_events.specs.Directives.{directive_by, directive_of, is_name}
-use Rattle.rsp_events.specs.Contents.{content_of_directive, content_of_texts}
+use Rattle.rsp_events.specs.Contents.{content_of_directive, content_of_lines, content_of_texts}
 
 abbrev line : List ℕ → List ℕ
 line text = text ++ (10 ∷ [])
@@ -28,39 +28,39 @@ line text = text ++ (10 ∷ [])
 -- a comment, a query's end, a blank line and a tick without a line feed
 pub three_blocks : blocks 7 (line (codes "# log") ++ (line (codes "@cancel q-1") ++ (line (codes " ") ++ codes "@tick 2")))
     ≡ record { number = 1; content = Event (Cancel (codes "q-1")) } ∷ record { number = 2; content = Event (event.Tick 2) } ∷ []
-unfolding is_passed has_body is_end content_of_texts content_of_directive directive_by is_name read_u64
+unfolding is_passed has_body is_end content_of_lines content_of_directive directive_by is_name read_u64
 three_blocks = refl
 
 -- the tick's line has not ended
 pub one_whole : whole_blocks 7 (line (codes "@cancel q") ++ codes "@tick 2")
     ≡ record { number = 1; content = Event (Cancel (codes "q")) } ∷ []
-unfolding is_passed has_body is_end content_of_texts content_of_directive directive_by is_name read_u64
+unfolding is_passed has_body is_end content_of_lines content_of_directive directive_by is_name read_u64
 one_whole = refl
 
 -- the lines of query text, each with a line feed
 pub query_text : content_of_texts 7 1 (codes "@register q" ∷ codes "SELECT" ∷ [] ∷ codes "@end " ∷ [])
     ≡ Event (Register (codes "q") (line (codes "SELECT") ++ (10 ∷ [])))
-unfolding is_end content_of_texts content_of_directive directive_by is_name chars is_utf8 encode_utf8
+unfolding is_end content_of_lines content_of_directive directive_by is_name chars is_utf8 encode_utf8
 query_text = refl
 
 -- two lines behind the directive, and no `@end`
 pub no_end : content_of_texts 7 5 (codes "@register q" ∷ codes "SELECT" ∷ codes "*" ∷ []) ≡ Fault (BadBody 8)
-unfolding is_end content_of_texts content_of_directive directive_by is_name chars is_utf8 encode_utf8
+unfolding is_end content_of_lines content_of_directive directive_by is_name chars is_utf8 encode_utf8
 no_end = refl
 
 -- a byte that no text has, in the second line of the body
 pub not_utf8 : content_of_texts 7 5 (codes "@register q" ∷ codes "SELECT" ∷ (255 ∷ []) ∷ codes "@end" ∷ []) ≡ Fault (BadBody 7)
-unfolding is_end content_of_texts content_of_directive directive_by is_name chars is_utf8 encode_utf8
+unfolding is_end content_of_lines content_of_directive directive_by is_name chars is_utf8 encode_utf8
 not_utf8 = refl
 
 -- comments and blank lines say nothing
 pub no_quads : content_of_texts 7 1 (codes "@insert" ∷ codes "# none" ∷ [] ∷ codes "@end" ∷ []) ≡ Event (Insert [])
-unfolding is_end content_of_texts content_of_directive directive_by statement_of is_end_of_line chars is_utf8 encode_utf8
+unfolding is_end content_of_lines content_of_directive directive_by statement_of is_end_of_line chars is_utf8 encode_utf8
 no_quads = refl
 
 -- `@end` outside a body, a blank before a directive, a field too many
 pub end_alone : content_of_texts 7 1 (codes "@end" ∷ []) ≡ Fault BadDirective
-unfolding content_of_texts directive_by
+unfolding content_of_lines directive_by
 end_alone = refl
 
 pub blank_before : directive_of (codes " @insert") ≡ None
@@ -91,7 +91,7 @@ unfolding directive_by absolute_iri iri string enclosed spelled sign iri_escape 
 not_absolute = refl
 
 pub item_of_nothing : content_of_texts 7 1 (codes "@item <s:a> 1" ∷ codes "@end" ∷ []) ≡ Event (event.Item (codes "s:a") 1 [])
-unfolding is_end content_of_texts content_of_directive directive_by read_u64 absolute_iri iri string enclosed spelled sign iri_escape uchar chars is_utf8 encode_utf8
+unfolding is_end content_of_lines content_of_directive directive_by read_u64 absolute_iri iri string enclosed spelled sign iri_escape uchar chars is_utf8 encode_utf8
 item_of_nothing = refl
 
 abbrev statement_to : List ℕ → List ℕ
@@ -99,10 +99,10 @@ statement_to behind = codes "<a:1> <p:v> <a:2>" ++ behind
 
 -- a good line, a comment, and a bad line
 pub bad_quad : content_of_texts 7 1 (codes "@delete" ∷ statement_to (codes ".") ∷ codes " # x" ∷ codes "<a:1> ." ∷ codes "@end" ∷ []) ≡ Fault (BadBody 4)
-unfolding is_end content_of_texts content_of_directive directive_by statement_of is_end_of_line parts_of iri_escape uchar spelled sign iri string enclosed label tag datatype literal_of literal node object chars is_utf8 utf8_valid_len encode_utf8
+unfolding is_end content_of_lines content_of_directive directive_by statement_of is_end_of_line parts_of iri_escape uchar spelled sign iri string enclosed label tag datatype literal_of literal node object chars is_utf8 utf8_valid_len encode_utf8
 bad_quad = refl
 
 -- a graph in an item, and no `@end`: the bad line is the fault
 pub graph_in_item : content_of_texts 7 1 (codes "@item <s:a> 1" ∷ statement_to (codes " <g:1> .") ∷ statement_to (codes ".") ∷ []) ≡ Fault (BadBody 2)
-unfolding is_end content_of_texts content_of_directive directive_by read_u64 absolute_iri statement_of is_end_of_line parts_of iri_escape uchar spelled sign iri string enclosed label tag datatype literal_of literal node object chars is_utf8 utf8_valid_len encode_utf8
+unfolding is_end content_of_lines content_of_directive directive_by read_u64 absolute_iri statement_of is_end_of_line parts_of iri_escape uchar spelled sign iri string enclosed label tag datatype literal_of literal node object chars is_utf8 utf8_valid_len encode_utf8
 graph_in_item = refl

@@ -1,7 +1,7 @@
 -- The times of a log's events are instants.
 use Rattle.std.proofs.Common.{◌≡◌, subst, ℕ, ◌+◌, ◌*◌, ◌≤◌, Bool, true, false, List, [], ◌∷◌, ◌++◌, length, take, drop, refl, arith}
 use Rattle.std.specs.Prelude.{⊤, nat_le, if◌then◌else◌, IfSome, Option, None, Some, ℤ, pos, negsuc, ◌&&◌, ◌||◌, ◌==◌, bytes_eq, codes, ◌+ℤ◌, ◌-ℤ◌, ◌*ℤ◌}
-use Rattle.std.specs.List.{before_first, flat_map, list_any, position_or_len}
+use Rattle.std.specs.List.{flat_map, list_any, position_or_len}
 use Rattle.std.specs.Option.{option_and_then, option_map, option_map_or, option_or}
 use Rattle.std.proofs.lemmas.Bool.Decides.{nat_tests}
 use Rattle.rsp_spec.specs.Limits.{last_instant}
@@ -22,7 +22,7 @@ use Rattle.rsp_events.specs.Directives.{directive_of, fields, number_of, time_of
 use Rattle.rsp_events.specs.DirectiveSteps.{directive_alone, directive_read, directive_with_name, directive_with_time, item_directive}
 use Rattle.rsp_events.specs.DirectiveSteps.{item_of_fields, name_of, only_field, two_fields}
 use Rattle.rsp_events.specs.Instants.{AllTimed, IsInstant, IsTimed}
-use Rattle.rsp_events.specs.Lines.{first_field, is_end}
+use Rattle.rsp_events.specs.Lines.{first_field}
 use Rattle.rsp_events.proofs.DirectiveLaws.{directive_is}
 
 pub AllTimed-append : (xs ys : List Block) → AllTimed xs → AllTimed ys → AllTimed (xs ++ ys)
@@ -36,9 +36,9 @@ AtMost None = ⊤
 AtMost (Some time) = time ≤ last_instant
 
 -- by the directive, where there is one
-abbrev content_by : ℕ → ℕ → Option Directive → List (List ℕ) → Content
-content_by document first o body =
-    option_map_or (λ d. content_of_directive document first d body) o (content.Fault BadDirective)
+abbrev content_by : ℕ → ℕ → Option Directive → List (List ℕ) → Bool → Content
+content_by document first o lines ended =
+    option_map_or (λ d. content_of_directive document first d lines ended) o (content.Fault BadDirective)
 
 abbrev IsTimedDirective : Option Directive → Type 0
 IsTimedDirective None = ⊤
@@ -132,41 +132,42 @@ directive_timed word fields =
     (ticked (option_and_then time_of (only_field fields)) (only_within (only_field fields)))
     (choice (length fields == 0) (Some directive.Insert) None tt tt) (choice (length fields == 0) (Some directive.Delete) None tt tt)
 
-body_timed : (first : ℕ) (body : List (List ℕ)) (bad : List ℕ → Bool) (event_of : List (List ℕ) → Event)
-    → ((lines : List (List ℕ)) → IsInstant (event_of lines)) → IsTimed (content_of_body first body bad event_of)
-body_timed first body bad event_of h =
-    elim (list_any bad (before_first is_end body)) as (λ v.
-    IsTimed (if v then content.Fault (BadBody (first + 1 + position_or_len bad (before_first is_end body)))
-    else (if list_any is_end body then content.Event (event_of (before_first is_end body)) else content.Fault (BadBody (first + 1 + length body))))) [
+body_timed : (first : ℕ) (lines : List (List ℕ)) (ended : Bool) (bad : List ℕ → Bool) (event_of : List (List ℕ) → Event)
+    → IsInstant (event_of lines) → IsTimed (content_of_body first lines ended bad event_of)
+body_timed first lines ended bad event_of h =
+    elim (list_any bad lines) as (λ v.
+    IsTimed (if v then content.Fault (BadBody (first + 1 + position_or_len bad lines))
+    else (if ended then content.Event (event_of lines) else content.Fault (BadBody (first + 1 + length lines))))) [
       | true ↦ tt
       | false ↦
-          elim (list_any is_end body) as (λ v.
-          IsTimed (if v then content.Event (event_of (before_first is_end body)) else content.Fault (BadBody (first + 1 + length body)))) [
-            | true ↦ h (before_first is_end body)
+          elim ended as (λ v.
+          IsTimed (if v then content.Event (event_of lines) else content.Fault (BadBody (first + 1 + length lines)))) [
+            | true ↦ h
             | false ↦ tt
           ]
     ]
 
-by_timed : (document first : ℕ) (o : Option Directive) (body : List (List ℕ))
-    → IsTimedDirective o → IsTimed (content_by document first o body)
+by_timed : (document first : ℕ) (o : Option Directive) (lines : List (List ℕ)) (ended : Bool)
+    → IsTimedDirective o → IsTimed (content_by document first o lines ended)
 unfolding content_of_directive
-by_timed document first None body h = tt
-by_timed document first (Some (directive.Register name)) body h =
-    body_timed first body is_bad_text (λ lines. event.Register name (flat_map with_line_feed lines)) (λ lines. tt)
-by_timed document first (Some (directive.Cancel name)) body h = tt
-by_timed document first (Some (directive.Item stream time)) body h =
-    body_timed first body (is_bad_triple document) (λ lines. event.Item stream time (flat_map (triple_on document) lines)) (λ lines. h)
-by_timed document first (Some (directive.Tick time)) body h = h
-by_timed document first (Some directive.Insert) body h =
-    body_timed first body (is_bad_quad document) (λ lines. event.Insert (flat_map (quad_on document) lines)) (λ lines. tt)
-by_timed document first (Some directive.Delete) body h =
-    body_timed first body (is_bad_quad document) (λ lines. event.Delete (flat_map (quad_on document) lines)) (λ lines. tt)
+by_timed document first None lines ended h = tt
+by_timed document first (Some (directive.Register name)) lines ended h =
+    body_timed first lines ended is_bad_text (λ lines. event.Register name (flat_map with_line_feed lines)) tt
+by_timed document first (Some (directive.Cancel name)) lines ended h = tt
+by_timed document first (Some (directive.Item stream time)) lines ended h =
+    body_timed first lines ended (is_bad_triple document) (λ lines. event.Item stream time (flat_map (triple_on document) lines)) h
+by_timed document first (Some (directive.Tick time)) lines ended h = h
+by_timed document first (Some directive.Insert) lines ended h =
+    body_timed first lines ended (is_bad_quad document) (λ lines. event.Insert (flat_map (quad_on document) lines)) tt
+by_timed document first (Some directive.Delete) lines ended h =
+    body_timed first lines ended (is_bad_quad document) (λ lines. event.Delete (flat_map (quad_on document) lines)) tt
 
 line_timed : (line : List ℕ) → IsTimedDirective (directive_of line)
 line_timed line =
     let behind = fields (drop (length (first_field line)) line) in
     subst IsTimedDirective (directive_is (first_field line) behind) (directive_timed (first_field line) behind)
 
-pub said_timed : (document first : ℕ) (line : List ℕ) (d : Directive) (body : List (List ℕ)) → directive_of line ≡ Some d
-    → (made : Content) → made ≡ content_of_directive document first d body → IsTimed made
-said_timed document first line d body said made is = rw is (by_timed document first (Some d) body (rw said at (line_timed line)))
+pub said_timed : (document first : ℕ) (line : List ℕ) (d : Directive) (lines : List (List ℕ)) (ended : Bool) → directive_of line ≡ Some d
+    → (made : Content) → made ≡ content_of_directive document first d lines ended → IsTimed made
+said_timed document first line d lines ended said made is =
+    rw is (by_timed document first (Some d) lines ended (rw said at (line_timed line)))

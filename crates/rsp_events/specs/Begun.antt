@@ -1,8 +1,8 @@
 -- Words of the way: what a reader keeps of a line and of a block that have begun.
 --
 -- It keeps their bytes, as long as they are no more than a block may have.
-use Rattle.std.specs.Prelude.{ℕ, ◌≢◌, not, nat_lt, if◌then◌else◌, List, [], ◌∷◌, filter, map, length}
-use Rattle.std.specs.List.{AllByRecursion, flat_map}
+use Rattle.std.specs.Prelude.{ℕ, ◌≢◌, Bool, false, not, nat_lt, if◌then◌else◌, List, [], ◌∷◌, filter, map, length}
+use Rattle.std.specs.List.{AllByRecursion, before_first, flat_map, list_any}
 use Rattle.std.specs.Str.Lines.{strip_carriage_return}
 use Rattle.rsp_spec.specs.Limits.{most_block_bytes}
 use Rattle.rsp_events.specs.declared.begun.Ending.{Ending}
@@ -13,7 +13,7 @@ use Rattle.rsp_events.specs.declared.begun.BegunBlock.TheVariants as block
 use Rattle.rsp_events.specs.declared.begun.HeldLine.{HeldLine}
 use Rattle.rsp_events.specs.declared.begun.HeldLine.TheVariants as held
 use Rattle.rsp_events.specs.Blocks.{groups, is_whole}
-use Rattle.rsp_events.specs.Lines.{Line, is_end, is_long, parts, size_of, sizes_of, text_of}
+use Rattle.rsp_events.specs.Lines.{Line, ends_body, is_end, is_long, parts, size_of, sizes_of, text_of}
 
 -- no line feed among the bytes
 abbrev pub IsInLine : List ℕ → Type 0
@@ -48,10 +48,20 @@ begun_line_of bytes = if nat_lt most_block_bytes (length bytes) then line.Long (
 abbrev pub held_line_of : Line → HeldLine
 held_line_of l = if is_long l then held.Long (is_end (text_of l)) else held.Kept (text_of l) (size_of l)
 
--- of a block with more bytes than it may have nothing is kept
+-- of a block with more bytes than it may have nothing is kept; else its lines before an `@end`, and whether it has one
 abbrev pub begun_block_of : List Line → BegunBlock
 begun_block_of [] = block.Between
 begun_block_of (head ∷ body) =
     if nat_lt most_block_bytes (sizes_of (head ∷ body))
     then block.TooLarge
-    else block.Within head.number (map text_of (head ∷ body)) (sizes_of (head ∷ body))
+    else
+    block.Within
+    head.number
+    (text_of head ∷ before_first is_end (map text_of body))
+    (list_any is_end (map text_of body))
+    (sizes_of (head ∷ body))
+
+-- whether a line ends the body of the group that has begun
+abbrev pub ends_group : List Line → Line → Bool
+ends_group [] line = false
+ends_group (head ∷ body) line = ends_body line

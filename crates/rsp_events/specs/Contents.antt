@@ -57,35 +57,41 @@ is_bad_text line = not (is_utf8 line)
 
 -- ---- bodies
 
--- a body, from the line behind the directive's, whose number is `first`: the event that its lines before `@end` are, or
--- the number of the first bad one; where none is bad and `@end` is missing, the number of the line that would be it
-abbrev pub content_of_body : ℕ → List (List ℕ) → (List ℕ → Bool) → (List (List ℕ) → Event) → Content
-content_of_body first body bad event_of =
-    let lines = before_first is_end body in
+-- a body whose first line has the number behind `first`, the directive's, by its lines before `@end` and by whether it has one:
+-- the event that the lines are, or the number of the first bad one; where none is bad and `@end` is missing, the number of the
+-- line that would be it
+abbrev pub content_of_body : ℕ → List (List ℕ) → Bool → (List ℕ → Bool) → (List (List ℕ) → Event) → Content
+content_of_body first lines ended bad event_of =
     if list_any bad lines
     then content.Fault (BadBody (first + 1 + position_or_len bad lines))
     else
-    (if list_any is_end body
+    (if ended
     then content.Event (event_of lines)
-    else content.Fault (BadBody (first + 1 + length body)))
+    else content.Fault (BadBody (first + 1 + length lines)))
 
-unfoldable pub content_of_directive : ℕ → ℕ → Directive → List (List ℕ) → Content
-content_of_directive document first (directive.Register name) body =
-    content_of_body first body is_bad_text (λ lines. event.Register name (flat_map with_line_feed lines))
-content_of_directive document first (directive.Cancel name) body = content.Event (event.Cancel name)
-content_of_directive document first (directive.Item stream time) body =
-    content_of_body first body (is_bad_triple document) (λ lines. event.Item stream time (flat_map (triple_on document) lines))
-content_of_directive document first (directive.Tick time) body = content.Event (event.Tick time)
-content_of_directive document first directive.Insert body =
-    content_of_body first body (is_bad_quad document) (λ lines. event.Insert (flat_map (quad_on document) lines))
-content_of_directive document first directive.Delete body =
-    content_of_body first body (is_bad_quad document) (λ lines. event.Delete (flat_map (quad_on document) lines))
+unfoldable pub content_of_directive : ℕ → ℕ → Directive → List (List ℕ) → Bool → Content
+content_of_directive document first (directive.Register name) lines ended =
+    content_of_body first lines ended is_bad_text (λ lines. event.Register name (flat_map with_line_feed lines))
+content_of_directive document first (directive.Cancel name) lines ended = content.Event (event.Cancel name)
+content_of_directive document first (directive.Item stream time) lines ended =
+    content_of_body first lines ended (is_bad_triple document) (λ lines. event.Item stream time (flat_map (triple_on document) lines))
+content_of_directive document first (directive.Tick time) lines ended = content.Event (event.Tick time)
+content_of_directive document first directive.Insert lines ended =
+    content_of_body first lines ended (is_bad_quad document) (λ lines. event.Insert (flat_map (quad_on document) lines))
+content_of_directive document first directive.Delete lines ended =
+    content_of_body first lines ended (is_bad_quad document) (λ lines. event.Delete (flat_map (quad_on document) lines))
 
--- the content of a block's lines, of which the first has this number
-unfoldable pub content_of_texts : ℕ → ℕ → List (List ℕ) → Content
-content_of_texts document first [] = content.Fault BadDirective
-content_of_texts document first (head ∷ body) =
+-- the content of a block, of whose lines the first has this number: by the lines before `@end`, and by whether it has one
+unfoldable pub content_of_lines : ℕ → ℕ → List (List ℕ) → Bool → Content
+content_of_lines document first [] ended = content.Fault BadDirective
+content_of_lines document first (head ∷ lines) ended =
     option_map_or
-    (λ directive. content_of_directive document first directive body)
+    (λ directive. content_of_directive document first directive lines ended)
     (directive_of head)
     (content.Fault BadDirective)
+
+-- the content of a block's lines, of which the first has this number
+abbrev pub content_of_texts : ℕ → ℕ → List (List ℕ) → Content
+content_of_texts document first [] = content.Fault BadDirective
+content_of_texts document first (head ∷ body) =
+    content_of_lines document first (head ∷ before_first is_end body) (list_any is_end body)

@@ -1,8 +1,8 @@
 // What is kept of a line and of a block that have begun: their bytes, as long as they are no more than a block may have.
-ghost use Rattle.std.specs.Prelude.{◌≡◌, ◌+◌, ◌++◌, ◌∷◌, ◌≤◌, ◌<◌, ◌&&◌, [], ℕ, List, IfOk, length, if◌then◌else◌, nat_lt};
+ghost use Rattle.std.specs.Prelude.{◌≡◌, ◌+◌, ◌++◌, ◌∷◌, ◌≤◌, ◌<◌, ◌&&◌, ◌||◌, [], ℕ, List, IfOk, length, if◌then◌else◌, nat_lt};
 ghost use Rattle.std.specs.Str.Lines.{strip_carriage_return};
 ghost use Rattle.rsp_spec.specs.Limits.{most_block_bytes};
-ghost use Rattle.rsp_events.specs.Begun.{begun_block_of, begun_line_of, ending_of, held_line_of};
+ghost use Rattle.rsp_events.specs.Begun.{begun_block_of, begun_line_of, ending_of, ends_group, held_line_of};
 ghost use Rattle.rsp_events.specs.Lines as lines;
 ghost use Rattle.rsp_events.specs.Lines.{Line};
 ghost use Rattle.rsp_events.specs.declared.begun.HeldLine.TheVariants as held;
@@ -37,12 +37,12 @@ pub(crate) enum HeldLine {
     Long(bool),
 }
 
-/// The block that has begun: none, or its lines with the number of the first and the bytes of all, or one that has more
-/// than a block may have.
+/// The block that has begun: none, or its lines before an `@end` with the number of the first, whether it has an `@end`, and
+/// the bytes of all its lines, or one that has more than a block may have.
 #[derive(Drop)]
 pub(crate) enum BegunBlock {
     Between,
-    Within(u64, Listed<Listed<u8>>, usize),
+    Within(u64, Listed<Listed<u8>>, bool, usize),
     TooLarge,
 }
 
@@ -152,43 +152,68 @@ fn ends(ending: Ending, ended: bool) -> bool
 
 // ---- a block
 
-/// The block with this line behind it, whose number is `number`. Fails only where memory is refused.
+/// The block with this line behind it, which has this number and ends the block's body or doesn't. Fails only where memory is
+/// refused.
 pub(crate) fn grown(
     alloc: Global,
     block: BegunBlock,
     line: HeldLine,
     number: u64,
+    ends: bool,
 ) -> Result<BegunBlock, AllocError>
     ensures { IfOk result (λ new. (group : List Line) (l : Line) → begun_block_of group ≡ block → held_line_of l ≡ line
-        → l.number ≡ number → new ≡ begun_block_of (group ++ (l ∷ []))) }
+        → l.number ≡ number → ends_group group l ≡ ends → new ≡ begun_block_of (group ++ (l ∷ []))) }
 {
     let HeldLine::Kept(text, size) = line else {
         return Ok(BegunBlock::TooLarge);
     };
     match block {
-        BegunBlock::Between => Ok(within(number, Listed::new(alloc), 0, text, size)?),
-        BegunBlock::Within(first, texts, before) => Ok(within(first, texts, before, text, size)?),
+        BegunBlock::Between => {
+            let texts = joined_text(Listed::new(alloc), text, false)?;
+            Ok(within(number, texts, false, 0, size))
+        }
+        BegunBlock::Within(first, texts, ended, before) => {
+            let ended = either(ended, ends);
+            let texts = joined_text(texts, text, ended)?;
+            Ok(within(first, texts, ended, before, size))
+        }
         BegunBlock::TooLarge => Ok(BegunBlock::TooLarge),
     }
+}
+
+// the lines with this one behind them, unless their body has ended
+fn joined_text(
+    texts: Listed<Listed<u8>>,
+    text: Listed<u8>,
+    ended: bool,
+) -> Result<Listed<Listed<u8>>, AllocError>
+    ensures { IfOk result (λ joined. joined ≡ (if ended then texts else texts ++ (text ∷ []))) }
+{
+    let mut texts = texts;
+    if !ended {
+        texts.push(text)?;
+    }
+    Ok(texts)
 }
 
 fn within(
     first: u64,
     texts: Listed<Listed<u8>>,
+    ended: bool,
     before: usize,
-    text: Listed<u8>,
     size: usize,
-) -> Result<BegunBlock, AllocError>
-    ensures { IfOk result (λ new. new ≡ (if nat_lt most_block_bytes (before + size)
-        then begun.TooLarge else begun.Within first (texts ++ (text ∷ [])) (before + size))) }
+) -> BegunBlock
+    ensures { result ≡ (if nat_lt most_block_bytes (before + size)
+        then begun.TooLarge else begun.Within first texts ended (before + size)) }
 {
-    let Some(all) = before.checked_add(size) else {
-        return Ok(BegunBlock::TooLarge);
-    };
-    if MOST_BLOCK_BYTES < all {
-        return Ok(BegunBlock::TooLarge);
+    match before.checked_add(size) {
+        Some(all) if all <= MOST_BLOCK_BYTES => BegunBlock::Within(first, texts, ended, all),
+        _ => BegunBlock::TooLarge,
     }
-    let mut texts = texts;
-    texts.push(text)?;
-    Ok(BegunBlock::Within(first, texts, all))
+}
+
+fn either(first: bool, second: bool) -> bool
+    ensures { result ≡ (first || second) }
+{
+    first || second
 }

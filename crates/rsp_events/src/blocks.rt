@@ -6,14 +6,14 @@ ghost use Rattle.rsp_events.specs.declared.begun.BegunLine.TheVariants as line;
 ghost use Rattle.rsp_events.specs.declared.begun.BegunBlock.TheVariants as begun;
 ghost use Rattle.rsp_events.specs.declared.blocks.Place.TheVariants as place;
 ghost use Rattle.rsp_events.specs.Lines.{Line, ends_body, has_body, is_passed};
-ghost use Rattle.rsp_events.specs.Begun.{IsInLine, begun_block_of, held_line_of, begun_group, begun_line};
+ghost use Rattle.rsp_events.specs.Begun.{IsInLine, begun_block_of, ends_group, held_line_of, begun_group, begun_line};
 ghost use Rattle.rsp_events.specs.Reader.{HasRead};
 ghost use Rattle.rsp_events.specs.Blocks.{blocks, ended_lines, content_of, numbered_from, whole_blocks};
 ghost use Rattle.rsp_events.specs.Instants.{AllTimed, IsTimed};
 ghost use Rattle.rsp_events.specs.Steps.{Reads, TakesLine, begun_groups, place_of};
 
 use crate::begun::{BegunBlock, BegunLine, HeldLine, grown, held, lengthened};
-use crate::contents::content_of_texts;
+use crate::contents::content_of_lines;
 use crate::lines::{has_body, is_end, is_passed, line_end};
 use crate::{Block, BlockFault, Content};
 use rsp_terms::Listed;
@@ -197,28 +197,30 @@ impl Blocks {
         let Some(number) = self.lines.checked_add(1) else {
             return Err(AllocError);
         };
-        let place = place_of(&self.block, &line);
+        let ends = ends_group(&self.block, &line);
+        let place = place_of(&self.block, &line, ends);
         self.lines = number;
         match place {
             Place::Passed => Ok(None),
             Place::Inside => {
-                self.grow(line, number)?;
+                self.grow(line, number, ends)?;
                 Ok(None)
             }
             Place::Last => {
-                self.grow(line, number)?;
+                self.grow(line, number, ends)?;
                 Ok(Some(self.close()?))
             }
         }
     }
 
-    fn grow(&mut self, line: HeldLine, number: u64) -> Result<(), AllocError>
+    fn grow(&mut self, line: HeldLine, number: u64, ends: bool) -> Result<(), AllocError>
         ensures rest { self.new ≡ record self.old { block = self.new.block } }
         ensures block { OnOk result ((group : List Line) (l : Line) → begun_block_of group ≡ self.old.block
-            → held_line_of l ≡ line → l.number ≡ number → self.new.block ≡ begun_block_of (group ++ (l ∷ []))) }
+            → held_line_of l ≡ line → l.number ≡ number → ends_group group l ≡ ends
+            → self.new.block ≡ begun_block_of (group ++ (l ∷ []))) }
     {
         let block = mem::replace(&mut self.block, BegunBlock::Between);
-        self.block = grown(self.alloc, block, line, number)?;
+        self.block = grown(self.alloc, block, line, number, ends)?;
         Ok(())
     }
 
@@ -284,13 +286,24 @@ fn push_some(given: &mut Listed<Block>, block: Option<Block>) -> Result<(), Allo
     }
 }
 
-fn place_of(block: &BegunBlock, line: &HeldLine) -> Place
+// whether the line ends the body of the block that has begun
+fn ends_group(block: &BegunBlock, line: &HeldLine) -> bool
     ensures { (group : List Line) (l : Line) → begun_block_of group ≡ block.now → held_line_of l ≡ line.now
-        → result ≡ place_of group l }
+        → ends_group group l ≡ result }
+{
+    match block {
+        BegunBlock::Between => false,
+        _ => ends_body(line),
+    }
+}
+
+fn place_of(block: &BegunBlock, line: &HeldLine, ends: bool) -> Place
+    ensures { (group : List Line) (l : Line) → begun_block_of group ≡ block.now → held_line_of l ≡ line.now
+        → ends_group group l ≡ ends → result ≡ place_of group l }
 {
     match block {
         BegunBlock::Between => place_between(line),
-        _ => place_inside(line),
+        _ => place_inside(ends),
     }
 }
 
@@ -316,14 +329,10 @@ fn place_of_text(text: &[u8]) -> Place
     }
 }
 
-fn place_inside(line: &HeldLine) -> Place
-    ensures { (l : Line) → held_line_of l ≡ line.now → result ≡ (if ends_body l then place.Last else place.Inside) }
+fn place_inside(ends: bool) -> Place
+    ensures { result ≡ (if ends then place.Last else place.Inside) }
 {
-    if ends_body(line) {
-        Place::Last
-    } else {
-        Place::Inside
-    }
+    if ends { Place::Last } else { Place::Inside }
 }
 
 fn ends_body(line: &HeldLine) -> bool
@@ -341,8 +350,8 @@ fn content_of(alloc: Global, document: u32, block: BegunBlock) -> Result<Content
         → content ≡ content_of document group) }
 {
     match block {
-        BegunBlock::Within(first, texts, _) => {
-            content_of_texts(alloc, document, first, texts.as_slice())
+        BegunBlock::Within(first, texts, ended, _) => {
+            content_of_lines(alloc, document, first, texts.as_slice(), ended)
         }
         _ => Ok(Content::Fault(BlockFault::BlockTooLarge)),
     }

@@ -1,35 +1,15 @@
-// Bodies: the lines up to `@end`, and what they say.
-ghost use Rattle.std.specs.Prelude.{◌≡◌, ◌++◌, ◌≤◌, IfOk, MatchOption, length, not, true, false};
-ghost use Rattle.std.specs.List.{before_first, flat_map, list_any, position_or_len};
+// Bodies: what the lines before `@end` say.
+ghost use Rattle.std.specs.Prelude.{◌≡◌, ◌++◌, IfOk, MatchOption, not, true, false};
+ghost use Rattle.std.specs.List.{flat_map};
 ghost use Rattle.std.specs.Str.{is_utf8};
 ghost use Rattle.std.specs.String.{string_bytes};
 ghost use Rattle.rsp_events.specs.Contents as form;
 ghost use Rattle.rsp_events.specs.BodyLines.{IsRead};
-ghost use Rattle.rsp_events.specs.Lines as text;
 
-use crate::lines::is_end;
 use rsp_nquads::{LineFault, statement};
 use rsp_terms::{Listed, Quad, Text, Triple};
 use std::alloc::{AllocError, Global};
 use std::str;
-
-/// The lines before `@end`, or all where there is none; and whether there is one.
-pub(crate) fn before_end(body: &[Listed<u8>]) -> (&[Listed<u8>], bool)
-    ensures lines { result.0.now ≡ before_first text.is_end body.now }
-    ensures end { result.1 ≡ list_any text.is_end body.now }
-{
-    let end = end_place(body);
-    (&body[..end], end < body.len())
-}
-
-fn end_place(body: &[Listed<u8>]) -> usize
-    ensures place { result ≡ position_or_len text.is_end body.now }
-    ensures bound { result ≤ length body.now }
-{
-    body.iter()
-        .take_while(|line| !is_end(line.as_slice()))
-        .count()
-}
 
 // ---- statements
 

@@ -2,36 +2,36 @@
 ghost use Rattle.std.specs.Prelude.{◌≡◌, ◌+◌, IfOk, if◌then◌else◌, length};
 ghost use Rattle.std.specs.List.{flat_map};
 ghost use Rattle.rsp_events.specs.Contents as form;
-ghost use Rattle.rsp_events.specs.Contents.{content_of_texts};
 ghost use Rattle.rsp_events.specs.Instants.{IsTimed};
 ghost use Rattle.rsp_events.specs.declared.event.BlockFault.TheVariants.{BadBody};
 ghost use Rattle.rsp_events.specs.declared.event.Content.TheVariants as content;
 ghost use Rattle.rsp_events.specs.declared.event.Event.TheVariants as event;
 
-use crate::bodies::{before_end, graph_of, quads_of, text_of};
+use crate::bodies::{graph_of, quads_of, text_of};
 use crate::directives::{Directive, directive_of};
 use crate::{BlockFault, Content, Event};
 use rsp_terms::{Listed, Text};
 use std::alloc::{AllocError, Global};
 
-/// The event of a block's lines, of which the first has this number in the text, or its first fault. Fails only where
-/// memory is refused, or the 64-bit number of a line would pass its last value.
-#[tactic(auto, unfolding(crate::specs::Contents::content_of_texts))]
-pub(crate) fn content_of_texts(
+/// The event of a block, or its first fault: by its lines before `@end`, of which the first has this number in the text, and
+/// by whether it has an `@end`. Fails only where memory is refused, or the 64-bit number of a line would pass its last value.
+#[tactic(auto, unfolding(crate::specs::Contents::content_of_lines))]
+pub(crate) fn content_of_lines(
     alloc: Global,
     document: u32,
     first: u64,
     texts: &[Listed<u8>],
+    ended: bool,
 ) -> Result<Content, AllocError>
-    ensures value { IfOk result (λ content. content ≡ content_of_texts document first texts.now) }
+    ensures value { IfOk result (λ content. content ≡ form.content_of_lines document first texts.now ended) }
     ensures timed { IfOk result IsTimed }
 {
-    let Some((head, body)) = texts.split_first() else {
+    let Some((head, lines)) = texts.split_first() else {
         return Ok(Content::Fault(BlockFault::BadDirective));
     };
     match directive_of(alloc, head.as_slice())? {
         None => Ok(Content::Fault(BlockFault::BadDirective)),
-        Some(directive) => content_of_directive(alloc, document, first, directive, body),
+        Some(directive) => content_of_directive(alloc, document, first, directive, lines, ended),
     }
 }
 
@@ -41,17 +41,20 @@ fn content_of_directive(
     document: u32,
     first: u64,
     directive: Directive,
-    body: &[Listed<u8>],
+    lines: &[Listed<u8>],
+    ended: bool,
 ) -> Result<Content, AllocError>
-    ensures { IfOk result (λ content. content ≡ form.content_of_directive document first directive body.now) }
+    ensures { IfOk result (λ content. content ≡ form.content_of_directive document first directive lines.now ended) }
 {
     match directive {
-        Directive::Register { name } => register(alloc, first, name, body),
+        Directive::Register { name } => register(alloc, first, name, lines, ended),
         Directive::Cancel { name } => Ok(Content::Event(Event::Cancel { name })),
-        Directive::Item { stream, time } => item(alloc, document, first, stream, time, body),
+        Directive::Item { stream, time } => {
+            item(alloc, document, first, stream, time, lines, ended)
+        }
         Directive::Tick { time } => Ok(Content::Event(Event::Tick { time })),
-        Directive::Insert => insert(alloc, document, first, body),
-        Directive::Delete => delete(alloc, document, first, body),
+        Directive::Insert => insert(alloc, document, first, lines, ended),
+        Directive::Delete => delete(alloc, document, first, lines, ended),
     }
 }
 
@@ -59,14 +62,14 @@ fn register(
     alloc: Global,
     first: u64,
     name: Text,
-    body: &[Listed<u8>],
+    lines: &[Listed<u8>],
+    ended: bool,
 ) -> Result<Content, AllocError>
-    ensures { IfOk result (λ content. content ≡ form.content_of_body first body.now form.is_bad_text
+    ensures { IfOk result (λ content. content ≡ form.content_of_body first lines.now ended form.is_bad_text
         (λ lines. event.Register name (flat_map form.with_line_feed lines))) }
 {
-    let (lines, has_end) = before_end(body);
     match text_of(alloc, lines)? {
-        Ok(text) => ended(first, body, has_end, Event::Register { name, text }),
+        Ok(text) => ending(first, lines, ended, Event::Register { name, text }),
         Err(place) => bad_line(first, place),
     }
 }
@@ -77,17 +80,17 @@ fn item(
     first: u64,
     stream: Text,
     time: u64,
-    body: &[Listed<u8>],
+    lines: &[Listed<u8>],
+    ended: bool,
 ) -> Result<Content, AllocError>
-    ensures { IfOk result (λ content. content ≡ form.content_of_body first body.now (form.is_bad_triple document)
+    ensures { IfOk result (λ content. content ≡ form.content_of_body first lines.now ended (form.is_bad_triple document)
         (λ lines. event.Item stream time (flat_map (form.triple_on document) lines))) }
 {
-    let (lines, has_end) = before_end(body);
     match graph_of(alloc, document, lines)? {
-        Ok(graph) => ended(
+        Ok(graph) => ending(
             first,
-            body,
-            has_end,
+            lines,
+            ended,
             Event::Item {
                 stream,
                 time,
@@ -102,14 +105,14 @@ fn insert(
     alloc: Global,
     document: u32,
     first: u64,
-    body: &[Listed<u8>],
+    lines: &[Listed<u8>],
+    ended: bool,
 ) -> Result<Content, AllocError>
-    ensures { IfOk result (λ content. content ≡ form.content_of_body first body.now (form.is_bad_quad document)
+    ensures { IfOk result (λ content. content ≡ form.content_of_body first lines.now ended (form.is_bad_quad document)
         (λ lines. event.Insert (flat_map (form.quad_on document) lines))) }
 {
-    let (lines, has_end) = before_end(body);
     match quads_of(alloc, document, lines)? {
-        Ok(quads) => ended(first, body, has_end, Event::Insert { quads }),
+        Ok(quads) => ending(first, lines, ended, Event::Insert { quads }),
         Err(place) => bad_line(first, place),
     }
 }
@@ -118,32 +121,32 @@ fn delete(
     alloc: Global,
     document: u32,
     first: u64,
-    body: &[Listed<u8>],
+    lines: &[Listed<u8>],
+    ended: bool,
 ) -> Result<Content, AllocError>
-    ensures { IfOk result (λ content. content ≡ form.content_of_body first body.now (form.is_bad_quad document)
+    ensures { IfOk result (λ content. content ≡ form.content_of_body first lines.now ended (form.is_bad_quad document)
         (λ lines. event.Delete (flat_map (form.quad_on document) lines))) }
 {
-    let (lines, has_end) = before_end(body);
     match quads_of(alloc, document, lines)? {
-        Ok(quads) => ended(first, body, has_end, Event::Delete { quads }),
+        Ok(quads) => ending(first, lines, ended, Event::Delete { quads }),
         Err(place) => bad_line(first, place),
     }
 }
 
 // the event of a body without a bad line, where the body has its `@end`
-fn ended(
+fn ending(
     first: u64,
-    body: &[Listed<u8>],
-    has_end: bool,
+    lines: &[Listed<u8>],
+    ended: bool,
     event: Event,
 ) -> Result<Content, AllocError>
-    ensures { IfOk result (λ made. made ≡ (if has_end
-        then content.Event event else content.Fault (BadBody (first + 1 + length body.now)))) }
+    ensures { IfOk result (λ made. made ≡ (if ended
+        then content.Event event else content.Fault (BadBody (first + 1 + length lines.now)))) }
 {
-    if has_end {
+    if ended {
         return Ok(Content::Event(event));
     }
-    bad_line(first, body.len())
+    bad_line(first, lines.len())
 }
 
 // the fault of the line at this place of a body
