@@ -4,7 +4,7 @@ pub mod Grouping
 pub mod DirectiveLaws
 pub mod Times
 pub mod Reading
-pub mod Bodies
+pub mod GrownBlocks
 pub mod Taking
 pub mod Parted
 pub mod Going

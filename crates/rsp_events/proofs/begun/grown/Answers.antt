@@ -1,6 +1,6 @@
 use Rattle.std.proofs.Common.{◌+◌, ◌∷◌, [], ◌++◌, ◌∙◌}
 use Rattle.std.specs.Prelude.{if◌then◌else◌}
-use Rattle.rsp_events.proofs.Bodies.{block_by, grown_within}
+use Rattle.rsp_events.proofs.GrownBlocks.{block_by, grown_within}
 use Rattle.rsp_events.proofs.begun.grown.Goals as goal
 
 pub returns-in_ok-texts-in-Within : goal.returns-in_ok-texts-in-Within
