@@ -24,7 +24,7 @@ module _ {A : Type 0} (p : A → Bool) where
   before-more : (xs : List A) (x : A)
       → before_first p (xs ++ x ∷ []) ≡ (if list_any p xs || p x then before_first p xs else before_first p xs ++ x ∷ [])
   before-more [] x =
-      elim (p x) as (λ v. take (if not v then 1 else 0) (x ∷ []) ≡ (if v then [] else x ∷ [])) [ | true ↦ refl | false ↦ refl ]
+      elim (p x) as (λ v. take (if not v then 1 else 0) (x ∷ []) ≡ (if v then [] else x ∷ [])) [ true ↦ refl | false ↦ refl ]
   before-more (y ∷ xs) x =
       elim (p y) as (λ v. take (if not v then 1 + position_or_len p (xs ++ x ∷ []) else 0) (y ∷ xs ++ x ∷ [])
       ≡ (if (v || list_any p xs) || p x then take (if not v then 1 + position_or_len p xs else 0) (y ∷ xs)
@@ -41,7 +41,7 @@ module _ {A : Type 0} (p : A → Bool) where
       shorter = ap (λ n. take n (y ∷ xs)) (sym (one-more (position_or_len p xs)))
 
   any-more : (xs : List A) (x : A) → list_any p (xs ++ x ∷ []) ≡ (list_any p xs || p x)
-  any-more [] x = elim (p x) as (λ v. (v || false) ≡ v) [ | true ↦ refl | false ↦ refl ]
+  any-more [] x = elim (p x) as (λ v. (v || false) ≡ v) [ true ↦ refl | false ↦ refl ]
   any-more (y ∷ xs) x =
       elim (p y) as (λ v. (v || list_any p (xs ++ x ∷ [])) ≡ ((v || list_any p xs) || p x)) [
         | true ↦ refl
@@ -95,7 +95,7 @@ grown-lines (head ∷ body) l first texts ended before is = by (nat_lt most_bloc
     by true h = absurd (within-is _ first texts ended before (rw h at is))
     by false h =
         let parts : AreParts head.number first (text_of head ∷ before_first is_end (map text_of body)) texts
-            (list_any is_end (map text_of body)) ended (sizes_of (head ∷ body)) before
+        (list_any is_end (map text_of body)) ended (sizes_of (head ∷ body)) before
         = within-is _ first texts ended before (rw h at is) in
         (λ i. block_by (sym parts.first_is i)
         (if sym parts.ended_is i || ends_body l then sym parts.texts_is i else sym parts.texts_is i ++ text_of l ∷ [])
