@@ -290,5 +290,12 @@ more_mapped {X} f xs i x new within is made =
     by (y ∷ ys) zero within is = ap (λ z. z ∷ ys) (made ∙ ap f is)
     by (y ∷ ys) (suc i) within is = ap (λ zs. f y ∷ zs) (by ys i (omega (arith, within)) is)
 
+-- what stands there is one, by whatever default it is read
+pub same_mapped : {X : Type 0} (f : X → X) (xs : List X) (i : ℕ) (x y : X) → i < length xs
+    → x ≡ get_or (map f (take i xs) ++ drop i xs) i x → y ≡ get_or (map f (take i xs) ++ drop i xs) i y → x ≡ y
+same_mapped f [] i x y within one other = absurd (omega (arith, within))
+same_mapped f (z ∷ xs) zero x y within one other = one ∙ sym other
+same_mapped f (z ∷ xs) (suc i) x y within one other = same_mapped f xs i x y (omega (arith, within)) one other
+
 pub all_mapped : {X : Type 0} (f : X → X) (xs : List X) (i : ℕ) → length xs ≤ i → map f (take i xs) ++ drop i xs ≡ map f xs
 all_mapped f xs i end = (λ k. map f (take_all i xs end k) ++ drop_all i xs end k) ∙ append-nil (map f xs)

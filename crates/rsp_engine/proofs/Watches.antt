@@ -50,7 +50,7 @@ none_asked policy none =
     neither false b is = (refl, is)
 
 module _ (policy : Chosen) (t : ℕ) (no_change : policy.change ≡ false) (no_content : policy.nonempty ≡ false) where
-  some_closes : List Shape → Bool
+  abbrev some_closes : List Shape → Bool
   some_closes shapes = list_any (λ (w : Shape). closes_at w t) shapes
 
   by_shapes : (ws : List Watched) → list_any (λ (w : Watched). closes_at w.window t) ws ≡ some_closes (map (λ (w : Watched). w.window) ws)
