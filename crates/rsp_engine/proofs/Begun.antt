@@ -62,10 +62,13 @@ begun_calm watched windows is = subst IsCalm (sym is) (all_unseen (λ (w : Watch
 -- and tells of the items, of which it may see none
 pub begun_tells : (items : List Accepted) (from : ℕ) (query : Registration) (watched : List Watched) → length items ≡ query.first
     → watched ≡ map (watched_window []) query.reading.windows → Tells items from query watched
-begun_tells items from query watched first is t late =
-    ap (map (seen_at t)) is
-    ∙ ap (λ seen. map (seen_at t) (map (watched_window seen) query.reading.windows))
-    (sym (drop_all query.first items (omega (arith, first))))
+begun_tells items from query watched first is = record {
+  windows = ap (map (λ (w : Watched). w.window)) is ∙ unseen_shapes query.reading.windows;
+  seen = λ asks t late.
+      ap (map (seen_at t)) is
+      ∙ ap (λ seen. map (seen_at t) (map (watched_window seen) query.reading.windows))
+      (sym (drop_all query.first items (omega (arith, first))));
+}
 
 -- the facts of an answer over none are a set
 pub none_set : (facts : List Fact) → facts ≡ [] → IsSet facts

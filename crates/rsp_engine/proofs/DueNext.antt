@@ -20,11 +20,12 @@ use Rattle.rsp_engine.specs.declared.live_query.LiveQuery.{LiveQuery}
 use Rattle.rsp_engine.specs.declared.readers.Readers.{Readers}
 use Rattle.rsp_engine.specs.Inside.{AreSought, IsSought, Parts, asked, parts_of, undated}
 use Rattle.rsp_engine.specs.Left.{IsFirstLeft}
-use Rattle.rsp_engine.specs.Readers.{AreRead, IsStill, places_from, reads}
+use Rattle.rsp_engine.specs.Readers.{AreRead, IsStill}
 use Rattle.rsp_engine.specs.Sought.{IsDueNext, IsSoonest, IsSoonestAt, first_number, look_behind}
 use Rattle.rsp_engine.specs.Watched.{IsCalmed, calmed}
 use Rattle.rsp_engine.specs.Watching.{Asked, IsWatching, is_due_by, is_due_over_by, name_of, reports_by}
 use Rattle.rsp_engine.proofs.Named.{All-remove, get_map, set_map, set_same}
+use Rattle.rsp_engine.proofs.ReadAlike.{fixed_parts, watchers_alike, windows_alike}
 use Rattle.rsp_engine.proofs.Soonest.{first_at_next, first_by_number, least_later, look_is}
 
 -- ---- a query that looks at items
@@ -99,7 +100,8 @@ module _ {A : Type 0} (olds news : List (LiveQuery A)) (same : map undated news 
 
   pub read_dated : (readers : Readers) → AreRead readers olds → AreRead readers news
   read_dated readers are = record {
-    places = λ s. are.places s ∙ ap (places_from (reads s) 0) (sym (same_by (λ (live : LiveQuery A). live.windows)));
+    watchers = watchers_alike readers readers olds news are (fixed_parts olds news parts_dated) (λ s. refl);
+    windows = windows_alike readers readers olds news are (fixed_parts olds news parts_dated) (λ s. refl);
     still = all_dated (IsStill readers.newest) are.still;
   }
 

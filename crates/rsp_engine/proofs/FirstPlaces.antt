@@ -1,11 +1,11 @@
 -- The first place at one instant.
-use Rattle.std.proofs.Common.{◌≡◌, ℕ, ◌≤◌, Bool, true, false, ◌&&◌, List, [], ◌∷◌, filter, drop, if◌then◌else◌, Option, None, Some, refl, sym, ap, subst, ◌∙◌, arith}
+use Rattle.std.proofs.Common.{◌≡◌, ℕ, ◌≤◌, Bool, true, false, ◌&&◌, ◌||◌, List, [], ◌∷◌, filter, drop, if◌then◌else◌, Option, None, Some, refl, sym, ap, subst, ◌∙◌, arith}
 use Rattle.std.proofs.lemmas.Bool.{le-ltb}
 use Rattle.rsp_report.specs.Due as windows
 use Rattle.rsp_engine.specs.declared.live_query.LiveQuery.{LiveQuery}
 use Rattle.rsp_engine.specs.Inside.{asked}
 use Rattle.rsp_engine.specs.Left.{IsFirstAt, IsFirstLeft}
-use Rattle.rsp_engine.specs.Readers.{is_reader}
+use Rattle.rsp_engine.specs.Readers.{is_watcher, reads}
 use Rattle.rsp_engine.specs.Watching.{is_due_by, is_due_over_by, reports_by}
 use Rattle.rsp_engine.proofs.Left.{quiet}
 
@@ -20,15 +20,24 @@ here name test queries last t i k within first = (
   quiet name test queries last t i k first.2,
 )
 
--- a query that doesn't read the stream isn't due on its items
-pub other_stream : {A : Type 0} (stream : List ℕ) (next : ℕ) (live : LiveQuery A) → is_reader stream live ≡ false
+-- a query that doesn't watch the stream isn't due on its items
+pub other_stream : {A : Type 0} (stream : List ℕ) (next : ℕ) (live : LiveQuery A) → is_watcher stream live ≡ false
     → is_due_over_by (asked live) stream next ≡ false
-other_stream stream next live none =
-    ap (λ b. live.policy.tuple && (b && windows.is_due_on_item live.policy live.watched.items next)) none ∙ never live.policy.tuple
+other_stream stream next live none = by live.policy.tuple refl
   where
+    on_item : Bool
+    on_item = windows.is_due_on_item live.policy live.watched.items next
+
     never : (b : Bool) → (b && false) ≡ false
     never true = refl
     never false = refl
+
+    by : (b : Bool) → live.policy.tuple ≡ b → (live.policy.tuple && (reads stream live.windows && on_item)) ≡ false
+    by false not_tuple = ap (λ b. b && (reads stream live.windows && on_item)) not_tuple
+    by true tuple =
+        let unread : reads stream live.windows ≡ false =
+        sym (ap (λ b. (b || (live.policy.change || live.policy.nonempty)) && reads stream live.windows) tuple) ∙ none in
+        ap (λ b. live.policy.tuple && (b && on_item)) unread ∙ never live.policy.tuple
 
 -- at `next` itself by the newest item
 module _ {A : Type 0} (next : ℕ) where

@@ -34,6 +34,9 @@ pub mod DueNext
 pub mod FirstReader
 mod WorldRows
 pub mod PlacesRead
+pub mod PlacedWindows
+pub mod ReadAlike
+pub mod Calmed
 pub mod Calming
 pub mod ReaderLists
 pub mod EndsRead

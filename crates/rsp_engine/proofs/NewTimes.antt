@@ -91,8 +91,12 @@ module _ (stream : List ℕ) (time from t : ℕ) (late : from ≤ t) (items : Li
 -- what told of the items tells of the new one too
 pub tells_more : (stream : List ℕ) (time from : ℕ) (items : List Accepted) (item : Accepted) (query : Registration) (olds news : List Watched)
     → item.stream ≡ stream → item.time ≡ time → query.first ≤ length items
+    → map (λ (w : Watched). w.window) news ≡ map (λ (w : Watched). w.window) olds
     → AreWatchedWith stream time from query.reading.windows olds news
     → Tells items from query olds → Tells (items ++ item ∷ []) from query news
-tells_more stream time from items item query olds news over at first are told t late =
-    told_each stream time from t late (visible_items items query.first) item over at query.reading.windows olds news are (told t late)
-    ∙ ap (λ seen. map (seen_at t) (map (watched_window seen) query.reading.windows)) (sym (drop-append-le query.first items (item ∷ []) first))
+tells_more stream time from items item query olds news over at first shapes are told = record {
+  windows = shapes ∙ told.windows;
+  seen = λ asks t late.
+      told_each stream time from t late (visible_items items query.first) item over at query.reading.windows olds news are (told.seen asks t late)
+      ∙ ap (λ seen. map (seen_at t) (map (watched_window seen) query.reading.windows)) (sym (drop-append-le query.first items (item ∷ []) first));
+}

@@ -10,10 +10,10 @@ use Rattle.rsp_engine.specs.Watched.{AreChanged}
 abbrev pub among : List ℕ → ℕ → Bool
 among places k = list_any (λ p. nat_eq p k) places
 
-differs : (a b : ℕ) → a < b → nat_eq a b ≡ false
+pub differs : (a b : ℕ) → a < b → nat_eq a b ≡ false
 differs a b less = grind (arith, nat_tests, less)
 
-differs_back : (a b : ℕ) → b < a → nat_eq a b ≡ false
+pub differs_back : (a b : ℕ) → b < a → nat_eq a b ≡ false
 differs_back a b less = grind (arith, nat_tests, less)
 
 is_less : (a b : ℕ) → a < b → nat_lt a b ≡ true
@@ -22,7 +22,14 @@ is_less a b less = grind (arith, nat_tests, less)
 not_less : (a b : ℕ) → b ≤ a → nat_lt a b ≡ false
 not_less a b less = grind (arith, nat_tests, less)
 
-same_nat : (a b : ℕ) → a ≡ b → nat_eq a b ≡ true
+pub lowered_above : (place e : ℕ) → place ≤ e → lowered place (suc e) ≡ e
+lowered_above place e less =
+    let last : suc e - 1 ≡ e = omega arith in ap (λ b. if b then suc e - 1 else suc e) (is_less place (suc e) (omega (arith, less))) ∙ last
+
+pub lowered_below : (place e : ℕ) → e ≤ place → lowered place e ≡ e
+lowered_below place e less = ap (λ b. if b then e - 1 else e) (not_less place e less)
+
+pub same_nat : (a b : ℕ) → a ≡ b → nat_eq a b ≡ true
 same_nat a b same = grind (arith, nat_tests, same)
 
 or_false : (a b : Bool) → a ≡ false → b ≡ false → (a || b) ≡ false
@@ -137,13 +144,6 @@ module _ {X : Type 0} (test : X → Bool) where
   gone : (place e : ℕ) (es : List ℕ) → nat_eq e place ≡ true → without place (e ∷ es) ≡ without place es
   gone place e es same =
       ap (λ b. map (lowered place) (cond (not b) (e ∷ filter (λ o. not (nat_eq o place)) es) (filter (λ o. not (nat_eq o place)) es))) same
-
-  lowered_above : (place e : ℕ) → place ≤ e → lowered place (suc e) ≡ e
-  lowered_above place e less =
-      let last : suc e - 1 ≡ e = omega arith in ap (λ b. if b then suc e - 1 else suc e) (is_less place (suc e) (omega (arith, less))) ∙ last
-
-  lowered_below : (place e : ℕ) → e ≤ place → lowered place e ≡ e
-  lowered_below place e less = ap (λ b. if b then e - 1 else e) (not_less place e less)
 
   shifted : (place n : ℕ) (xs : List X) → place ≤ n → without place (places (suc n) xs) ≡ places n xs
   shifted place n [] less = refl
@@ -289,6 +289,13 @@ more_mapped {X} f xs i x new within is made =
     by [] i within is = absurd (omega (arith, within))
     by (y ∷ ys) zero within is = ap (λ z. z ∷ ys) (made ∙ ap f is)
     by (y ∷ ys) (suc i) within is = ap (λ zs. f y ∷ zs) (by ys i (omega (arith, within)) is)
+
+-- what stands there is one, by whatever default it is read
+pub same_mapped : {X : Type 0} (f : X → X) (xs : List X) (i : ℕ) (x y : X) → i < length xs
+    → x ≡ get_or (map f (take i xs) ++ drop i xs) i x → y ≡ get_or (map f (take i xs) ++ drop i xs) i y → x ≡ y
+same_mapped f [] i x y within one other = absurd (omega (arith, within))
+same_mapped f (z ∷ xs) zero x y within one other = one ∙ sym other
+same_mapped f (z ∷ xs) (suc i) x y within one other = same_mapped f xs i x y (omega (arith, within)) one other
 
 pub all_mapped : {X : Type 0} (f : X → X) (xs : List X) (i : ℕ) → length xs ≤ i → map f (take i xs) ++ drop i xs ≡ map f xs
 all_mapped f xs i end = (λ k. map f (take_all i xs end k) ++ drop_all i xs end k) ∙ append-nil (map f xs)

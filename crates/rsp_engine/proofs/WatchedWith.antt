@@ -1,5 +1,5 @@
 -- A query's windows, one after another, as they are watched with a new item.
-use Rattle.std.proofs.Common.{◌≡◌, ℕ, zero, suc, ◌+◌, ◌<◌, ◌≤◌, List, [], ◌∷◌, ◌++◌, Bool, false, Some, length, map, set, get_or, refl, sym, ap, subst, ◌∙◌, arith, add-one}
+use Rattle.std.proofs.Common.{◌≡◌, ℕ, zero, suc, ◌+◌, ◌<◌, ◌≤◌, List, [], ◌∷◌, ◌++◌, Bool, true, false, Some, length, map, set, get_or, refl, sym, ap, subst, ◌∙◌, arith, add-one}
 use Rattle.std.specs.Prelude.{bytes_eq, slice_get}
 use Rattle.std.specs.List.{All}
 use Rattle.std.specs.Option.{option_map_or}
@@ -12,8 +12,10 @@ use Rattle.rsp_engine.specs.declared.live_query.LiveQuery.{LiveQuery}
 use Rattle.rsp_engine.specs.declared.live_query.StreamWindow.{StreamWindow}
 use Rattle.rsp_scope.specs.Contents.{Accepted}
 use Rattle.rsp_engine.specs.Inside.{IsSought, Parts, asked, fixed, parts_of}
-use Rattle.rsp_engine.specs.Watching.{IsPolicy, IsPrompt, IsTimed, IsWatching, Tells, with_time}
-use Rattle.rsp_engine.specs.Watched.{AreWatchedWith, IsMoved, IsWatchedWith}
+use Rattle.rsp_engine.specs.Watching.{IsPolicy, IsPrompt, IsTimed, IsWatching, Tells, asks_contents, with_time}
+use Rattle.rsp_engine.specs.Watched.{AreWatchedWith, IsCalmed, IsMoved, IsWatchedWith}
+use Rattle.rsp_engine.proofs.Calmed.{calmed_prompt, calmed_tells}
+use Rattle.rsp_engine.proofs.DueNext.{calmed_sought}
 use Rattle.rsp_engine.proofs.NewTimes.{tells_more}
 
 -- lists that are read alike, place by place
@@ -151,22 +153,38 @@ module _ (stream : List ℕ) (time from : ℕ) where
         → Tells items from (fixed old) old.watched.items → Tells (items ++ item ∷ []) from (fixed new) new.watched.items
     moved_tells items item over at first told =
         subst (λ (p : Parts A). Tells (items ++ item ∷ []) from p.query new.watched.items) (sym moved.parts)
-        (tells_more stream time from items item (fixed old) old.watched.items new.watched.items over at first moved.watched told)
+        (tells_more stream time from items item (fixed old) old.watched.items new.watched.items over at first
+        (same_shapes old.windows old.watched.items new.watched.items moved.watched) moved.watched told)
 
   -- ---- the live queries, one after another
 
   module _ {A : Type 0} (olds news : List (LiveQuery A)) where
-    -- each watches the item
+    -- each one that asks for contents watches the item, and the others have nothing fresh
     pub record AreMoved : Type 0 where
       pub long : length news ≡ length olds
-      pub each : (k : ℕ) (d : LiveQuery A) → k < length olds → IsMoved stream time from (get_or olds k d) (get_or news k d)
+      pub asking : (k : ℕ) (d : LiveQuery A) → k < length olds → asks_contents (get_or olds k d).policy ≡ true
+          → IsMoved stream time from (get_or olds k d) (get_or news k d)
+      pub others : (k : ℕ) (d : LiveQuery A) → k < length olds → asks_contents (get_or olds k d).policy ≡ false
+          → IsCalmed (get_or olds k d) (get_or news k d)
 
     module _ (are : AreMoved) where
-      pub all_prompt : All (λ (live : LiveQuery A). IsWatching from (asked live)) olds
+      -- what holds in either case
+      each : (R : LiveQuery A → LiveQuery A → Type 0) → ((old new : LiveQuery A) → IsMoved stream time from old new → R old new)
+          → ((old new : LiveQuery A) → asks_contents old.policy ≡ false → IsCalmed old new → R old new)
+          → (k : ℕ) (d : LiveQuery A) → k < length olds → R (get_or olds k d) (get_or news k d)
+      each R moved calm k d within = by (asks_contents (get_or olds k d).policy) refl
+        where
+          by : (b : Bool) → asks_contents (get_or olds k d).policy ≡ b → R (get_or olds k d) (get_or news k d)
+          by true asks = moved (get_or olds k d) (get_or news k d) (are.asking k d within asks)
+          by false none = calm (get_or olds k d) (get_or news k d) none (are.others k d within none)
+
+      pub all_prompt : from ≤ time → All (λ (live : LiveQuery A). IsWatching from (asked live)) olds
           → All (λ (live : LiveQuery A). IsPrompt time (Some stream) (asked live)) news
-      all_prompt is k d within =
+      all_prompt low is k d within =
           let inside : k < length olds = omega (arith, are.long, within) in
-          moved_prompt (get_or olds k d) (get_or news k d) (are.each k d inside) (is k d inside)
+          each (λ old new. IsWatching from (asked old) → IsPrompt time (Some stream) (asked new))
+          (λ old new moved. moved_prompt old new moved)
+          (λ old new none calm. calmed_prompt old new calm from time (Some stream) low) k d inside (is k d inside)
 
       pub all_tell : (items : List Accepted) (item : Accepted) → item.stream ≡ stream → item.time ≡ time
           → All (λ (live : LiveQuery A). live.first ≤ length items) olds
@@ -174,13 +192,20 @@ module _ (stream : List ℕ) (time from : ℕ) where
           → All (λ (live : LiveQuery A). Tells (items ++ item ∷ []) from (fixed live) live.watched.items) news
       all_tell items item over at firsts told k d within =
           let inside : k < length olds = omega (arith, are.long, within) in
-          moved_tells (get_or olds k d) (get_or news k d) (are.each k d inside) items item over at (firsts k d inside) (told k d inside)
+          each (λ old new. old.first ≤ length items → Tells items from (fixed old) old.watched.items
+          → Tells (items ++ item ∷ []) from (fixed new) new.watched.items)
+          (λ old new moved. moved_tells old new moved items item over at)
+          (λ old new none calm first. calmed_tells old new calm items (items ++ item ∷ []) from none) k d inside (firsts k d inside) (told k d inside)
 
-      pub all_due : All (λ (live : LiveQuery A). IsSought from live) news
-      all_due k d within = let inside : k < length olds = omega (arith, are.long, within) in (are.each k d inside).sought
+      pub all_due : All (λ (live : LiveQuery A). IsSought from live) olds → All (λ (live : LiveQuery A). IsSought from live) news
+      all_due sought k d within =
+          let inside : k < length olds = omega (arith, are.long, within) in
+          each (λ old new. IsSought from old → IsSought from new) (λ old new moved was. moved.sought)
+          (λ old new none calm. calmed_sought from old new calm) k d inside (sought k d inside)
 
       pub all_parts : map parts_of news ≡ map parts_of olds
-      all_parts = same_by parts_of olds news are.long (λ k d within. (are.each k d within).parts)
+      all_parts = same_by parts_of olds news are.long
+          (λ k d within. each (λ old new. parts_of new ≡ parts_of old) (λ old new moved. moved.parts) (λ old new none calm. calm.parts) k d within)
 
   -- as many windows as are watched
   pub none_so_far : (windows : List StreamWindow) (watched : List Watched)

@@ -1,10 +1,11 @@
 -- What a live query watches tells when it reports, as the accepted items do.
-use Rattle.std.proofs.Common.{◌≡◌, ℕ, ◌≤◌, false, nat_lt, if◌then◌else◌, ◌&&◌, not, bytes_eq, List, map, Option, sym, ap, subst, ◌∙◌, arith}
+use Rattle.std.proofs.Common.{◌≡◌, ℕ, ◌≤◌, ◌%◌, ◌==◌, Bool, true, false, true≢false, nat_lt, if◌then◌else◌, ◌&&◌, ◌||◌, not, bytes_eq, List, [], ◌∷◌, map, Option, refl, sym, ap, subst, ◌∙◌, arith}
 use Rattle.std.specs.List.{All, list_any}
 use Rattle.std.specs.Option.{option_map_or}
 use Rattle.std.proofs.lemmas.List.Elements.{All-weaker}
 use Rattle.std.proofs.lemmas.Simd.{map-map}
 use Rattle.rsp_terms.specs.declared.statement.Fact.{Fact}
+use Rattle.rsp_spec.specs.Windows.{Shape, closes_at}
 use Rattle.rsp_report.specs.declared.chosen.Chosen.{Chosen}
 use Rattle.rsp_report.specs.declared.contents.Watched.{Watched}
 use Rattle.rsp_report.specs.Due.{IsWatched}
@@ -13,11 +14,11 @@ use Rattle.rsp_report.specs.Due as windows
 use Rattle.rsp_report.proofs.Unseen.{due_on_item_seen, due_seen}
 use Rattle.rsp_scope.specs.Contents.{Accepted}
 use Rattle.rsp_engine.specs.declared.schedule.Pending.{Pending}
-use Rattle.rsp_engine.specs.Due.{is_due, watched_of}
-use Rattle.rsp_engine.specs.Seeing.{is_due_over}
+use Rattle.rsp_engine.specs.Due.{is_due, watched_of, watched_window}
+use Rattle.rsp_engine.specs.Seeing.{is_due_over, visible_items}
 use Rattle.rsp_engine.specs.Left.{IsFirstLeft, left_from, name_in, reports_at}
 use Rattle.rsp_engine.specs.Stands.{Live, asked_of, registration_of}
-use Rattle.rsp_engine.specs.Watching.{IsTimed, Tells, is_due_by, is_due_over_by, name_of, reports_by}
+use Rattle.rsp_engine.specs.Watching.{IsTimed, Tells, asks_contents, is_due_by, is_due_over_by, name_of, reports_by}
 use Rattle.rsp_engine.specs.declared.live_query.LiveQuery.{LiveQuery}
 use Rattle.rsp_engine.specs.Inside.{asked, live_of}
 use Rattle.rsp_engine.proofs.Left.{read_first, read_left, same_first, same_left}
@@ -36,19 +37,72 @@ module _ (policy : Chosen) (one other : List Watched) (t : ℕ) (same : map (see
   due_on_item_alike =
       sym (due_on_item_seen policy one t) ∙ (ap (λ ws. windows.is_due_on_item policy ws t) same ∙ due_on_item_seen policy other t)
 
+-- ---- by the windows alone
+
+-- what a policy asks that asks for no contents
+none_asked : (policy : Chosen) → asks_contents policy ≡ false → (policy.tuple ≡ false) × ((policy.change ≡ false) × (policy.nonempty ≡ false))
+none_asked policy none =
+    let first = neither policy.tuple (policy.change || policy.nonempty) none in
+    (first.0, neither policy.change policy.nonempty first.1)
+  where
+    neither : (a b : Bool) → (a || b) ≡ false → (a ≡ false) × (b ≡ false)
+    neither true b is = absurd (true≢false is)
+    neither false b is = (refl, is)
+
+module _ (policy : Chosen) (t : ℕ) (no_change : policy.change ≡ false) (no_content : policy.nonempty ≡ false) where
+  abbrev some_closes : List Shape → Bool
+  some_closes shapes = list_any (λ (w : Shape). closes_at w t) shapes
+
+  by_shapes : (ws : List Watched) → list_any (λ (w : Watched). closes_at w.window t) ws ≡ some_closes (map (λ (w : Watched). w.window) ws)
+  by_shapes [] = refl
+  by_shapes (w ∷ ws) = ap (λ b. closes_at w.window t || b) (by_shapes ws)
+
+  due_by_shapes : (ws : List Watched) → windows.is_due policy ws t
+      ≡ ((not policy.close || some_closes (map (λ (w : Watched). w.window) ws)) && option_map_or (λ period. t % period == 0) policy.period true)
+  due_by_shapes ws = λ k.
+      (not policy.close || by_shapes ws k)
+      && ((not (no_change k) || list_any (windows.changes t) ws)
+      && ((not (no_content k) || list_any (windows.has_content t) ws)
+      && option_map_or (λ period. t % period == 0) policy.period true))
+
+  due_same : (one other : List Watched) → map (λ (w : Watched). w.window) one ≡ map (λ (w : Watched). w.window) other
+      → windows.is_due policy one t ≡ windows.is_due policy other t
+  due_same one other same =
+      due_by_shapes one
+      ∙ (ap (λ shapes. (not policy.close || some_closes shapes) && option_map_or (λ period. t % period == 0) policy.period true) same
+      ∙ sym (due_by_shapes other))
+
 -- ---- one query
 
 module _ (items : List Accepted) (from next : ℕ) (arrived : Option (List ℕ)) where
   -- it reports by what it watches as by the items
   pub reports_same : (live : Live) → Tells items from (registration_of live) live.watched → (t : ℕ) → from ≤ t → t ≤ next
       → reports_by next arrived t (asked_of live) ≡ reports_at items next arrived t (registration_of live)
-  reports_same live told t late early =
-      let due : is_due_by (asked_of live) t ≡ is_due items (registration_of live) t =
-      ap (λ b. not live.policy.tuple && b) (due_alike live.policy live.watched (watched_of items (registration_of live)) t (told t late)) in
-      let over : (stream : List ℕ) → is_due_over_by (asked_of live) stream next ≡ is_due_over items (registration_of live) stream next =
-      λ stream. ap (λ b. live.policy.tuple && (list_any (λ w. bytes_eq stream w.stream) live.windows && b))
-      (due_on_item_alike live.policy live.watched (watched_of items (registration_of live)) next (told next (omega (arith, late, early)))) in
-      (λ k. if nat_lt t next then due k else option_map_or (λ stream. over stream k) arrived false)
+  reports_same live told t late early = by (asks_contents live.policy) refl
+    where
+      seen : List Watched
+      seen = watched_of items (registration_of live)
+
+      by : (b : Bool) → asks_contents live.policy ≡ b
+          → reports_by next arrived t (asked_of live) ≡ reports_at items next arrived t (registration_of live)
+      by true asks =
+          let due : is_due_by (asked_of live) t ≡ is_due items (registration_of live) t =
+          ap (λ b. not live.policy.tuple && b) (due_alike live.policy live.watched seen t (told.seen asks t late)) in
+          let over : (stream : List ℕ) → is_due_over_by (asked_of live) stream next ≡ is_due_over items (registration_of live) stream next =
+          λ stream. ap (λ b. live.policy.tuple && (list_any (λ w. bytes_eq stream w.stream) live.windows && b))
+          (due_on_item_alike live.policy live.watched seen next (told.seen asks next (omega (arith, late, early)))) in
+          (λ k. if nat_lt t next then due k else option_map_or (λ stream. over stream k) arrived false)
+      by false none =
+          let asked = none_asked live.policy none in
+          let shapes : map (λ (w : Watched). w.window) live.watched ≡ map (λ (w : Watched). w.window) seen =
+          told.windows ∙ sym (map-map (λ (w : Watched). w.window) (watched_window (visible_items items live.first)) live.windows) in
+          let due : is_due_by (asked_of live) t ≡ is_due items (registration_of live) t =
+          ap (λ b. not live.policy.tuple && b) (due_same live.policy t asked.1.0 asked.1.1 live.watched seen shapes) in
+          let over : (stream : List ℕ) → is_due_over_by (asked_of live) stream next ≡ is_due_over items (registration_of live) stream next =
+          λ stream.
+          ap (λ b. b && (list_any (λ w. bytes_eq stream w.stream) live.windows && windows.is_due_on_item live.policy live.watched next)) asked.0
+          ∙ sym (ap (λ b. b && (list_any (λ w. bytes_eq stream w.stream) live.windows && windows.is_due_on_item live.policy seen next)) asked.0) in
+          (λ k. if nat_lt t next then due k else option_map_or (λ stream. over stream k) arrived false)
 
   -- ---- all queries
 

@@ -1,6 +1,6 @@
 -- Words of the way: what a live query watches: the times of the items over the streams of its windows, and when it reports by
 -- them.
-use Rattle.std.specs.Prelude.{◌≡◌, ℕ, ◌<◌, ◌≤◌, Bool, true, false, ◌&&◌, not, nat_lt, if◌then◌else◌, Option, None, List, [], ◌∷◌, ◌++◌, map, bytes_eq}
+use Rattle.std.specs.Prelude.{◌≡◌, ℕ, ◌<◌, ◌≤◌, Bool, true, false, ◌&&◌, ◌||◌, not, nat_lt, if◌then◌else◌, Option, None, List, [], ◌∷◌, ◌++◌, map, bytes_eq}
 use Rattle.std.specs.List.{All, list_any}
 use Rattle.std.specs.Option.{ForSome, is_some, option_map_or}
 use Rattle.rsp_scope.specs.Contents.{Accepted}
@@ -22,6 +22,11 @@ pub record Asked : Type 0 where
 
 abbrev pub name_of : Asked → List ℕ
 name_of asked = asked.name
+
+-- a policy asks for contents: it looks at items, at changes of contents, or at contents that aren't empty; by any other the
+-- windows alone decide when a query is due
+abbrev pub asks_contents : Chosen → Bool
+asks_contents policy = policy.tuple || (policy.change || policy.nonempty)
 
 -- a window with the time of a new item, where that is over its stream
 abbrev pub with_time : Bool → ℕ → Watched → Watched
@@ -72,8 +77,9 @@ pub record IsPrompt (next : ℕ) (arrived : Option (List ℕ)) (asked : Asked) :
   pub watching : IsWatching next asked
   pub fresh : is_some arrived ≡ true → All (IsFreshAt next) asked.watched
 
--- from an instant on, of the times that a query watches there stand in the contents at t and at the instant before those of
--- these items
-abbrev pub Tells : List Accepted → ℕ → Registration → List Watched → Type 0
-Tells items from query watched =
-    (t : ℕ) → from ≤ t → map (seen_at t) watched ≡ map (seen_at t) (watched_of items query)
+-- a query watches its windows, and where its policy asks for contents, of the times that it watches there stand from an instant
+-- on in the contents at t and at the instant before those of these items
+pub record Tells (items : List Accepted) (from : ℕ) (query : Registration) (watched : List Watched) : Type 0 where
+  pub windows : map (λ (w : Watched). w.window) watched ≡ map (λ (w : StreamWindow). w.shape) query.reading.windows
+  pub seen : asks_contents query.reading.policy ≡ true → (t : ℕ) → from ≤ t
+      → map (seen_at t) watched ≡ map (seen_at t) (watched_of items query)

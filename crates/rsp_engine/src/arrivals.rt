@@ -1,4 +1,5 @@
-// What a new item adds to what live queries watch: its time, to the windows over its stream.
+// What a new item adds to what live queries watch: its time, to the windows over its stream. A query whose policy asks for no
+// contents watches no times, so it isn't looked at.
 ghost use Rattle.std.specs.Prelude.{◌≡◌, ◌≤◌, ◌<◌, ◌++◌, ◌∷◌, ℕ, [], false, List, map, OnOk, Some, bytes_eq, length, slice_get};
 ghost use Rattle.std.specs.Prelude.{slice_index_or};
 ghost use Rattle.std.specs.List.{All};
@@ -10,7 +11,7 @@ ghost use Rattle.rsp_report.specs.Due.{IsFreshAt};
 ghost use Rattle.rsp_report.specs.Seen.{seen_at};
 ghost use Rattle.rsp_engine.specs.Inside.{IsSought, asked, fixed, parts_of};
 ghost use Rattle.rsp_engine.specs.Watching.{IsPrompt, IsTimed, IsWatching, Tells, with_time};
-ghost use Rattle.rsp_engine.specs.Readers.{AreRead, is_reader, places_from, readers_of};
+ghost use Rattle.rsp_engine.specs.Readers.{AreRead, is_watcher, places_from, watchers_of};
 ghost use Rattle.rsp_engine.specs.Watched.{AreChanged, AreWatchedWith, IsCalmed, IsMoved};
 ghost use Rattle.rsp_engine.specs.declared.live_query.LiveQuery.{LiveQuery};
 
@@ -22,9 +23,9 @@ use rsp_scope::forget_times;
 use rsp_terms::Text;
 use std::alloc::{AllocError, Global};
 
-/// Adds the time of an item to the windows over its stream, which are then fresh and no others, lets go of their times that are
-/// in no content from `from` - 1 ms on, and finds when their queries are due next, from `from` on. Fails only where memory is
-/// refused; some queries may then watch the item and others not.
+/// Adds the time of an item to the windows over its stream of the queries that ask for contents, which are then fresh and no
+/// others, lets go of their times that are in no content from `from` - 1 ms on, and finds when these queries are due next, from
+/// `from` on. Fails only where memory is refused; some queries may then watch the item and others not.
 pub(crate) fn watch<A>(
     alloc: Global,
     queries: &mut [LiveQuery<A>],
@@ -64,17 +65,17 @@ fn calm<A>(queries: &mut [LiveQuery<A>], readers: &Readers)
         → IsCalmed (slice_index_or queries.old k d) (slice_index_or queries.new k d) }
 {
     match readers.newest() {
-        Some(stream) => calm_readers(queries, readers, stream),
+        Some(stream) => calm_watchers(queries, readers, stream),
         None => {}
     }
 }
 
-// takes `fresh` back from the windows of the queries that read the stream
-fn calm_readers<A>(queries: &mut [LiveQuery<A>], readers: &Readers, stream: &Text)
-    requires { readers_of readers.now stream.now ≡ places_from (is_reader stream.now) 0 queries.old }
-    ensures { AreChanged (is_reader stream.now) IsCalmed queries.old queries.new }
+// takes `fresh` back from the windows of the queries that watch the stream
+fn calm_watchers<A>(queries: &mut [LiveQuery<A>], readers: &Readers, stream: &Text)
+    requires { watchers_of readers.now stream.now ≡ places_from (is_watcher stream.now) 0 queries.old }
+    ensures { AreChanged (is_watcher stream.now) IsCalmed queries.old queries.new }
 {
-    let places = readers.of(stream);
+    let places = readers.watchers(stream);
     for index in 0..places.len() {
         let place = places[index];
         calm_query(&mut queries[place]);
@@ -89,7 +90,7 @@ fn calm_query<A>(live: &mut LiveQuery<A>)
     }
 }
 
-// the queries that read the stream watch the item
+// the queries that watch the stream watch the item
 fn attend<A>(
     alloc: Global,
     queries: &mut [LiveQuery<A>],
@@ -99,12 +100,12 @@ fn attend<A>(
     from: u64,
 ) -> Result<(), AllocError>
     requires watching { All (λ live. IsWatching from (asked live)) queries.old }
-    requires read { readers_of readers.now stream.now ≡ places_from (is_reader stream.now) 0 queries.old }
+    requires read { watchers_of readers.now stream.now ≡ places_from (is_watcher stream.now) 0 queries.old }
     requires later { from ≤ time }
     requires instant { time ≤ last_instant }
-    ensures { OnOk result (AreChanged (is_reader stream.now) (IsMoved stream.now time from) queries.old queries.new) }
+    ensures { OnOk result (AreChanged (is_watcher stream.now) (IsMoved stream.now time from) queries.old queries.new) }
 {
-    let places = readers.of(stream);
+    let places = readers.watchers(stream);
     for index in 0..places.len() {
         let place = places[index];
         watch_query(alloc, &mut queries[place], stream, time, from)?;

@@ -37,7 +37,7 @@ pub struct Engine<A: Answer> {
     next: Option<u64>,
     // in order of registration
     queries: Vec<LiveQuery<A>>,
-    // which of them read which streams
+    // what an item of each stream concerns of them
     readers: Readers,
     // the items that some window still needs
     streams: Streams,
@@ -374,13 +374,7 @@ impl<A: Answer> Engine<A> {
           item = record { stream = stream.now; time = time; graph = graph };
         }) result }
     {
-        end_of(
-            self.queries.as_slice(),
-            &self.readers,
-            self.streams.accepted(),
-            stream,
-            time,
-        )
+        end_of(&self.readers, self.streams.accepted(), stream, time)
     }
 
     // how many triples would be kept with the next item, where that is more than can be; an item that no window needs adds none
@@ -569,7 +563,7 @@ fn add<A: Drop>(
     ensures queries { OnOk result (queries.new.items ≡ queries.old.items ++ query ∷ []) }
     ensures read { OnOk result (AreRead readers.new queries.new.items) }
 {
-    readers.add(alloc, query.windows.as_slice(), queries.len())?;
+    readers.add(alloc, &query, queries.len())?;
     queries.push(query)?;
     Ok(())
 }

@@ -1,6 +1,7 @@
 // Live queries.
 ghost use Rattle.std.specs.Prelude.{◌≡◌, bytes_eq};
 ghost use Rattle.std.specs.List.{list_any};
+ghost use Rattle.rsp_engine.specs.Watching.{asks_contents};
 
 use rsp_algebra::Translated;
 use rsp_query::Operator;
@@ -34,7 +35,7 @@ pub struct LiveQuery<A> {
     pub reported: bool,
     /// Its place in the log of the stored quads, as of its last report.
     pub place: u64,
-    /// Each window with the times of the items over its stream that the query may see.
+    /// Each window, and where the policy asks for contents the times of the items over its stream that the query may see.
     pub watched: Vec<Watched>,
     /// The least instant at which it is due, from where it is still to be looked at on, in ms since 1970. None where there is
     /// none, and where it looks at items.
@@ -66,4 +67,11 @@ pub(crate) fn is_over_some(windows: &[StreamWindow], stream: &Text) -> bool
         }
     }
     false
+}
+
+/// Whether a policy asks for contents: by any other its windows alone decide when a query is due, whatever items come.
+pub(crate) fn asks_contents(policy: &Chosen) -> bool
+    ensures { result ≡ asks_contents policy.now }
+{
+    policy.tuple || policy.change || policy.nonempty
 }

@@ -9,8 +9,7 @@ ghost use Rattle.rsp_scope.specs.Kept.{taken};
 ghost use Rattle.rsp_scope.specs.Needed.{is_needed};
 ghost use Rattle.rsp_scope.specs.declared.item.Item.{Item};
 ghost use Rattle.rsp_engine.specs.Inside.{IsSought, asked, fixed, parts_of};
-ghost use Rattle.rsp_engine.specs.Contents.{watches};
-ghost use Rattle.rsp_engine.specs.Readers.{AreRead};
+ghost use Rattle.rsp_engine.specs.Readers.{AreRead, IsEndBy, windows_of};
 ghost use Rattle.rsp_engine.specs.Keeping.{EndsBy, IsLess, accepted_of, excess, watches_by, watches_followed};
 ghost use Rattle.rsp_engine.specs.Passing.{is_overfull_outcome};
 ghost use Rattle.rsp_engine.specs.Watching.{IsPrompt, IsWatching, Tells};
@@ -18,35 +17,35 @@ ghost use Rattle.rsp_engine.specs.Watching.{IsPrompt, IsWatching, Tells};
 use crate::Outcome;
 use crate::arrivals::watch;
 use crate::live_query::LiveQuery;
-use crate::readers::Readers;
+use crate::readers::{PlacedWindow, Readers};
 use rsp_scope::{Contents, Streams, later};
 use rsp_spec::limits::MOST_HELD;
 use rsp_terms::{Listed, Text, Triple};
 use std::alloc::{AllocError, Global};
 
-/// Until when the item of this number is needed, in ms since 1970: the greatest closing among the windows of the queries
-/// that contain it; None where none does. Asks the readers of its stream alone. Takes no memory.
-pub(crate) fn end_of<A>(
-    queries: &[LiveQuery<A>],
-    readers: &Readers,
-    number: u64,
-    stream: &Text,
-    time: u64,
-) -> Option<u64>
-    requires time { time ≤ 2 ^ 48 }
-    requires read { AreRead readers.now queries.now }
-    requires watches { All (λ live. watches_followed live.contents.items ≡ watches live.first live.windows) queries.now }
-    ensures { (graph : List Triple) → EndsAt (watches_by queries.now)
-        (record { number = number; item = record { stream = stream.now; time = time; graph = graph } }) result }
+/// Until when the item of this number is needed, in ms since 1970: the greatest closing among the windows over its stream that
+/// contain it; None where none does. Looks at no query. Takes no memory.
+pub(crate) fn end_of(readers: &Readers, number: u64, stream: &Text, time: u64) -> Option<u64>
+    requires { time ≤ 2 ^ 48 }
+    ensures { IsEndBy (windows_of readers.now stream.now) number time result }
 {
-    let places = readers.of(stream);
+    let windows = readers.windows(stream);
     let mut end = None;
-    for index in 0..places.len() {
-        let place = places[index];
-        let live = &queries[place];
-        end = later(end, end_by(live.contents.as_slice(), number, stream, time));
+    for window in windows {
+        end = later(end, end_within_window(window, number, time));
     }
     end
+}
+
+// the same, by one window
+fn end_within_window(window: &PlacedWindow, number: u64, time: u64) -> Option<u64>
+    requires { time ≤ 2 ^ 48 }
+    ensures { IsEndBy (window.now ∷ []) number time result }
+{
+    if number < window.first {
+        return None;
+    }
+    window.shape.last_needed(time)
 }
 
 // the same, by the windows of one query

@@ -7,7 +7,7 @@ ghost use Rattle.rsp_spec.specs.Limits.{last_instant};
 ghost use Rattle.rsp_report.specs.Due.{IsWatched, is_due};
 ghost use Rattle.rsp_engine.specs.Inside.{AreSought, IsSought, asked, undated};
 ghost use Rattle.rsp_engine.specs.Left.{IsFirstAt, IsFirstLeft};
-ghost use Rattle.rsp_engine.specs.Readers.{AreRead, is_reader, places_from, readers_of};
+ghost use Rattle.rsp_engine.specs.Readers.{AreRead, is_watcher, places_from, reads, watchers_of};
 ghost use Rattle.rsp_engine.specs.Sought.{IsSoonest, first_number, sooner};
 ghost use Rattle.rsp_engine.specs.Watching.{IsPolicy, IsPrompt, IsWatching, is_due_over_by, name_of, reports_by};
 
@@ -127,7 +127,7 @@ fn first_reporting<A>(
     }
 }
 
-// the first query from a number on that is due on the newest item, which came over this stream at `next`: one of its readers
+// the first query from a number on that is due on the newest item, which came over this stream at `next`: one that watches it
 fn first_over<A>(
     queries: &[LiveQuery<A>],
     readers: &Readers,
@@ -137,10 +137,10 @@ fn first_over<A>(
 ) -> Option<usize>
     requires prompt { All (λ live. IsPrompt next (Some stream.now) (asked live)) queries.now }
     requires next { next ≤ last_instant + 1 }
-    requires read { readers_of readers.now stream.now ≡ places_from (is_reader stream.now) 0 queries.now }
+    requires read { watchers_of readers.now stream.now ≡ places_from (is_watcher stream.now) 0 queries.now }
     ensures { IsFirstAt (λ live. is_due_over_by (asked live) stream.now next) queries.now number result }
 {
-    let places = readers.of(stream);
+    let places = readers.watchers(stream);
     for index in 0..places.len() {
         let place = places[index];
         if is_left_over(&queries[place], number <= place, stream, next) {
@@ -154,7 +154,7 @@ fn first_over<A>(
 fn is_left_over<A>(live: &LiveQuery<A>, left: bool, stream: &Text, next: u64) -> bool
     requires prompt { IsPrompt next (Some stream.now) (asked live.now) }
     requires next { next ≤ last_instant + 1 }
-    requires reads { is_reader stream.now live.now ≡ true }
+    requires reads { reads stream.now live.now.windows ≡ true }
     ensures { result ≡ (left && is_due_over_by (asked live.now) stream.now next) }
 {
     if left {
@@ -167,7 +167,7 @@ fn is_left_over<A>(live: &LiveQuery<A>, left: bool, stream: &Text, next: u64) ->
 fn is_due_over<A>(live: &LiveQuery<A>, stream: &Text, next: u64) -> bool
     requires prompt { IsPrompt next (Some stream.now) (asked live.now) }
     requires next { next ≤ last_instant + 1 }
-    requires reads { is_reader stream.now live.now ≡ true }
+    requires reads { reads stream.now live.now.windows ≡ true }
     ensures { result ≡ is_due_over_by (asked live.now) stream.now next }
 {
     if !live.policy.tuple {

@@ -2,19 +2,20 @@ use Rattle.std.proofs.Common.{◌≡◌, ◌∙◌, None, Some, ap, get_or, refl
 use Rattle.std.specs.List.{All}
 use Rattle.std.specs.Option.{option_copied}
 use Rattle.rsp_engine.specs.Readers.{IsStill}
-use Rattle.rsp_engine.proofs.Calming.{calm_all, calm_is, places_by}
+use Rattle.rsp_engine.proofs.Calmed.{calm_is}
+use Rattle.rsp_engine.proofs.Calming.{calm_all}
 use Rattle.rsp_engine.proofs.arrivals.calm.Goals as goal
 
-pub calm_readers-requires : goal.calm_readers-requires
-calm_readers-requires g c = places_by c.in-Some.stream.now c.args.readers.now c.args.queries.now c.requires
+pub calm_watchers-requires : goal.calm_watchers-requires
+calm_watchers-requires g c = c.requires.watchers c.in-Some.stream.now
 
 pub returns-in-Some : goal.returns-in-Some
 returns-in-Some g c =
     let newest : c.args.readers.now.newest ≡ Some c.in-Some.stream.now = sym c.newest.ensures ∙ ap option_copied c.in-Some.is in
     record {
-      long = c.calm_readers.ensures.long;
-      calmed = calm_all c.in-Some.stream.now c.args.queries.now c.calm_readers.new.queries
-          (subst (λ o. All (IsStill o) c.args.queries.now) newest c.requires.still) c.calm_readers.ensures;
+      long = c.calm_watchers.ensures.long;
+      calmed = calm_all c.in-Some.stream.now c.args.queries.now c.calm_watchers.new.queries
+          (subst (λ o. All (IsStill o) c.args.queries.now) newest c.requires.still) c.calm_watchers.ensures;
     }
 
 pub returns-in-None : goal.returns-in-None

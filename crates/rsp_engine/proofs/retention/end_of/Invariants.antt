@@ -1,10 +1,6 @@
-use Rattle.std.proofs.Common.{ℕ, List, drop}
-use Rattle.rsp_terms.specs.declared.statement.Triple.{Triple}
-use Rattle.rsp_engine.proofs.EndsRead.{IsSoFar}
+use Rattle.std.proofs.Common.{take}
+use Rattle.rsp_engine.specs.Readers.{IsEndBy}
 use Rattle.rsp_engine.proofs.retention.end_of.Given as goal
 
-abbrev pub invariant-loop-index : goal.invariant-loop-index
-invariant-loop-index g l =
-    (graph : List Triple) (n : ℕ)
-    → IsSoFar n (record { number = l.number; item = record { stream = l.stream; time = l.time; graph = graph } }) l.queries
-    (drop l.index l.places) l.end
+abbrev pub invariant-loop-window : goal.invariant-loop-window
+invariant-loop-window l = IsEndBy (take l.window-index l.windows) l.number l.time l.end

@@ -2,12 +2,11 @@ use Rattle.std.proofs.Common.{None, subst, sym}
 use Rattle.rsp_engine.specs.Inside.{asked}
 use Rattle.rsp_engine.specs.Left.{IsFirstAt}
 use Rattle.rsp_engine.specs.Watching.{reports_by}
-use Rattle.rsp_engine.proofs.Calming.{places_by}
 use Rattle.rsp_engine.proofs.FirstPlaces.{first_arrived, none_arrived}
 use Rattle.rsp_engine.proofs.schedule.first_reporting.Goals as goal
 
 pub first_over-requires-clause-read : goal.first_over-requires-clause-read
-first_over-requires-clause-read g c = places_by c.in-Some.stream c.args.readers.now c.args.queries.now c.requires.read
+first_over-requires-clause-read g c = c.requires.read.watchers c.in-Some.stream
 
 pub returns-in-Some : goal.returns-in-Some
 returns-in-Some g c =

@@ -9,7 +9,7 @@ pub invariant_of-result : goal.invariant_of-result
 invariant_of-result g c = λ _. (
   ready_new _ _ _ _ _ refl c.new.ensures.items c.new-3.ensures c.new-5.ensures refl refl,
   (
-    read_none c.new-2.result c.new.result.items c.new.ensures.items c.new-2.ensures.readers,
+    read_none c.new-2.result c.new.result.items c.new.ensures.items c.new-2.ensures.watchers c.new-2.ensures.windows,
     rw c.new.ensures.items (λ i d within. absurd (omega (arith, within))),
   ),
 )

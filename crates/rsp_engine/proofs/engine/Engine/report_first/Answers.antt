@@ -6,7 +6,6 @@ use Rattle.rsp_engine.proofs.Cancelling.{timed_below}
 use Rattle.rsp_engine.proofs.Costing.{costs_first}
 use Rattle.rsp_engine.proofs.Named.{get_index, get_map}
 use Rattle.rsp_engine.proofs.BehindReport.{answers, fits_behind, followed, high, left_there, listed, place_is, prompt_behind, reached, ready_behind, sought_behind, states_behind, store, watches_are, watching, within}
-use Rattle.rsp_engine.specs.World.{Registration}
 use Rattle.rsp_engine.proofs.ReadersBehind.{read_set}
 use Rattle.rsp_engine.proofs.Watches.{timed_watched}
 use Rattle.rsp_engine.proofs.engine.Engine.report_first.Goals as goal
@@ -92,7 +91,7 @@ place_behind-query-requires-clause-read g c =
     let is : slice_get c.self.inside.queries.items c.args.place.query ≡ Some live = get_index c.self.inside.queries.items c.args.place.query live (listed _ _ _ _ _ sound c.args.place first) c.index_mut.ensures.value in
     let reported = c.in-Ok.ensures.reported in
     read_set c.self.inside.readers c.self.inside.queries.items c.args.place.query live c.report_at.new.live (c.self.invariant (rw (← c.self.view_is) at c.requires.ready)).1.0 is
-    (ap (λ (r : Registration). r.reading.windows) reported.same) reported.watched
+    reported.same reported.watched
 
 pub first_left-self-inside-requires-clause-prompt : goal.first_left-self-inside-requires-clause-prompt
 first_left-self-inside-requires-clause-prompt g c =
