@@ -16,11 +16,11 @@ loop-window-preserved g c =
     let cur = list_of c.loop-window.lists.entries in
     elim c.if-not-is_over_some.branch [
       | then-not-is_over_some+in_ok-push_for w ↦ λ s.
-        ap (λ l. list_of l.entries s) w.lists-is
-        ∙ one_added windows i window below is c.args.place old cur c.loop-window.invariant (list_of w.push_for.new.lists.entries)
-        (sym c.is_over_some.ensures ∙ w.if-not-is_over_some.true) w.in_ok-push_for.ensures s
+          ap (λ l. list_of l.entries s) w.lists-is
+          ∙ one_added windows i window below is c.args.place old cur c.loop-window.invariant (list_of w.push_for.new.lists.entries)
+          (sym c.is_over_some.ensures ∙ w.if-not-is_over_some.true) w.in_ok-push_for.ensures s
       | else-not-is_over_some w ↦ λ s.
-        ap (λ l. list_of l.entries s) w.lists-is
-        ∙ none_added windows i window below is c.args.place old cur c.loop-window.invariant
-        (sym c.is_over_some.ensures ∙ w.if-not-is_over_some.false) s
+          ap (λ l. list_of l.entries s) w.lists-is
+          ∙ none_added windows i window below is c.args.place old cur c.loop-window.invariant
+          (sym c.is_over_some.ensures ∙ w.if-not-is_over_some.false) s
     ]

@@ -16,10 +16,10 @@ loop-window-preserved g c =
     is_none in
     elim c.if-is_empty.branch [
       | then-is_empty+in-Some-1 w ↦ λ s.
-        ap (λ l. list_of l.entries s) w.lists-is
-        ∙ (forgotten lists w.swap_remove.new.self.entries stream (none w.if-is_empty.true) w.swap_remove.ensures.updates.0 s ∙ before s)
+          ap (λ l. list_of l.entries s) w.lists-is
+          ∙ (forgotten lists w.swap_remove.new.self.entries stream (none w.if-is_empty.true) w.swap_remove.ensures.updates.0 s ∙ before s)
       | then-is_empty+in-None-1 w ↦ λ s.
-        ap (λ l. list_of l.entries s) w.lists-is
-        ∙ (forgotten lists w.swap_remove.new.self.entries stream (none w.if-is_empty.true) w.swap_remove.ensures.updates.0 s ∙ before s)
+          ap (λ l. list_of l.entries s) w.lists-is
+          ∙ (forgotten lists w.swap_remove.new.self.entries stream (none w.if-is_empty.true) w.swap_remove.ensures.updates.0 s ∙ before s)
       | else-is_empty w ↦ λ s. ap (λ l. list_of l.entries s) w.lists-is ∙ before s
     ]
