@@ -153,19 +153,15 @@ def number_of(piece):
     return int.from_bytes(piece, "little")
 
 
-# what the hasher is given before a term's text: of a fact the graph and the kind of its subject; of a row of one cell how many
-# cells it has, that this one is bound, and the kind of its term
-BEFORE_TEXT = {"facts": (0, 0), "rows": (1, 1, 0)}
+# where the keys of a load stand: they are subjects of facts, or cells that a join goes by
+KEYS_OF = ("facts", "rows")
 
 
-def colliding_front(place):
-    """24 bytes of an IRI of 32 whose last eight have no part in the hash: those before them are what the hasher has come to."""
-    state = SEED
-    for number in BEFORE_TEXT[place]:
-        state = folded(state ^ number, MULTIPLIER ^ 16)
+def colliding_front():
+    """24 bytes of an IRI of 32 whose last eight have no part in the number of its text: those before are what the hasher has come to."""
     for number in range(10**9):
         first = b"a:%014d" % number
-        words = number_of(first[:8]) ^ (state + 32 & WORD), number_of(first[8:]) ^ MULTIPLIER
+        words = number_of(first[:8]) ^ (SEED + 32 & WORD), number_of(first[8:]) ^ MULTIPLIER
         behind = folded(*words).to_bytes(8, "little")
         if OF_IRIS.issuperset(behind):
             return (first + behind).decode()
@@ -177,7 +173,7 @@ def keys(place, are_colliding):
 
     They are the subjects of facts that are alike else, or the cells that the join goes by.
     """
-    front = colliding_front(place) if are_colliding else "a:" + "x" * 22
+    front = colliding_front() if are_colliding else "a:" + "x" * 22
     live = query("q", "RSTREAM", "(COUNT(*) AS ?n)", "?x <p:m> ?y . ?y <p:n> ?z")
 
     def quads(k):
