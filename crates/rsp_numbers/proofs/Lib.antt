@@ -1,0 +1,6 @@
+pub mod Entries
+pub mod Vacancies
+pub mod Given
+pub mod Counts
+pub mod Left
+pub mod WorkedTables
