@@ -1,6 +1,7 @@
 -- Definitions: a table that numbers terms. A term's number is its place in the table; a place without a term is free. Beside each
 -- term stands how many hold its number.
-use Rattle.std.specs.Prelude.{◌≡◌, ◌<◌, ◌⊎◌, ℕ, cond, nat_lt, List, [], ◌∷◌, ◌++◌, length, slice_index_or, slice_set, ℤ, pos, Option, Some, None, IsSome}
+use Rattle.std.specs.Prelude.{◌≡◌, ◌<◌, ◌⊎◌, ℕ, cond, nat_lt, List, [], ◌∷◌}
+use Rattle.std.specs.Prelude.{◌++◌, length, slice_index_or, slice_set, ℤ, pos, Option, Some, None, IsSome}
 use Rattle.std.specs.Option.{unwrap_or}
 use Rattle.rsp_terms.specs.declared.term.Term.{Term}
 use Rattle.rsp_terms.specs.declared.term.Term.TheVariants.{Iri}

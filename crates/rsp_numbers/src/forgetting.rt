@@ -1,5 +1,6 @@
 // Numbers that are given back.
-ghost use Rattle.std.specs.Prelude.{◌≡◌, ◌<◌, ◌≤◌, ℕ, pos, [], ◌∷◌, ◌++◌, ◌&&◌, is_some, None, Some, IsSome, IsTrue, length, nat_eq, slice_set, vec_capacity, vec_len};
+ghost use Rattle.std.specs.Prelude.{◌≡◌, ◌<◌, ◌≤◌, ℕ, pos, [], ◌∷◌, ◌++◌, ◌&&◌, is_some, None, Some, IsSome, IsTrue, length};
+ghost use Rattle.std.specs.Prelude.{nat_eq, slice_set, vec_capacity, vec_len};
 ghost use Rattle.std.specs.List.{list_any};
 ghost use Rattle.std.specs.Ordering.{int_eq};
 ghost use Rattle.rsp_numbers.specs.Accounts.{left_at};

@@ -109,7 +109,8 @@ impl Numbers {
         ensures size { length self.new ≡ length self.old }
         ensures terms { (n : ℕ) → term_at self.new n ≡ left_at self.old met.now n }
         ensures account { (n : ℕ) → holders self.new n ≡ holders self.old n }
-        ensures known { (n : ℕ) → IsKnownNumber self.old n → (IsTrue (list_any (nat_eq n) met.now) → holders self.old n ≡ pos 0 → ⊥)
+        ensures known { (n : ℕ) → IsKnownNumber self.old n
+            → (IsTrue (list_any (nat_eq n) met.now) → holders self.old n ≡ pos 0 → ⊥)
             → IsKnownNumber self.new n × (shown self.new n ≡ shown self.old n) }
     {
         forget_numbers(&mut self.places, &mut self.numbers, &mut self.free, met);

@@ -25,8 +25,8 @@ fn term_within(place: &Option<Numbered>) -> &Term
     }
 }
 
-/// Puts it at a free place, or behind the last where there is none. Answers its number. Fails only where memory is refused, and then
-/// changes nothing.
+/// Puts it at a free place, or behind the last where there is none. Answers its number. Fails only where memory is refused, and
+/// then changes nothing.
 pub(crate) fn place_entry(
     places: &mut Vec<Option<Numbered>>,
     free: &mut Vec<u64>,
