@@ -1,5 +1,5 @@
 -- Definitions: which events are accepted, and what an accepted event makes of the world.
-use Rattle.std.specs.Prelude.{ℕ, ◌+◌, Bool, not, nat_lt, nat_le, if◌then◌else◌, Some, Result, Ok, Err, List, [], ◌∷◌, ◌++◌, length, filter, bytes_eq}
+use Rattle.std.specs.Prelude.{ℕ, ◌+◌, Bool, ◌&&◌, not, nat_lt, nat_le, if◌then◌else◌, Some, Result, Ok, Err, List, [], ◌∷◌, ◌++◌, length, filter, bytes_eq}
 use Rattle.std.specs.List.{list_any}
 use Rattle.rsp_spec.specs.Limits.{most_held, most_quads, most_queries, most_triples}
 use Rattle.rsp_terms.specs.declared.statement.Fact.{Fact}
@@ -11,11 +11,11 @@ use Rattle.rsp_scope.specs.Contents.{Accepted}
 use Rattle.rsp_query.specs.Queries.{Registered}
 use Rattle.rsp_algebra.specs.Overfull.{overfull}
 use Rattle.rsp_engine.specs.declared.refused.Refused.{Refused}
-use Rattle.rsp_engine.specs.declared.refused.Refused.TheVariants.{Text, Late, NameTaken, NoQuery, QueriesFull, HeldFull, StoreFull, ItemTooLarge, StartOverfull}
+use Rattle.rsp_engine.specs.declared.refused.Refused.TheVariants.{Text, Late, NameTaken, NoQuery, QueriesFull, HeldFull, StoreFull, ItemTooLarge, SlackTuple, StartOverfull}
 use Rattle.rsp_engine.specs.declared.refused.TextFault.{TextFault}
 use Rattle.rsp_engine.specs.Refusals.{read}
 use Rattle.rsp_engine.specs.Readings.{reading_of}
-use Rattle.rsp_engine.specs.World.{World, Query, Reading, Registration, next_of, registrations}
+use Rattle.rsp_engine.specs.World.{World, Query, Reading, Registration, next_of, next_with, registrations}
 use Rattle.rsp_engine.specs.Kept.{held}
 
 abbrev pub has_name : List ℕ → Registration → Bool
@@ -38,22 +38,29 @@ new_query name reading first =
 abbrev pub starts_overfull : Reading → Bool
 starts_overfull reading = overfull reading.width reading.node []
 
+-- a query that looks at items can't be asked under a slack, where they come in no order
+abbrev pub has_slack_tuple : World → Reading → Bool
+has_slack_tuple world reading = nat_lt 0 world.slack && reading.policy.tuple
+
 -- the first refusal of these that holds, or else the answer
 abbrev pub unless : List (Bool × Refused) → Result World Refused → Result World Refused
 unless [] answer = answer
 unless (check ∷ more) answer = if check.0 then Err check.1 else unless more answer
 
--- a query becomes live, last in order, unless so many are live or it starts overfull; a text with a fault is refused for it
+-- a query becomes live, last in order, unless it looks at items under a slack, so many are live, or it starts overfull; a text
+-- with a fault is refused for it
 abbrev pub accept_text : World → List ℕ → Result Registered TextFault → Result World Refused
 accept_text world name (Ok q) =
     unless
-    ((nat_le most_queries (length world.queries), QueriesFull) ∷ (starts_overfull (reading_of q), StartOverfull) ∷ [])
+    ((has_slack_tuple world (reading_of q), SlackTuple)
+    ∷ (nat_le most_queries (length world.queries), QueriesFull)
+    ∷ (starts_overfull (reading_of q), StartOverfull) ∷ [])
     (Ok (record world { queries = world.queries ++ new_query name (reading_of q) (length world.items) ∷ [] }))
 accept_text world name (Err fault) = Err (Text fault)
 
--- an item is appended, and every instant before its time is complete
+-- an item is appended, and every instant that lies more than the slack behind its time is complete
 abbrev pub with_item : World → Accepted → World
-with_item world item = record world { next = Some item.time; items = world.items ++ item ∷ [] }
+with_item world item = record world { next = Some (next_with world item.time); items = world.items ++ item ∷ [] }
 
 -- unless it is late, or has too many triples, or more would be kept than can be
 abbrev pub accept_item : World → Accepted → Result World Refused

@@ -93,6 +93,7 @@ parts_of live =
 abbrev pub state_of : {A : Type 0} → (A → List Fact) → Inside A → State
 state_of facts e =
     record {
+      slack = e.slack;
       next = e.next;
       queries = map (live_of facts) e.queries.items;
       kept = e.streams;

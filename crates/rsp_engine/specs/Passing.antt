@@ -53,6 +53,7 @@ pub record Begins (old : State) (live : Live) : Type 0 where
 -- every instant before `to` is complete, and these items were accepted, of which the newest just came over this stream, where one
 -- did; the moments left are those of the instants that became complete, and of what came; what is still needed is kept
 pub record Passes (old : State) (more : List Accepted) (came : Option (List ℕ)) (to : ℕ) (new : State) : Type 0 where
+  pub slack : new.slack ≡ old.slack
   pub next : new.next ≡ Some to
   pub queries : map unwatched new.queries ≡ map unwatched old.queries
   pub stored : new.stored ≡ old.stored
@@ -161,6 +162,7 @@ pub record ReportsFirst (old : State) (report : Report) (new : State) : Type 0 w
   pub stood : is_overfull_outcome report.outcome ≡ false → (items : List Accepted) → Follows items old.stored old.log live
       → HasContents items old.kept place.at (watches live.first live.windows)
       → IsSameMultiset fact_eq now.seen (facts_read_at items old.stored live place.at)
+  pub slack : new.slack ≡ old.slack
   pub next : new.next ≡ old.next
   pub stored : new.stored ≡ old.stored
   pub log : new.log ≡ old.log

@@ -1,5 +1,5 @@
 -- Words of the way: what an engine's state is, and which world and which moments left it stands for.
-use Rattle.std.specs.Prelude.{◌≡◌, ℕ, ℤ, pos, ◌+◌, ◌+ℤ◌, ◌-◌, ◌*◌, ◌≤◌, ◌↔◌, Bool, true, false, ◌||◌, not, if◌then◌else◌, Option, None, Some, List, [], ◌∷◌, ⊤, filter, length, map, slice_get, take, bytes_eq, unwrap_or}
+use Rattle.std.specs.Prelude.{◌≡◌, ℕ, ℤ, pos, ◌+◌, ◌+ℤ◌, ◌-◌, ◌*◌, ◌<◌, ◌≤◌, ◌↔◌, Bool, true, false, ◌||◌, not, if◌then◌else◌, Option, None, Some, List, [], ◌∷◌, ⊤, filter, length, map, slice_get, take, bytes_eq, unwrap_or}
 use Rattle.std.specs.List.{All, IsDistinct, flat_map}
 use Rattle.std.specs.Option.{is_some, option_map_or, ForSome}
 use Rattle.rsp_spec.specs.Limits.{last_instant}
@@ -24,7 +24,7 @@ use Rattle.rsp_scope.specs.Logged.{since}
 use Rattle.rsp_scope.specs.Logged.{Log}
 use Rattle.rsp_engine.specs.declared.schedule.Pending.{Pending}
 use Rattle.rsp_engine.specs.declared.live_query.StreamWindow.{StreamWindow}
-use Rattle.rsp_engine.specs.World.{World, Query, Reading, Registration, registrations}
+use Rattle.rsp_engine.specs.World.{World, Query, Reading, Registration, most_slack, registrations}
 use Rattle.rsp_engine.specs.Contents.{watches}
 use Rattle.rsp_scope.specs.declared.item.Item.{Item}
 use Rattle.rsp_engine.specs.Bounds.{IsWorld}
@@ -32,7 +32,7 @@ use Rattle.rsp_engine.specs.Kept.{watches_of}
 use Rattle.rsp_engine.specs.Left.{IsWaiting, left_from}
 use Rattle.rsp_engine.specs.Moments.{Moment}
 use Rattle.rsp_engine.specs.Reports.{rows_over}
-use Rattle.rsp_engine.specs.Watching.{Asked, IsPrompt, Tells, name_of, reports_by}
+use Rattle.rsp_engine.specs.Watching.{Asked, IsPrompt, IsUpTo, Tells, name_of, reports_by}
 
 -- what an engine keeps of a live query: whether it has reported; its place in the log of what came to and went from the stored
 -- quads; the facts for which its answer stands; what it watches; and its windows as of the last report
@@ -51,10 +51,11 @@ pub record Live : Type 0 where
   pub watched : List Watched
   pub contents : List Followed
 
--- what an engine keeps: `next`; its live queries, in order of registration; the kept items; the stored quads, and the log of
--- their changes; the stream of the newest item, where the event that set `next` was an item; the place of the first moment
--- left, if one is; and whether memory was refused to it
+-- what an engine keeps: the slack; `next`; its live queries, in order of registration; the kept items; the stored quads, and the log of
+-- their changes; the stream of the newest item, where without a slack the event that set `next` was an item; the place of the
+-- first moment left, if one is; and whether memory was refused to it
 pub record State : Type 0 where
+  pub slack : ℕ
   pub next : Option ℕ
   pub queries : List Live
   pub kept : Kept
@@ -87,6 +88,10 @@ registrations_in engine = map registration_of engine.queries
 -- the first instant that isn't complete, or 0
 abbrev pub next_in : State → ℕ
 next_in engine = unwrap_or engine.next 0
+
+-- no item is later
+abbrev pub latest_in : State → ℕ
+latest_in engine = next_in engine + engine.slack
 
 -- when a live query reports
 abbrev pub asked_of : Live → Asked
@@ -174,6 +179,7 @@ pub record Fits (engine : State) (items : List Accepted) : Type 0 where
 -- the engine stands for this world, and for these moments as those that are left
 pub record Stands (engine : State) (world : World) (left : List Moment) : Type 0 where
   pub ready : engine.broken ≡ false
+  pub slack : engine.slack ≡ world.slack
   pub next : engine.next ≡ world.next
   pub fits : Fits engine world.items
   pub bounds : IsWorld world
@@ -204,9 +210,12 @@ pub record IsStore (stored : List Fact) : Type 0 where
   pub once : IsDistinct fact_eq stored
   pub graphs : (k : ℕ) (triple : Triple) → times fact_eq stored (record { spot = spot.Window k; triple = triple }) ≡ pos 0
 
--- a live query watches and follows its windows, which haven't seen what is later than the first moment left
-pub record IsLive (next : ℕ) (arrived : Option (List ℕ)) (accepted cut : ℕ) (live : Live) : Type 0 where
+-- a live query watches and follows its windows, which haven't seen what is later than the first moment left; under a slack it
+-- looks at instants
+pub record IsLive (next slack : ℕ) (arrived : Option (List ℕ)) (accepted cut : ℕ) (live : Live) : Type 0 where
   pub prompt : IsPrompt next arrived (asked_of live)
+  pub up_to : All (IsUpTo (next + slack)) live.watched
+  pub instants : 0 < slack → live.policy.tuple ≡ false
   pub watches : map (λ (seen : Followed). seen.watch) live.contents ≡ watches live.first live.windows
   pub reached : All (λ (seen : Followed). IsReached seen.at cut) live.contents
   pub first : live.first ≤ accepted
@@ -217,9 +226,10 @@ pub record History (engine : State) : Type 0 where
   pub fits : Fits engine items
 
 pub record IsState (engine : State) : Type 0 where
+  pub slack_high : engine.slack ≤ most_slack
   pub next_high : next_in engine ≤ last_instant + 1
-  pub lives : All (IsLive (next_in engine) engine.arrived engine.kept.accepted (cut_of engine)) engine.queries
-  pub timed : All (λ (item : Item). item.time ≤ next_in engine) engine.kept.items
+  pub lives : All (IsLive (next_in engine) engine.slack engine.arrived engine.kept.accepted (cut_of engine)) engine.queries
+  pub timed : All (λ (item : Item). item.time ≤ latest_in engine) engine.kept.items
   pub store : IsStore engine.stored
   pub names : IsDistinct bytes_eq (map (λ (live : Live). live.name) engine.queries)
   pub waits : ForSome engine.first (IsWaiting (test_in engine) (asked_in engine) (next_in engine))

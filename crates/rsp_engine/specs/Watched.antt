@@ -1,20 +1,20 @@
 -- Words of the way: what queries watch once an item has come over a stream.
 use Rattle.std.specs.Prelude.{◌≡◌, ℕ, ◌≤◌, ◌<◌, Bool, true, false, List, [], ◌∷◌, ⊤, length, map, slice_index_or, bytes_eq}
 use Rattle.rsp_report.specs.declared.contents.Watched.{Watched}
-use Rattle.rsp_report.specs.Due.{IsFreshAt}
-use Rattle.rsp_report.specs.Seen.{seen_at}
+use Rattle.rsp_report.specs.Due.{IsFreshAt, IsWatched}
 use Rattle.rsp_engine.specs.declared.live_query.LiveQuery.{LiveQuery}
 use Rattle.rsp_engine.specs.declared.live_query.StreamWindow.{StreamWindow}
 use Rattle.rsp_engine.specs.Inside.{IsSought, parts_of}
-use Rattle.rsp_engine.specs.Watching.{IsTimed, with_time}
+use Rattle.rsp_engine.specs.Watching.{IsUpTo, told_at, with_time}
 
--- a window with the time of a new item, where that is over its stream, and without times that are in no content from `from` -
--- 1 on
+-- a window with the time of a new item at its place, where that is over its stream, and without times that are in no content from
+-- `from` - 1 on; where none was later, the new one is the last
 pub record IsWatchedWith (stream : List ℕ) (time from : ℕ) (w : StreamWindow) (old new : Watched) : Type 0 where
   pub window : new.window ≡ old.window
-  pub timed : IsTimed time new
-  pub fresh : IsFreshAt time new
-  pub seen : (t : ℕ) → from ≤ t → seen_at t new ≡ seen_at t (with_time (bytes_eq stream w.stream) time old)
+  pub watched : IsWatched new
+  pub up_to : (latest : ℕ) → time ≤ latest → IsUpTo latest old → IsUpTo latest new
+  pub fresh : IsUpTo time old → IsFreshAt time new
+  pub told : (t : ℕ) → from ≤ t → told_at t new ≡ told_at t (with_time (bytes_eq stream w.stream) time old)
 
 -- window by window
 abbrev pub AreWatchedWith : List ℕ → ℕ → ℕ → List StreamWindow → List Watched → List Watched → Type 0

@@ -1,13 +1,13 @@
 -- Words of the way: what a live query watches: the times of the items over the streams of its windows, and when it reports by
 -- them.
-use Rattle.std.specs.Prelude.{◌≡◌, ℕ, ◌<◌, ◌≤◌, Bool, true, false, ◌&&◌, ◌||◌, not, nat_lt, if◌then◌else◌, Option, None, List, [], ◌∷◌, ◌++◌, map, bytes_eq}
+use Rattle.std.specs.Prelude.{◌≡◌, ℕ, ◌-◌, ◌<◌, ◌≤◌, Bool, true, false, ◌&&◌, ◌||◌, not, nat_lt, if◌then◌else◌, Option, None, List, [], ◌∷◌, ◌++◌, map, bytes_eq}
 use Rattle.std.specs.List.{All, list_any}
 use Rattle.std.specs.Option.{ForSome, is_some, option_map_or}
 use Rattle.rsp_scope.specs.Contents.{Accepted}
 use Rattle.rsp_report.specs.declared.chosen.Chosen.{Chosen}
 use Rattle.rsp_report.specs.declared.contents.Watched.{Watched}
 use Rattle.rsp_report.specs.Due.{IsFreshAt, IsWatched}
-use Rattle.rsp_report.specs.Seen.{seen_at}
+use Rattle.rsp_spec.specs.Windows.{Shape, in_content}
 use Rattle.rsp_report.specs.Due as windows
 use Rattle.rsp_engine.specs.declared.live_query.StreamWindow.{StreamWindow}
 use Rattle.rsp_engine.specs.Due.{watched_of}
@@ -61,25 +61,49 @@ pub record IsPolicy (policy : Chosen) : Type 0 where
   pub close_on_items : policy.tuple ≡ true → policy.close ≡ false
   pub period_on_items : policy.tuple ≡ true → policy.period ≡ None
 
--- times in order, of which none is behind `next`
-pub record IsTimed (next : ℕ) (window : Watched) : Type 0 where
-  pub watched : IsWatched window
-  pub high : All (λ time. time ≤ next) window.times
-
--- a live query watches each of its windows
-pub record IsWatching (next : ℕ) (asked : Asked) : Type 0 where
+-- a live query watches each of its windows, with its times in order
+pub record IsWatching (asked : Asked) : Type 0 where
   pub policy : IsPolicy asked.policy
   pub shapes : map (λ (watched : Watched). watched.window) asked.watched ≡ map (λ (w : StreamWindow). w.shape) asked.windows
-  pub timed : All (IsTimed next) asked.watched
+  pub watched : All IsWatched asked.watched
 
 -- and the times of a window that is fresh end with `next`, where an item arrived
 pub record IsPrompt (next : ℕ) (arrived : Option (List ℕ)) (asked : Asked) : Type 0 where
-  pub watching : IsWatching next asked
+  pub watching : IsWatching asked
   pub fresh : is_some arrived ≡ true → All (IsFreshAt next) asked.watched
 
--- a query watches its windows, and where its policy asks for contents, of the times that it watches there stand from an instant
--- on in the contents at t and at the instant before those of these items
+-- none of a window's times is later
+abbrev pub IsUpTo : ℕ → Watched → Type 0
+IsUpTo latest w = All (λ time. time ≤ latest) w.times
+
+-- all that decides by a window whether a query is due at t: whether some item is in its content at t, whether one is that wasn't at
+-- the instant before, whether one isn't that was, and whether it is fresh. The order of the times is none of it.
+pub record Told : Type 0 where
+  pub window : Shape
+  pub holds : Bool
+  pub enters : Bool
+  pub leaves : Bool
+  pub fresh : Bool
+
+abbrev pub enters_at : ℕ → Watched → Bool
+enters_at t w = list_any (λ time. in_content w.window t time && not (in_content w.window (t - 1) time)) w.times
+
+abbrev pub leaves_at : ℕ → Watched → Bool
+leaves_at t w = list_any (λ time. not (in_content w.window t time) && in_content w.window (t - 1) time) w.times
+
+abbrev pub told_at : ℕ → Watched → Told
+told_at t w =
+    record {
+      window = w.window;
+      holds = windows.has_content t w;
+      enters = enters_at t w;
+      leaves = leaves_at t w;
+      fresh = w.fresh;
+    }
+
+-- a query watches its windows, and where its policy asks for contents, from an instant on its times tell of each of them what those
+-- of these items tell
 pub record Tells (items : List Accepted) (from : ℕ) (query : Registration) (watched : List Watched) : Type 0 where
   pub windows : map (λ (w : Watched). w.window) watched ≡ map (λ (w : StreamWindow). w.shape) query.reading.windows
-  pub seen : asks_contents query.reading.policy ≡ true → (t : ℕ) → from ≤ t
-      → map (seen_at t) watched ≡ map (seen_at t) (watched_of items query)
+  pub told : asks_contents query.reading.policy ≡ true → (t : ℕ) → from ≤ t
+      → map (told_at t) watched ≡ map (told_at t) (watched_of items query)

@@ -1,6 +1,6 @@
 -- Definitions: the world: what the accepted events have made; every item stays in it for ever. All times are in milliseconds
 -- since 1970.
-use Rattle.std.specs.Prelude.{ℕ, Option, None, List, [], map}
+use Rattle.std.specs.Prelude.{ℕ, ◌-◌, max, Option, None, List, [], map}
 use Rattle.std.specs.Option.{unwrap_or}
 use Rattle.rsp_terms.specs.declared.term.Term.{Term}
 use Rattle.rsp_terms.specs.declared.statement.Fact.{Fact}
@@ -36,9 +36,11 @@ pub record Query : Type 0 where
   pub seen : List Fact
   pub preceding : List (Cells Term)
 
--- the first instant that isn't complete, where one is set; all accepted items, in order, numbered from 0; the stored quads, as
--- distinct facts; the live queries in order of registration
+-- the slack, by which an item may be behind the latest one: no event changes it; the first instant that isn't complete, where one
+-- is set; all accepted items, in order of acceptance, numbered from 0; the stored quads, as distinct facts; the live queries in
+-- order of registration
 pub record World : Type 0 where
+  pub slack : ℕ
   pub next : Option ℕ
   pub items : List Accepted
   pub stored : List Fact
@@ -48,9 +50,17 @@ pub record World : Type 0 where
 abbrev pub registrations : World → List Registration
 registrations world = map (λ (query : Query). query.registration) world.queries
 
-abbrev pub empty_world : World
-empty_world = record { next = None; items = []; stored = []; queries = [] }
+-- the most slack: a day
+abbrev pub most_slack : ℕ
+most_slack = 86400000
+
+abbrev pub empty_world : ℕ → World
+empty_world slack = record { slack = slack; next = None; items = []; stored = []; queries = [] }
 
 -- the first instant that isn't complete, or 0 where none is set
 abbrev pub next_of : World → ℕ
 next_of world = unwrap_or world.next 0
+
+-- what an item of this time makes of it: all that lies more than the slack behind the item is complete, and what was stays so
+abbrev pub next_with : World → ℕ → ℕ
+next_with world time = max (next_of world) (time - world.slack)
