@@ -22,8 +22,8 @@ class Watched:
 
 
 class Course:
-    """All of it so far. `next` is the first instant that isn't complete, None before any item or tick; an item may be behind the
-    latest one by the slack."""
+    """All of it so far. `next` is the first instant that isn't complete, None before any item or tick; by the slack an item may
+    be behind the latest one."""
 
     def __init__(self, slack=0):
         self.slack, self.next, self.live, self.watched, self.values = slack, None, {}, [], Values()

@@ -21,8 +21,8 @@ Windows = namedtuple("Windows", "first windows")
 
 
 class History:
-    """The state behind the blocks so far. `keeps` says whether items are kept in it, which takes memory; an item may be behind the
-    latest one by the slack."""
+    """The state behind the blocks so far. `keeps` says whether items are kept in it, which takes memory; by the slack an item may
+    be behind the latest one."""
 
     def __init__(self, keeps, slack=0):
         self.live, self.ended, self.overfull = {}, {}, []

@@ -20,7 +20,8 @@ from .timing import late, seconds, unclosed
 from .words import parsed
 
 USAGE = (
-    "usage: tools/lint [--lines] events [--json] [--slack N] < LOG | run [--json] [--store FILE] QUERY STREAM=FILE.. | check QUERY"
+    "usage: tools/lint [--lines] events [--json] [--slack N] < LOG"
+    " | run [--json] [--store FILE] QUERY STREAM=FILE.. | check QUERY"
 )
 
 

@@ -1,8 +1,8 @@
--- What a log is asked for with.
-use Rattle.std.proofs.Common.{◌≡◌, ℕ, ◌≤◌, Bool, true, false, nat_le, Option, Some, None, List, [], ◌∷◌, refl}
+-- The slack that a log is asked for with.
+use Rattle.std.proofs.Common.{◌≡◌, ℕ, ◌≤◌, Bool, true, false, nat_le, Option, Some, None, List, [], ◌∷◌, refl, ap}
 use Rattle.std.proofs.lemmas.Bool.{leb-true}
 use Rattle.std.specs.Bool.{then_some}
-use Rattle.std.specs.Option.{option_and_then}
+use Rattle.std.specs.Option.{option_and_then, option_map_or}
 use Rattle.rsp_text.specs.Digits.{read_u64}
 use Rattle.rsp_words.specs.declared.form.Form.{Form}
 use Rattle.rsp_words.specs.declared.log.Log.{Log}
@@ -22,21 +22,20 @@ slack_within : (digits : Option (List ℕ)) (slack : ℕ) → slack_read digits 
 slack_within None slack is = let same : 0 ≡ slack = cc in rw (← same) (leb-true 0 86400000 refl)
 slack_within (Some digits) slack is = read_within (read_u64 digits) slack is
 
-same_slack : (form : Form) (values : List (List ℕ)) (slack : ℕ) (log : Log) → log_for form values slack ≡ Some log → log.slack ≡ slack
-same_slack form [] slack log is = cc
-same_slack form (value ∷ values) slack log is = cc
-
-of_slack : (form : Form) (values : List (List ℕ)) (slack : Option ℕ) (log : Log) → ((n : ℕ) → slack ≡ Some n → n ≤ 86400000) → option_and_then (log_for form values) slack ≡ Some log → log.slack ≤ 86400000
-of_slack form values None log within is = cc
-of_slack form values (Some slack) log within is = rw (same_slack form values slack log is) (within slack refl)
+of_slack : (form : Form) (values : List (List ℕ)) (slack : Option ℕ) (log : Log) → ((n : ℕ) → slack ≡ Some n → n ≤ 86400000) → log_for form values slack ≡ Some log → log.slack ≤ 86400000
+of_slack form [] None log within is = cc
+of_slack form [] (Some n) log within is =
+    let same : n ≡ log.slack = ap (λ (found : Option Log). option_map_or (λ (log : Log). log.slack) found 0) is in
+    rw (← same) (within n refl)
+of_slack form (value ∷ values) slack log within is = cc
 
 pub log_within : (words : List (List ℕ)) (log : Log) → log_of words ≡ Some log → log.slack ≤ 86400000
 log_within words log is =
     let rest = without_slack words in
     of_slack (form_of rest) (values (without_json rest)) (slack_read (slack_of words)) log (slack_within (slack_of words)) is
 
--- ---- no log, whatever the slack
+-- ---- no log, where the number is none
 
-pub no_log : (form : Form) (values : List (List ℕ)) (slack : Option ℕ) → ((n : ℕ) → log_for form values n ≡ None) → option_and_then (log_for form values) slack ≡ None
-no_log form values None none = refl
-no_log form values (Some slack) none = none slack
+pub no_slack : (form : Form) (values : List (List ℕ)) → log_for form values None ≡ None
+no_slack form [] = refl
+no_slack form (value ∷ values) = refl

@@ -124,15 +124,15 @@ abbrev pub slack_read : Option (List ℕ) → Option ℕ
 slack_read None = Some 0
 slack_read (Some digits) = option_and_then (λ slack. then_some (nat_le slack 86400000) slack) (read_u64 digits)
 
-abbrev pub log_for : Form → List (List ℕ) → ℕ → Option Log
-log_for form [] slack = Some (record { form = form; slack = slack })
+abbrev pub log_for : Form → List (List ℕ) → Option ℕ → Option Log
+log_for form [] slack = option_map (λ slack. record { form = form; slack = slack }) slack
 log_for form _ slack = None
 
 -- events [--json] [--slack N]
 abbrev pub log_of : List (List ℕ) → Option Log
 log_of words =
     let rest = without_slack words in
-    option_and_then (log_for (form_of rest) (values (without_json rest))) (slack_read (slack_of words))
+    log_for (form_of rest) (values (without_json rest)) (slack_read (slack_of words))
 
 abbrev pub events_of : List (List ℕ) → Option Mode
 events_of words = option_map events (log_of words)

@@ -1,5 +1,5 @@
 // What `events` is asked for.
-ghost use Rattle.std.specs.Prelude.{◌≡◌, ◌∷◌, ◌<◌, ℕ, IfSome, List, MatchOption, None, Some, false, length};
+ghost use Rattle.std.specs.Prelude.{◌≡◌, ◌∷◌, ◌<◌, ℕ, IfSome, List, MatchOption, None, Option, Some, false, length};
 ghost use Rattle.std.specs.Option.{unwrap_or};
 ghost use Rattle.rsp_words.specs.LogWords.{log_ahead};
 ghost use Rattle.rsp_words.specs.Playing.{form_ahead, values_ahead};
@@ -59,7 +59,7 @@ pub(crate) fn log_of(words: &[Text]) -> Option<Log>
 
 // the log of these options, where there is no value
 fn log_for(read: LogOptions, values: &[Text]) -> Option<Log>
-    ensures { result ≡ log_for read.form values.now (unwrap_or read.slack 0) }
+    ensures { result ≡ log_for read.form values.now (Some (unwrap_or read.slack 0)) }
 {
     match values {
         [] => Some(Log {
@@ -71,6 +71,7 @@ fn log_for(read: LogOptions, values: &[Text]) -> Option<Log>
 }
 
 // with a word that isn't `--`, and the next one where that belongs to it; and the words that are left
+#[tactic(auto, using(crate::proofs::Slack::no_slack))]
 fn with_word<'a>(
     so_far: LogOptions,
     word: &'a Text,
@@ -105,13 +106,18 @@ fn with_word<'a>(
 fn with_json(form: Form, word: &Text) -> Option<Form>
     requires { is_dashes word.now ≡ false }
     ensures { (rest : List (List ℕ)) → MatchOption result
-        ((slack : ℕ) → log_for (form_ahead form (word.now ∷ rest)) (values_ahead form (word.now ∷ rest)) slack ≡ None)
+        ((slack : Option ℕ) → log_for (form_ahead form (word.now ∷ rest)) (values_ahead form (word.now ∷ rest)) slack ≡ None)
         (λ now. (form_ahead now rest ≡ form_ahead form (word.now ∷ rest))
         × (values_ahead now rest ≡ values_ahead form (word.now ∷ rest))) }
 {
     match form {
-        Form::Table if is_json(word) => Some(Form::Json),
-        _ => None,
+        Form::Table => {
+            if is_json(word) {
+                return Some(Form::Json);
+            }
+            None
+        }
+        Form::Json => None,
     }
 }
 
