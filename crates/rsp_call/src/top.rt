@@ -32,10 +32,11 @@ const USAGE: &str =
 /// Does all that the program does, by its words without its name.
 ///
 /// On `events` it reads the log from `input` to its end and writes what the log gives to `out`: refusals, and reports, as tables
-/// or on `--json` each as a line of JSON. On `run` it reads the files that are named from `shelf`, and writes in the same forms
-/// what recorded streams give. On `check` it reads one file from `shelf` and writes whether the query in it has a fault. On `gen`
-/// it works off events that it makes itself and writes how many reports they gave. On all other words it reads nothing, takes no
-/// memory and writes the usage line. It takes at most as many steps as all reports of what it read may.
+/// or on `--json` each as a line of JSON; by the number of `--slack` an item may be behind a later one. On `run` it reads the
+/// files that are named from `shelf`, and writes in the same forms what recorded streams give. On `check` it reads one file from
+/// `shelf` and writes whether the query in it has a fault. On `gen` it works off events that it makes itself and writes how many
+/// reports they gave. On all other words it reads nothing, takes no memory and writes the usage line. It takes at most as many
+/// steps as all reports of what it read may.
 pub fn rsp<S: Source, H: Shelf, K: Sink, L: Ledger>(
     alloc: Global,
     words: &[Text],
