@@ -2,7 +2,7 @@
 
 In README, GUIDE, RECIPES, TOOLS and the pages of the examples each indented block is a command, the output of the command before
 it, or lines of a file of the examples. In COMING-FROM, EVENTS, QUERIES and REPORTS a block that begins as a report or a refusal
-is what the log before it gives, if there is one.
+is what the log before it gives, if there is one; by the words `rsp events --slack N`, where these stand in a block between them.
 """
 import contextlib
 import os
@@ -109,10 +109,10 @@ def fault_of_recipe(recipe, room):
     return wrong if got == wanted else f"with the input still open it gave {got[:400]}"
 
 
-def fault_of_clock(room):
+def fault_of_clock(room, lag, *words):
     """The clock of a live log passes lines on, and adds a tick where a second brings none, but not within a line."""
-    lag, began = 5, time.time()
-    process = started([f"{room}/examples/recipes/live/clock", str(lag)], room)
+    began = time.time()
+    process = started([f"{room}/examples/recipes/live/clock", *words], room)
     for part in (b'{"at"', b":1}\n"):
         process.stdin.write(part)
         process.stdin.flush()
@@ -234,21 +234,28 @@ class Logs:
         return texts.get(block.part) or next(iter(texts.values()), "")
 
 
+# a block that says by which words the log before it is run, again where it was run before
+WORDS = re.compile(r"rsp (events --slack \d+)\n")
+
+
 def faults_of_logs(document, program):
     """Each output is that of the log before it, alone or behind the log that stood before that one."""
-    logs = Logs()
+    logs, words, shown = Logs(), ["events"], ""
     for block in blocks(document):
-        if not OUTPUT.match(block.text):
+        asked = WORDS.fullmatch(block.text)
+        if asked:
+            words, logs.last = asked[1].split(), logs.last or shown
+        elif not OUTPUT.match(block.text):
             logs.take(block)
         elif logs.last:
-            alone = output_of(logs.last, program)
-            good = alone == block.text or output_of(logs.before + logs.last, program).endswith(block.text)
+            alone = output_of(logs.last, words, program)
+            good = alone == block.text or output_of(logs.before + logs.last, words, program).endswith(block.text)
             yield block.place, None if good else f"the log before it gives {alone[:400]}"
-            logs.last = ""
+            words, shown, logs.last = ["events"], logs.last, ""
 
 
-def output_of(log, program):
-    with subprocess.Popen([program, "events"], stdin=subprocess.PIPE, stdout=subprocess.PIPE, env={}) as process:
+def output_of(log, words, program):
+    with subprocess.Popen([program, *words], stdin=subprocess.PIPE, stdout=subprocess.PIPE, env={}) as process:
         try:
             return process.communicate(log.encode(), timeout=SECONDS)[0].decode()
         except subprocess.TimeoutExpired:
@@ -261,7 +268,8 @@ def checks(program):
     with a_room(program) as room:
         for recipe in sorted(os.listdir(RECIPES)):
             yield f"examples/recipes/{recipe}", skipped(recipe) or fault_of_recipe(recipe, room)
-        yield "the clock of a live log", fault_of_clock(room)
+        yield "the clock of a live log", fault_of_clock(room, 5, "5")
+        yield "the clock of a live log under a slack", fault_of_clock(room, 7, "5", "2000")
         for document in [*WITH_COMMANDS, *(f"examples/{name}/README.md" for name in examples())]:
             yield from faults_of_commands(document, room)
     for document in WITH_LOGS:

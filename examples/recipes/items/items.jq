@@ -1,5 +1,5 @@
-# Readings as lines of JSON become items, and a line {"tick": T} a tick where time hasn't gone so far by what stands before it.
-# A line that is neither is passed over.
+# Readings as lines of JSON become items, and a line {"tick": T} a tick where time hasn't gone so far by what stands before it,
+# less the slack of a reading. A line that is neither is passed over.
 
 # a number to a thousandth: jq writes 0.00001 as 1e-05, which is no decimal
 def decimal:
@@ -18,7 +18,7 @@ _:r\($number) <http://example.org/celsius> \"\(.celsius | decimal)\"^^<http://ww
 foreach (inputs | fromjson? | select(type == "object")) as $line (
   {readings: 0, latest: 0};
   .block = null
-  | if $line | is_reading then .readings += 1 | .readings as $n | .latest = ([.latest, $line.at] | max) | .block = ($line | item($n))
+  | if $line | is_reading then .readings += 1 | .readings as $n | .latest = ([.latest, $line.at - $slack] | max) | .block = ($line | item($n))
     elif ($line.tick | is_time) and $line.tick > .latest then .latest = $line.tick | .block = "@tick \($line.tick | floor)"
     else . end;
   .block | select(. != null))
