@@ -39,5 +39,6 @@ last_put times new time early put sorted =
     sorted found.0 (length new - 1) time (omega (arith, found.1.0)) within in
     let high : get_or new (length new - 1) time ≤ time =
     All-permutation (λ t. t ≤ time) (time ∷ times) new put (All-cons (λ t. t ≤ time) time times (omega arith) early) (length new - 1) time within in
-    let is : get_or new (length new - 1) time ≡ time = omega (arith, found.1.1, low, high) in
+    let there : get_or new found.0 time ≡ time = found.1.1 in
+    let is : get_or new (length new - 1) time ≡ time = omega (arith, there, low, high) in
     slice_get-get_or new (length new - 1) time within ∙ ap Some is
