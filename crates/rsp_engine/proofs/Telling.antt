@@ -9,7 +9,7 @@ use Rattle.rsp_spec.specs.Windows.{closes_at, in_content}
 use Rattle.rsp_report.specs.declared.chosen.Chosen.{Chosen}
 use Rattle.rsp_report.specs.declared.contents.Watched.{Watched}
 use Rattle.rsp_report.specs.Due as windows
-use Rattle.rsp_engine.specs.Watching.{Told, told_at, with_time}
+use Rattle.rsp_engine.specs.Watching.{Told, enters_at, leaves_at, told_at, with_time}
 
 -- ---- whether some of a list pass a test
 
@@ -133,12 +133,11 @@ told_by true time t w = λ k.
       fresh = true;
     }
 told_by false time t w = λ k.
-    let told = told_at t w in
     record {
       window = w.window;
-      holds = sym (or_false told.holds) k;
-      enters = sym (or_false told.enters) k;
-      leaves = sym (or_false told.leaves) k;
+      holds = sym (or_false (windows.has_content t w)) k;
+      enters = sym (or_false (enters_at t w)) k;
+      leaves = sym (or_false (leaves_at t w)) k;
       fresh = false;
     }
 
