@@ -33,12 +33,12 @@ inserted_sorted times time place sorted within point =
 pub last_put : (times new : List ℕ) (time : ℕ) → All (λ t. t ≤ time) times → IsPermutation (time ∷ times) new → IsNonDecreasing new
     → slice_get new (length new - 1) ≡ Some time
 last_put times new time early put sorted =
-    let found = Contains-permutation (time ∷ times) new time put (0, (omega arith, refl)) in
-    let within : length new - 1 < length new = omega (arith, found.1.0) in
+    let found = Contains-permutation (time ∷ times) new time put (0, omega arith, refl) in
+    let within : length new - 1 < length new = omega (arith, found.1) in
     let low : get_or new found.0 time ≤ get_or new (length new - 1) time =
-    sorted found.0 (length new - 1) time (omega (arith, found.1.0)) within in
+    sorted found.0 (length new - 1) time (omega (arith, found.1)) within in
     let high : get_or new (length new - 1) time ≤ time =
     All-permutation (λ t. t ≤ time) (time ∷ times) new put (All-cons (λ t. t ≤ time) time times (omega arith) early) (length new - 1) time within in
-    let there : get_or new found.0 time ≡ time = found.1.1 in
+    let there : get_or new found.0 time ≡ time = found.2 in
     let is : get_or new (length new - 1) time ≡ time = omega (arith, there, low, high) in
     slice_get-get_or new (length new - 1) time within ∙ ap Some is
