@@ -3,21 +3,12 @@ use Rattle.std.proofs.Common.{◌≡◌, ℕ, ◌-◌, ◌<◌, ◌≤◌, true,
 use Rattle.std.specs.Prelude.{nat_le}
 use Rattle.std.specs.List.{All, insert}
 use Rattle.std.specs.List.Sorted.{IsNonDecreasing, IsPartitionPoint, IsPermutation}
-use Rattle.std.specs.Option.{option_map_or}
 use Rattle.std.proofs.lemmas.Bool.{leb-false, leb-true}
 use Rattle.std.proofs.lemmas.List.Elements.{All-cons}
-use Rattle.std.proofs.lemmas.List.Sorted.{All-permutation, Contains-permutation, IsNonDecreasingBy-insert, IsNonDecreasingBy-push, IsPermutation-sym, IsPermutation-to_front}
+use Rattle.std.proofs.lemmas.List.Sorted.{All-permutation, Contains-permutation, IsNonDecreasingBy-insert, IsPermutation-sym, IsPermutation-to_front}
 use Rattle.std.proofs.lemmas.Option.{slice_get-get_or}
 
--- at the end, where none is later
-pub pushed_sorted : (times : List ℕ) (time : ℕ) → IsNonDecreasing times
-    → option_map_or (λ last. nat_le last time) (slice_get times (length times - 1)) true ≡ true → IsNonDecreasing (times ++ time ∷ [])
-pushed_sorted times time sorted latest = IsNonDecreasingBy-push (λ t. t) times time sorted (λ d some. leb-true _ _ (last_early d some))
-  where
-    last_early : (d : ℕ) → 0 < length times → nat_le (get_or times (length times - 1) d) time ≡ true
-    last_early d some =
-        sym (ap (λ o. option_map_or (λ last. nat_le last time) o true) (slice_get-get_or times (length times - 1) d (omega (arith, some)))) ∙ latest
-
+-- at the end
 pub pushed_moved : (times : List ℕ) (time : ℕ) → IsPermutation (time ∷ times) (times ++ time ∷ [])
 pushed_moved times time = IsPermutation-sym (times ++ time ∷ []) (time ∷ times) (IsPermutation-to_front times time)
 
