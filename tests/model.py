@@ -16,13 +16,14 @@ from query_model import LAST_INSTANT, instant
 from shape_model import fault
 from term_model import XSD_STRING, Blank, Iri, Literal, Tagged, is_absolute, printed
 
-USAGE = b"usage: rsp events [--json] | run [--json] [--store FILE] QUERY STREAM=FILE.. | check QUERY | gen COUNT\n"
+USAGE = b"usage: rsp events [--json] [--slack N] | run [--json] [--store FILE] QUERY STREAM=FILE.. | check QUERY | gen COUNT\n"
 MOST_BYTES = 16_777_216
 MOST_TRIPLES = 100_000
 MOST_HELD = 1_000_000
 MOST_QUERIES = 256
 MOST_QUADS = 1_000_000
 MOST_COUNT = 1_000_000
+MOST_SLACK = 86_400_000
 GENERATED_QUERY = b"""@register g
 PREFIX ex: <http://example.org/>
 REGISTER ISTREAM ex:out AS SELECT ?s (COUNT(*) AS ?n) (SUM(?v) AS ?t)
@@ -341,11 +342,11 @@ def stored_fact(triple, graph=None):
 
 
 class World:
-    """The live queries, in the order of their registrations, all accepted items, the stored quads, and the first instant that
-    isn't complete. A quad that is stored is a key of `stored`."""
+    """The live queries, in the order of their registrations, all accepted items, the stored quads, the first instant that isn't
+    complete, and by how much an item may be behind the latest one. A quad that is stored is a key of `stored`."""
 
-    def __init__(self):
-        self.next, self.items, self.stored, self.queries = None, [], {}, []
+    def __init__(self, slack=0):
+        self.slack, self.next, self.items, self.stored, self.queries = slack, None, [], {}, []
 
     def names(self):
         return [query.name for query in self.queries]
@@ -394,6 +395,8 @@ class World:
         if name in self.names():
             raise Refused("16 NameTaken")
         query = good_query(text)
+        if self.slack > 0 and policy_of(query["policy"]).is_by_tuple:
+            raise Refused("23 SlackTuple")
         if len(self.queries) == MOST_QUERIES:
             raise Refused("18 QueriesFull")
         made, words = translated(query), query["policy"]
@@ -420,12 +423,12 @@ class World:
         self.check_time(time, time)
         if len(graph) > MOST_TRIPLES:
             raise Refused(f"21 ItemTooLarge triples={len(graph)}")
-        items = [*self.items, (stream, time, graph)]
+        items, to = [*self.items, (stream, time, graph)], max(self.next or 0, time - self.slack)
         # where all items together are few, so are those that are needed
-        if sum(len(graph) for _, _, graph in items) > MOST_HELD and (held := self.held(items, time)) > MOST_HELD:
+        if sum(len(graph) for _, _, graph in items) > MOST_HELD and (held := self.held(items, to)) > MOST_HELD:
             raise Refused(f"19 HeldFull held={held}")
         self.items = items
-        yield from self.pass_to(time)
+        yield from self.pass_to(to)
         yield from self.arrive()
 
     def tick(self, time):
@@ -458,25 +461,46 @@ def answer(world, group):
         return b"", str(why)
 
 
-def answers(log):
+def answers(log, slack=0):
     """For each block of a log what it gives, and whether it is refused."""
-    world = World()
+    world = World(slack)
     for number, group in enumerate(groups(lines_of(io.BytesIO(log))), 1):
         text, why = answer(world, group)
         yield (text, False) if why is None else (b"# refused block %d %s\n" % (number, why.encode()), True)
 
 
+def asked_of_log(words):
+    """Whether the reports of a log are wanted as JSON, and its slack; None for all other words."""
+    is_json, slack, rest = False, None, iter(words[1:])
+    if words[:1] != [b"events"]:
+        return None
+    for word in rest:
+        name, sign, value = word.partition(b"=")
+        if word == b"--":
+            return None if list(rest) else (is_json, slack or 0)
+        if word == b"--json" and not is_json:
+            is_json = True
+        elif name == b"--slack" and slack is None:
+            digits = value if sign else next(rest, b"")
+            if not re.fullmatch(rb"[0-9]{1,20}", digits) or int(digits) > MOST_SLACK:
+                return None
+            slack = int(digits)
+        else:
+            return None
+    return is_json, slack or 0
+
+
 def run(words, log):
     """The output and the status of a run."""
-    if words in ([b"events", b"--json"], [b"events", b"--json", b"--"]):
-        tables, status = run([b"events"], log)
-        return as_json(tables), status
     if len(words) == 2 and words[0] == b"gen" and re.fullmatch(rb"0*[1-9][0-9]{0,6}", words[1]) and int(words[1]) <= MOST_COUNT:
         return summary(int(words[1])), 0
-    if words not in ([b"events"], [b"events", b"--"]):
+    asked = asked_of_log(words)
+    if asked is None:
         return USAGE, 2
-    given = list(answers(log))
-    return b"".join(text for text, _ in given), int(any(is_refused for _, is_refused in given))
+    is_json, slack = asked
+    given = list(answers(log, slack))
+    text, status = b"".join(text for text, _ in given), int(any(is_refused for _, is_refused in given))
+    return as_json(text) if is_json else text, status
 
 
 # ---- the generator

@@ -148,7 +148,7 @@ def held_spans(query, items, start, to):
     nor a width or more behind it, since a window that holds it opens before it. So nothing is due between two spans where
     the policy has NONEMPTY or CHANGE."""
     widest = max((window.width for window in query.windows), default=0)
-    for _, time, _ in items[query.first:]:
+    for time in sorted(time for _, time, _ in items[query.first:]):
         start, end = max(start, time), min(to, time + widest + 1)
         if start < end:
             yield start, end

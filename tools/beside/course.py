@@ -22,10 +22,11 @@ class Watched:
 
 
 class Course:
-    """All of it so far. `next` is the first instant that isn't complete, None before any item or tick."""
+    """All of it so far. `next` is the first instant that isn't complete, None before any item or tick; by the slack an item may
+    be behind the latest one."""
 
-    def __init__(self):
-        self.next, self.live, self.watched, self.values = None, {}, [], Values()
+    def __init__(self, slack=0):
+        self.slack, self.next, self.live, self.watched, self.values = slack, None, {}, [], Values()
         self.items, self.late, self.graphs = [], [], set()
         self.streams = {}
 
@@ -67,7 +68,7 @@ class Course:
             return
         if len(graph) > MOST_TRIPLES:
             return
-        self.move(time)
+        self.move(max(self.next or 0, time - self.slack))
         self.streams.setdefault(stream, seen)
         for query in self.live.values():
             if stream in query.streams:

@@ -19,7 +19,7 @@ from .refusals import Good, OfBlock, OfLine, OfQuery, Overfull, details_of, kind
 from .texts import looked
 from .words import parsed
 
-USAGE = "usage: PROGRAM'S OUTPUT | tools/explain [--lines] events [--json] LOG | run WORDS | check QUERY"
+USAGE = "usage: PROGRAM'S OUTPUT | tools/explain [--lines] events [--json] [--slack N] LOG | run WORDS | check QUERY"
 
 
 def explain(words):
@@ -39,7 +39,7 @@ def explained(words, output):
 def of_log(words, entries):
     """Goes through the log and the output side by side: both are in the order of the blocks."""
     entries = Entries(entries)
-    history = History(entries.have("19 HeldFull"))
+    history = History(entries.have("19 HeldFull"), words.slack)
     with opened(words.log) as log:
         for block in blocks.blocks_of(log, words.log):
             if entries.are_over():

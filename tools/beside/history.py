@@ -21,12 +21,13 @@ Windows = namedtuple("Windows", "first windows")
 
 
 class History:
-    """The state behind the blocks so far. `keeps` says whether items are kept in it, which takes memory."""
+    """The state behind the blocks so far. `keeps` says whether items are kept in it, which takes memory; by the slack an item may
+    be behind the latest one."""
 
-    def __init__(self, keeps):
+    def __init__(self, keeps, slack=0):
         self.live, self.ended, self.overfull = {}, {}, []
         self.next, self.next_line, self.items, self.keeps = 0, None, [], keeps
-        self.inserts = []
+        self.inserts, self.slack = [], slack
 
     def take(self, block, is_refused):
         """Goes on behind a block."""
@@ -59,9 +60,13 @@ class History:
             self.next, self.next_line = time, line
 
     def item(self, block, line, stream, time, graph):
-        self.move(time, line)
+        self.move(self.next_with(time), line)
         if self.keeps:
             self.items.append(Kept(stream, time, len(graph), line))
+
+    def next_with(self, time):
+        """The first instant that isn't complete, with an item of this time."""
+        return max(self.next, time - self.slack)
 
     def tick(self, block, line, time):
         self.move(time + 1, line)
@@ -131,8 +136,8 @@ def of_full_items(history, block, details):
     if None in queries:
         said = f"with it {details['held']} triples would be kept, and {MOST_HELD} may be"
         return said, "write shorter windows, or less at a time"
-    own, time = len(block.event[3]), block.event[2]
-    kept = [item for number, item in enumerate(history.items) if is_needed(queries, number, item, time)]
+    own, start = len(block.event[3]), history.next_with(block.event[2])
+    kept = [item for number, item in enumerate(history.items) if is_needed(queries, number, item, start)]
     held = sum(item.triples for item in kept)
     if held + own != details["held"]:
         return None

@@ -2,7 +2,7 @@
 
     tools/lint check QUERY
     tools/lint run [--json] [--store FILE] QUERY STREAM=FILE..
-    tools/lint events [--json] < LOG
+    tools/lint events [--json] [--slack N] < LOG
 """
 from . import blocks, recordings
 from .bindings import unbound
@@ -19,7 +19,10 @@ from .texts import looked
 from .timing import late, seconds, unclosed
 from .words import parsed
 
-USAGE = "usage: tools/lint [--lines] events [--json] < LOG | run [--json] [--store FILE] QUERY STREAM=FILE.. | check QUERY"
+USAGE = (
+    "usage: tools/lint [--lines] events [--json] [--slack N] < LOG"
+    " | run [--json] [--store FILE] QUERY STREAM=FILE.. | check QUERY"
+)
 
 
 def lint(words):
@@ -27,7 +30,7 @@ def lint(words):
     words = parsed(words)
     if words.mode == "events":
         with opened(None) as log:
-            return of_log(log, name_of_input())
+            return of_log(log, name_of_input(), words.slack)
     return of_run(words) if words.mode == "run" else of_check(words)
 
 
@@ -84,9 +87,9 @@ def of_run(words):
 # ---- a log
 
 
-def of_log(log, name):
+def of_log(log, name, slack=0):
     """The findings of a log, an open file, under the name."""
-    course, faults, named = Course(), [], {}
+    course, faults, named = Course(slack), [], {}
     for block in blocks.blocks_of(log, name):
         if block.event is not None:
             take(block, course, faults, named)

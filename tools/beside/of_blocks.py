@@ -13,7 +13,7 @@ from .refusals import details_of, kind_of, number_of
 # the events that can be refused so
 EVENTS_OF = {
     15: (b"@item", b"@tick"), 16: (b"@register",), 17: (b"@cancel",), 18: (b"@register",), 19: (b"@item",), 20: (b"@insert",),
-    21: (b"@item",), 25: (b"@register",), **dict.fromkeys(NUMBERS, (b"@register",)),
+    21: (b"@item",), 23: (b"@register",), 25: (b"@register",), **dict.fromkeys(NUMBERS, (b"@register",)),
 }
 
 

@@ -21,7 +21,7 @@ DETAILS = {
     "10 Limit": "what=(?:text|nesting|windows|span|variables|patterns|operators|elements|rows)", "11 GraphShape": "at=#",
     "12 ExistsShape": "at=#", "13 Scope": "variable=[^ ]+", "14 PolicyMix": "", "15 Late": "time=# next=#", "16 NameTaken": "",
     "17 NoQuery": "", "18 QueriesFull": "", "19 HeldFull": "held=#", "20 StoreFull": "quads=#", "21 ItemTooLarge": "triples=#",
-    "25 StartOverfull": "",
+    "23 SlackTuple": "", "25 StartOverfull": "",
 }
 NUMBER = "[0-9]{1,18}"
 FORMS = "|".join(f"{kind} {details}".rstrip() for kind, details in DETAILS.items()).replace("#", NUMBER)

@@ -2,11 +2,11 @@
 import re
 from collections import namedtuple
 
-MOST_STREAMS = 16
-OPTIONS = {"events": ("--json",), "run": ("--json", "--store"), "check": ()}
+MOST_STREAMS, MOST_SLACK = 16, 86_400_000
+OPTIONS = {"events": ("--json", "--slack"), "run": ("--json", "--store"), "check": ()}
 
 # `log` is the word behind `events`, which only a tool has that doesn't read the log from standard input
-Words = namedtuple("Words", "mode query streams store log", defaults=[None, (), None, None])
+Words = namedtuple("Words", "mode query streams store log slack", defaults=[None, (), None, None, 0])
 Stream = namedtuple("Stream", "name file")
 
 
@@ -21,7 +21,7 @@ def parsed(words, has_log=False):
         raise WrongWords
     values, options = split(words[1:], OPTIONS[mode])
     if mode == "events" and len(values) == int(has_log):
-        return Words(mode, log=named(values[0]) if has_log else None)
+        return Words(mode, log=named(values[0]) if has_log else None, slack=slack(options.get("--slack", "0")))
     if mode == "check" and len(values) == 1:
         return Words(mode, named(values[0]))
     if mode == "run" and 2 <= len(values) <= MOST_STREAMS + 1:
@@ -51,6 +51,13 @@ def named(word):
     if not word or word.startswith("-"):
         raise WrongWords
     return word
+
+
+def slack(word):
+    """By how many milliseconds an item may be behind the latest one."""
+    if not re.fullmatch("[0-9]{1,20}", word) or int(word) > MOST_SLACK:
+        raise WrongWords
+    return int(word)
 
 
 def stream(word):

@@ -111,27 +111,27 @@ nothing_left count given is = none_left 1 given (generated count) (sym is)
 
 -- ---- the summary
 
-pub summary_is : (count : ℕ) (tally now : Tally) (s t : SinkSeen) (refused : Bool) → tally ≡ record { reports = 0; rows = 0 } → Says (voices.Counts tally) (voices.Counts now) s t (run empty_world (map a_block (numbered 1 (generated count)))).said (Ok refused) → a_summary count now.reports now.rows ≡ summary count (said_of count)
+pub summary_is : (count : ℕ) (tally now : Tally) (s t : SinkSeen) (refused : Bool) → tally ≡ record { reports = 0; rows = 0 } → Says (voices.Counts tally) (voices.Counts now) s t (run (empty_world 0) (map a_block (numbered 1 (generated count)))).said (Ok refused) → a_summary count now.reports now.rows ≡ summary count (said_of count)
 unfolding said_of
 summary_is count tally now s t refused none says =
     let counts = rw none at says.0.1 in
     let many = counts.reports in
     let rows = counts.rows in
-    let said = (run empty_world (map a_block (numbered 1 (generated count)))).said in
+    let said = (run (empty_world 0) (map a_block (numbered 1 (generated count)))).said in
     let reports' : now.reports ≡ count_by is_report said = omega (arith, many) in
     let rows' : now.rows ≡ sum_by rows_said said = omega (arith, rows) in
     (λ i. a_summary count (reports' i) (rows' i))
 
-pub summary_ends : (count : ℕ) (tally now : Tally) (s t u : SinkSeen) (refused : Bool) (result : Result Bool Stop) → tally ≡ record { reports = 0; rows = 0 } → Says (voices.Counts tally) (voices.Counts now) s t (run empty_world (map a_block (numbered 1 (generated count)))).said (Ok refused) → sayings.Says Table t u (a_summary count now.reports now.rows ∷ []) result → sayings.Says Table s u (summaries.counted count []) result
+pub summary_ends : (count : ℕ) (tally now : Tally) (s t u : SinkSeen) (refused : Bool) (result : Result Bool Stop) → tally ≡ record { reports = 0; rows = 0 } → Says (voices.Counts tally) (voices.Counts now) s t (run (empty_world 0) (map a_block (numbered 1 (generated count)))).said (Ok refused) → sayings.Says Table t u (a_summary count now.reports now.rows ∷ []) result → sayings.Says Table s u (summaries.counted count []) result
 summary_ends count tally now s t u refused result none says ends =
     rw (sym (summary_is count tally now s t refused none says), ← says.0.0) ends
 
-pub summary_told : (count : ℕ) (tally now : Tally) (after : Voice) (s t u : SinkSeen) (refused : Bool) (counted : Result Bool Stop) (result : Result Bool Stop) → tally ≡ record { reports = 0; rows = 0 } → counted ≡ Ok refused → ((x : Tally) → after ≡ voices.Counts x → now ≡ x) → Says (voices.Counts tally) after s t (run empty_world (map a_block (numbered 1 (generated count)))).said counted → sayings.Says Table t u (a_summary count now.reports now.rows ∷ []) result → sayings.Says Table s u (summaries.counted count []) result
+pub summary_told : (count : ℕ) (tally now : Tally) (after : Voice) (s t u : SinkSeen) (refused : Bool) (counted : Result Bool Stop) (result : Result Bool Stop) → tally ≡ record { reports = 0; rows = 0 } → counted ≡ Ok refused → ((x : Tally) → after ≡ voices.Counts x → now ≡ x) → Says (voices.Counts tally) after s t (run (empty_world 0) (map a_block (numbered 1 (generated count)))).said counted → sayings.Says Table t u (a_summary count now.reports now.rows ∷ []) result → sayings.Says Table s u (summaries.counted count []) result
 summary_told count tally now (voices.Writes form) s t u refused counted result none done is says ends =
-    let told = subst (λ r. Says (voices.Counts tally) (voices.Writes form) s t (run empty_world (map a_block (numbered 1 (generated count)))).said r) done says in
+    let told = subst (λ r. Says (voices.Counts tally) (voices.Writes form) s t (run (empty_world 0) (map a_block (numbered 1 (generated count)))).said r) done says in
     absurd told.0
 summary_told count tally now (voices.Counts x) s t u refused counted result none done is says ends =
-    let told = subst (λ r. Says (voices.Counts tally) (voices.Counts x) s t (run empty_world (map a_block (numbered 1 (generated count)))).said r) done says in
+    let told = subst (λ r. Says (voices.Counts tally) (voices.Counts x) s t (run (empty_world 0) (map a_block (numbered 1 (generated count)))).said r) done says in
     let same : now ≡ x = is x refl in
     summary_ends count tally x s t u refused result none told (subst (λ (n : Tally). sayings.Says Table t u (a_summary count n.reports n.rows ∷ []) result) same ends)
 
@@ -146,6 +146,6 @@ no_summary tally after s t said other why counted stopped says =
     counting_stops tally after s t said other why (subst (λ r. Says (voices.Counts tally) after s t said r) stopped says)
 
 -- all that the generator says
-pub gen_says : (Gave : List Given → Type 0) (Ended : List Given → Option Cut → Type 0) (count : ℕ) (left rest : List Given) (engine engine' : State) (a b : Voice) (s t : SinkSeen) (result : Result Bool Halt) → left ≡ map a_block (numbered 1 (generated count)) → Drove Gave Ended (Some left) (Some rest) [] engine engine' a b s t result → OnOk result (rest ≡ []) → Stands engine empty_world [] → Says a b s t (run empty_world (map a_block (numbered 1 (generated count)))).said (stop_of result)
+pub gen_says : (Gave : List Given → Type 0) (Ended : List Given → Option Cut → Type 0) (count : ℕ) (left rest : List Given) (engine engine' : State) (a b : Voice) (s t : SinkSeen) (result : Result Bool Halt) → left ≡ map a_block (numbered 1 (generated count)) → Drove Gave Ended (Some left) (Some rest) [] engine engine' a b s t result → OnOk result (rest ≡ []) → Stands engine (empty_world 0) [] → Says a b s t (run (empty_world 0) (map a_block (numbered 1 (generated count)))).said (stop_of result)
 gen_says Gave Ended count left rest engine engine' a b s t result is drove none stands =
-    rw is at (all_driven Gave Ended left rest [] engine engine' a b s t result empty_world drove none stands)
+    rw is at (all_driven Gave Ended left rest [] engine engine' a b s t result (empty_world 0) drove none stands)

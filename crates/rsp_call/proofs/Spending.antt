@@ -13,7 +13,7 @@ use Rattle.rsp_engine.specs.Offers.{GivesFirst}
 use Rattle.rsp_engine.specs.Reports.{work_of_reports}
 use Rattle.rsp_engine.specs.Stands.{State, Stands}
 use Rattle.rsp_engine.specs.Steps.{next_work}
-use Rattle.rsp_engine.specs.World.{World, empty_world}
+use Rattle.rsp_engine.specs.World.{World}
 use Rattle.rsp_engine.proofs.ReportSteps.{work_next, work_part, work_step}
 use Rattle.rsp_call.specs.declared.feed.Batch.{Batch}
 use Rattle.rsp_call.specs.declared.feed.Cut.{Cut}
@@ -209,29 +209,29 @@ whole_within document bytes more law world =
     omega (arith, is)
 
 -- by the blocks that have ended in the bytes that were taken, or by all
-by_whole : (document : ℕ) (before now : SourceSeen) (bytes more : List ℕ) (given : List Given) (a b : ℕ) → Took before now (bytes ++ more) → Begins document → given ≡ map a_block (whole_blocks document bytes) → b ≤ a + (run empty_world given).work → CostsLog document before now a b
-by_whole document before now bytes more given a b took law is within =
-    let low = whole_within document bytes more law empty_world in
-    let same : (run empty_world given).work ≡ (run empty_world (map a_block (whole_blocks document bytes))).work = ap (λ g. (run empty_world g).work) is in
+by_whole : (world : World) (document : ℕ) (before now : SourceSeen) (bytes more : List ℕ) (given : List Given) (a b : ℕ) → Took before now (bytes ++ more) → Begins document → given ≡ map a_block (whole_blocks document bytes) → b ≤ a + (run world given).work → CostsLog world document before now a b
+by_whole world document before now bytes more given a b took law is within =
+    let low = whole_within document bytes more law world in
+    let same : (run world given).work ≡ (run world (map a_block (whole_blocks document bytes))).work = ap (λ g. (run world g).work) is in
     record { bytes = bytes ++ more; took = took; within = omega (arith, low, same, within) }
 
-by_read : (document : ℕ) (before now : SourceSeen) (bytes : List ℕ) (given : List Given) (a b : ℕ) → Took before now bytes → Begins document → given ≡ map a_block (whole_blocks document bytes) → b ≤ a + (run empty_world given).work → CostsLog document before now a b
-by_read document before now bytes given a b took law is within =
-    by_whole document before now bytes [] given a b (subst (λ bs. Took before now bs) (sym (append-nil bytes)) took) law is within
+by_read : (world : World) (document : ℕ) (before now : SourceSeen) (bytes : List ℕ) (given : List Given) (a b : ℕ) → Took before now bytes → Begins document → given ≡ map a_block (whole_blocks document bytes) → b ≤ a + (run world given).work → CostsLog world document before now a b
+by_read world document before now bytes given a b took law is within =
+    by_whole world document before now bytes [] given a b (subst (λ bs. Took before now bs) (sym (append-nil bytes)) took) law is within
 
-by_all : (document : ℕ) (before now : SourceSeen) (bytes : List ℕ) (given : List Given) (a b : ℕ) → Took before now bytes → given ≡ map a_block (blocks document bytes) → b ≤ a + (run empty_world given).work → CostsLog document before now a b
-by_all document before now bytes given a b took is within =
-    let same : (run empty_world given).work ≡ (run empty_world (map a_block (blocks document bytes))).work = ap (λ g. (run empty_world g).work) is in
+by_all : (world : World) (document : ℕ) (before now : SourceSeen) (bytes : List ℕ) (given : List Given) (a b : ℕ) → Took before now bytes → given ≡ map a_block (blocks document bytes) → b ≤ a + (run world given).work → CostsLog world document before now a b
+by_all world document before now bytes given a b took is within =
+    let same : (run world given).work ≡ (run world (map a_block (blocks document bytes))).work = ap (λ g. (run world g).work) is in
     record { bytes = bytes; took = took; within = omega (arith, same, within) }
 
-came_costs : (before now : SourceSeen) (at_end : Bool) (most taken : ℕ) (reader : Reader) (given : List Given) (a b : ℕ) (result : Result Bool Halt) → Came (LogGave at_end most taken reader before now) (LogEnded most reader.document before now) given result → b ≤ a + (run empty_world given).work → CostsLog reader.document before now a b
-came_costs before now at_end most taken reader given a b (Ok refused) came within = by_all reader.document before now came.bytes given a b came.took came.blocks within
-came_costs before now false most taken reader given a b (Err (halt.Stop why)) came within = by_read reader.document before now came.bytes given a b came.took (subst (λ d. Begins d) refl came.begins) came.blocks within
-came_costs before now true most taken reader given a b (Err (halt.Stop why)) came within = by_all reader.document before now came.bytes given a b came.took came.blocks within
-came_costs before now at_end most taken reader given a b (Err (halt.Cut cut.Failed)) came within = by_read reader.document before now came.bytes given a b came.took came.begins came.blocks within
-came_costs before now at_end most taken reader given a b (Err (halt.Cut cut.TooLong)) came within = by_whole reader.document before now came.bytes came.last given a b came.took came.begins came.blocks within
-came_costs before now at_end most taken reader given a b (Err (halt.Cut cut.Memory)) came within = by_whole reader.document before now came.bytes came.last given a b came.took came.begins came.blocks within
+came_costs : (world : World) (before now : SourceSeen) (at_end : Bool) (most taken : ℕ) (reader : Reader) (given : List Given) (a b : ℕ) (result : Result Bool Halt) → Came (LogGave at_end most taken reader before now) (LogEnded most reader.document before now) given result → b ≤ a + (run world given).work → CostsLog world reader.document before now a b
+came_costs world before now at_end most taken reader given a b (Ok refused) came within = by_all world reader.document before now came.bytes given a b came.took came.blocks within
+came_costs world before now false most taken reader given a b (Err (halt.Stop why)) came within = by_read world reader.document before now came.bytes given a b came.took (subst (λ d. Begins d) refl came.begins) came.blocks within
+came_costs world before now true most taken reader given a b (Err (halt.Stop why)) came within = by_all world reader.document before now came.bytes given a b came.took came.blocks within
+came_costs world before now at_end most taken reader given a b (Err (halt.Cut cut.Failed)) came within = by_read world reader.document before now came.bytes given a b came.took came.begins came.blocks within
+came_costs world before now at_end most taken reader given a b (Err (halt.Cut cut.TooLong)) came within = by_whole world reader.document before now came.bytes came.last given a b came.took came.begins came.blocks within
+came_costs world before now at_end most taken reader given a b (Err (halt.Cut cut.Memory)) came within = by_whole world reader.document before now came.bytes came.last given a b came.took came.begins came.blocks within
 
-pub log_costs : (document : ℕ) (before now : SourceSeen) (at_end : Bool) (most taken : ℕ) (reader : Reader) (l m : Option (List Given)) (engine : State) (a b : ℕ) (result : Result Bool Halt) → reader.document ≡ document → Stands engine empty_world [] → Spends (LogGave at_end most taken reader before now) (LogEnded most reader.document before now) l m [] engine a b result → CostsLog document before now a b
-log_costs document before now at_end most taken reader l m engine a b result is stands spends =
-    subst (λ d. CostsLog d before now a b) is (came_costs before now at_end most taken reader spends.given a b result spends.came (spends.within empty_world stands))
+pub log_costs : (world : World) (document : ℕ) (before now : SourceSeen) (at_end : Bool) (most taken : ℕ) (reader : Reader) (l m : Option (List Given)) (engine : State) (a b : ℕ) (result : Result Bool Halt) → reader.document ≡ document → Stands engine world [] → Spends (LogGave at_end most taken reader before now) (LogEnded most reader.document before now) l m [] engine a b result → CostsLog world document before now a b
+log_costs world document before now at_end most taken reader l m engine a b result is stands spends =
+    subst (λ d. CostsLog world d before now a b) is (came_costs world before now at_end most taken reader spends.given a b result spends.came (spends.within world stands))

@@ -123,9 +123,9 @@ two_given batches x y one more first second =
 
 -- ---- all of it
 
-pub replayed_is : (replay : Replay) (files : List (List ℕ)) → (run empty_world (given_of replay files)).said ≡ replayed replay files
+pub replayed_is : (replay : Replay) (files : List (List ℕ)) → (run (empty_world 0) (given_of replay files)).said ≡ replayed replay files
 replayed_is replay files = refl
 
-pub run_says : (Gave : List Given → Type 0) (Ended : List Given → Option Cut → Type 0) (all rest : List Given) (engine engine' : State) (form : Form) (after : Voice) (s t : SinkSeen) (result : Result Bool Halt) → Drove Gave Ended (Some all) (Some rest) [] engine engine' (Writes form) after s t result → OnOk result (rest ≡ []) → Stands engine empty_world [] → Says form s t (run empty_world all).said (stop_of result)
+pub run_says : (Gave : List Given → Type 0) (Ended : List Given → Option Cut → Type 0) (all rest : List Given) (engine engine' : State) (form : Form) (after : Voice) (s t : SinkSeen) (result : Result Bool Halt) → Drove Gave Ended (Some all) (Some rest) [] engine engine' (Writes form) after s t result → OnOk result (rest ≡ []) → Stands engine (empty_world 0) [] → Says form s t (run (empty_world 0) all).said (stop_of result)
 run_says Gave Ended all rest engine engine' form after s t result drove none stands =
-    written_says form after s t _ _ (all_driven Gave Ended all rest [] engine engine' (Writes form) after s t result empty_world drove none stands)
+    written_says form after s t _ _ (all_driven Gave Ended all rest [] engine engine' (Writes form) after s t result (empty_world 0) drove none stands)

@@ -5,12 +5,11 @@ use Rattle.std.specs.Io.KnownBytes.{IsAtEnd}
 use Rattle.rsp_spec.specs.Faults.{Rose}
 use Rattle.rsp_spec.specs.Limits.{most_file_bytes, most_log_bytes}
 use Rattle.rsp_io.specs.Seen.{SinkSeen, SourceSeen}
-use Rattle.rsp_engine.specs.World.{empty_world}
 use Rattle.rsp_words.specs.declared.form.Form.TheVariants.{Table}
 use Rattle.rsp_call.specs.declared.status.Status.{Status}
 use Rattle.rsp_call.specs.declared.status.Status.TheVariants.{Done, DoneWithRefusals, Usage, ReadFault, WriteFault, TooLong}
 use Rattle.rsp_words.specs.Words.{Mode, events, run, check, generate, names_of}
-use Rattle.rsp_call.specs.Output.{Start, log_said, output, usage_text, whole_text}
+use Rattle.rsp_call.specs.Output.{Start, log_said, output, start_of, usage_text, whole_text}
 use Rattle.rsp_call.specs.Sources.{Took}
 use Rattle.rsp_call.specs.Shelves.{ShelfSeen}
 use Rattle.rsp_call.specs.Checks.{checked}
@@ -71,10 +70,10 @@ AnswersUsage sink sink' Usage = Wrote sink sink' usage_text
 AnswersUsage sink sink' WriteFault = WriteFailed sink sink' usage_text
 AnswersUsage sink sink' _ = ⊥
 
--- by what the words ask for: a log from the empty world on, as document 1; a check and the generator say no report
+-- by what the words ask for; a check and the generator say no report
 abbrev pub Answers : Option Mode → SourceSeen → SourceSeen → ShelfSeen → ShelfSeen → SinkSeen → SinkSeen → Status → Type 0
-Answers (Some (events form)) before now shelf shelf' sink sink' status =
-    AnswersLog (record { form = form; world = empty_world; document = 1 }) before now sink sink' status
+Answers (Some (events log)) before now shelf shelf' sink sink' status =
+    AnswersLog (start_of log) before now sink sink' status
 Answers (Some (run replay)) before now shelf shelf' sink sink' status =
     AnswersFiles most_file_bytes replay.form (names_of replay) (replayed replay) shelf shelf' sink sink' status
 Answers (Some (check query)) before now shelf shelf' sink sink' status =
@@ -85,7 +84,7 @@ Answers None before now shelf shelf' sink sink' status = AnswersUsage sink sink'
 
 -- the log alone is read from the source
 abbrev pub reads_source : Option Mode → Bool
-reads_source (Some (events form)) = true
+reads_source (Some (events log)) = true
 reads_source _ = false
 
 -- and files alone from the shelf

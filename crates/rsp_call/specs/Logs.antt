@@ -7,16 +7,10 @@ use Rattle.rsp_io.specs.Seen.{SourceSeen}
 use Rattle.rsp_events.specs.declared.event.Block.{Block}
 use Rattle.rsp_events.specs.Blocks.{blocks, whole_blocks}
 use Rattle.rsp_events.specs.Reader.{Reader, HasRead}
-use Rattle.rsp_engine.specs.World.{empty_world}
 use Rattle.rsp_call.specs.declared.feed.Cut.{Cut}
 use Rattle.rsp_call.specs.declared.feed.Cut.TheVariants.{Failed, TooLong, Memory}
-use Rattle.rsp_words.specs.declared.form.Form.{Form}
-use Rattle.rsp_call.specs.Output.{Given, Start, a_block}
+use Rattle.rsp_call.specs.Output.{Given, a_block}
 use Rattle.rsp_call.specs.Sources.{Took}
-
--- a log is document 1, and begins with the empty world
-abbrev pub start_of : Form → Start
-start_of form = record { form = form; world = empty_world; document = 1 }
 
 -- however a document goes on, its blocks begin with those that have ended
 abbrev pub Begins : ℕ → Type 0

@@ -12,13 +12,14 @@ use Rattle.rsp_streams_out.specs.Reports.{overfull_text, report_text}
 use Rattle.rsp_engine.specs.declared.report.Report.{Report}
 use Rattle.rsp_engine.specs.declared.report.Outcome.{Outcome}
 use Rattle.rsp_engine.specs.declared.report.Outcome.TheVariants.{Rows, Overfull}
-use Rattle.rsp_engine.specs.World.{World}
+use Rattle.rsp_engine.specs.World.{World, empty_world}
 use Rattle.rsp_engine.specs.declared.refused.Refused.{Refused}
 use Rattle.rsp_engine.specs.Accept.{accept}
 use Rattle.rsp_engine.specs.Moments.{moments}
 use Rattle.rsp_engine.specs.Reports.{reports, work_of_reports, world_behind}
 use Rattle.rsp_words.specs.declared.form.Form.{Form}
 use Rattle.rsp_words.specs.declared.form.Form.TheVariants.{Table, Json}
+use Rattle.rsp_words.specs.declared.log.Log.{Log}
 use Rattle.rsp_call.specs.declared.refusals.Place.{Place}
 use Rattle.rsp_call.specs.declared.refusals.Place.TheVariants as place
 use Rattle.rsp_call.specs.Refusals.{Reason, of_block, of_event, refusal_line}
@@ -108,6 +109,10 @@ pub record Start : Type 0 where
   pub world : World
   pub document : ℕ
 
+-- the log of the program's words: from the empty world on, as document 1
+abbrev pub start_of : Log → Start
+start_of log = record { form = log.form; world = empty_world log.slack; document = 1 }
+
 abbrev pub said_from : Start → List Block → List Saying
 said_from start blocks = (run start.world (map a_block blocks)).said
 
@@ -125,4 +130,5 @@ whole_text start bytes = text_of start.form (said_from start (whole_blocks start
 -- what is written where the words are in no row of the table
 abbrev pub usage_text : List ℕ
 usage_text =
-    codes "usage: rsp events [--json] | run [--json] [--store FILE] QUERY STREAM=FILE.. | check QUERY | gen COUNT" ++ codes "\n"
+    codes "usage: rsp events [--json] [--slack N] | run [--json] [--store FILE] QUERY STREAM=FILE.. | check QUERY | gen COUNT"
+    ++ codes "\n"

@@ -12,7 +12,7 @@ use Rattle.rsp_translation.specs.declared.shape.Shape.TheVariants as shape
 use Rattle.rsp_engine.specs.declared.refused.TextFault.TheVariants.{Syntax, Shape, Policy}
 use Rattle.rsp_engine.specs.declared.refused.Refused.{Refused}
 use Rattle.rsp_engine.specs.declared.refused.Refused.TheVariants.{Text, Late, NameTaken, NoQuery, QueriesFull}
-use Rattle.rsp_engine.specs.declared.refused.Refused.TheVariants.{HeldFull, StoreFull, ItemTooLarge, StartOverfull}
+use Rattle.rsp_engine.specs.declared.refused.Refused.TheVariants.{HeldFull, StoreFull, ItemTooLarge, SlackTuple, StartOverfull}
 use Rattle.rsp_call.specs.declared.refusals.Place.{Place}
 use Rattle.rsp_call.specs.declared.refusals.Place.TheVariants.{Block, Query, Line}
 
@@ -58,6 +58,7 @@ row (of_event QueriesFull) = (18, codes "QueriesFull", [])
 row (of_event (HeldFull held)) = (19, codes "HeldFull", codes " held=" ++ decimal held)
 row (of_event (StoreFull quads)) = (20, codes "StoreFull", codes " quads=" ++ decimal quads)
 row (of_event (ItemTooLarge triples)) = (21, codes "ItemTooLarge", codes " triples=" ++ decimal triples)
+row (of_event SlackTuple) = (23, codes "SlackTuple", [])
 row (of_event StartOverfull) = (25, codes "StartOverfull", [])
 row (of_event _) = (0, [], [])
 

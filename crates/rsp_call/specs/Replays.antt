@@ -60,4 +60,4 @@ given_of replay [] = []
 given_of replay (query ∷ files) = given_by replay.streams query replay.store files
 
 abbrev pub replayed : Replay → List (List ℕ) → List Saying
-replayed replay files = (run empty_world (given_of replay files)).said
+replayed replay files = (run (empty_world 0) (given_of replay files)).said

@@ -35,7 +35,7 @@ summary count said = a_summary count (count_by is_report said) (sum_by rows_said
 
 -- what the events say, from the empty world
 unfoldable pub said_of : ℕ → List Saying
-said_of count = (run empty_world (map a_block (numbered 1 (generated count)))).said
+said_of count = (run (empty_world 0) (map a_block (numbered 1 (generated count)))).said
 
 -- no file is read
 abbrev pub counted : ℕ → List (List ℕ) → List Saying

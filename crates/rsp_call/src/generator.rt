@@ -118,11 +118,11 @@ pub(crate) fn generate<A: Answer, K: Sink, L: Ledger>(
     steps: &mut Steps<L>,
 ) -> Status
     requires idle { IsTrue (is_idle engine.old) }
-    requires new { Stands engine.old empty_world [] }
+    requires new { Stands engine.old (empty_world 0) [] }
     requires count { count ≤ 1000000 }
     ensures text { (shelf : ShelfSeen) → AnswersFiles most_file_bytes Table [] (counted count) shelf shelf
         (K.seen out.old) (K.seen out.new) result }
-    ensures cost { steps.new ≤ steps.old + work_of (map a_block (numbered 1 (generated count))) }
+    ensures cost { steps.new ≤ steps.old + work_of (empty_world 0) (map a_block (numbered 1 (generated count))) }
 {
     status_of(tell_summary(alloc, engine, count, out, steps))
 }
@@ -136,10 +136,10 @@ fn tell_summary<A: Answer, K: Sink, L: Ledger>(
     steps: &mut Steps<L>,
 ) -> Result<bool, Stop>
     requires idle { IsTrue (is_idle engine.old) }
-    requires new { Stands engine.old empty_world [] }
+    requires new { Stands engine.old (empty_world 0) [] }
     requires count { count ≤ 1000000 }
     ensures says { Says Table (K.seen out.old) (K.seen out.new) (counted count []) result }
-    ensures cost { steps.new ≤ steps.old + work_of (map a_block (numbered 1 (generated count))) }
+    ensures cost { steps.new ≤ steps.old + work_of (empty_world 0) (map a_block (numbered 1 (generated count))) }
 {
     let mut feed = GenFeed::new(alloc, count);
     let mut nothing = SteadySource::new(Vec::new(alloc), 1);

@@ -124,6 +124,7 @@ fn kind(answered: &Answered) -> Option<(u64, &'static str)>
         Answered::Event(Refused::HeldFull { .. }) => Some((19, "HeldFull")),
         Answered::Event(Refused::StoreFull { .. }) => Some((20, "StoreFull")),
         Answered::Event(Refused::ItemTooLarge { .. }) => Some((21, "ItemTooLarge")),
+        Answered::Event(Refused::SlackTuple) => Some((23, "SlackTuple")),
         Answered::Event(Refused::StartOverfull) => Some((25, "StartOverfull")),
         Answered::Event(Refused::Broken) | Answered::Event(Refused::OutOfMemory) => None,
     }

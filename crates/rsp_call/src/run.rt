@@ -58,7 +58,7 @@ pub(crate) fn replay<A: Answer, H: Shelf, K: Sink, L: Ledger>(
     steps: &mut Steps<L>,
 ) -> Status
     requires idle { IsTrue (is_idle engine.old) }
-    requires new { Stands engine.old empty_world [] }
+    requires new { Stands engine.old (empty_world 0) [] }
     ensures files { AnswersFiles most_file_bytes replay.now.form
         (names_of (replay_for replay.now)) (replayed (replay_for replay.now))
         (shelf_seen (H.files shelf.old) (H.seen shelf.old))
@@ -86,12 +86,12 @@ fn tell_feed<A: Answer, K: Sink, L: Ledger>(
     steps: &mut Steps<L>,
 ) -> Result<bool, Stop>
     requires idle { IsTrue (is_idle engine.old) }
-    requires new { Stands engine.old empty_world [] }
+    requires new { Stands engine.old (empty_world 0) [] }
     requires timed { AreTimedBatches (into_iter_items feed.batches) }
     ensures says { Says form (K.seen out.old) (K.seen out.new)
-        (run empty_world (run_left feed.files feed.file feed.line
+        (run (empty_world 0) (run_left feed.files feed.file feed.line
         (into_iter_items feed.batches))).said result }
-    ensures cost { steps.new ≤ steps.old + (run empty_world (run_left feed.files feed.file feed.line
+    ensures cost { steps.new ≤ steps.old + (run (empty_world 0) (run_left feed.files feed.file feed.line
         (into_iter_items feed.batches))).work }
 {
     let mut feed = feed;

@@ -282,7 +282,7 @@ fn a_log_that_is_cut_gives_the_shorter_text(rt: HostRuntime) -> Result<(), Fail>
 fn other_words_read_nothing(rt: HostRuntime) -> Result<(), Fail> {
     let alloc = rt.alloc();
     let usage =
-        "usage: rsp events [--json] | run [--json] [--store FILE] QUERY STREAM=FILE.. | check QUERY | gen COUNT\n";
+        "usage: rsp events [--json] [--slack N] | run [--json] [--store FILE] QUERY STREAM=FILE.. | check QUERY | gen COUNT\n";
     // a first read would fail
     let case = Case {
         words: &["frob"],

@@ -4,3 +4,4 @@ mod WordRows
 pub mod Optional
 pub mod Cutting
 pub mod Places
+pub mod Slack

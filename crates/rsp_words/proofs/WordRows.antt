@@ -11,35 +11,11 @@ use Rattle.rsp_words.specs.Words.{Mode, Stream, check, events, generate, mode_of
 pub no_words : mode_of [] ≡ None
 no_words = refl
 
-pub log : mode_of (codes "events" ∷ []) ≡ Some (events Table)
-log = refl
-
-pub log_and_dashes : mode_of (codes "events" ∷ codes "--" ∷ []) ≡ Some (events Table)
-log_and_dashes = refl
-
-pub log_as_json : mode_of (codes "events" ∷ codes "--json" ∷ []) ≡ Some (events Json)
-log_as_json = refl
-
-pub json_before_dashes : mode_of (codes "events" ∷ codes "--json" ∷ codes "--" ∷ []) ≡ Some (events Json)
-json_before_dashes = refl
-
-pub json_behind_dashes : mode_of (codes "events" ∷ codes "--" ∷ codes "--json" ∷ []) ≡ None
-json_behind_dashes = refl
-
-pub json_twice : mode_of (codes "events" ∷ codes "--json" ∷ codes "--json" ∷ []) ≡ None
-json_twice = refl
-
-pub json_and_dashes_twice : mode_of (codes "events" ∷ codes "--json" ∷ codes "--" ∷ codes "--" ∷ []) ≡ None
-json_and_dashes_twice = refl
-
 pub json_before_the_mode : mode_of (codes "--json" ∷ codes "events" ∷ []) ≡ None
 json_before_the_mode = refl
 
 pub json_of_a_check : mode_of (codes "check" ∷ codes "--json" ∷ codes "q.rq" ∷ []) ≡ None
 json_of_a_check = refl
-
-pub log_and_a_value : mode_of (codes "events" ∷ codes "log" ∷ []) ≡ None
-log_and_a_value = refl
 
 pub one_file : mode_of (codes "check" ∷ codes "q.rq" ∷ []) ≡ Some (check (codes "q.rq"))
 one_file = refl
@@ -82,6 +58,100 @@ pub with_a_sign : mode_of (codes "gen" ∷ codes "+5" ∷ []) ≡ None
 unfolding read_u64
 with_a_sign = refl
 
+-- ---- `events`: what each of some lists of words behind it asks for
+
+abbrev pub logs_by : List (List (List ℕ)) → List (Option Mode)
+logs_by lists = map (λ words. mode_of (codes "events" ∷ words)) lists
+
+abbrev pub log : Form → ℕ → Option Mode
+log form slack = Some (events (record { form = form; slack = slack }))
+
+abbrev pub json : List ℕ
+json = codes "--json"
+
+abbrev pub slack : List ℕ
+slack = codes "--slack"
+
+abbrev pub slack_5 : List ℕ
+slack_5 = codes "--slack=5"
+
+abbrev pub five : List ℕ
+five = codes "5"
+
+abbrev pub dashes : List ℕ
+dashes = codes "--"
+
+pub plain_log : logs_by ([] ∷ (dashes ∷ []) ∷ []) ≡ replicate 2 (log Table 0)
+plain_log = refl
+
+pub log_as_json : logs_by ((json ∷ []) ∷ (json ∷ dashes ∷ []) ∷ []) ≡ replicate 2 (log Json 0)
+log_as_json = refl
+
+-- `--json` behind `--` or twice, two `--`, a value
+pub json_out_of_place : logs_by
+    ((dashes ∷ json ∷ [])
+    ∷ (json ∷ json ∷ [])
+    ∷ (json ∷ dashes ∷ json ∷ [])
+    ∷ (dashes ∷ dashes ∷ [])
+    ∷ (json ∷ dashes ∷ dashes ∷ [])
+    ∷ (codes "log" ∷ [])
+    ∷ (json ∷ codes "log" ∷ [])
+    ∷ (codes "--table" ∷ [])
+    ∷ [])
+    ≡ replicate 8 None
+json_out_of_place = refl
+
+pub with_slack : logs_by ((slack ∷ five ∷ []) ∷ (slack_5 ∷ []) ∷ (slack ∷ five ∷ dashes ∷ []) ∷ (slack_5 ∷ dashes ∷ []) ∷ [])
+    ≡ replicate 4 (log Table 5)
+unfolding read_u64
+with_slack = refl
+
+pub slack_and_json : logs_by
+    ((json ∷ slack ∷ five ∷ [])
+    ∷ (slack ∷ five ∷ json ∷ [])
+    ∷ (json ∷ slack_5 ∷ dashes ∷ [])
+    ∷ (slack_5 ∷ json ∷ [])
+    ∷ [])
+    ≡ replicate 4 (log Json 5)
+unfolding read_u64
+slack_and_json = refl
+
+pub slack_in_digits : logs_by
+    ((slack ∷ codes "0" ∷ [])
+    ∷ (slack ∷ codes "007" ∷ [])
+    ∷ (codes "--slack=86400000" ∷ [])
+    ∷ (slack ∷ codes "86400001" ∷ [])
+    ∷ (slack ∷ codes "-1" ∷ [])
+    ∷ (slack ∷ codes "+1" ∷ [])
+    ∷ (slack ∷ codes "18446744073709551616" ∷ [])
+    ∷ (codes "--slack=" ∷ [])
+    ∷ (slack ∷ [] ∷ [])
+    ∷ [])
+    ≡ log Table 0 ∷ log Table 7 ∷ log Table 86400000 ∷ replicate 6 None
+unfolding read_u64
+slack_in_digits = refl
+
+-- `--slack` twice or behind `--`, without its number, with an option in its place, with a value, and of another mode
+pub slack_out_of_place : logs_by
+    ((slack_5 ∷ slack_5 ∷ [])
+    ∷ (slack ∷ five ∷ slack ∷ five ∷ [])
+    ∷ (slack ∷ five ∷ slack_5 ∷ [])
+    ∷ (dashes ∷ slack_5 ∷ [])
+    ∷ (dashes ∷ slack ∷ five ∷ [])
+    ∷ (json ∷ dashes ∷ slack_5 ∷ [])
+    ∷ (slack ∷ [])
+    ∷ (json ∷ slack ∷ [])
+    ∷ (slack ∷ dashes ∷ [])
+    ∷ (slack ∷ dashes ∷ five ∷ [])
+    ∷ (slack ∷ json ∷ [])
+    ∷ (slack ∷ json ∷ five ∷ [])
+    ∷ (slack ∷ five ∷ five ∷ [])
+    ∷ (codes "--slack5" ∷ [])
+    ∷ [])
+    ≡ replicate 14 None
+unfolding read_u64
+slack_out_of_place = refl
+
 -- ---- `run`: what each of some lists of words behind it asks for, with the query's file `q` and the stream `s:a` in the file `a`
 
 abbrev pub asked_by : List (List (List ℕ)) → List (Option Mode)
@@ -99,17 +169,11 @@ query = codes "q"
 abbrev pub stream : List ℕ
 stream = codes "s:a=a"
 
-abbrev pub json : List ℕ
-json = codes "--json"
-
 abbrev pub store : List ℕ
 store = codes "--store"
 
 abbrev pub store_r : List ℕ
 store_r = codes "--store=r"
-
-abbrev pub dashes : List ℕ
-dashes = codes "--"
 
 pub plain_run : asked_by ((query ∷ stream ∷ []) ∷ []) ≡ wanted Table None ∷ []
 unfolding rsplit_once chars
@@ -174,8 +238,9 @@ pub options_out_of_place : asked_by
     ∷ (store ∷ json ∷ query ∷ stream ∷ [])
     ∷ (store ∷ dashes ∷ query ∷ stream ∷ [])
     ∷ (codes "--table" ∷ query ∷ stream ∷ [])
+    ∷ (slack_5 ∷ query ∷ stream ∷ [])
     ∷ [])
-    ≡ replicate 15 None
+    ≡ replicate 16 None
 unfolding rsplit_once chars
 options_out_of_place = refl
 

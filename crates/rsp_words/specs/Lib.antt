@@ -2,4 +2,5 @@
 pub mod Words
 -- Words of the way
 pub mod Asked
+pub mod LogWords
 pub mod Playing

@@ -10,6 +10,7 @@ use Rattle.rsp_terms.specs.Characters.{is_iri_text}
 use Rattle.rsp_text.specs.Digits.{read_u64}
 use Rattle.rsp_words.specs.declared.form.Form.{Form}
 use Rattle.rsp_words.specs.declared.form.Form.TheVariants.{Table, Json}
+use Rattle.rsp_words.specs.declared.log.Log.{Log}
 
 -- a recorded stream: its name, and the name of its file
 pub record Stream : Type 0 where
@@ -31,10 +32,10 @@ names_behind replay = option_to_list replay.store ++ map (λ (stream : Stream). 
 abbrev pub names_of : Replay → List (List ℕ)
 names_of replay = replay.query ∷ names_behind replay
 
--- to work off the log and write its reports in this form; to replay recorded streams for a query; to check the query in the file
--- of this name; to work off so many items of the generator
+-- to work off a log; to replay recorded streams for a query; to check the query in the file of this name; to work off so many
+-- items of the generator
 pub data Mode : Type 0 where
-  events : Form → Mode
+  events : Log → Mode
   run : Replay → Mode
   check : List ℕ → Mode
   generate : ℕ → Mode
@@ -58,32 +59,49 @@ without_json [] = []
 without_json (word ∷ more) =
     if is_dashes word then word ∷ more else (if is_json word then more else word ∷ without_json more)
 
-abbrev pub is_store : List ℕ → Bool
-is_store word = bytes_eq word (codes "--store")
+-- what stands behind the front of a text
+abbrev pub behind : List ℕ → List ℕ → Option (List ℕ)
+behind front text = if starts_with nat_eq text front then Some (drop (length front) text) else None
 
--- what stands behind `--store=`
-abbrev pub store_in : List ℕ → Option (List ℕ)
-store_in word = if starts_with nat_eq word (codes "--store=") then Some (drop 8 word) else None
+-- what stands behind an option's name and `=`
+abbrev pub value_in : List ℕ → List ℕ → Option (List ℕ)
+value_in name word = option_and_then (behind (codes "=")) (behind name word)
 
--- the file that the option `--store` names, before a `--`: what stands behind its `=`, or the next word
-abbrev pub store_of : List (List ℕ) → Option (List ℕ)
-store_of [] = None
-store_of (word ∷ []) = if is_dashes word then None else store_in word
-store_of (word ∷ next ∷ more) =
+-- the value of the option of this name, before a `--`: what stands behind its `=`, or the next word
+abbrev pub value_of : List ℕ → List (List ℕ) → Option (List ℕ)
+value_of name [] = None
+value_of name (word ∷ []) = if is_dashes word then None else value_in name word
+value_of name (word ∷ next ∷ more) =
     if is_dashes word
     then None
-    else (if is_store word then Some next else option_or (store_in word) (store_of (next ∷ more)))
+    else (if bytes_eq word name then Some next else option_or (value_in name word) (value_of name (next ∷ more)))
 
 -- the words without this option; another one stays, and is no value that a mode takes
-abbrev pub without_store : List (List ℕ) → List (List ℕ)
-without_store [] = []
-without_store (word ∷ []) =
-    if is_dashes word then word ∷ [] else (if is_some (store_in word) then [] else word ∷ [])
-without_store (word ∷ next ∷ more) =
+abbrev pub without : List ℕ → List (List ℕ) → List (List ℕ)
+without name [] = []
+without name (word ∷ []) =
+    if is_dashes word then word ∷ [] else (if is_some (value_in name word) then [] else word ∷ [])
+without name (word ∷ next ∷ more) =
     if is_dashes word
     then word ∷ next ∷ more
     else
-    (if is_store word then more else (if is_some (store_in word) then next ∷ more else word ∷ without_store (next ∷ more)))
+    (if bytes_eq word name
+    then more
+    else (if is_some (value_in name word) then next ∷ more else word ∷ without name (next ∷ more)))
+
+-- the file that the option `--store` names
+abbrev pub store_of : List (List ℕ) → Option (List ℕ)
+store_of words = value_of (codes "--store") words
+
+abbrev pub without_store : List (List ℕ) → List (List ℕ)
+without_store words = without (codes "--store") words
+
+-- the number that the option `--slack` gives
+abbrev pub slack_of : List (List ℕ) → Option (List ℕ)
+slack_of words = value_of (codes "--slack") words
+
+abbrev pub without_slack : List (List ℕ) → List (List ℕ)
+without_slack words = without (codes "--slack") words
 
 -- the values: all words but the first `--`
 abbrev pub values : List (List ℕ) → List (List ℕ)
@@ -101,10 +119,23 @@ is_count count = nat_le 1 count && nat_le count 1000000
 
 -- ---- the rows of the table, each by its options and its values
 
--- events [--json]
-abbrev pub events_of : Form → List (List ℕ) → Option Mode
-events_of form [] = Some (events form)
-events_of form _ = None
+-- a slack in milliseconds, in digits: at most a day; none is 0
+abbrev pub slack_read : Option (List ℕ) → Option ℕ
+slack_read None = Some 0
+slack_read (Some digits) = option_and_then (λ slack. then_some (nat_le slack 86400000) slack) (read_u64 digits)
+
+abbrev pub log_for : Form → List (List ℕ) → Option ℕ → Option Log
+log_for form [] slack = option_map (λ slack. record { form = form; slack = slack }) slack
+log_for form _ slack = None
+
+-- events [--json] [--slack N]
+abbrev pub log_of : List (List ℕ) → Option Log
+log_of words =
+    let rest = without_slack words in
+    log_for (form_of rest) (values (without_json rest)) (slack_read (slack_of words))
+
+abbrev pub events_of : List (List ℕ) → Option Mode
+events_of words = option_map events (log_of words)
 
 -- a stream's word is cut at its last `=`; its name is an absolute IRI
 abbrev pub stream_of : List ℕ → Option Stream
@@ -146,7 +177,7 @@ generate_of _ = None
 
 abbrev pub table : List (List ℕ × (List (List ℕ) → Option Mode))
 table =
-    (codes "events", λ words. events_of (form_of words) (values (without_json words)))
+    (codes "events", events_of)
     ∷ (codes "run", run_of)
     ∷ (codes "check", λ words. check_of (values words))
     ∷ (codes "gen", λ words. generate_of (values words))

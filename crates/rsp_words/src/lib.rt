@@ -6,10 +6,13 @@
 #![tactic(auto)]
 
 mod form;
+mod log;
 mod options;
 mod replay;
+mod valued;
 mod words;
 
 pub use form::Form;
+pub use log::Log;
 pub use replay::{Replay, Stream, name_at};
 pub use words::{Mode, mode_of, words_behind_name};

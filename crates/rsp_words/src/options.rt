@@ -1,9 +1,10 @@
 // The options and the values of `run`, word by word.
-ghost use Rattle.std.specs.Prelude.{◌≡◌, ◌∷◌, ◌++◌, ◌<◌, [], ℕ, IfSome, List, MatchOption, Some, false, length, map, option_map};
+ghost use Rattle.std.specs.Prelude.{◌≡◌, ◌∷◌, ◌++◌, ◌<◌, [], ℕ, IfSome, List, MatchOption, false, length, map};
 ghost use Rattle.rsp_words.specs.Playing.{form_ahead, options, options_in, options_of, values_ahead, values_in};
-ghost use Rattle.rsp_words.specs.Words.{is_dashes, store_in, store_of, without_store};
+ghost use Rattle.rsp_words.specs.Words.{is_dashes};
 
 use crate::form::Form;
+use crate::valued::value_of;
 use crate::words::{is_dashes, is_json};
 use arrayvec::ArrayVec;
 use rsp_terms::Text;
@@ -64,7 +65,7 @@ fn with_word<'a>(
         values,
     } = so_far;
     match store {
-        None => match store_in(word, behind) {
+        None => match value_of("--store", word, behind) {
             Some((file, left)) => {
                 let store = Some(file);
                 Some((
@@ -80,28 +81,6 @@ fn with_word<'a>(
         },
         Some(file) => Some((with_value(form, Some(file), values, word)?, behind)),
     }
-}
-
-// the file that the option `--store` names, where a word that isn't `--` is that option, and what stands behind it
-fn store_in<'a>(word: &'a Text, behind: &'a [Text]) -> Option<(&'a str, &'a [Text])>
-    requires { is_dashes word.now ≡ false }
-    ensures option { MatchOption result
-        ((store_of (word.now ∷ behind.now) ≡ store_of behind.now)
-        × (without_store (word.now ∷ behind.now) ≡ word.now ∷ without_store behind.now))
-        (λ x. (store_of (word.now ∷ behind.now) ≡ Some x.0.now) × (without_store (word.now ∷ behind.now) ≡ x.1.now)) }
-    ensures shorter { IfSome result (λ x. length x.1.now < length (word.now ∷ behind.now)) }
-{
-    match behind {
-        [file, more @ ..] if word.as_str() == "--store" => Some((file.as_str(), more)),
-        _ => Some((store_by_itself(word.as_str())?, behind)),
-    }
-}
-
-// what stands behind `--store=`
-fn store_by_itself(word: &str) -> Option<&str>
-    ensures { option_map (λ file. file.now) result ≡ store_in word.now }
-{
-    word.strip_prefix("--store=")
 }
 
 // with a word that is no option but `--json`, which is a value where it was read before

@@ -1,12 +1,12 @@
 // The program's words.
-ghost use Rattle.std.specs.Prelude.{◌≡◌, ◌∷◌, ◌||◌, ◌&&◌, [], IfOk, drop, map, bytes_eq, option_map, string_bytes};
+ghost use Rattle.std.specs.Prelude.{◌≡◌, ◌∷◌, [], IfOk, IfSome, drop, map, bytes_eq, option_map, string_bytes};
 ghost use Rattle.std.specs.Vec.Iter.{into_iter_items};
 ghost use Rattle.std.specs.Map.{lookup};
 ghost use Rattle.std.specs.Option.{option_and_then};
-ghost use Rattle.rsp_words.specs.Asked.{mode_for, only_value};
-ghost use Rattle.rsp_words.specs.Words.{check_of, events_of, form_of, generate_of, is_dashes, is_file, is_json, mode_of, run_of, table, values, without_json};
+ghost use Rattle.rsp_words.specs.Asked.{IsWithinLimits, mode_for, only_value};
+ghost use Rattle.rsp_words.specs.Words.{check_of, events_of, generate_of, is_dashes, is_file, is_json, mode_of, run_of, table, values};
 
-use crate::form::Form;
+use crate::log::{Log, log_of};
 use crate::options::read_options;
 use crate::replay::{Replay, replay_of};
 use rsp_terms::{Listed, Text};
@@ -20,8 +20,8 @@ const MOST_ITEMS: u64 = 1_000_000;
 /// What the words ask for.
 #[derive(Drop)]
 pub enum Mode<'a> {
-    /// To work off the log on standard input, with reports in this form.
-    Events(Form),
+    /// To work off the log on standard input.
+    Events(Log),
     /// To replay recorded streams for a query.
     Run(Replay<'a>),
     /// To check the query in the file of this name.
@@ -32,7 +32,8 @@ pub enum Mode<'a> {
 
 /// What the words, without the program's name, ask for; None where they are in no row of the table. Takes no memory.
 pub fn mode_of(words: &[Text]) -> Option<Mode<'_>>
-    ensures { option_map mode_for result ≡ mode_of words.now }
+    ensures mode { option_map mode_for result ≡ mode_of words.now }
+    ensures limits { IfSome result IsWithinLimits }
 {
     match words {
         [] => None,
@@ -41,7 +42,8 @@ pub fn mode_of(words: &[Text]) -> Option<Mode<'_>>
 }
 
 fn mode_in_table<'a>(word: &str, more: &'a [Text]) -> Option<Mode<'a>>
-    ensures { option_map mode_for result ≡ option_and_then (λ row. row more.now) (lookup (bytes_eq word.now) table) }
+    ensures mode { option_map mode_for result ≡ option_and_then (λ row. row more.now) (lookup (bytes_eq word.now) table) }
+    ensures limits { IfSome result IsWithinLimits }
 {
     match word {
         "events" => events_of(more),
@@ -53,19 +55,18 @@ fn mode_in_table<'a>(word: &str, more: &'a [Text]) -> Option<Mode<'a>>
 }
 
 fn events_of(more: &[Text]) -> Option<Mode<'static>>
-    ensures { option_map mode_for result ≡ events_of (form_of more.now) (values (without_json more.now)) }
+    ensures mode { option_map mode_for result ≡ events_of more.now }
+    ensures limits { IfSome result IsWithinLimits }
 {
-    let form = form_of(more);
-    match more {
-        [] => Some(Mode::Events(form)),
-        [word] => is_option(word).then_some(Mode::Events(form)),
-        [first, second] => is_json_and_dashes(first, second).then_some(Mode::Events(form)),
-        [_, _, _, ..] => None,
+    match log_of(more) {
+        Some(log) => Some(Mode::Events(log)),
+        None => None,
     }
 }
 
 fn run_of(more: &[Text]) -> Option<Mode<'_>>
-    ensures { option_map mode_for result ≡ run_of more.now }
+    ensures mode { option_map mode_for result ≡ run_of more.now }
+    ensures limits { IfSome result IsWithinLimits }
 {
     match replay_of(read_options(more)?) {
         Some(asked) => Some(Mode::Run(asked)),
@@ -74,7 +75,8 @@ fn run_of(more: &[Text]) -> Option<Mode<'_>>
 }
 
 fn check_of(more: &[Text]) -> Option<Mode<'_>>
-    ensures { option_map mode_for result ≡ check_of (values more.now) }
+    ensures mode { option_map mode_for result ≡ check_of (values more.now) }
+    ensures limits { IfSome result IsWithinLimits }
 {
     match only_value(more) {
         Some(query) if is_file(query.as_bytes()) => Some(Mode::Check(query)),
@@ -83,7 +85,8 @@ fn check_of(more: &[Text]) -> Option<Mode<'_>>
 }
 
 fn generate_of(more: &[Text]) -> Option<Mode<'static>>
-    ensures { option_map mode_for result ≡ generate_of (values more.now) }
+    ensures mode { option_map mode_for result ≡ generate_of (values more.now) }
+    ensures limits { IfSome result IsWithinLimits }
 {
     match read_u64(only_value(more)?.as_bytes()) {
         Some(count) if 1 <= count && count <= MOST_ITEMS => Some(Mode::Generate(count)),
@@ -111,33 +114,6 @@ fn value_of_two<'a>(first: &'a Text, second: &'a Text) -> Option<&'a str>
         return Some(second.as_str());
     }
     is_dashes(second).then_some(first.as_str())
-}
-
-// the form that the option `--json` asks for
-fn form_of(more: &[Text]) -> Form
-    ensures { result ≡ form_of more.now }
-{
-    for word in more {
-        if is_dashes(word) {
-            return Form::Table;
-        }
-        if is_json(word) {
-            return Form::Json;
-        }
-    }
-    Form::Table
-}
-
-fn is_option(word: &Text) -> bool
-    ensures { result ≡ (is_dashes word.now || is_json word.now) }
-{
-    is_dashes(word) || is_json(word)
-}
-
-fn is_json_and_dashes(first: &Text, second: &Text) -> bool
-    ensures { result ≡ (is_json first.now && is_dashes second.now) }
-{
-    is_json(first) && is_dashes(second)
 }
 
 /// Whether a word is the option of JSON.

@@ -16,7 +16,7 @@ returns-in-Ok-run_feed-clause-files g c =
     let left = rw c.as_slice.ensures at c.in-Ok-run_feed.ensures.left in
     files_told c.args.replay.now.form (names_of replay) (replayed replay) _ _ _ _ c.in-Ok.files c.tell_feed.result _ c.status_of.result
     c.status_of.ensures
-    (ap (λ given. (run empty_world given).said) left ∙ replayed_is replay c.in-Ok.files)
+    (ap (λ given. (run (empty_world 0) given).said) left ∙ replayed_is replay c.in-Ok.files)
     c.in-Ok.ensures.files
     c.tell_feed.ensures.says
 

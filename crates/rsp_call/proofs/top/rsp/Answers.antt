@@ -1,13 +1,7 @@
 use Rattle.std.proofs.Common.{◌≡◌, Some, rules}
 use Rattle.rsp_words.specs.Playing.{replay_for}
 use Rattle.rsp_words.specs.Words.{generate, mode_of, run}
-use Rattle.rsp_call.proofs.Generated.{few_asked}
 use Rattle.rsp_call.proofs.top.rsp.Goals as goal
-
-pub generate-requires-clause-count : goal.generate-requires-clause-count
-generate-requires-clause-count g c =
-    let asked : mode_of c.args.words.now ≡ Some (generate c.in-Some-Generate.count) = search rules in
-    few_asked c.args.words.now c.in-Some-Generate.count asked
 
 pub returns-in-Some-Generate-clause-answer : goal.returns-in-Some-Generate-clause-answer
 returns-in-Some-Generate-clause-answer g c =

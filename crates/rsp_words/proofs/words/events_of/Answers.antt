@@ -1,5 +1,6 @@
-use Rattle.rsp_words.proofs.WordTables.{too_many_for_events}
+use Rattle.std.proofs.Common.{sym}
+use Rattle.rsp_words.proofs.Slack.{log_within}
 use Rattle.rsp_words.proofs.words.events_of.Goals as goal
 
-pub returns-in-len3-up : goal.returns-in-len3-up
-returns-in-len3-up c = too_many_for_events c.args.more.now c.in-len3-up.len_at_least
+pub returns-in-Some-clause-limits : goal.returns-in-Some-clause-limits
+returns-in-Some-clause-limits c = log_within c.args.more.now c.in-Some.log (sym c.in-Some.ensures)
