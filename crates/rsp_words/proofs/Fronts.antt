@@ -1,5 +1,5 @@
 -- What stands behind the front of a text.
-use Rattle.std.proofs.Common.{◌≡◌, ℕ, Bool, true, false, if◌then◌else◌, List, length, drop, Option, Some, None, MatchOption, nat_eq, sym, subst, ap, ◌∙◌, Bor}
+use Rattle.std.proofs.Common.{◌≡◌, ℕ, true, false, if◌then◌else◌, List, length, drop, Option, Some, None, MatchOption, nat_eq, subst, ap, ◌∙◌, Bor}
 use Rattle.std.proofs.lemmas.Str.Pattern.{starts_text}
 use Rattle.std.specs.List.{starts_with}
 use Rattle.std.specs.Option.{option_map}

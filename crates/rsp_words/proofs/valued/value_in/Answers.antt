@@ -1,4 +1,4 @@
-use Rattle.std.proofs.Common.{◌≡◌, ◌∙◌, ap, codes, rules, None, Option, Some, List, ℕ, Bor}
+use Rattle.std.proofs.Common.{◌≡◌, ◌∙◌, ap, codes, rules, None, Some, List, ℕ, Bor}
 use Rattle.std.specs.Option.{option_and_then, option_map}
 use Rattle.rsp_words.specs.Words.{behind}
 use Rattle.rsp_words.proofs.Fronts.{behind_is}
