@@ -5,7 +5,6 @@ use Rattle.std.proofs.lemmas.List.{append_assoc, drop_all, drop_more, map-append
 use Rattle.std.proofs.lemmas.List.Elements.{All-cons, All-nil}
 use Rattle.rsp_report.specs.declared.contents.Watched.{Watched}
 use Rattle.rsp_report.specs.Due.{IsFreshAt, IsWatched}
-use Rattle.rsp_report.specs.Seen.{seen_at}
 use Rattle.rsp_terms.specs.declared.statement.Fact.{Fact}
 use Rattle.rsp_algebra.specs.Changing.{IsSet}
 use Rattle.rsp_scope.specs.Contents.{Accepted, Watch}
@@ -15,14 +14,11 @@ use Rattle.rsp_engine.specs.Contents.{watches_from}
 use Rattle.rsp_engine.specs.Due.{watched_window}
 use Rattle.rsp_engine.specs.Keeping.{watches_followed}
 use Rattle.rsp_engine.specs.Readers.{IsCalm}
-use Rattle.rsp_engine.specs.Watching.{Asked, IsPolicy, IsPrompt, IsTimed, IsWatching, Tells}
+use Rattle.rsp_engine.specs.Watching.{Asked, IsPolicy, IsPrompt, IsUpTo, IsWatching, Tells, told_at}
 use Rattle.rsp_engine.specs.World.{Registration}
 
-unseen_timed : (next : ℕ) (w : StreamWindow) → IsTimed next (watched_window [] w)
-unseen_timed next w = record {
-  watched = record { sorted = λ i j d low high. absurd (omega (arith, high)); high = All-nil (λ time. time ≤ 2 ^ 48) };
-  high = All-nil (λ time. time ≤ next);
-}
+unseen_watched : (w : StreamWindow) → IsWatched (watched_window [] w)
+unseen_watched w = record { sorted = λ i j d low high. absurd (omega (arith, high)); high = All-nil (λ time. time ≤ 2 ^ 48) }
 
 -- what holds of each window without a time
 all_unseen : (P : Watched → Type 0) (windows : List StreamWindow) → ((w : StreamWindow) → P (watched_window [] w)) → All P (map (watched_window []) windows)
@@ -35,16 +31,21 @@ unseen_shapes [] = refl
 unseen_shapes (w ∷ ws) = ap (λ shapes. w.shape ∷ shapes) (unseen_shapes ws)
 
 pub begun_watched : (watched : List Watched) (windows : List StreamWindow) → watched ≡ map (watched_window []) windows → All IsWatched watched
-begun_watched watched windows is = subst (All IsWatched) (sym is) (all_unseen IsWatched windows (λ w. (unseen_timed 0 w).watched))
+begun_watched watched windows is = subst (All IsWatched) (sym is) (all_unseen IsWatched windows unseen_watched)
 
 -- it watches its windows
-pub begun_watching : (next : ℕ) (ask : Asked) → IsPolicy ask.policy → ask.watched ≡ map (watched_window []) ask.windows → IsWatching next ask
-begun_watching next ask policy watched = record {
+pub begun_watching : (ask : Asked) → IsPolicy ask.policy → ask.watched ≡ map (watched_window []) ask.windows → IsWatching ask
+begun_watching ask policy watched = record {
   policy = policy;
   shapes = ap (map (λ (watched : Watched). watched.window)) watched ∙ unseen_shapes ask.windows;
-  timed = subst (All (IsTimed next)) (sym watched)
-      (all_unseen (IsTimed next) ask.windows (unseen_timed next));
+  watched = begun_watched ask.watched ask.windows watched;
 }
+
+-- with no time that is later than any
+pub begun_up_to : (latest : ℕ) (watched : List Watched) (windows : List StreamWindow) → watched ≡ map (watched_window []) windows
+    → All (IsUpTo latest) watched
+begun_up_to latest watched windows is =
+    subst (All (IsUpTo latest)) (sym is) (all_unseen (IsUpTo latest) windows (λ w. All-nil (λ time. time ≤ latest)))
 
 -- none of its windows is fresh
 unseen_fresh : (t : ℕ) (windows : List StreamWindow) → All (IsFreshAt t) (map (watched_window []) windows)
@@ -52,7 +53,7 @@ unseen_fresh t windows = all_unseen (IsFreshAt t) windows (λ w fresh. cc)
 
 pub begun_prompt : (next : ℕ) (arrived : Option (List ℕ)) (ask : Asked) → IsPolicy ask.policy → ask.watched ≡ map (watched_window []) ask.windows → IsPrompt next arrived ask
 begun_prompt next arrived ask policy watched = record {
-  watching = begun_watching next ask policy watched;
+  watching = begun_watching ask policy watched;
   fresh = λ is. subst (All (IsFreshAt next)) (sym watched) (unseen_fresh next ask.windows);
 }
 
@@ -64,9 +65,9 @@ pub begun_tells : (items : List Accepted) (from : ℕ) (query : Registration) (w
     → watched ≡ map (watched_window []) query.reading.windows → Tells items from query watched
 begun_tells items from query watched first is = record {
   windows = ap (map (λ (w : Watched). w.window)) is ∙ unseen_shapes query.reading.windows;
-  seen = λ asks t late.
-      ap (map (seen_at t)) is
-      ∙ ap (λ seen. map (seen_at t) (map (watched_window seen) query.reading.windows))
+  told = λ asks t late.
+      ap (map (told_at t)) is
+      ∙ ap (λ seen. map (told_at t) (map (watched_window seen) query.reading.windows))
       (sym (drop_all query.first items (omega (arith, first))));
 }
 

@@ -23,9 +23,9 @@ use Rattle.rsp_engine.specs.Keeping.{IsLess, watches_by, watches_followed}
 use Rattle.rsp_engine.specs.Kept.{watches_of}
 use Rattle.rsp_engine.specs.Left.{IsFirstLeft, IsWaiting}
 use Rattle.rsp_engine.specs.Passing.{IsFollowed, IsReported, is_overfull_outcome, place_behind, queries_behind}
-use Rattle.rsp_engine.specs.Stands.{Fits, Follows, IsLive, IsStore, Live, State, asked_in, asked_of, cut_of, next_in, registration_of, registrations_in, test_in, watches_in}
-use Rattle.rsp_engine.specs.Watching.{IsPrompt, IsWatching, Tells, name_of, reports_by}
-use Rattle.rsp_engine.specs.World.{Registration}
+use Rattle.rsp_engine.specs.Stands.{Fits, Follows, IsLive, IsStore, Live, State, asked_in, asked_of, cut_of, latest_in, next_in, registration_of, registrations_in, test_in, watches_in}
+use Rattle.rsp_engine.specs.Watching.{IsPrompt, IsUpTo, IsWatching, Tells, name_of, reports_by}
+use Rattle.rsp_engine.specs.World.{Registration, most_slack}
 use Rattle.rsp_engine.proofs.DueNext.{sought_gone, sought_on}
 use Rattle.rsp_engine.proofs.Fitting.{contents_here, told_later}
 use Rattle.rsp_engine.proofs.Left.{waits_at}
@@ -61,10 +61,10 @@ watches_same facts (live ∷ queries) all =
     rw (first, watches_same facts queries (λ k d below. all (suc k) d (omega (arith, below)))) refl
 
 -- what each live query watches
-pub all_watches : (lives : List Live) (next accepted cut : ℕ) (arrived : Option (List ℕ)) → All (IsLive next arrived accepted cut) lives
+pub all_watches : (lives : List Live) (next slack accepted cut : ℕ) (arrived : Option (List ℕ)) → All (IsLive next slack arrived accepted cut) lives
     → All (λ (l : Live). map (λ (seen : Followed). seen.watch) l.contents ≡ watches l.first l.windows) lives
-all_watches lives next accepted cut arrived all =
-    All-weaker (IsLive next arrived accepted cut) (λ (l : Live). map (λ (seen : Followed). seen.watch) l.contents ≡ watches l.first l.windows) (λ l is. is.watches) lives all
+all_watches lives next slack accepted cut arrived all =
+    All-weaker (IsLive next slack arrived accepted cut) (λ (l : Live). map (λ (seen : Followed). seen.watch) l.contents ≡ watches l.first l.windows) (λ l is. is.watches) lives all
 
 module _ {A : Type 0} (node : A → Node) (width : A → ℕ) (facts : A → List Fact) (spent : A → Bool) (e : Inside A) (ready : IsReady node width facts spent e) (place : Pending) (first : e.first ≡ Some place) where
   abbrev here : State
@@ -94,10 +94,10 @@ module _ {A : Type 0} (node : A → Node) (width : A → ℕ) (facts : A → Lis
     listed_live : slice_get here.queries place.query ≡ Some (live_of facts live)
     listed_live = get_map (live_of facts) e.queries.items place.query live is
 
-    is_live : IsLive (next_in here) e.arrived e.streams.accepted (cut_of here) (live_of facts live)
-    is_live = All-get (IsLive (next_in here) e.arrived e.streams.accepted (cut_of here)) here.queries place.query (live_of facts live) ready.state.lives listed_live
+    is_live : IsLive (next_in here) e.slack e.arrived e.streams.accepted (cut_of here) (live_of facts live)
+    is_live = All-get (IsLive (next_in here) e.slack e.arrived e.streams.accepted (cut_of here)) here.queries place.query (live_of facts live) ready.state.lives listed_live
 
-    pub watching : IsWatching (next_in here) (asked live)
+    pub watching : IsWatching (asked live)
     watching = is_live.prompt.watching
 
     reports_here : reports_by (next_in here) e.arrived place.at (asked live) ≡ true
@@ -156,19 +156,21 @@ module _ {A : Type 0} (node : A → Node) (width : A → ℕ) (facts : A → Lis
           (subst (λ f. AreSought (next_in here) f e.queries.items) first sought) reports_here asked_now own
 
       -- the query that reported is one as before
-      live_now : (cut : ℕ) → place.at ≤ cut → IsLive (next_in here) e.arrived e.streams.accepted cut (live_of facts now)
+      live_now : (cut : ℕ) → place.at ≤ cut → IsLive (next_in here) e.slack e.arrived e.streams.accepted cut (live_of facts now)
       live_now cut low = record {
         prompt = subst (IsPrompt (next_in here) e.arrived) (sym asked_now) is_live.prompt;
+        up_to = subst (All (IsUpTo (next_in here + e.slack))) (sym reported.watched) is_live.up_to;
+        instants = λ some. subst (λ (r : Registration). r.reading.policy.tuple ≡ false) (sym reg_now) (is_live.instants some);
         watches = reported.windows ∙ (is_live.watches ∙ ap (λ (r : Registration). watches r.first r.reading.windows) (sym reg_now));
         reached = All-weaker (λ (seen : Followed). seen.at ≡ Some place.at) (λ (seen : Followed). IsReached seen.at cut) (λ (seen : Followed) at. subst (λ o. IsReached o cut) (sym at) low) now.contents.items reported.at;
         first = subst (λ (r : Registration). r.first ≤ e.streams.accepted) (sym reg_now) is_live.first;
       }
 
-      lives_behind : (ends : Bool) (cut : ℕ) → place.at ≤ cut → All (IsLive (next_in here) e.arrived e.streams.accepted cut) (queries_behind here place (live_of facts now) ends)
+      lives_behind : (ends : Bool) (cut : ℕ) → place.at ≤ cut → All (IsLive (next_in here) e.slack e.arrived e.streams.accepted cut) (queries_behind here place (live_of facts now) ends)
       lives_behind ends cut low =
-          all_lives (IsLive (next_in here) e.arrived e.streams.accepted cut) ends
-          (All-weaker (IsLive (next_in here) e.arrived e.streams.accepted (cut_of here)) (IsLive (next_in here) e.arrived e.streams.accepted cut)
-          (λ l is. record { prompt = is.prompt; watches = is.watches; first = is.first; reached = All-weaker (λ (seen : Followed). IsReached seen.at (cut_of here)) (λ (seen : Followed). IsReached seen.at cut) (λ seen at. reached_later seen.at (cut_of here) cut (subst (λ c. c ≤ cut) (sym cut_here) low) at) l.contents is.reached })
+          all_lives (IsLive (next_in here) e.slack e.arrived e.streams.accepted cut) ends
+          (All-weaker (IsLive (next_in here) e.slack e.arrived e.streams.accepted (cut_of here)) (IsLive (next_in here) e.slack e.arrived e.streams.accepted cut)
+          (λ l is. record { prompt = is.prompt; up_to = is.up_to; instants = is.instants; watches = is.watches; first = is.first; reached = All-weaker (λ (seen : Followed). IsReached seen.at (cut_of here)) (λ (seen : Followed). IsReached seen.at cut) (λ seen at. reached_later seen.at (cut_of here) cut (subst (λ c. c ≤ cut) (sym cut_here) low) at) l.contents is.reached })
           here.queries ready.state.lives)
           (λ goes_on. live_now cut low)
 
@@ -177,7 +179,7 @@ module _ {A : Type 0} (node : A → Node) (width : A → ℕ) (facts : A → Lis
       prompt_behind ends =
           unmapped (λ (l : Live). IsPrompt (next_in here) e.arrived (asked_of l)) (live_of facts) (behind ends)
           (subst (All (λ (l : Live). IsPrompt (next_in here) e.arrived (asked_of l))) (sym (states_behind ends))
-          (All-weaker (IsLive (next_in here) e.arrived e.streams.accepted place.at) (λ (l : Live). IsPrompt (next_in here) e.arrived (asked_of l)) (λ l is. is.prompt) (queries_behind here place (live_of facts now) ends) (lives_behind ends place.at (omega arith))))
+          (All-weaker (IsLive (next_in here) e.slack e.arrived e.streams.accepted place.at) (λ (l : Live). IsPrompt (next_in here) e.arrived (asked_of l)) (λ l is. is.prompt) (queries_behind here place (live_of facts now) ends) (lives_behind ends place.at (omega arith))))
 
       names_behind : (ends : Bool) → IsDistinct bytes_eq (map (λ (l : Live). l.name) (queries_behind here place (live_of facts now) ends))
       names_behind true = distinct_removed here.queries (λ (l : Live). l.name) place.query ready.state.names
@@ -204,7 +206,7 @@ module _ {A : Type 0} (node : A → Node) (width : A → ℕ) (facts : A → Lis
 
       -- the engine with the queries behind, another place, and what they need
       module _ (new : Inside A)
-          (next : new.next ≡ e.next) (stored : new.stored ≡ e.stored) (log : new.log ≡ e.log) (arrived : new.arrived ≡ e.arrived)
+          (slack : new.slack ≡ e.slack) (next : new.next ≡ e.next) (stored : new.stored ≡ e.stored) (log : new.log ≡ e.log) (arrived : new.arrived ≡ e.arrived)
           (queries : new.queries.items ≡ behind (is_overfull_outcome given))
           (left : IsFirstLeft (λ l. name_of (asked l)) (λ t l. reports_by (next_in here) e.arrived t (asked l)) new.queries.items (next_in here) place.at (place_behind place (is_overfull_outcome given)) new.first)
           (less : IsLess e.streams new.streams) (room : length new.streams.items ≤ new.ends.cap)
@@ -227,14 +229,14 @@ module _ {A : Type 0} (node : A → Node) (width : A → ℕ) (facts : A → Lis
         cut_low : place.at ≤ option_map_or (λ (p : Pending). p.at) new.first (next_in here)
         cut_low = cut_on new.first place.at place.at (next_in here) (place_behind place (is_overfull_outcome given)) name_of (test_in here) (asked_in there) left_there (omega arith) waits.within
 
-        all_live : All (IsLive (next_in here) e.arrived e.streams.accepted (cut_of there)) there.queries
+        all_live : All (IsLive (next_in here) e.slack e.arrived e.streams.accepted (cut_of there)) there.queries
         all_live = rw lives (lives_behind (is_overfull_outcome given) (cut_of there) (subst (λ c. place.at ≤ c) (sym cut_there) cut_low))
 
         regs : registrations_in there ≡ (if is_overfull_outcome given then remove (registrations_in here) place.query else registrations_in here)
         regs = ap (map registration_of) lives ∙ regs_behind (is_overfull_outcome given)
 
         by_contents : watches_by new.queries.items ≡ watches_in there
-        by_contents = watches_same facts new.queries.items (all_watches there.queries (next_in here) e.streams.accepted (cut_of there) e.arrived all_live)
+        by_contents = watches_same facts new.queries.items (all_watches there.queries (next_in here) e.slack e.streams.accepted (cut_of there) e.arrived all_live)
 
         same_watches : is_overfull_outcome given ≡ false → watches_by new.queries.items ≡ watches_in here
         same_watches goes_on = by_contents ∙ ap watches_of (regs ∙ ap (λ (ends : Bool). if ends then remove (registrations_in here) place.query else registrations_in here) goes_on)
@@ -266,12 +268,14 @@ module _ {A : Type 0} (node : A → Node) (width : A → ℕ) (facts : A → Lis
         ready_behind =
             record {
               state = record {
+                slack_high = subst (λ s. s ≤ most_slack) (sym slack) ready.state.slack_high;
                 next_high = rw next ready.state.next_high;
                 lives =
-                    subst (λ n. All (IsLive n new.arrived new.streams.accepted (cut_of there)) there.queries) (sym (ap (λ n. unwrap_or n 0) next))
-                    (subst (λ a. All (IsLive (next_in here) a new.streams.accepted (cut_of there)) there.queries) (sym arrived)
-                    (subst (λ k. All (IsLive (next_in here) e.arrived k (cut_of there)) there.queries) (sym less.accepted) all_live));
-                timed = rw next (less.timed (next_in here) ready.state.timed);
+                    subst (λ s. All (IsLive (next_in there) s new.arrived new.streams.accepted (cut_of there)) there.queries) (sym slack)
+                    (subst (λ n. All (IsLive n e.slack new.arrived new.streams.accepted (cut_of there)) there.queries) (sym (ap (λ n. unwrap_or n 0) next))
+                    (subst (λ a. All (IsLive (next_in here) e.slack a new.streams.accepted (cut_of there)) there.queries) (sym arrived)
+                    (subst (λ k. All (IsLive (next_in here) e.slack e.arrived k (cut_of there)) there.queries) (sym less.accepted) all_live)));
+                timed = rw (next, slack) (less.timed (latest_in here) ready.state.timed);
                 store = rw stored ready.state.store;
                 names = rw lives (names_behind (is_overfull_outcome given));
                 waits = rw (next, arrived) (waits_at name_of (test_in here) (asked_in there) (next_in here) place.at (place_behind place (is_overfull_outcome given)) new.first left_there);

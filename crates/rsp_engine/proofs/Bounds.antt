@@ -1,11 +1,11 @@
 -- What is accepted, and what is reported, leaves a world within its bounds.
 use Rattle.std.proofs.Common.{◌≡◌, ℕ, zero, suc, ◌+◌, ◌-◌, ◌<◌, ◌≤◌, Bool, true, false, true≢false, cond, not, ◌&&◌, ◌||◌, List, [], ◌∷◌, ◌++◌, length, map, filter, Option, None, Some, Result, Ok, Err, refl, sym, ◌∙◌, ap, subst, arith, nat_lt, nat_le, bytes_eq}
-use Rattle.std.proofs.lemmas.Bool.{le-ltb, lt-leb, ltb-false}
+use Rattle.std.proofs.lemmas.Bool.{le-ltb, lt-leb, lt-ltb, ltb-false}
 use Rattle.std.proofs.lemmas.Bool.Decides.{nat_tests}
 use Rattle.std.proofs.lemmas.Grind.{flat_map-append}
 use Rattle.std.proofs.lemmas.List.{append-nil, length_push, length-map, map_push}
 use Rattle.std.proofs.lemmas.Simd.{map-map}
-use Rattle.std.proofs.lemmas.List.Elements.{All-append, All-cons, All-weaker}
+use Rattle.std.proofs.lemmas.List.Elements.{All-append, All-cons, All-filter, All-map, All-weaker}
 use Rattle.std.proofs.lemmas.List.Folds.{list_any-append}
 use Rattle.std.proofs.lemmas.List.Sorted.{IsNonDecreasingBy-push}
 use Rattle.std.proofs.lemmas.List.Sums.{sum_by-cons}
@@ -25,18 +25,18 @@ use Rattle.rsp_query.specs.Queries.{Registered}
 use Rattle.rsp_syntax.specs.Deciding.{parse}
 use Rattle.rsp_syntax.specs.declared.fault.SyntaxFault.{SyntaxFault}
 use Rattle.rsp_engine.specs.declared.live_query.StreamWindow.{StreamWindow}
-use Rattle.rsp_engine.specs.declared.refused.Refused.TheVariants.{HeldFull, ItemTooLarge, Late, NameTaken, NoQuery, QueriesFull, StartOverfull, StoreFull}
+use Rattle.rsp_engine.specs.declared.refused.Refused.TheVariants.{HeldFull, ItemTooLarge, Late, NameTaken, NoQuery, QueriesFull, SlackTuple, StartOverfull, StoreFull}
 use Rattle.rsp_engine.specs.declared.refused.TextFault.{TextFault}
 use Rattle.rsp_engine.specs.Refusals.{read}
-use Rattle.rsp_engine.specs.World.{Query, Reading, Registration, World, empty_world, next_of, registrations}
+use Rattle.rsp_engine.specs.World.{Query, Reading, Registration, World, empty_world, next_of, next_with, registrations}
 use Rattle.rsp_engine.specs.Readings.{reading_of}
 use Rattle.rsp_spec.specs.Limits.{most_held, most_quads, most_queries, most_triples}
-use Rattle.rsp_engine.specs.Accept.{accept, accept_item, accept_stored, accept_text, has_name, is_live, new_query, starts_overfull, with_item, without}
+use Rattle.rsp_engine.specs.Accept.{accept, accept_item, accept_stored, accept_text, has_name, has_slack_tuple, is_live, new_query, starts_overfull, with_item, without}
 use Rattle.rsp_engine.specs.Bounds.{IsWorld}
 use Rattle.rsp_engine.specs.Contents.{watches, watches_from}
 use Rattle.rsp_engine.specs.Kept.{held, watches_of}
 use Rattle.rsp_engine.specs.Reports.{after_report, is_overfull, query_after_report, reported_at}
-use Rattle.rsp_engine.proofs.Named.{distinct_more, turned}
+use Rattle.rsp_engine.proofs.Named.{distinct_more, turned, unmapped}
 
 -- ---- what is kept
 
@@ -196,15 +196,19 @@ module _ (world : World) (within : IsWorld world) where
     live = within.live;
     quads = within.quads;
     few = few;
-    order = IsNonDecreasingBy-push (λ (i : Accepted). i.time) world.items item within.order
-        (λ d some. earlier (length world.items - 1) d (omega (arith, some)));
-    timed = All-append (λ (i : Accepted). i.time ≤ item.time) world.items (item ∷ []) earlier
-        (All-cons (λ (i : Accepted). i.time ≤ item.time) item [] (omega arith) (λ k d below. absurd (omega (arith, below))));
+    timed = All-append (λ (i : Accepted). i.time ≤ next_with world item.time + world.slack) world.items (item ∷ [])
+        (All-weaker (λ (i : Accepted). i.time ≤ next_of world + world.slack) (λ (i : Accepted). i.time ≤ next_with world item.time + world.slack)
+        (λ i h. omega (arith, h)) world.items within.timed)
+        (All-cons (λ (i : Accepted). i.time ≤ next_with world item.time + world.slack) item [] (omega arith)
+        (λ k d below. absurd (omega (arith, below))));
+    order = λ none. IsNonDecreasingBy-push (λ (i : Accepted). i.time) world.items item (within.order none)
+        (λ d some. earlier none (length world.items - 1) d (omega (arith, some)));
+    instants = within.instants;
   }
     where
-      earlier : All (λ (i : Accepted). i.time ≤ item.time) world.items
-      earlier = All-weaker (λ (i : Accepted). i.time ≤ next_of world) (λ (i : Accepted). i.time ≤ item.time)
-          (λ i h. omega (arith, h, behind)) world.items within.timed
+      earlier : world.slack ≡ 0 → All (λ (i : Accepted). i.time ≤ item.time) world.items
+      earlier none = All-weaker (λ (i : Accepted). i.time ≤ next_of world + world.slack) (λ (i : Accepted). i.time ≤ item.time)
+          (λ i h. omega (arith, h, behind, none)) world.items within.timed
 
   pub tick_keeps : (time : ℕ) → next_of world ≤ time + 1 → IsWorld (record world { next = Some (time + 1) })
   tick_keeps time behind =
@@ -216,22 +220,33 @@ module _ (world : World) (within : IsWorld world) where
         live = within.live;
         quads = within.quads;
         few = omega (arith, fewer, before);
+        timed = All-weaker (λ (i : Accepted). i.time ≤ next_of world + world.slack)
+            (λ (i : Accepted). i.time ≤ time + 1 + world.slack) (λ i h. omega (arith, h, behind)) world.items within.timed;
         order = within.order;
-        timed = All-weaker (λ (i : Accepted). i.time ≤ next_of world) (λ (i : Accepted). i.time ≤ time + 1)
-            (λ i h. omega (arith, h, behind)) world.items within.timed;
+        instants = within.instants;
       }
 
   pub register_keeps : (name : List ℕ) (reading : Reading) → is_live world name ≡ false → length world.queries < most_queries
-      → IsWorld (record world { queries = world.queries ++ new_query name reading (length world.items) ∷ [] })
-  register_keeps name reading free room = record {
+      → has_slack_tuple world reading ≡ false → IsWorld (record world { queries = world.queries ++ new_query name reading (length world.items) ∷ [] })
+  register_keeps name reading free room instants = record {
     names = distinct_more world.queries name_of_query name (new_query name reading (length world.items)) within.names
         (sym (any_named name world.queries) ∙ free) refl;
     live = let more = length_push world.queries (new_query name reading (length world.items)) in omega (arith, more, room);
     quads = within.quads;
     few = let same = held_begun world name reading in let before = within.few in omega (arith, same, before);
-    order = within.order;
     timed = within.timed;
+    order = within.order;
+    instants = λ slack.
+        All-append (λ (query : Query). query.registration.reading.policy.tuple ≡ false) world.queries
+        (new_query name reading (length world.items) ∷ []) (within.instants slack)
+        (All-cons (λ (query : Query). query.registration.reading.policy.tuple ≡ false) (new_query name reading (length world.items)) []
+        (no_arrivals (nat_lt 0 world.slack) reading.policy.tuple (lt-ltb 0 world.slack slack) instants)
+        (λ k d below. absurd (omega (arith, below))));
   }
+    where
+      no_arrivals : (a b : Bool) → a ≡ true → (a && b) ≡ false → b ≡ false
+      no_arrivals true b is none = none
+      no_arrivals false b is none = absurd (true≢false (sym is))
 
   pub without_keeps : (name : List ℕ) → IsWorld (record world { queries = without name world.queries })
   without_keeps name =
@@ -245,8 +260,11 @@ module _ (world : World) (within : IsWorld world) where
         live = omega (arith, count, live_before);
         quads = within.quads;
         few = omega (arith, fewer, before);
-        order = within.order;
         timed = within.timed;
+        order = within.order;
+        instants = λ slack.
+            All-filter (λ (query : Query). not (has_name name query.registration))
+            (λ (query : Query). query.registration.reading.policy.tuple ≡ false) world.queries (within.instants slack);
       }
 
   pub stored_keeps : (stored : List Fact) → length stored ≤ most_quads → IsWorld (record world { stored = stored })
@@ -255,8 +273,9 @@ module _ (world : World) (within : IsWorld world) where
     live = within.live;
     quads = few;
     few = within.few;
-    order = within.order;
     timed = within.timed;
+    order = within.order;
+    instants = within.instants;
   }
 
   pub delete_keeps : (quads : List Quad) → IsWorld (record world { stored = stored_without world.stored quads })
@@ -273,8 +292,13 @@ module _ (world : World) (within : IsWorld world) where
     live = let before = within.live in omega (arith, count, before);
     quads = within.quads;
     few = subst (λ rs. listed_triples (needed_items (next_of world) (watches_of rs) world.items) ≤ most_held) (sym same) within.few;
-    order = within.order;
     timed = within.timed;
+    order = within.order;
+    instants = λ slack.
+        unmapped (λ (r : Registration). r.reading.policy.tuple ≡ false) (λ (q : Query). q.registration) queries
+        (subst (All (λ (r : Registration). r.reading.policy.tuple ≡ false)) (sym same)
+        (All-map (λ (r : Registration). r.reading.policy.tuple ≡ false) (λ (q : Query). q.registration) world.queries
+        (within.instants slack)));
   }
     where
       called : map name_of_query queries ≡ map name_of_query world.queries
@@ -288,15 +312,16 @@ module _ (world : World) (within : IsWorld world) where
           sym (length-map queries (λ (q : Query). q.registration))
           ∙ (ap length same ∙ length-map world.queries (λ (q : Query). q.registration))
 
-pub empty_keeps : IsWorld empty_world
+pub empty_keeps : (slack : ℕ) → IsWorld (empty_world slack)
 unfolding IsDistinct
-empty_keeps = record {
+empty_keeps slack = record {
   names = tt;
   live = omega arith;
   quads = omega arith;
   few = omega arith;
-  order = λ i j d before below. absurd (omega (arith, below));
   timed = λ k d below. absurd (omega (arith, below));
+  order = λ none i j d before below. absurd (omega (arith, below));
+  instants = λ slack k d below. absurd (omega (arith, below));
 }
 
 -- ---- the two laws
@@ -305,18 +330,21 @@ module _ (world after : World) (within : IsWorld world) where
   by_text : (name : List ℕ) (asked : Result Registered TextFault) → is_live world name ≡ false → accept_text world name asked ≡ Ok after
       → IsWorld after
   by_text name (Err fault) free is = cc
-  by_text name (Ok q) free is = by (nat_le most_queries (length world.queries)) refl (starts_overfull (reading_of q)) is
+  by_text name (Ok q) free is =
+      by (has_slack_tuple world (reading_of q)) refl (nat_le most_queries (length world.queries)) refl (starts_overfull (reading_of q)) is
     where
-      by : (full : Bool) → nat_le most_queries (length world.queries) ≡ full → (starts : Bool)
-          → (if full then Err QueriesFull else (if starts then Err StartOverfull
-          else Ok (record world { queries = world.queries ++ new_query name (reading_of q) (length world.items) ∷ [] }))) ≡ Ok after
+      by : (slack : Bool) → has_slack_tuple world (reading_of q) ≡ slack
+          → (full : Bool) → nat_le most_queries (length world.queries) ≡ full → (starts : Bool)
+          → (if slack then Err SlackTuple else (if full then Err QueriesFull else (if starts then Err StartOverfull
+          else Ok (record world { queries = world.queries ++ new_query name (reading_of q) (length world.items) ∷ [] })))) ≡ Ok after
           → IsWorld after
-      by true test starts is = cc
-      by false test true is = cc
-      by false test false is =
+      by true none full test starts is = cc
+      by false none true test starts is = cc
+      by false none false test true is = cc
+      by false none false test false is =
           let same : record world { queries = world.queries ++ new_query name (reading_of q) (length world.items) ∷ [] } ≡ after = cc in
           let room : length world.queries < most_queries = grind (arith, nat_tests, test) in
-          subst IsWorld same (register_keeps world within name (reading_of q) free room)
+          subst IsWorld same (register_keeps world within name (reading_of q) free room none)
 
   by_register : (name text : List ℕ) → accept world (Register name text) ≡ Ok after → IsWorld after
   by_register name text is = by (is_live world name) refl is

@@ -1,9 +1,9 @@
 -- A query whose windows aren't fresh any more.
-use Rattle.std.proofs.Common.{◌≡◌, ℕ, zero, suc, ◌<◌, ◌≤◌, Bool, true, false, true≢false, Option, List, [], ◌∷◌, length, map, get_or, refl, sym, ap, subst, ◌∙◌, arith}
+use Rattle.std.proofs.Common.{◌≡◌, ℕ, zero, suc, ◌<◌, true, false, true≢false, List, [], ◌∷◌, length, map, get_or, refl, sym, ap, subst, ◌∙◌, arith}
 use Rattle.std.specs.List.{All}
-use Rattle.std.proofs.lemmas.List.Elements.{All-weaker}
+use Rattle.std.proofs.lemmas.List.Elements.{All-map, All-weaker}
 use Rattle.rsp_report.specs.declared.contents.Watched.{Watched}
-use Rattle.rsp_report.specs.Due.{IsFreshAt}
+use Rattle.rsp_report.specs.Due.{IsFreshAt, IsWatched}
 use Rattle.rsp_scope.specs.Contents.{Accepted}
 use Rattle.rsp_engine.specs.World.{Registration}
 use Rattle.rsp_engine.specs.declared.live_query.LiveQuery.{LiveQuery}
@@ -11,7 +11,7 @@ use Rattle.rsp_engine.specs.declared.live_query.StreamWindow.{StreamWindow}
 use Rattle.rsp_engine.specs.Inside.{Parts, asked, fixed, parts_of}
 use Rattle.rsp_engine.specs.Readers.{IsCalm}
 use Rattle.rsp_engine.specs.Watched.{IsCalmed, calmed}
-use Rattle.rsp_engine.specs.Watching.{IsPolicy, IsPrompt, IsTimed, IsWatching, Tells, asks_contents}
+use Rattle.rsp_engine.specs.Watching.{IsPolicy, IsUpTo, IsWatching, Tells, asks_contents}
 
 -- ---- windows
 
@@ -32,17 +32,12 @@ calm_already (w ∷ ws) calm =
 pub calm_is : {A : Type 0} (live : LiveQuery A) → IsCalm live.watched.items → IsCalmed live live
 calm_is live calm = record { parts = refl; watched = calm_already live.watched.items calm; due = refl }
 
-pub timed_later : (from time : ℕ) (w : Watched) → from ≤ time → IsTimed from w → IsTimed time (calmed w)
-timed_later from time w low timed = record {
-  watched = record { sorted = timed.watched.sorted; high = timed.watched.high };
-  high = All-weaker (λ t. t ≤ from) (λ t. t ≤ time) (λ t early. omega (arith, early, low)) w.times timed.high;
-}
+-- what holds of windows and doesn't depend on what is fresh holds of them
+calmed_all : (P : Watched → Type 0) → ((w : Watched) → P w → P (calmed w)) → (ws : List Watched) → All P ws → All P (map calmed ws)
+calmed_all P kept ws all = All-map P calmed ws (All-weaker P (λ w. P (calmed w)) kept ws all)
 
-timed_calm : (from time : ℕ) (ws : List Watched) → from ≤ time → All (IsTimed from) ws → All (IsTimed time) (map calmed ws)
-timed_calm from time [] low timed k d within = absurd (omega (arith, within))
-timed_calm from time (w ∷ ws) low timed zero d within = timed_later from time w low (timed 0 w (omega arith))
-timed_calm from time (w ∷ ws) low timed (suc k) d within =
-    timed_calm from time ws low (λ k d within. timed (suc k) d (omega (arith, within))) k d (omega (arith, within))
+pub still_watched : (w : Watched) → IsWatched w → IsWatched (calmed w)
+still_watched w is = record { sorted = is.sorted; high = is.high }
 
 shapes_calm : (ws : List Watched) → map (λ (w : Watched). w.window) (map calmed ws) ≡ map (λ (w : Watched). w.window) ws
 shapes_calm [] = refl
@@ -55,20 +50,21 @@ module _ {A : Type 0} (old new : LiveQuery A) (is : IsCalmed old new) where
   same_shapes = ap (map (λ (w : Watched). w.window)) is.watched ∙ shapes_calm old.watched.items
 
   -- it watches as before
-  pub calmed_watching : (from time : ℕ) → from ≤ time → IsWatching from (asked old) → IsWatching time (asked new)
-  calmed_watching from time low watching = record {
+  pub calmed_watching : IsWatching (asked old) → IsWatching (asked new)
+  calmed_watching watching = record {
     policy = subst (λ (p : Parts A). IsPolicy p.query.reading.policy) (sym is.parts) watching.policy;
     shapes = same_shapes ∙ (watching.shapes ∙ ap (λ (p : Parts A). map (λ (w : StreamWindow). w.shape) p.query.reading.windows) (sym is.parts));
-    timed = subst (All (IsTimed time)) (sym is.watched) (timed_calm from time old.watched.items low watching.timed);
+    watched = subst (All IsWatched) (sym is.watched) (calmed_all IsWatched still_watched old.watched.items watching.watched);
   }
 
-  pub calmed_prompt : (from time : ℕ) (arrived : Option (List ℕ)) → from ≤ time → IsWatching from (asked old) → IsPrompt time arrived (asked new)
-  calmed_prompt from time arrived low watching = record {
-    watching = calmed_watching from time low watching;
-    fresh = λ came. subst (All (IsFreshAt time)) (sym is.watched)
-        (All-weaker (λ (w : Watched). w.fresh ≡ false) (IsFreshAt time) (λ w calm fresh. absurd (true≢false (sym fresh ∙ calm)))
-        (map calmed old.watched.items) (all_calm old.watched.items));
-  }
+  pub calmed_up_to : (latest : ℕ) → All (IsUpTo latest) old.watched.items → All (IsUpTo latest) new.watched.items
+  calmed_up_to latest up_to = subst (All (IsUpTo latest)) (sym is.watched) (calmed_all (IsUpTo latest) (λ w early. early) old.watched.items up_to)
+
+  pub calmed_fresh : (time : ℕ) → All (IsFreshAt time) new.watched.items
+  calmed_fresh time =
+      subst (All (IsFreshAt time)) (sym is.watched)
+      (All-weaker (λ (w : Watched). w.fresh ≡ false) (IsFreshAt time) (λ w calm fresh. absurd (true≢false (sym fresh ∙ calm)))
+      (map calmed old.watched.items) (all_calm old.watched.items))
 
   -- and what tells of some items where the policy asks for no contents tells of any
   pub calmed_tells : (items more : List Accepted) (from : ℕ) → asks_contents old.policy ≡ false
@@ -77,5 +73,5 @@ module _ {A : Type 0} (old new : LiveQuery A) (is : IsCalmed old new) where
       subst (λ (p : Parts A). Tells more from p.query new.watched.items) (sym is.parts)
       (record {
         windows = same_shapes ∙ told.windows;
-        seen = λ asks. absurd (true≢false (sym asks ∙ none));
+        told = λ asks. absurd (true≢false (sym asks ∙ none));
       })

@@ -3,14 +3,14 @@ use Rattle.std.proofs.Common.{◌≡◌, ℕ, suc, ◌<◌, ◌≤◌, Bool, tru
 use Rattle.std.specs.List.{All}
 use Rattle.std.proofs.lemmas.List.{length-map}
 use Rattle.rsp_report.specs.declared.contents.Watched.{Watched}
-use Rattle.rsp_report.specs.Seen.{seen_at}
+use Rattle.rsp_report.specs.Due.{IsWatched}
 use Rattle.rsp_engine.specs.declared.live_query.LiveQuery.{LiveQuery}
 use Rattle.rsp_engine.specs.declared.live_query.StreamWindow.{StreamWindow}
 use Rattle.rsp_engine.specs.Inside.{IsSought, Parts, asked, parts_of}
 use Rattle.rsp_engine.specs.Readers.{IsCalm, IsStill, is_watcher, reads}
 use Rattle.rsp_engine.specs.Watched.{AreChanged, AreWatchedWith, IsCalmed, IsMoved, IsWatchedWith, calmed}
-use Rattle.rsp_engine.specs.Watching.{IsTimed, IsWatching, asks_contents, with_time}
-use Rattle.rsp_engine.proofs.Calmed.{all_calm, calm_is, calmed_watching, timed_later}
+use Rattle.rsp_engine.specs.Watching.{IsWatching, asks_contents, told_at, with_time}
+use Rattle.rsp_engine.proofs.Calmed.{all_calm, calm_is, calmed_watching, still_watched}
 use Rattle.rsp_engine.proofs.DueNext.{calmed_sought}
 use Rattle.rsp_engine.proofs.ReadAlike.{is_watching}
 use Rattle.rsp_engine.proofs.WatchedWith.{AreMoved}
@@ -21,22 +21,23 @@ both_false : (a b : Bool) → (a || b) ≡ false → (a ≡ false) × (b ≡ fal
 both_false true b h = absurd (true≢false h)
 both_false false b h = (refl, h)
 
-module _ (stream : List ℕ) (time from : ℕ) (low : from ≤ time) where
+module _ (stream : List ℕ) (time from : ℕ) where
   -- windows over other streams, once they aren't fresh, watch the item
-  others_watch : (ws : List StreamWindow) (olds : List Watched) → length ws ≡ length olds → All (IsTimed from) olds → reads stream ws ≡ false
+  others_watch : (ws : List StreamWindow) (olds : List Watched) → length ws ≡ length olds → All IsWatched olds → reads stream ws ≡ false
       → AreWatchedWith stream time from ws olds (map calmed olds)
-  others_watch [] [] long timed none = tt
-  others_watch [] (old ∷ olds) long timed none = absurd (omega (arith, long))
-  others_watch (w ∷ ws) [] long timed none = absurd (omega (arith, long))
-  others_watch (w ∷ ws) (old ∷ olds) long timed none =
+  others_watch [] [] long watched none = tt
+  others_watch [] (old ∷ olds) long watched none = absurd (omega (arith, long))
+  others_watch (w ∷ ws) [] long watched none = absurd (omega (arith, long))
+  others_watch (w ∷ ws) (old ∷ olds) long watched none =
       let parts = both_false (bytes_eq stream w.stream) (reads stream ws) none in
       let first : IsWatchedWith stream time from w old (calmed old) = record {
         window = refl;
-        timed = timed_later from time old low (timed 0 old (omega arith));
-        fresh = λ is. absurd (true≢false (sym is));
-        seen = λ t late. ap (λ b. seen_at t (with_time b time old)) (sym parts.0);
+        watched = still_watched old (watched 0 old (omega arith));
+        up_to = λ latest low early. early;
+        fresh = λ early is. absurd (true≢false (sym is));
+        told = λ t late. ap (λ b. told_at t (with_time b time old)) (sym parts.0);
       } in
-      (first, others_watch ws olds (omega (arith, long)) (λ k d within. timed (suc k) d (omega (arith, within))) parts.1)
+      (first, others_watch ws olds (omega (arith, long)) (λ k d within. watched (suc k) d (omega (arith, within))) parts.1)
 
   -- windows watch the item as those that aren't fresh do
   uncalmed : (ws : List StreamWindow) (olds news : List Watched) → AreWatchedWith stream time from ws (map calmed olds) news
@@ -44,7 +45,7 @@ module _ (stream : List ℕ) (time from : ℕ) (low : from ≤ time) where
   uncalmed [] [] [] are = tt
   uncalmed (w ∷ ws) (old ∷ olds) (new ∷ news) are =
       let first : IsWatchedWith stream time from w old new =
-      record { window = are.0.window; timed = are.0.timed; fresh = are.0.fresh; seen = are.0.seen } in
+      record { window = are.0.window; watched = are.0.watched; up_to = are.0.up_to; fresh = are.0.fresh; told = are.0.told } in
       (first, uncalmed ws olds news are.1)
   uncalmed [] (old ∷ olds) news are = absurd are
   uncalmed [] [] (new ∷ news) are = absurd are
@@ -54,7 +55,7 @@ module _ (stream : List ℕ) (time from : ℕ) (low : from ≤ time) where
   -- ---- one query
 
   module _ {A : Type 0} where
-    other_moved : (old new : LiveQuery A) → IsCalmed old new → IsWatching from (asked old) → IsSought from old → reads stream old.windows ≡ false
+    other_moved : (old new : LiveQuery A) → IsCalmed old new → IsWatching (asked old) → IsSought from old → reads stream old.windows ≡ false
         → IsMoved stream time from old new
     other_moved old new is watching sought none =
         let long : length old.windows ≡ length old.watched.items =
@@ -62,7 +63,7 @@ module _ (stream : List ℕ) (time from : ℕ) (low : from ≤ time) where
         record {
           parts = is.parts;
           watched = subst (AreWatchedWith stream time from old.windows old.watched.items) (sym is.watched)
-              (others_watch old.windows old.watched.items long watching.timed none);
+              (others_watch old.windows old.watched.items long watching.watched none);
           sought = calmed_sought from old new is sought;
         }
 
@@ -83,7 +84,7 @@ module _ (stream : List ℕ) (time from : ℕ) (low : from ≤ time) where
       same_watcher : (k : ℕ) (d : LiveQuery A) → k < length olds → is_watcher stream (get_or between k d) ≡ is_watcher stream (get_or olds k d)
       same_watcher k d within = ap (λ (p : Parts A). is_watching stream p.query) (calm k d within).parts
 
-      pub all_moved : All (λ live. IsWatching from (asked live)) olds → All (λ live. IsSought from live) olds → AreMoved stream time from olds news
+      pub all_moved : All (λ live. IsWatching (asked live)) olds → All (λ live. IsSought from live) olds → AreMoved stream time from olds news
       all_moved watching sought = record {
         long = changed.long ∙ long;
         asking = λ k d within asks. asking k d within (omega (arith, within, long)) asks (is_watcher stream (get_or between k d)) refl;
@@ -131,9 +132,9 @@ calm_all {A} stream olds news still changed k d within = by (is_watcher stream (
         subst (IsCalmed (get_or olds k d)) (sym (changed.elsewhere k d within is)) (calm_is (get_or olds k d) (still k d within is))
 
 -- they watch as before
-pub all_watching : {A : Type 0} (from : ℕ) (olds news : List (LiveQuery A)) → length news ≡ length olds
+pub all_watching : {A : Type 0} (olds news : List (LiveQuery A)) → length news ≡ length olds
     → ((k : ℕ) (d : LiveQuery A) → k < length olds → IsCalmed (get_or olds k d) (get_or news k d))
-    → All (λ live. IsWatching from (asked live)) olds → All (λ live. IsWatching from (asked live)) news
-all_watching {A} from olds news long calm watching k d within =
+    → All (λ live. IsWatching (asked live)) olds → All (λ live. IsWatching (asked live)) news
+all_watching {A} olds news long calm watching k d within =
     let inside : k < length olds = omega (arith, within, long) in
-    calmed_watching (get_or olds k d) (get_or news k d) (calm k d inside) from from (omega arith) (watching k d inside)
+    calmed_watching (get_or olds k d) (get_or news k d) (calm k d inside) (watching k d inside)

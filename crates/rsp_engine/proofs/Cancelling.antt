@@ -15,13 +15,16 @@ use Rattle.rsp_engine.specs.Keeping.{watches_by}
 use Rattle.rsp_engine.specs.Kept.{watches_of}
 use Rattle.rsp_engine.specs.Stands.{Fits, Follows, IsLive, Live, State, cut_of, next_in, registration_of, registrations_in, watches_in}
 use Rattle.rsp_engine.specs.Watching.{Tells}
+use Rattle.rsp_engine.specs.World.{most_slack}
 use Rattle.rsp_engine.proofs.Named.{All-remove, remove_map}
 use Rattle.rsp_engine.proofs.Needing.{less_needed}
 use Rattle.rsp_engine.proofs.BehindReport.{all_watches, watches_same}
 
 -- times of kept items are within the instants
-pub timed_below : (items : List Item) (next : ℕ) → next ≤ last_instant + 1 → All (λ (item : Item). item.time ≤ next) items → All (λ (item : Item). item.time ≤ 2 ^ 48) items
-timed_below items next high timed = All-weaker (λ (item : Item). item.time ≤ next) (λ (item : Item). item.time ≤ 2 ^ 48) (λ item early. omega (arith, early, high)) items timed
+pub timed_below : (items : List Item) (next slack : ℕ) → next ≤ last_instant + 1 → slack ≤ most_slack → All (λ (item : Item). item.time ≤ next + slack) items
+    → All (λ (item : Item). item.time ≤ 2 ^ 48) items
+timed_below items next slack high small timed =
+    All-weaker (λ (item : Item). item.time ≤ next + slack) (λ (item : Item). item.time ≤ 2 ^ 48) (λ item early. omega (arith, early, high, small)) items timed
 
 module _ {A : Type 0} (node : A → Node) (width : A → ℕ) (facts : A → List Fact) (spent : A → Bool) (e : Inside A) (ready : IsReady node width facts spent e) (idle : e.first ≡ None) (new : Inside A) (place : ℕ)
     (next : new.next ≡ e.next) (stored : new.stored ≡ e.stored) (log : new.log ≡ e.log) (first : new.first ≡ e.first) (queries : new.queries.items ≡ remove e.queries.items place)
@@ -46,7 +49,7 @@ module _ {A : Type 0} (node : A → Node) (width : A → ℕ) (facts : A → Lis
   by_contents : watches_by new.queries.items ≡ watches_in there
   by_contents =
       watches_same facts new.queries.items
-      (all_watches there.queries (next_in here) e.streams.accepted (cut_of here) e.arrived (rw lives (All-remove (IsLive (next_in here) e.arrived e.streams.accepted (cut_of here)) here.queries place ready.state.lives)))
+      (all_watches there.queries (next_in here) e.slack e.streams.accepted (cut_of here) e.arrived (rw lives (All-remove (IsLive (next_in here) e.slack e.arrived e.streams.accepted (cut_of here)) here.queries place ready.state.lives)))
 
   regs : registrations_in there ≡ remove (registrations_in here) place
   regs = ap (map registration_of) lives ∙ remove_map registration_of here.queries place

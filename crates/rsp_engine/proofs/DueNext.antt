@@ -120,8 +120,8 @@ AreSoughtSoFar {A} from many queries = (k : ℕ) (d : LiveQuery A) → k < many 
 module _ {A : Type 0} (from i : ℕ) (olds queries : List (LiveQuery A)) (d : LiveQuery A) (within : i < length queries)
     (same : map undated queries ≡ map undated olds) where
   -- the one of number i watches as before
-  pub watching_there : All (λ live. IsWatching from (asked live)) olds → IsWatching from (asked (get_or queries i d))
-  watching_there watching = all_dated olds queries same (λ live. IsWatching from (asked live)) watching i d within
+  pub watching_there : All (λ live. IsWatching (asked live)) olds → IsWatching (asked (get_or queries i d))
+  watching_there watching = all_dated olds queries same (λ live. IsWatching (asked live)) watching i d within
 
   module _ (new : LiveQuery A) where
     pub one_dated : undated new ≡ undated (get_or queries i d) → map undated (set queries i new) ≡ map undated olds

@@ -142,6 +142,7 @@ module _ (old new : State) (report : Report) (world : World) (left : List Moment
         let waits = waits_renamed old new given.next given.arrived place.at (place_behind place ends) first in
         record {
           ready = given.broken ∙ stands.ready;
+          slack = given.slack ∙ stands.slack;
           next = given.next ∙ stands.next;
           fits = given.fits world.items stands.fits;
           bounds = bounds;

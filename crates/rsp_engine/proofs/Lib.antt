@@ -24,6 +24,8 @@ pub mod Watches
 pub mod FirstPlaces
 pub mod NewTimes
 pub mod TimesKept
+pub mod Telling
+pub mod InOrder
 pub mod WatchedWith
 pub mod Begun
 pub mod Policies

@@ -4,7 +4,7 @@ use Rattle.std.specs.List.{All, AllByRecursion, IsDistinct, list_any}
 use Rattle.std.specs.Option.{option_map}
 use Rattle.std.specs.Cmp.Lexicographic.{bytes_decides}
 use Rattle.std.proofs.lemmas.List.{length_push, map-set}
-use Rattle.std.proofs.lemmas.List.Elements.{All-append, All-drop, All-take}
+use Rattle.std.proofs.lemmas.List.Elements.{All-append, All-cons, All-drop, All-take}
 use Rattle.std.specs.Prelude.{slice_index_or}
 use Rattle.std.proofs.lemmas.Option.{slice_get-get_or, slice_get-map}
 
@@ -22,6 +22,13 @@ turned a b =
         | false ↦ λ other. refl
       ] refl
     ] refl
+
+-- ---- what holds of each image
+
+pub unmapped : {X Y : Type 0} (P : Y → Type 0) (f : X → Y) (xs : List X) → All P (map f xs) → All (λ x. P (f x)) xs
+unmapped P f [] all = λ k d below. absurd (omega (arith, below))
+unmapped P f (x ∷ xs) all =
+    All-cons (λ y. P (f y)) x xs (all 0 (f x) (omega arith)) (unmapped P f xs (λ k d below. all (suc k) d (omega (arith, below))))
 
 -- ---- lists by place
 

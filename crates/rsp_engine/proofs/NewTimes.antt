@@ -1,19 +1,17 @@
 -- What one more item adds to the times that a query watches.
-use Rattle.std.proofs.Common.{◌≡◌, ℕ, ◌-◌, ◌≤◌, ◌||◌, Bool, true, false, cond, List, [], ◌∷◌, ◌++◌, length, map, filter, refl, sym, ap, ◌∙◌}
+use Rattle.std.proofs.Common.{◌≡◌, ℕ, ◌≤◌, Bool, true, false, cond, List, [], ◌∷◌, ◌++◌, length, map, filter, refl, sym, ap, ◌∙◌}
 use Rattle.std.specs.Prelude.{bytes_eq}
 use Rattle.std.proofs.lemmas.List.{drop-append-le}
-use Rattle.std.proofs.lemmas.List.Elements.{filter-append}
-use Rattle.rsp_spec.specs.Windows.{in_content}
 use Rattle.rsp_report.specs.declared.contents.Watched.{Watched}
-use Rattle.rsp_report.specs.Seen.{seen_at}
 use Rattle.rsp_scope.specs.Contents.{Accepted}
 use Rattle.rsp_engine.specs.World.{Registration}
 use Rattle.rsp_engine.specs.declared.live_query.StreamWindow.{StreamWindow}
 use Rattle.rsp_engine.specs.Due.{is_over, watched_window}
 use Rattle.rsp_engine.specs.Seeing.{visible_items}
-use Rattle.rsp_engine.specs.Watching.{Tells, with_time}
+use Rattle.rsp_engine.specs.Watching.{Tells, told_at, with_time}
 use Rattle.rsp_engine.specs.Watched.{AreWatchedWith}
 use Rattle.rsp_engine.proofs.Named.{last_of}
+use Rattle.rsp_engine.proofs.Telling.{same_with}
 
 -- ---- one window
 
@@ -47,23 +45,6 @@ pub watched_last : (w : StreamWindow) (items : List Accepted) (item : Accepted)
 watched_last w items item =
     rw (times_last w items item, last_of items item) refl
 
--- with a new time, what is seen follows from what was seen
-abbrev seen_with : Bool → ℕ → ℕ → Watched → Watched
-seen_with true time t s =
-    record { window = s.window; times = s.times ++ filter (λ x. in_content s.window t x || in_content s.window (t - 1) x) (time ∷ []); fresh = true }
-seen_with false time t s = record { window = s.window; times = s.times; fresh = false }
-
-seen_by : (over : Bool) (time t : ℕ) (w : Watched) → seen_at t (with_time over time w) ≡ seen_with over time t (seen_at t w)
-seen_by true time t w =
-    ap (λ ts. record { window = w.window; times = ts; fresh = true })
-    (filter-append (λ x. in_content w.window t x || in_content w.window (t - 1) x) w.times (time ∷ []))
-seen_by false time t w = refl
-
-same_with : (over : Bool) (time t : ℕ) (one other : Watched) → seen_at t one ≡ seen_at t other
-    → seen_at t (with_time over time one) ≡ seen_at t (with_time over time other)
-same_with over time t one other same =
-    seen_by over time t one ∙ (ap (seen_with over time t) same ∙ sym (seen_by over time t other))
-
 -- ---- all windows of a query
 
 first_same : {X : Type 0} (x y : X) (xs ys : List X) → x ∷ xs ≡ y ∷ ys → (x ≡ y) × (xs ≡ ys)
@@ -72,16 +53,16 @@ first_same x y xs ys same = (cc, cc)
 module _ (stream : List ℕ) (time from t : ℕ) (late : from ≤ t) (items : List Accepted) (item : Accepted)
     (over : item.stream ≡ stream) (at : item.time ≡ time) where
   told_each : (windows : List StreamWindow) (olds news : List Watched) → AreWatchedWith stream time from windows olds news
-      → map (seen_at t) olds ≡ map (seen_at t) (map (watched_window items) windows)
-      → map (seen_at t) news ≡ map (seen_at t) (map (watched_window (items ++ item ∷ [])) windows)
+      → map (told_at t) olds ≡ map (told_at t) (map (watched_window items) windows)
+      → map (told_at t) news ≡ map (told_at t) (map (watched_window (items ++ item ∷ [])) windows)
   told_each [] [] [] are told = refl
   told_each (w ∷ ws) (old ∷ olds) (new ∷ news) are told =
       let parts = first_same _ _ _ _ told in
       let last : with_time (bytes_eq stream w.stream) time (watched_window items w) ≡ watched_window (items ++ item ∷ []) w =
       (λ k. with_time (bytes_eq (sym over k) w.stream) (sym at k) (watched_window items w)) ∙ watched_last w items item in
-      let first : seen_at t new ≡ seen_at t (watched_window (items ++ item ∷ []) w) =
-      are.0.seen t late
-      ∙ (same_with (bytes_eq stream w.stream) time t old (watched_window items w) parts.0 ∙ ap (seen_at t) last) in
+      let first : told_at t new ≡ told_at t (watched_window (items ++ item ∷ []) w) =
+      are.0.told t late
+      ∙ (same_with (bytes_eq stream w.stream) time t old (watched_window items w) parts.0 ∙ ap (told_at t) last) in
       (λ k. first k ∷ told_each ws olds news are.1 parts.1 k)
   told_each [] (old ∷ olds) news are told = absurd are
   told_each [] [] (new ∷ news) are told = absurd are
@@ -96,7 +77,7 @@ pub tells_more : (stream : List ℕ) (time from : ℕ) (items : List Accepted) (
     → Tells items from query olds → Tells (items ++ item ∷ []) from query news
 tells_more stream time from items item query olds news over at first shapes are told = record {
   windows = shapes ∙ told.windows;
-  seen = λ asks t late.
-      told_each stream time from t late (visible_items items query.first) item over at query.reading.windows olds news are (told.seen asks t late)
-      ∙ ap (λ seen. map (seen_at t) (map (watched_window seen) query.reading.windows)) (sym (drop-append-le query.first items (item ∷ []) first));
+  told = λ asks t late.
+      told_each stream time from t late (visible_items items query.first) item over at query.reading.windows olds news are (told.told asks t late)
+      ∙ ap (λ seen. map (told_at t) (map (watched_window seen) query.reading.windows)) (sym (drop-append-le query.first items (item ∷ []) first));
 }

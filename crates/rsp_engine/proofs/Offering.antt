@@ -1,11 +1,12 @@
 -- An accepted event leads from an idle engine that stands for a world to one that stands for the next.
-use Rattle.std.proofs.Common.{◌≡◌, ℕ, suc, ◌+◌, ◌-◌, ◌^◌, ◌+ℤ◌, ◌<◌, ◌≤◌, Bool, true, false, true≢false, cond, List, [], ◌∷◌, ◌++◌, length, map, filter, remove, slice_get, take, Option, None, Some, Result, Ok, Err, refl, sym, ◌∙◌, ap, subst, arith, nat_lt, nat_le, min, unwrap_or, bytes_eq}
+use Rattle.std.proofs.Common.{◌≡◌, ℕ, suc, ◌+◌, ◌-◌, ◌^◌, ◌+ℤ◌, ◌<◌, ◌≤◌, Bool, true, false, true≢false, cond, List, [], ◌∷◌, ◌++◌, length, map, filter, remove, slice_get, take, Option, None, Some, Result, Ok, Err, refl, sym, ◌∙◌, ap, subst, arith, nat_lt, nat_le, nat_eq, min, max, ◌&&◌, unwrap_or, bytes_eq}
 use Rattle.std.proofs.lemmas.Grind.{flat_map-append}
 use Rattle.std.proofs.lemmas.Int.{ints}
 use Rattle.std.proofs.lemmas.List.{append-nil, map_push}
-use Rattle.std.proofs.lemmas.List.Elements.{All-append, All-cons, All-weaker}
-use Rattle.std.proofs.lemmas.List.Sums.{sum_by-cons}
+use Rattle.std.proofs.lemmas.List.Elements.{All-append, All-cons, All-map, All-weaker}
+use Rattle.std.proofs.lemmas.List.Sums.{sum_by-append, sum_by-cons}
 use Rattle.std.proofs.lemmas.Bool.{le-leb, le-ltb, lt-leb, lt-ltb, ltb-false}
+use Rattle.std.proofs.lemmas.Bool.Decides.{nat_tests}
 use Rattle.std.proofs.lemmas.Option.{same_Some}
 use Rattle.std.specs.Prelude.{IfErr, IsOk, OnOk, if◌then◌else◌, slice_index_or}
 use Rattle.std.specs.List.{All, IsDistinct, flat_map, list_any, range_with_len, sum_by}
@@ -21,12 +22,14 @@ use Rattle.rsp_scope.specs.Logged.{Log}
 use Rattle.rsp_scope.specs.Contents.{Accepted, Numbered, Watch, numbered}
 use Rattle.rsp_scope.specs.Ends.{EndsAt, IsKept}
 use Rattle.rsp_scope.specs.Faults.{IsStoredFault}
-use Rattle.rsp_scope.specs.Kept.{needed, triples_of}
+use Rattle.rsp_scope.specs.Kept.{Kept, needed, taken, triples_of}
+use Rattle.rsp_scope.specs.declared.item.Item.{Item as KeptItem}
 use Rattle.rsp_scope.specs.Logged.{since}
 use Rattle.rsp_scope.specs.Moves.{Followed, HasSeen}
 use Rattle.rsp_scope.specs.Needed.{is_needed, listed_triples, needed_items}
 use Rattle.rsp_scope.specs.Quads.{stored_with, stored_without}
-use Rattle.rsp_scope.proofs.Needed.{begun, held_falls, held_is, held_with, held_without, none_kept}
+use Rattle.rsp_scope.proofs.Needed.{begun, held_falls, held_is, joined, none_kept}
+use Rattle.rsp_scope.proofs.Needed as needs
 use Rattle.rsp_scope.proofs.Needs.{needed-earlier}
 use Rattle.rsp_scope.proofs.StoredLaws.{as-many-stored_with, same-stored_with, same-stored_without}
 use Rattle.rsp_events.specs.declared.event.Event.{Event}
@@ -42,17 +45,18 @@ use Rattle.rsp_engine.specs.declared.refused.Refused.{Refused}
 use Rattle.rsp_engine.specs.Offers.{Offers, Refuses}
 use Rattle.rsp_engine.specs.declared.refused.TextFault.{TextFault}
 use Rattle.rsp_engine.specs.Refusals.{query_fault, read, text_fault}
-use Rattle.rsp_engine.specs.World.{Query, Registration, World, empty_world, next_of, registrations}
+use Rattle.rsp_engine.specs.World.{Query, Reading, Registration, World, empty_world, next_of, next_with, registrations}
 use Rattle.rsp_engine.specs.Readings.{reading_of}
 use Rattle.rsp_spec.specs.Limits.{most_held, most_quads, most_queries, most_triples}
-use Rattle.rsp_engine.specs.Accept.{accept, has_name, is_live, new_query, starts_overfull, with_item, without}
+use Rattle.rsp_engine.specs.Accept.{accept, has_name, has_slack_tuple, is_live, new_query, starts_overfull, with_item, without}
 use Rattle.rsp_engine.specs.Contents.{watches, watches_from}
 use Rattle.rsp_engine.specs.Seeing.{is_due_over}
 use Rattle.rsp_engine.specs.Keeping.{IsUnmoved, excess}
 use Rattle.rsp_engine.specs.Kept.{held, watches_of}
 use Rattle.rsp_engine.specs.Left.{IsFirstLeft, left_from, name_in, reports_at}
-use Rattle.rsp_engine.specs.Moments.{Moment, due_moments, moments, moments_at, moments_from}
-use Rattle.rsp_engine.specs.Passing.{Begins, Passes, unwatched}
+use Rattle.rsp_engine.specs.Due.{is_due_on}
+use Rattle.rsp_engine.specs.Moments.{Moment, due_moments, moments, moments_at, moments_from, moments_on}
+use Rattle.rsp_engine.specs.Passing.{Begins, Passes, came_over, is_refused_slack, next_after, unwatched}
 use Rattle.rsp_engine.specs.Stands.{Fits, Follows, HaveSeen, Live, Saw, Stands, State, asked_in, asked_of, cut_of, facts_followed, left_in, next_in, registration_of, registrations_in, test_in, watches_in}
 use Rattle.rsp_engine.specs.Watching.{Tells, name_of}
 use Rattle.rsp_engine.specs.Bounds.{IsWorld}
@@ -105,7 +109,7 @@ seen_alike (live ∷ lives) (new ∷ news) (query ∷ queries) is have =
 module _ (old new : State) (more : List Accepted) (came : Option (List ℕ)) (to : ℕ) (world : World)
     (passes : Passes old more came to new) (stands : Stands old world []) (low : unwrap_or old.next to ≤ to) (high : next_in old ≤ unwrap_or old.next to) where
   abbrev after : World
-  after = record { next = Some to; items = world.items ++ more; stored = world.stored; queries = world.queries }
+  after = record world { next = Some to; items = world.items ++ more }
 
   regs : registrations_in new ≡ registrations after
   regs = same_regs old.queries new.queries passes.queries ∙ stands.queries
@@ -147,6 +151,7 @@ module _ (old new : State) (more : List Accepted) (came : Option (List ℕ)) (to
       let waits = waits_at name_of (test_in new) (asked_in new) (next_in new) (unwrap_or old.next to) 0 new.first first_here in
       record {
         ready = passes.broken;
+        slack = passes.slack ∙ stands.slack;
         next = passes.next;
         fits = passes.fits world.items stands.fits;
         bounds = bounds;
@@ -192,28 +197,64 @@ tick_leads old new time world late passes stands =
       rw (append-nil world.items, nothing) at there,
     )
 
+-- an item completes no instant before `next`, and none behind its own time
+pub after_low : (old : State) (time : ℕ) → next_in old ≤ next_after old time
+after_low old time = omega arith
+
+pub after_high : (old : State) (time : ℕ) → next_in old ≤ time → next_after old time ≤ time
+after_high old time late = omega (arith, late)
+
+-- in the world as in the engine
+pub after_is : (old : State) (world : World) (time : ℕ) → Stands old world [] → next_with world time ≡ next_after old time
+after_is old world time stands = λ i. max (unwrap_or (sym stands.next i) 0) (time - sym stands.slack i)
+
+-- with an item as many are kept as before and its own, where it is needed, from an instant on that isn't behind its time
+held_with_at : (cut n : ℕ) (watches : List Watch) (items : List Accepted) (kept : Kept) (item : Accepted) (e : ℕ) → IsKept cut watches items kept
+    → cut ≤ n → n ≤ item.time → EndsAt watches (record { number = length items; item = item }) (Some e)
+    → triples_of (needed n kept.items) + length item.graph ≡ listed_triples (needed_items n watches (items ++ item ∷ []))
+held_with_at cut n watches items kept item e is on early ends =
+    let new : KeptItem = record { number = kept.accepted; stream = item.stream; time = item.time; graph = item.graph; end = e } in
+    let now = record kept { items = needed n kept.items } in
+    sym (sum_by-append (λ (i : KeptItem). length i.graph) (needed n kept.items) (new ∷ []) ∙ omega arith)
+    ∙ held_is n watches (items ++ item ∷ []) (taken now item.stream item.time item.graph (Some e))
+    (joined n watches items now item (Some e) (needs.passed cut n watches items kept is on) early ends)
+
+-- or isn't
+held_without_at : (cut n : ℕ) (watches : List Watch) (items : List Accepted) (kept : Kept) (item : Accepted) → IsKept cut watches items kept
+    → cut ≤ n → n ≤ item.time → EndsAt watches (record { number = length items; item = item }) None
+    → triples_of (needed n kept.items) ≡ listed_triples (needed_items n watches (items ++ item ∷ []))
+held_without_at cut n watches items kept item is on early ends =
+    let now = record kept { items = needed n kept.items } in
+    held_is n watches (items ++ item ∷ []) (taken now item.stream item.time item.graph None)
+    (joined n watches items now item None (needs.passed cut n watches items kept is on) early ends)
+
 -- how many triples would be kept with an item
 module _ (old : State) (world : World) (item : Accepted) (idle : old.first ≡ None) (stands : Stands old world []) (late : next_in old ≤ item.time) where
+  abbrev to : ℕ
+  to = next_after old item.time
+
   abbrev with_it : ℕ
-  with_it = listed_triples (needed_items item.time (watches_in old) (world.items ++ item ∷ []))
+  with_it = listed_triples (needed_items to (watches_in old) (world.items ++ item ∷ []))
 
   pub held_in_world : held (with_item world item) ≡ with_it
-  held_in_world = ap (λ rs. listed_triples (needed_items item.time (watches_of rs) (world.items ++ item ∷ []))) (sym stands.queries)
+  held_in_world = λ i.
+      listed_triples
+      (needed_items (after_is old world item.time stands i) (watches_of (sym stands.queries i)) (world.items ++ item ∷ []))
 
-  cut_low : cut_of old ≤ item.time
-  cut_low = rw (idle_cut old idle) late
+  cut_low : cut_of old ≤ to
+  cut_low = rw (idle_cut old idle) (after_low old item.time)
 
   pub with_end : (end : ℕ) → EndsAt (watches_in old) (record { number = old.kept.accepted; item = item }) (Some end)
-      → triples_of (needed item.time old.kept.items) + length item.graph ≡ held (with_item world item)
+      → triples_of (needed to old.kept.items) + length item.graph ≡ held (with_item world item)
   with_end end ends =
-      held_with (cut_of old) (watches_in old) world.items old.kept item end stands.fits.kept cut_low
+      held_with_at (cut_of old) to (watches_in old) world.items old.kept item end stands.fits.kept cut_low (after_high old item.time late)
       (subst (λ n. EndsAt (watches_in old) (record { number = n; item = item }) (Some end)) stands.fits.kept.accepted ends) ∙ sym held_in_world
 
   without_end : EndsAt (watches_in old) (record { number = old.kept.accepted; item = item }) None → held (with_item world item) ≤ most_held
   without_end ends =
-      let is = held_without (cut_of old) (watches_in old) world.items old.kept item stands.fits.kept cut_low
+      let is = held_without_at (cut_of old) to (watches_in old) world.items old.kept item stands.fits.kept cut_low (after_high old item.time late)
       (subst (λ n. EndsAt (watches_in old) (record { number = n; item = item }) None) stands.fits.kept.accepted ends) in
-      let less = held_falls item.time old.kept.items in
+      let less = held_falls to old.kept.items in
       let here = held_here old world idle stands in
       let before = stands.bounds.few in
       let there = held_in_world in
@@ -221,39 +262,75 @@ module _ (old : State) (world : World) (item : Accepted) (idle : old.first ≡ N
 
   -- not too many, where none are said to be
   pub in_bounds : (end : Option ℕ) → EndsAt (watches_in old) (record { number = old.kept.accepted; item = item }) end
-      → option_map_or (λ _. excess old.kept item.time (length item.graph)) end None ≡ None → held (with_item world item) ≤ most_held
+      → option_map_or (λ _. excess old.kept to (length item.graph)) end None ≡ None → held (with_item world item) ≤ most_held
   in_bounds None ends none = without_end ends
-  in_bounds (Some end) ends none = by (nat_lt 1000000 (triples_of (needed item.time old.kept.items) + length item.graph)) refl none
+  in_bounds (Some end) ends none = by (nat_lt 1000000 (triples_of (needed to old.kept.items) + length item.graph)) refl none
     where
-      by : (b : Bool) → nat_lt 1000000 (triples_of (needed item.time old.kept.items) + length item.graph) ≡ b
-          → (if b then Some (min (triples_of (needed item.time old.kept.items) + length item.graph) (2 ^ 64 - 1)) else None) ≡ None → held (with_item world item) ≤ most_held
+      by : (b : Bool) → nat_lt 1000000 (triples_of (needed to old.kept.items) + length item.graph) ≡ b
+          → (if b then Some (min (triples_of (needed to old.kept.items) + length item.graph) (2 ^ 64 - 1)) else None) ≡ None → held (with_item world item) ≤ most_held
       by true is none = cc
-      by false is none = let most = ltb-false 1000000 (triples_of (needed item.time old.kept.items) + length item.graph) is in let whole = with_end end ends in omega (arith, most, whole)
+      by false is none = let most = ltb-false 1000000 (triples_of (needed to old.kept.items) + length item.graph) is in let whole = with_end end ends in omega (arith, most, whole)
 
   -- too many, and how many
   pub out_of_bounds : (end : Option ℕ) (many : ℕ) → EndsAt (watches_in old) (record { number = old.kept.accepted; item = item }) end → length item.graph ≤ most_triples
-      → option_map_or (λ _. excess old.kept item.time (length item.graph)) end None ≡ Some many → (nat_lt most_held (held (with_item world item)) ≡ true) × (held (with_item world item) ≡ many)
+      → option_map_or (λ _. excess old.kept to (length item.graph)) end None ≡ Some many → (nat_lt most_held (held (with_item world item)) ≡ true) × (held (with_item world item) ≡ many)
   out_of_bounds None many ends small is = cc
-  out_of_bounds (Some end) many ends small is = by (nat_lt 1000000 (triples_of (needed item.time old.kept.items) + length item.graph)) refl is
+  out_of_bounds (Some end) many ends small is = by (nat_lt 1000000 (triples_of (needed to old.kept.items) + length item.graph)) refl is
     where
-      by : (b : Bool) → nat_lt 1000000 (triples_of (needed item.time old.kept.items) + length item.graph) ≡ b
-          → (if b then Some (min (triples_of (needed item.time old.kept.items) + length item.graph) (2 ^ 64 - 1)) else None) ≡ Some many
+      by : (b : Bool) → nat_lt 1000000 (triples_of (needed to old.kept.items) + length item.graph) ≡ b
+          → (if b then Some (min (triples_of (needed to old.kept.items) + length item.graph) (2 ^ 64 - 1)) else None) ≡ Some many
           → (nat_lt most_held (held (with_item world item)) ≡ true) × (held (with_item world item) ≡ many)
       by false test is = cc
       by true test is =
           let whole = with_end end ends in
           let over : nat_lt most_held (held (with_item world item)) ≡ true = subst (λ n. nat_lt most_held n ≡ true) whole test in
-          let less = held_falls item.time old.kept.items in
+          let less = held_falls to old.kept.items in
           let here = held_here old world idle stands in
           let before = stands.bounds.few in
-          let low : min (triples_of (needed item.time old.kept.items) + length item.graph) (2 ^ 64 - 1) ≡ triples_of (needed item.time old.kept.items) + length item.graph = grind (arith, less, here, before, small) in
+          let low : min (triples_of (needed to old.kept.items) + length item.graph) (2 ^ 64 - 1) ≡ triples_of (needed to old.kept.items) + length item.graph = grind (arith, less, here, before, small) in
           (over, sym whole ∙ (sym low ∙ same_Some _ _ is))
 
--- an item that was taken, and time that passed up to it
+-- none passes of those of which each fails
+none_left : {X : Type 0} (p : X → Bool) (xs : List X) → All (λ x. p x ≡ false) xs → filter p xs ≡ []
+none_left p [] all = refl
+none_left p (x ∷ xs) all =
+    let first : p x ≡ false = all 0 x (omega arith) in
+    rw first (none_left p xs (λ k d below. all (suc k) d (omega (arith, below))))
+
+-- what arrived are the moments on the item: without a slack all is complete up to its time, and under one no query looks at items
+module _ (old : State) (world : World) (item : Accepted) (stands : Stands old world []) (late : next_in old ≤ item.time) where
+  abbrev taken_in : World
+  taken_in = with_item world item
+
+  abbrev on_item : Registration → Bool
+  on_item query = is_due_on taken_in.items query item
+
+  by_instants : 0 < old.slack → All (λ (query : Registration). on_item query ≡ false) (registrations world)
+  by_instants slack =
+      All-map (λ (query : Registration). on_item query ≡ false) (λ (query : Query). query.registration) world.queries
+      (All-weaker (λ (query : Query). query.registration.reading.policy.tuple ≡ false) (λ (query : Query). on_item query.registration ≡ false)
+      (λ query none. rw none refl) world.queries (stands.bounds.instants (subst (λ n. 0 < n) stands.slack slack)))
+
+  pub arrivals_are : arrivals taken_in (came_over old item.stream) (next_after old item.time)
+      ≡ moments_on taken_in (Item item.stream item.time item.graph)
+  arrivals_are = by (nat_eq old.slack 0) refl
+    where
+      by : (none : Bool) → nat_eq old.slack 0 ≡ none
+          → arrivals taken_in (if none then Some item.stream else None) (next_after old item.time)
+          ≡ moments_on taken_in (Item item.stream item.time item.graph)
+      by true test =
+          let slack : old.slack ≡ 0 = grind (arith, nat_tests, test) in
+          let at : next_after old item.time ≡ item.time = omega (arith, slack, late) in
+          ap (λ t. moments_at (λ query. is_due_over taken_in.items query item.stream t) (registrations world) t) at
+      by false test =
+          let slack : 0 < old.slack = grind (arith, nat_tests, test) in
+          ap (map _) (none_pass (registrations world) ∙ sym (none_left on_item (registrations world) (by_instants slack)))
+
+-- an item that was taken, and time that passed
 pub item_leads : (old new : State) (stream : List ℕ) (time : ℕ) (graph : List Triple) (end : Option ℕ) (world : World) → old.first ≡ None → length graph ≤ most_triples → next_in old ≤ time
     → EndsAt (watches_in old) (record { number = old.kept.accepted; item = record { stream = stream; time = time; graph = graph } }) end
-    → option_map_or (λ _. excess old.kept time (length graph)) end None ≡ None
-    → Passes old (record { stream = stream; time = time; graph = graph } ∷ []) (Some stream) time new → Stands old world [] → Leads world (Item stream time graph) new
+    → option_map_or (λ _. excess old.kept (next_after old time) (length graph)) end None ≡ None
+    → Passes old (record { stream = stream; time = time; graph = graph } ∷ []) (came_over old stream) (next_after old time) new → Stands old world [] → Leads world (Item stream time graph) new
 item_leads old new stream time graph end world idle small late ends none passes stands =
     let item : Accepted = record { stream = stream; time = time; graph = graph } in
     let few = in_bounds old world item idle stands late end ends none in
@@ -262,17 +339,24 @@ item_leads old new stream time graph end world idle small late ends none passes 
     let in_time : nat_lt time (next_of world) ≡ false = le-ltb _ _ (rw stands.next at late) in
     let late_world : next_of world ≤ time = rw stands.next at late in
     let bounds = item_keeps world stands.bounds item late_world few in
-    let there = passed old new (item ∷ []) (Some stream) time world passes stands (low_of old.next time late) (high_of old.next time) bounds in (
+    let to = next_after old time in
+    let next : to ≡ next_with world time = sym (after_is old world time stands) in
+    let same : record world { next = Some to; items = world.items ++ item ∷ [] } ≡ with_item world item =
+    ap (λ n. record world { next = Some n; items = world.items ++ item ∷ [] }) next in
+    let there = passed old new (item ∷ []) (came_over old stream) to world passes stands (low_of old.next to (after_low old time))
+    (high_of old.next to) (subst IsWorld (sym same) bounds) in
+    let moments_are = arrivals_are old world item stands late in (
       with_item world item,
       rw (in_time, few_triples, in_bounds) refl,
-      there,
+      subst (Stands new (with_item world item)) (ap (λ ms. option_map_or (λ from. moments_from (with_item world item) from) world.next [] ++ ms) moments_are)
+          (subst (λ w. Stands new w (option_map_or (λ from. moments_from w from) world.next [] ++ arrivals w (came_over old stream) to)) same there),
     )
 
 -- or memory is refused
 pub item_offers : (old new : State) (stream : List ℕ) (time : ℕ) (graph : List Triple) (end : Option ℕ) (result : Result (Unit {0}) Refused) → old.broken ≡ false → old.first ≡ None → length graph ≤ most_triples → next_in old ≤ time
     → EndsAt (watches_in old) (record { number = old.kept.accepted; item = record { stream = stream; time = time; graph = graph } }) end
-    → option_map_or (λ _. excess old.kept time (length graph)) end None ≡ None
-    → OnOk result (Passes old (record { stream = stream; time = time; graph = graph } ∷ []) (Some stream) time new) → IfErr result (λ why. (why ≡ answer.OutOfMemory) × (new.broken ≡ true))
+    → option_map_or (λ _. excess old.kept (next_after old time) (length graph)) end None ≡ None
+    → OnOk result (Passes old (record { stream = stream; time = time; graph = graph } ∷ []) (came_over old stream) (next_after old time) new) → IfErr result (λ why. (why ≡ answer.OutOfMemory) × (new.broken ≡ true))
     → Offers old (Item stream time graph) result new
 item_offers old new stream time graph end (Ok done) ready idle small late ends none went failed = record {
   was_ready = ready;
@@ -308,7 +392,7 @@ large_refuses old stream time graph ready late many = record {
 -- or with which too many would be kept
 pub full_held_refuses : (old : State) (stream : List ℕ) (time : ℕ) (graph : List Triple) (end : Option ℕ) (many : ℕ) → old.broken ≡ false → old.first ≡ None → length graph ≤ most_triples → next_in old ≤ time
     → EndsAt (watches_in old) (record { number = old.kept.accepted; item = record { stream = stream; time = time; graph = graph } }) end
-    → option_map_or (λ _. excess old.kept time (length graph)) end None ≡ Some many
+    → option_map_or (λ _. excess old.kept (next_after old time) (length graph)) end None ≡ Some many
     → Refuses old (Item stream time graph) (answer.HeldFull many) old
 full_held_refuses old stream time graph end many ready idle small late ends is = record {
   was_ready = ready;
@@ -330,10 +414,10 @@ none_behind world (Some next) = let none : next - next ≡ 0 = omega arith in rw
 
 -- an engine that is idle, with other queries, stands for the world with these
 other_queries : (old new : State) (world after : World) (queries : List Query) → old.first ≡ None → Stands old world [] → after ≡ record world { queries = queries }
-    → new.next ≡ old.next → new.stored ≡ old.stored → new.first ≡ old.first → new.broken ≡ old.broken
+    → new.slack ≡ old.slack → new.next ≡ old.next → new.stored ≡ old.stored → new.first ≡ old.first → new.broken ≡ old.broken
     → registrations_in new ≡ map (λ (query : Query). query.registration) queries → HaveSeen new.queries queries → Fits new world.items → IsWorld after
     → Stands new after (option_map_or (λ from. moments_from after from) world.next [] ++ [])
-other_queries old new world after queries idle stands is next stored first broken regs seen fits bounds =
+other_queries old new world after queries idle stands is slack next stored first broken regs seen fits bounds =
     let none : option_map_or (λ from. moments_from (record world { queries = queries }) from) world.next [] ++ [] ≡ [] =
     append-nil _ ∙ none_behind (record world { queries = queries }) world.next in
     let idle_new : new.first ≡ None = first ∙ idle in
@@ -341,6 +425,7 @@ other_queries old new world after queries idle stands is next stored first broke
     rw (is, none)
     (record {
       ready = broken ∙ stands.ready;
+      slack = slack ∙ stands.slack;
       next = next ∙ stands.next;
       fits = fits;
       bounds = bounds_here;
@@ -400,11 +485,17 @@ fits_begun old live items begins fits =
     fits_more old (record old { queries = old.queries ++ live ∷ [] }) live items refl fits begins.first
     (λ from. begins.told items from (sym fits.kept.accepted ∙ sym begins.first)) begins.unreported begins.unseen begins.unmoved
 
+-- in the world as in the engine
+slack_same : (old : State) (world : World) (reading : Reading) → Stands old world []
+    → has_slack_tuple world reading ≡ is_refused_slack old reading.policy
+slack_same old world reading stands = ap (λ n. nat_lt 0 n && reading.policy.tuple) (sym stands.slack)
+
 -- a query that became live
 pub register_leads : (old : State) (name text : List ℕ) (q : Registered) (live : Live) (world : World) → registration_of live ≡ (new_query name (reading_of q) old.kept.accepted).registration → Begins old live
-    → old.first ≡ None → list_any (has_name name) (registrations_in old) ≡ false → parse text ≡ Ok q → first_fault q ≡ None → is_mixed q.policy ≡ false → length old.queries < most_queries → starts_overfull (reading_of q) ≡ false → Stands old world []
+    → old.first ≡ None → list_any (has_name name) (registrations_in old) ≡ false → parse text ≡ Ok q → first_fault q ≡ None → is_mixed q.policy ≡ false → is_refused_slack old (reading_of q).policy ≡ false
+    → length old.queries < most_queries → starts_overfull (reading_of q) ≡ false → Stands old world []
     → Leads world (Register name text) (record old { queries = old.queries ++ live ∷ [] })
-register_leads old name text q live world made begins idle free is good unmixed few starts stands =
+register_leads old name text q live world made begins idle free is good unmixed instants few starts stands =
     let new : Query = new_query name (reading_of q) (length world.items) in
     let after : World = record world { queries = world.queries ++ new ∷ [] } in
     let engine : State = record old { queries = old.queries ++ live ∷ [] } in
@@ -417,18 +508,19 @@ register_leads old name text q live world made begins idle free is good unmixed 
     ∙ (ap (λ r. registrations world ++ r ∷ []) made_is ∙ sym (map_push (λ (query : Query). query.registration) world.queries new))) in
     let seen = seen_more old.queries world.queries live new stands.seen (saw_new live new.registration begins.unreported begins.unseen) in
     let fits = fits_begun old live world.items begins stands.fits in
-    let bounds : IsWorld after = register_keeps world stands.bounds name (reading_of q) none_live (subst (λ n. n < most_queries) (sym count) few) in (
+    let by_instants : has_slack_tuple world (reading_of q) ≡ false = slack_same old world (reading_of q) stands ∙ instants in
+    let bounds : IsWorld after = register_keeps world stands.bounds name (reading_of q) none_live (subst (λ n. n < most_queries) (sym count) few) by_instants in (
       after,
-      rw (none_live, is, good, unmixed, room, starts) refl,
-      other_queries old engine world after (world.queries ++ new ∷ []) idle stands refl refl refl refl refl regs seen fits bounds,
+      rw (none_live, is, good, unmixed, by_instants, room, starts) refl,
+      other_queries old engine world after (world.queries ++ new ∷ []) idle stands refl refl refl refl refl refl regs seen fits bounds,
     )
 
 -- the named query goes, and what it alone needed
 pub cancel_leads : (old new : State) (name : List ℕ) (place : ℕ) (live : Live) (world : World) → old.first ≡ None → IsDistinct bytes_eq (map (λ (l : Live). l.name) old.queries)
     → slice_get old.queries place ≡ Some live → live.name ≡ name → Stands old world []
-    → new.next ≡ old.next → new.stored ≡ old.stored → new.first ≡ old.first → new.broken ≡ old.broken → new.queries ≡ remove old.queries place
+    → new.slack ≡ old.slack → new.next ≡ old.next → new.stored ≡ old.stored → new.first ≡ old.first → new.broken ≡ old.broken → new.queries ≡ remove old.queries place
     → Fits new world.items → Leads world (Cancel name) new
-cancel_leads old new name place live world idle names listed is stands next stored first broken queries fits =
+cancel_leads old new name place live world idle names listed is stands slack next stored first broken queries fits =
     let after : World = record world { queries = without name world.queries } in
     let is_named : is_live world name ≡ true = same_live old world name stands.queries ∙ any_named old.queries place live name listed is in
     let found = world_at old world stands.queries place live listed in
@@ -442,7 +534,7 @@ cancel_leads old new name place live world idle names listed is stands next stor
     let bounds : IsWorld after = without_keeps world stands.bounds name in (
       after,
       rw is_named refl,
-      other_queries old new world after (without name world.queries) idle stands refl next stored first broken regs seen fits bounds,
+      other_queries old new world after (without name world.queries) idle stands refl slack next stored first broken regs seen fits bounds,
     )
 
 -- ---- stored quads: no moment
@@ -485,6 +577,7 @@ other_quads old stored wanted log world idle same logged stands bounds =
     rw none
     (record {
       ready = stands.ready;
+      slack = stands.slack;
       next = stands.next;
       fits = fits_logged old stored log world.items logged stands.fits;
       bounds = bounds;
@@ -579,36 +672,49 @@ module _ (old : State) (name text : List ℕ) (q : Registered) (ready : old.brok
     count : (world : World) → Stands old world [] → length world.queries ≡ length old.queries
     count world stands = same_count old world stands.queries
 
-    pub full_refuses : most_queries ≤ length old.queries → Refuses old (Register name text) answer.QueriesFull old
-    full_refuses many = record {
+    -- a query that looks at items, under a slack
+    pub slack_refuses : is_refused_slack old (reading_of q).policy ≡ true → Refuses old (Register name text) answer.SlackTuple old
+    slack_refuses refused = record {
+      was_ready = ready;
+      unchanged = refl;
+      refused = λ world stands.
+          let under : has_slack_tuple world (reading_of q) ≡ true = slack_same old world (reading_of q) stands ∙ refused in
+          rw (none_live world stands, is, good, unmixed, under) refl;
+    }
+
+    pub full_refuses : is_refused_slack old (reading_of q).policy ≡ false → most_queries ≤ length old.queries → Refuses old (Register name text) answer.QueriesFull old
+    full_refuses instants many = record {
       was_ready = ready;
       unchanged = refl;
       refused = λ world stands.
           let full : nat_le most_queries (length world.queries) ≡ true = rw (count world stands) (le-leb _ _ many) in
-          rw (none_live world stands, is, good, unmixed, full) refl;
+          let under : has_slack_tuple world (reading_of q) ≡ false = slack_same old world (reading_of q) stands ∙ instants in
+          rw (none_live world stands, is, good, unmixed, under, full) refl;
     }
 
-    pub overfull_refuses : length old.queries < most_queries → starts_overfull (reading_of q) ≡ true → Refuses old (Register name text) answer.StartOverfull old
-    overfull_refuses few starts = record {
+    pub overfull_refuses : is_refused_slack old (reading_of q).policy ≡ false → length old.queries < most_queries → starts_overfull (reading_of q) ≡ true → Refuses old (Register name text) answer.StartOverfull old
+    overfull_refuses instants few starts = record {
       was_ready = ready;
       unchanged = refl;
       refused = λ world stands.
           let room : nat_le most_queries (length world.queries) ≡ false = rw (count world stands) (lt-leb _ _ few) in
-          rw (none_live world stands, is, good, unmixed, room, starts) refl;
+          let under : has_slack_tuple world (reading_of q) ≡ false = slack_same old world (reading_of q) stands ∙ instants in
+          rw (none_live world stands, is, good, unmixed, under, room, starts) refl;
     }
 
 -- a query that has begun becomes live, or memory is refused
 pub begun_offers : (old new : State) (name text : List ℕ) (q : Registered) (kept : Live) (result : Result (Unit {0}) Refused) → old.broken ≡ false → registration_of kept ≡ (new_query name (reading_of q) old.kept.accepted).registration → Begins old kept → old.first ≡ None
-    → list_any (has_name name) (registrations_in old) ≡ false → parse text ≡ Ok q → first_fault q ≡ None → is_mixed q.policy ≡ false → length old.queries < most_queries → starts_overfull (reading_of q) ≡ false
+    → list_any (has_name name) (registrations_in old) ≡ false → parse text ≡ Ok q → first_fault q ≡ None → is_mixed q.policy ≡ false
+    → is_refused_slack old (reading_of q).policy ≡ false → length old.queries < most_queries → starts_overfull (reading_of q) ≡ false
     → OnOk result (new ≡ record old { queries = old.queries ++ kept ∷ [] }) → IfErr result (λ why. (why ≡ answer.OutOfMemory) × (new.broken ≡ true)) → Offers old (Register name text) result new
-begun_offers old new name text q kept (Ok done) ready made begins idle free is good unmixed few starts went failed =
+begun_offers old new name text q kept (Ok done) ready made begins idle free is good unmixed instants few starts went failed =
     let became : new ≡ record old { queries = old.queries ++ kept ∷ [] } = went in
     rw became (record {
       was_ready = ready;
       ready = ready;
-      stands = λ world stands. register_leads old name text q kept world made begins idle free is good unmixed few starts stands;
+      stands = λ world stands. register_leads old name text q kept world made begins idle free is good unmixed instants few starts stands;
     })
-begun_offers old new name text q kept (Err why) ready made begins idle free is good unmixed few starts went failed = breaks old name text why new ready free failed.0 failed.1
+begun_offers old new name text q kept (Err why) ready made begins idle free is good unmixed instants few starts went failed = breaks old name text why new ready free failed.0 failed.1
 
 -- ---- an engine that has taken nothing
 
@@ -619,12 +725,13 @@ fits_nothing e next queries kept = record {
   follows = rw queries (λ k d below. absurd (omega (arith, below)));
 }
 
-pub new_stands : (e : State) → e.next ≡ None → e.queries ≡ [] → e.kept ≡ record { accepted = 0; items = [] } → e.stored ≡ [] → e.first ≡ None → e.broken ≡ false → Stands e empty_world []
-new_stands e next queries kept stored first sound = record {
+pub new_stands : (e : State) (slack : ℕ) → e.slack ≡ slack → e.next ≡ None → e.queries ≡ [] → e.kept ≡ record { accepted = 0; items = [] } → e.stored ≡ [] → e.first ≡ None → e.broken ≡ false → Stands e (empty_world slack) []
+new_stands e slack same next queries kept stored first sound = record {
   ready = sound;
+  slack = same;
   next = next;
   fits = fits_nothing e next queries kept;
-  bounds = empty_keeps;
+  bounds = empty_keeps slack;
   stored = rw stored (λ q. refl);
   queries = rw queries refl;
   seen = rw queries tt;

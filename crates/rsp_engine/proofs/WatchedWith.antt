@@ -4,17 +4,16 @@ use Rattle.std.specs.Prelude.{bytes_eq, slice_get}
 use Rattle.std.specs.List.{All}
 use Rattle.std.specs.Option.{option_map_or}
 use Rattle.std.proofs.lemmas.List.{length-map, nil_from_length}
-use Rattle.std.proofs.lemmas.List.Elements.{All-cons, All-nil}
+use Rattle.std.proofs.lemmas.List.Elements.{All-cons, All-head, All-nil, All-tail}
 use Rattle.rsp_report.specs.declared.contents.Watched.{Watched}
-use Rattle.rsp_report.specs.Due.{IsFreshAt}
-use Rattle.rsp_report.specs.Seen.{seen_at}
+use Rattle.rsp_report.specs.Due.{IsFreshAt, IsWatched}
 use Rattle.rsp_engine.specs.declared.live_query.LiveQuery.{LiveQuery}
 use Rattle.rsp_engine.specs.declared.live_query.StreamWindow.{StreamWindow}
 use Rattle.rsp_scope.specs.Contents.{Accepted}
 use Rattle.rsp_engine.specs.Inside.{IsSought, Parts, asked, fixed, parts_of}
-use Rattle.rsp_engine.specs.Watching.{IsPolicy, IsPrompt, IsTimed, IsWatching, Tells, asks_contents, with_time}
+use Rattle.rsp_engine.specs.Watching.{IsPolicy, IsUpTo, IsWatching, Tells, asks_contents, told_at, with_time}
 use Rattle.rsp_engine.specs.Watched.{AreWatchedWith, IsCalmed, IsMoved, IsWatchedWith}
-use Rattle.rsp_engine.proofs.Calmed.{calmed_prompt, calmed_tells}
+use Rattle.rsp_engine.proofs.Calmed.{calmed_fresh, calmed_tells, calmed_up_to, calmed_watching}
 use Rattle.rsp_engine.proofs.DueNext.{calmed_sought}
 use Rattle.rsp_engine.proofs.NewTimes.{tells_more}
 
@@ -72,17 +71,18 @@ module _ (stream : List ℕ) (time from : ℕ) where
     as_before : one ≡ get_or olds i one
     as_before = is ∙ so_far_at i ws olds news one are
 
-    pub timed_before : All (IsTimed from) olds → IsTimed from one
-    timed_before timed =
+    pub watched_before : All IsWatched olds → IsWatched one
+    watched_before watched =
         let inside : i < length olds = omega (arith, below, so_far_long i ws olds news are) in
-        subst (IsTimed from) (sym as_before) (timed i one inside)
+        subst IsWatched (sym as_before) (watched i one inside)
 
     -- and is then watched with the item
     pub more_so_far : (over : Bool) (new : Watched) → over ≡ option_map_or (λ (w : StreamWindow). bytes_eq stream w.stream) (slice_get ws i) false
-        → new.window ≡ one.window → IsTimed time new → IsFreshAt time new
-        → ((t : ℕ) → from ≤ t → seen_at t new ≡ seen_at t (with_time over time one))
+        → new.window ≡ one.window → IsWatched new → ((latest : ℕ) → time ≤ latest → IsUpTo latest one → IsUpTo latest new)
+        → (IsUpTo time one → IsFreshAt time new)
+        → ((t : ℕ) → from ≤ t → told_at t new ≡ told_at t (with_time over time one))
         → AreSoFar (i + 1) ws olds (set news i new)
-    more_so_far over new over_is window timed fresh seen =
+    more_so_far over new over_is window watched up_to fresh told =
         let inside : i < length olds = omega (arith, below, so_far_long i ws olds news are) in
         subst (λ n. AreSoFar n ws olds (set news i new)) (sym (add-one i))
         (so_far_next i ws olds news one new are inside
@@ -92,9 +92,10 @@ module _ (stream : List ℕ) (time from : ℕ) where
         subst (λ old. IsWatchedWith stream time from w old new) as_before
         (record {
           window = window;
-          timed = timed;
+          watched = watched;
+          up_to = up_to;
           fresh = fresh;
-          seen = λ t late. seen t late ∙ ap (λ b. seen_at t (with_time b time one)) same;
+          told = λ t late. told t late ∙ ap (λ b. told_at t (with_time b time one)) same;
         })))
 
   pub all_so_far : (i : ℕ) (ws : List StreamWindow) (olds news : List Watched) → AreSoFar i ws olds news → length olds ≤ i
@@ -120,34 +121,41 @@ module _ (stream : List ℕ) (time from : ℕ) where
   same_shapes (w ∷ ws) [] news are = absurd are
   same_shapes (w ∷ ws) (old ∷ olds) [] are = absurd are
 
-  all_new : (P : Watched → Type 0) → ((w : StreamWindow) (old new : Watched) → IsWatchedWith stream time from w old new → P new)
-      → (ws : List StreamWindow) (olds news : List Watched) → AreWatchedWith stream time from ws olds news → All P news
-  all_new P each [] [] [] are = All-nil P
-  all_new P each (w ∷ ws) (old ∷ olds) (new ∷ news) are = All-cons P new news (each w old new are.0) (all_new P each ws olds news are.1)
-  all_new P each [] (old ∷ olds) news are = absurd are
-  all_new P each [] [] (new ∷ news) are = absurd are
-  all_new P each (w ∷ ws) [] news are = absurd are
-  all_new P each (w ∷ ws) (old ∷ olds) [] are = absurd are
+  -- what holds of each new one, where something held of each old one
+  all_new : (Q P : Watched → Type 0) → ((w : StreamWindow) (old new : Watched) → IsWatchedWith stream time from w old new → Q old → P new)
+      → (ws : List StreamWindow) (olds news : List Watched) → AreWatchedWith stream time from ws olds news → All Q olds → All P news
+  all_new Q P each [] [] [] are held = All-nil P
+  all_new Q P each (w ∷ ws) (old ∷ olds) (new ∷ news) are held =
+      All-cons P new news (each w old new are.0 (All-head Q old olds held)) (all_new Q P each ws olds news are.1 (All-tail Q old olds held))
+  all_new Q P each [] (old ∷ olds) news are held = absurd are
+  all_new Q P each [] [] (new ∷ news) are held = absurd are
+  all_new Q P each (w ∷ ws) [] news are held = absurd are
+  all_new Q P each (w ∷ ws) (old ∷ olds) [] are held = absurd are
 
-  pub all_timed : (ws : List StreamWindow) (olds news : List Watched) → AreWatchedWith stream time from ws olds news → All (IsTimed time) news
-  all_timed ws olds news are = all_new (IsTimed time) (λ w old new each. each.timed) ws olds news are
+  pub all_watched : (ws : List StreamWindow) (olds news : List Watched) → AreWatchedWith stream time from ws olds news
+      → All IsWatched olds → All IsWatched news
+  all_watched ws olds news are watched = all_new IsWatched IsWatched (λ w old new each was. each.watched) ws olds news are watched
 
   -- ---- a live query
 
   module _ {A : Type 0} (old new : LiveQuery A) (moved : IsMoved stream time from old new) where
-    pub moved_watching : IsWatching from (asked old) → IsWatching time (asked new)
+    pub moved_watching : IsWatching (asked old) → IsWatching (asked new)
     moved_watching is = record {
       policy = subst (λ (p : Parts A). IsPolicy p.query.reading.policy) (sym moved.parts) is.policy;
       shapes = same_shapes old.windows old.watched.items new.watched.items moved.watched
           ∙ (is.shapes ∙ ap (λ (p : Parts A). map (λ (w : StreamWindow). w.shape) p.query.reading.windows) (sym moved.parts));
-      timed = all_timed old.windows old.watched.items new.watched.items moved.watched;
+      watched = all_watched old.windows old.watched.items new.watched.items moved.watched is.watched;
     }
 
-    pub moved_prompt : IsWatching from (asked old) → IsPrompt time (Some stream) (asked new)
-    moved_prompt is = record {
-      watching = moved_watching is;
-      fresh = λ came. all_new (IsFreshAt time) (λ w old new each. each.fresh) old.windows old.watched.items new.watched.items moved.watched;
-    }
+    pub moved_up_to : (latest : ℕ) → time ≤ latest → All (IsUpTo latest) old.watched.items → All (IsUpTo latest) new.watched.items
+    moved_up_to latest low up_to =
+        all_new (IsUpTo latest) (IsUpTo latest) (λ w old new each was. each.up_to latest low was)
+        old.windows old.watched.items new.watched.items moved.watched up_to
+
+    pub moved_fresh : All (IsUpTo time) old.watched.items → All (IsFreshAt time) new.watched.items
+    moved_fresh up_to =
+        all_new (IsUpTo time) (IsFreshAt time) (λ w old new each was. each.fresh was)
+        old.windows old.watched.items new.watched.items moved.watched up_to
 
     pub moved_tells : (items : List Accepted) (item : Accepted) → item.stream ≡ stream → item.time ≡ time → old.first ≤ length items
         → Tells items from (fixed old) old.watched.items → Tells (items ++ item ∷ []) from (fixed new) new.watched.items
@@ -178,13 +186,27 @@ module _ (stream : List ℕ) (time from : ℕ) where
           by true asks = moved (get_or olds k d) (get_or news k d) (are.asking k d within asks)
           by false none = calm (get_or olds k d) (get_or news k d) none (are.others k d within none)
 
-      pub all_prompt : from ≤ time → All (λ (live : LiveQuery A). IsWatching from (asked live)) olds
-          → All (λ (live : LiveQuery A). IsPrompt time (Some stream) (asked live)) news
-      all_prompt low is k d within =
+      pub all_watch : All (λ (live : LiveQuery A). IsWatching (asked live)) olds → All (λ (live : LiveQuery A). IsWatching (asked live)) news
+      all_watch is k d within =
           let inside : k < length olds = omega (arith, are.long, within) in
-          each (λ old new. IsWatching from (asked old) → IsPrompt time (Some stream) (asked new))
-          (λ old new moved. moved_prompt old new moved)
-          (λ old new none calm. calmed_prompt old new calm from time (Some stream) low) k d inside (is k d inside)
+          each (λ old new. IsWatching (asked old) → IsWatching (asked new)) (λ old new moved. moved_watching old new moved)
+          (λ old new none calm. calmed_watching old new calm) k d inside (is k d inside)
+
+      pub all_up_to : (latest : ℕ) → time ≤ latest → All (λ (live : LiveQuery A). All (IsUpTo latest) live.watched.items) olds
+          → All (λ (live : LiveQuery A). All (IsUpTo latest) live.watched.items) news
+      all_up_to latest low up_to k d within =
+          let inside : k < length olds = omega (arith, are.long, within) in
+          each (λ old new. All (IsUpTo latest) old.watched.items → All (IsUpTo latest) new.watched.items)
+          (λ old new moved. moved_up_to old new moved latest low)
+          (λ old new none calm. calmed_up_to old new calm latest) k d inside (up_to k d inside)
+
+      pub all_fresh : All (λ (live : LiveQuery A). All (IsUpTo time) live.watched.items) olds
+          → All (λ (live : LiveQuery A). All (IsFreshAt time) live.watched.items) news
+      all_fresh up_to k d within =
+          let inside : k < length olds = omega (arith, are.long, within) in
+          each (λ old new. All (IsUpTo time) old.watched.items → All (IsFreshAt time) new.watched.items)
+          (λ old new moved. moved_fresh old new moved)
+          (λ old new none calm was. calmed_fresh old new calm time) k d inside (up_to k d inside)
 
       pub all_tell : (items : List Accepted) (item : Accepted) → item.stream ≡ stream → item.time ≡ time
           → All (λ (live : LiveQuery A). live.first ≤ length items) olds

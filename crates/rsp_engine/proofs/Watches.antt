@@ -8,34 +8,18 @@ use Rattle.rsp_terms.specs.declared.statement.Fact.{Fact}
 use Rattle.rsp_spec.specs.Windows.{Shape, closes_at}
 use Rattle.rsp_report.specs.declared.chosen.Chosen.{Chosen}
 use Rattle.rsp_report.specs.declared.contents.Watched.{Watched}
-use Rattle.rsp_report.specs.Due.{IsWatched}
-use Rattle.rsp_report.specs.Seen.{seen_at}
 use Rattle.rsp_report.specs.Due as windows
-use Rattle.rsp_report.proofs.Unseen.{due_on_item_seen, due_seen}
 use Rattle.rsp_scope.specs.Contents.{Accepted}
 use Rattle.rsp_engine.specs.declared.schedule.Pending.{Pending}
 use Rattle.rsp_engine.specs.Due.{is_due, watched_of, watched_window}
 use Rattle.rsp_engine.specs.Seeing.{is_due_over, visible_items}
 use Rattle.rsp_engine.specs.Left.{IsFirstLeft, left_from, name_in, reports_at}
 use Rattle.rsp_engine.specs.Stands.{Live, asked_of, registration_of}
-use Rattle.rsp_engine.specs.Watching.{IsTimed, Tells, asks_contents, is_due_by, is_due_over_by, name_of, reports_by}
+use Rattle.rsp_engine.specs.Watching.{Tells, asks_contents, is_due_by, is_due_over_by, name_of, reports_by}
 use Rattle.rsp_engine.specs.declared.live_query.LiveQuery.{LiveQuery}
 use Rattle.rsp_engine.specs.Inside.{asked, live_of}
 use Rattle.rsp_engine.proofs.Left.{read_first, read_left, same_first, same_left}
-
--- times that are not behind `next` are in order
-pub timed_watched : (next : ℕ) (ws : List Watched) → All (IsTimed next) ws → All IsWatched ws
-timed_watched next ws timed = All-weaker (IsTimed next) IsWatched (λ w is. is.watched) ws timed
-
--- ---- by what is seen at t
-
-module _ (policy : Chosen) (one other : List Watched) (t : ℕ) (same : map (seen_at t) one ≡ map (seen_at t) other) where
-  due_alike : windows.is_due policy one t ≡ windows.is_due policy other t
-  due_alike = sym (due_seen policy one t) ∙ (ap (λ ws. windows.is_due policy ws t) same ∙ due_seen policy other t)
-
-  due_on_item_alike : windows.is_due_on_item policy one t ≡ windows.is_due_on_item policy other t
-  due_on_item_alike =
-      sym (due_on_item_seen policy one t) ∙ (ap (λ ws. windows.is_due_on_item policy ws t) same ∙ due_on_item_seen policy other t)
+use Rattle.rsp_engine.proofs.Telling.{due_alike, due_on_item_alike}
 
 -- ---- by the windows alone
 
@@ -87,10 +71,10 @@ module _ (items : List Accepted) (from next : ℕ) (arrived : Option (List ℕ))
           → reports_by next arrived t (asked_of live) ≡ reports_at items next arrived t (registration_of live)
       by true asks =
           let due : is_due_by (asked_of live) t ≡ is_due items (registration_of live) t =
-          ap (λ b. not live.policy.tuple && b) (due_alike live.policy live.watched seen t (told.seen asks t late)) in
+          ap (λ b. not live.policy.tuple && b) (due_alike live.policy live.watched seen t (told.told asks t late)) in
           let over : (stream : List ℕ) → is_due_over_by (asked_of live) stream next ≡ is_due_over items (registration_of live) stream next =
           λ stream. ap (λ b. live.policy.tuple && (list_any (λ w. bytes_eq stream w.stream) live.windows && b))
-          (due_on_item_alike live.policy live.watched seen next (told.seen asks next (omega (arith, late, early)))) in
+          (due_on_item_alike live.policy live.watched seen next (told.told asks next (omega (arith, late, early)))) in
           (λ k. if nat_lt t next then due k else option_map_or (λ stream. over stream k) arrived false)
       by false none =
           let asked = none_asked live.policy none in

@@ -33,7 +33,7 @@ use Rattle.rsp_scope.specs.Contents.{Accepted, Numbered, content, numbered}
 use Rattle.rsp_engine.specs.declared.live_query.StreamWindow.{StreamWindow}
 use Rattle.rsp_engine.specs.declared.report.Report.{Report}
 use Rattle.rsp_engine.specs.declared.report.Outcome.TheVariants.{Rows, Overfull}
-use Rattle.rsp_engine.specs.declared.refused.Refused.TheVariants.{Late, NameTaken, NoQuery, QueriesFull, StartOverfull, Text}
+use Rattle.rsp_engine.specs.declared.refused.Refused.TheVariants.{Late, NameTaken, NoQuery, QueriesFull, SlackTuple, StartOverfull, Text}
 use Rattle.rsp_engine.specs.declared.refused.TextFault.{TextFault}
 use Rattle.rsp_engine.specs.declared.refused.TextFault.TheVariants as text_fault
 use Rattle.rsp_engine.specs.Refusals.{query_fault, read, sound}
@@ -113,7 +113,11 @@ abbrev from : ℕ → Query → Query
 from first query = record query { registration = record query.registration { first = first } }
 
 abbrev world : Option ℕ → List Accepted → List Query → World
-world next items queries = record { next = next; items = items; stored = []; queries = queries }
+world next items queries = record { slack = 0; next = next; items = items; stored = []; queries = queries }
+
+-- a world whose items may be so far behind the latest one
+abbrev under : ℕ → World → World
+under slack world = record world { slack = slack }
 
 abbrev at_of : List ℕ → ℕ → Moment
 at_of name t = record { at = t; query = name }
@@ -147,6 +151,11 @@ said_of query events = said (world None [] (query ∷ [])) events
 -- when a query of this policy and these windows reports
 abbrev instants : Chosen → List StreamWindow → List Event → List ℕ
 instants policy windows events = map (λ (r : Report). r.at) (said_of (query policy windows) events)
+
+-- and in a world whose first instant is open
+abbrev instants_from_zero : List Strategy → List Event → List ℕ
+instants_from_zero asked events =
+    map (λ (r : Report). r.at) (said (world (Some 0) [] (query (at_instants asked) (on_a 10 10) ∷ [])) events)
 
 -- ---- which queries are accepted
 
@@ -196,6 +205,11 @@ module _ (text : List ℕ) (q : Registered) (is : parse text ≡ Ok q) (good : f
       → accept (so_many 256) (Register (codes "r2") text) ≡ Err QueriesFull
   number_is_looked_at_before_the_start starts = rw (is, good, unmixed) refl
 
+  -- a query that looks at items is refused under a slack, before the live ones are counted
+  arrivals_are_refused : (reading_of q).policy.tuple ≡ true
+      → map (λ slack. accept (under slack (so_many 256)) (Register (codes "r2") text)) (0 ∷ 1 ∷ []) ≡ Err QueriesFull ∷ Err SlackTuple ∷ []
+  arrivals_are_refused tuple = rw (is, good, unmixed, tuple) refl
+
   last_place_is_given : accept (so_many 255) (Register (codes "r2") text) ≡ accept_text (so_many 255) (codes "r2") (Ok q)
   last_place_is_given = rw (is, good, unmixed) refl
 
@@ -224,6 +238,49 @@ item_leaves_its_instant_open = refl
 -- of two refusals that hold, the first is given: an item that is late is so however many triples it has
 late_items_may_be_large : (graph : List Triple) → accept waiting (Item (codes "s:a") 3 graph) ≡ Err (Late 3 4)
 late_items_may_be_large graph = refl
+
+-- ---- a slack
+
+-- the next instant once an event is accepted
+abbrev next_behind : World → Event → Option (Option ℕ)
+next_behind old event = option_map (λ (new : World). new.next) (result_ok (accept old event))
+
+-- all that lies more than the slack behind an item is complete, and nothing is taken back
+items_complete_what_lies_behind : map
+    (λ slack. map (next_behind (under slack (world (Some 10) [] []))) (arrives 10 1 ∷ arrives 13 1 ∷ arrives 20 1 ∷ []))
+    (0 ∷ 3 ∷ 30 ∷ [])
+    ≡ (Some (Some 10) ∷ Some (Some 13) ∷ Some (Some 20) ∷ [])
+    ∷ (Some (Some 10) ∷ Some (Some 10) ∷ Some (Some 17) ∷ [])
+    ∷ (Some (Some 10) ∷ Some (Some 10) ∷ Some (Some 10) ∷ []) ∷ []
+items_complete_what_lies_behind = refl
+
+-- before the first item, and where it lies less than the slack behind 0
+first_item_sets_the_next_instant : map (λ slack. next_behind (under slack (world None [] [])) (arrives 5 1)) (0 ∷ 3 ∷ 5 ∷ 7 ∷ [])
+    ≡ Some (Some 5) ∷ Some (Some 2) ∷ Some (Some 0) ∷ Some (Some 0) ∷ []
+first_item_sets_the_next_instant = refl
+
+-- behind an item at 20 one at 17 still comes, and none before; a tick completes all up to its time, whatever the slack
+lateness_under_a_slack : map (accept (under 3 (world (Some 17) [] []))) (arrives 16 1 ∷ Tick 15 ∷ []) ≡ Err (Late 16 17) ∷ Err (Late 15 17) ∷ []
+lateness_under_a_slack = refl
+
+ticks_know_no_slack : map (next_behind (under 3 (world (Some 17) [] []))) (arrives 17 1 ∷ Tick 16 ∷ Tick 20 ∷ [])
+    ≡ Some (Some 17) ∷ Some (Some 17) ∷ Some (Some 21) ∷ []
+ticks_know_no_slack = refl
+
+-- the report at 10 comes once an item is more than 2 behind it, with the item that came out of order; 9 is late then
+reports_wait_for_the_slack : map (λ last. said (under 2 (world None [] (at_tens (codes "q") ∷ []))) (arrives 4 1 ∷ arrives 3 3 ∷ last))
+    ((arrives 12 5 ∷ []) ∷ (arrives 13 5 ∷ []) ∷ (Tick 10 ∷ []) ∷ (arrives 12 5 ∷ arrives 9 2 ∷ arrives 13 5 ∷ []) ∷ [])
+    ≡ [] ∷ (report 10 (1 ∷ 3 ∷ []) ∷ []) ∷ (report 10 (1 ∷ 3 ∷ []) ∷ []) ∷ []  ∷ []
+reports_wait_for_the_slack = refl
+
+-- items in the wrong order are due when they would be in order
+order_is_no_matter : map
+    (λ asked. map (λ (r : Report). r.at) (said (under 3 (world (Some 0) [] (query (at_instants asked) (on_a 10 10) ∷ [])))
+    (arrives 12 1 ∷ arrives 9 1 ∷ arrives 11 1 ∷ Tick 22 ∷ [])))
+    ((Close ∷ []) ∷ (Change ∷ []) ∷ (NonEmpty ∷ Close ∷ []) ∷ [])
+    ≡ map (λ asked. instants_from_zero asked (arrives 9 1 ∷ arrives 11 1 ∷ arrives 12 1 ∷ Tick 22 ∷ []))
+    ((Close ∷ []) ∷ (Change ∷ []) ∷ (NonEmpty ∷ Close ∷ []) ∷ [])
+order_is_no_matter = refl
 
 -- ---- stored quads
 

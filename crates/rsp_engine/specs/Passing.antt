@@ -1,5 +1,5 @@
 -- Words of the way: what the engine's calls do to its state.
-use Rattle.std.specs.Prelude.{◌≡◌, ℕ, ◌+◌, ◌≤◌, Option, Bool, if◌then◌else◌, true, false, None, Some, List, [], ◌++◌, filter, length, map, remove, slice_get, slice_set, unwrap_or}
+use Rattle.std.specs.Prelude.{◌≡◌, ℕ, ◌+◌, ◌-◌, ◌≤◌, ◌&&◌, nat_eq, nat_lt, max, Option, Bool, if◌then◌else◌, true, false, None, Some, List, [], ◌++◌, filter, length, map, remove, slice_get, slice_set, unwrap_or}
 use Rattle.std.specs.List.{All}
 use Rattle.rsp_terms.specs.declared.term.Term.{Term}
 use Rattle.rsp_terms.specs.declared.statement.Fact.{Fact}
@@ -7,6 +7,7 @@ use Rattle.rsp_multiset.specs.Rows.{Cells}
 use Rattle.rsp_terms.specs.Same.{fact_eq}
 use Rattle.rsp_multiset.specs.Weights.{IsSameMultiset}
 use Rattle.rsp_report.specs.Policies.{choice_of, is_mixed}
+use Rattle.rsp_report.specs.declared.chosen.Chosen.{Chosen}
 use Rattle.rsp_query.specs.Meanings.{registered}
 use Rattle.rsp_query.specs.Queries.{Registered}
 use Rattle.rsp_algebra.specs.Fitting.{IsPlaced}
@@ -49,6 +50,18 @@ pub record Begins (old : State) (live : Live) : Type 0 where
   pub unreported : live.reported ≡ false
   pub unseen : live.seen ≡ []
   pub unmoved : All IsUnmoved live.contents
+
+-- a query with this policy looks at items, and there is a slack
+abbrev pub is_refused_slack : State → Chosen → Bool
+is_refused_slack engine policy = nat_lt 0 engine.slack && policy.tuple
+
+-- the first instant that isn't complete, once an item of this time is accepted
+abbrev pub next_after : State → ℕ → ℕ
+next_after engine time = max (next_in engine) (time - engine.slack)
+
+-- the stream over which an item came, where it may bring a moment on itself: under a slack no query looks at items
+abbrev pub came_over : State → List ℕ → Option (List ℕ)
+came_over engine stream = if nat_eq engine.slack 0 then Some stream else None
 
 -- every instant before `to` is complete, and these items were accepted, of which the newest just came over this stream, where one
 -- did; the moments left are those of the instants that became complete, and of what came; what is still needed is kept

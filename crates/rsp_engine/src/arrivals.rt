@@ -1,16 +1,16 @@
 // What a new item adds to what live queries watch: its time, to the windows over its stream. A query whose policy asks for no
 // contents watches no times, so it isn't looked at.
-ghost use Rattle.std.specs.Prelude.{◌≡◌, ◌≤◌, ◌<◌, ◌++◌, ◌∷◌, ℕ, [], false, List, map, OnOk, Some, bytes_eq, length, slice_get};
-ghost use Rattle.std.specs.Prelude.{slice_index_or};
+ghost use Rattle.std.specs.Prelude.{◌≡◌, ◌-◌, ◌≤◌, ◌<◌, ◌++◌, ◌∷◌, ℕ, [], false, true, List, map, OnOk, bytes_eq, length, nat_le};
+ghost use Rattle.std.specs.Prelude.{slice_get, slice_index_or};
 ghost use Rattle.std.specs.List.{All};
+ghost use Rattle.std.specs.List.Sorted.{IsNonDecreasing, IsPermutation};
 ghost use Rattle.std.specs.Option.{option_map_or};
 ghost use Rattle.rsp_spec.specs.Limits.{last_instant};
 ghost use Rattle.rsp_terms.specs.declared.statement.Triple.{Triple};
 ghost use Rattle.rsp_scope.specs.Contents.{Accepted};
-ghost use Rattle.rsp_report.specs.Due.{IsFreshAt};
-ghost use Rattle.rsp_report.specs.Seen.{seen_at};
+ghost use Rattle.rsp_report.specs.Due.{IsFreshAt, IsWatched};
 ghost use Rattle.rsp_engine.specs.Inside.{IsSought, asked, fixed, parts_of};
-ghost use Rattle.rsp_engine.specs.Watching.{IsPrompt, IsTimed, IsWatching, Tells, with_time};
+ghost use Rattle.rsp_engine.specs.Watching.{IsUpTo, IsWatching, Tells, told_at, with_time};
 ghost use Rattle.rsp_engine.specs.Readers.{AreRead, is_watcher, places_from, watchers_of};
 ghost use Rattle.rsp_engine.specs.Watched.{AreChanged, AreWatchedWith, IsCalmed, IsMoved};
 ghost use Rattle.rsp_engine.specs.declared.live_query.LiveQuery.{LiveQuery};
@@ -20,8 +20,9 @@ use crate::readers::Readers;
 use crate::schedule::look;
 use rsp_report::Watched;
 use rsp_scope::forget_times;
-use rsp_terms::Text;
+use rsp_terms::{Listed, Text};
 use std::alloc::{AllocError, Global};
+use std::mem;
 
 /// Adds the time of an item to the windows over its stream of the queries that ask for contents, which are then fresh and no
 /// others, lets go of their times that are in no content from `from` - 1 ms on, and finds when these queries are due next, from
@@ -34,7 +35,7 @@ pub(crate) fn watch<A>(
     time: u64,
     from: u64,
 ) -> Result<(), AllocError>
-    requires watching { All (λ live. IsWatching from (asked live)) queries.old }
+    requires watching { All (λ live. IsWatching (asked live)) queries.old }
     requires read { AreRead readers.old queries.old }
     requires sought { All (λ live. IsSought from live) queries.old }
     requires later { from ≤ time }
@@ -42,7 +43,12 @@ pub(crate) fn watch<A>(
     ensures parts { OnOk result (map parts_of queries.new ≡ map parts_of queries.old) }
     ensures sought { OnOk result (All (λ live. IsSought from live) queries.new) }
     ensures read { OnOk result (AreRead readers.new queries.new) }
-    ensures prompt { OnOk result (All (λ live. IsPrompt time (Some stream.now) (asked live)) queries.new) }
+    ensures watching { OnOk result (All (λ live. IsWatching (asked live)) queries.new) }
+    ensures up_to { OnOk result ((latest : ℕ) → time ≤ latest
+        → All (λ live. All (IsUpTo latest) live.watched.items) queries.old
+        → All (λ live. All (IsUpTo latest) live.watched.items) queries.new) }
+    ensures fresh { OnOk result (All (λ live. All (IsUpTo time) live.watched.items) queries.old
+        → All (λ live. All (IsFreshAt time) live.watched.items) queries.new) }
     ensures told { OnOk result ((items : List Accepted) (graph : List Triple)
         → All (λ live. live.first ≤ length items) queries.old
         → All (λ live. Tells items from (fixed live) live.watched.items) queries.old
@@ -99,7 +105,7 @@ fn attend<A>(
     time: u64,
     from: u64,
 ) -> Result<(), AllocError>
-    requires watching { All (λ live. IsWatching from (asked live)) queries.old }
+    requires watching { All (λ live. IsWatching (asked live)) queries.old }
     requires read { watchers_of readers.now stream.now ≡ places_from (is_watcher stream.now) 0 queries.old }
     requires later { from ≤ time }
     requires instant { time ≤ last_instant }
@@ -120,7 +126,7 @@ fn watch_query<A>(
     time: u64,
     from: u64,
 ) -> Result<(), AllocError>
-    requires watching { IsWatching from (asked live.old) }
+    requires watching { IsWatching (asked live.old) }
     requires later { from ≤ time }
     requires instant { time ≤ last_instant }
     ensures parts { OnOk result (parts_of live.new ≡ parts_of live.old) }
@@ -153,18 +159,47 @@ fn watch_window(
     time: u64,
     from: u64,
 ) -> Result<(), AllocError>
-    requires timed { IsTimed from watched.old }
+    requires watched { IsWatched watched.old }
     requires later { from ≤ time }
     requires instant { time ≤ last_instant }
     ensures window { watched.new.window ≡ watched.old.window }
-    ensures timed { OnOk result (IsTimed time watched.new) }
-    ensures fresh { OnOk result (IsFreshAt time watched.new) }
-    ensures seen { OnOk result ((t : ℕ) → from ≤ t → seen_at t watched.new ≡ seen_at t (with_time over time watched.old)) }
+    ensures watched { OnOk result (IsWatched watched.new) }
+    ensures up_to { OnOk result ((latest : ℕ) → time ≤ latest → IsUpTo latest watched.old → IsUpTo latest watched.new) }
+    ensures fresh { OnOk result (IsUpTo time watched.old → IsFreshAt time watched.new) }
+    ensures told { OnOk result ((t : ℕ) → from ≤ t → told_at t watched.new ≡ told_at t (with_time over time watched.old)) }
 {
     forget_times(alloc, &watched.window, &mut watched.times, from);
     watched.fresh = over;
     if over {
-        watched.times.push(time)?;
+        put_in_order(alloc, &mut watched.times, time)?;
     }
     Ok(())
+}
+
+// Puts a time behind all that aren't later: at the end, where it is the latest, and else at the place that halving finds. Where
+// memory is refused, what is left is only to be dropped.
+fn put_in_order(alloc: Global, times: &mut Listed<u64>, time: u64) -> Result<(), AllocError>
+    requires { IsNonDecreasing times.old }
+    ensures sorted { OnOk result (IsNonDecreasing times.new) }
+    ensures put { OnOk result (IsPermutation (time ∷ times.old) times.new) }
+{
+    if is_latest(times.as_slice(), time) {
+        times.push(time)?;
+        return Ok(());
+    }
+    let place = times.as_slice().partition_point(|other| *other <= time);
+    let mut moved = mem::replace(times, Listed::new(alloc)).into_vec();
+    moved.insert(place, time)?;
+    *times = Listed::from_vec(moved);
+    Ok(())
+}
+
+// whether the last of these times isn't later, if there is one
+fn is_latest(times: &[u64], time: u64) -> bool
+    ensures { result ≡ option_map_or (λ last. nat_le last time) (slice_get times.now (length times.now - 1)) true }
+{
+    match times.last() {
+        Some(last) => *last <= time,
+        None => true,
+    }
 }

@@ -1,6 +1,6 @@
 // The engine's calls.
 ghost use Rattle.std.specs.Prelude.{◌≡◌, ◌≤◌, ◌<◌, ◌+◌, ◌++◌, ◌∷◌, [], MatchOption, OnOk};
-ghost use Rattle.std.specs.Prelude.{None, Some, false, if◌then◌else◌, length, map, remove, slice_get, unwrap_or};
+ghost use Rattle.std.specs.Prelude.{None, Some, false, if◌then◌else◌, length, map, nat_eq, remove, slice_get, unwrap_or};
 ghost use Rattle.std.specs.List.{All, list_any};
 ghost use Rattle.rsp_spec.specs.Limits.{last_instant, most_queries, most_triples};
 ghost use Rattle.rsp_engine.specs.Accept.{has_name};
@@ -22,6 +22,7 @@ use crate::texts::{Asked, read};
 use crate::{EngineFault, Outcome, Refused, Report};
 use rsp_algebra::Answer;
 use rsp_events::Event;
+use rsp_report::Chosen;
 use rsp_scope::{StoreLog, Stored, StoredFault, Streams};
 use rsp_spec::limits::{MOST_QUERIES, MOST_TRIPLES};
 use rsp_steps::Steps;
@@ -34,6 +35,8 @@ use std::sync::ledger::Ledger;
 #[derive(Drop)]
 pub struct Engine<A: Answer> {
     alloc: Global,
+    // in ms
+    slack: u64,
     next: Option<u64>,
     // in order of registration
     queries: Vec<LiveQuery<A>>,
@@ -46,7 +49,7 @@ pub struct Engine<A: Answer> {
     // the stored quads, and what came and went
     stored: Stored,
     log: StoreLog,
-    // the stream of the newest item, where the event that set `next` was this item
+    // the stream of the newest item, where the event that set `next` was this item and there is no slack
     arrived: Option<Text>,
     // the place of the first moment left
     first: Option<Pending>,
@@ -86,21 +89,31 @@ impl<A: Answer> Engine<A> {
     ghost use Rattle.rsp_engine.specs.Inside.{Answers, IsSought, asked, live_of};
     ghost use Rattle.rsp_engine.specs.Keeping.{accepted_of, excess, watches_followed};
     ghost use Rattle.rsp_engine.specs.Kept.{held};
-    ghost use Rattle.rsp_engine.specs.Passing.{Begins, CostsFirst, IsAsked, Passes, ReportsFirst};
-    ghost use Rattle.rsp_engine.specs.World.{World, empty_world};
+    ghost use Rattle.rsp_engine.specs.Passing.{Begins, CostsFirst, IsAsked, Passes, ReportsFirst, came_over, is_refused_slack, next_after};
+    ghost use Rattle.rsp_engine.specs.World.{World, empty_world, most_slack};
     ghost use Rattle.rsp_engine.specs.Moments.{Moment};
     ghost use Rattle.rsp_engine.specs.Stands.{Live, Stands, is_idle, next_in, registrations_in, watches_in};
     ghost use Rattle.rsp_engine.specs.Offers.{Offers, NextReport};
     ghost use Rattle.rsp_engine.specs.Steps.{next_work};
-    ghost use Rattle.rsp_engine.specs.Watching.{IsPrompt};
+    ghost use Rattle.rsp_engine.specs.Watching.{IsPrompt, IsUpTo};
     ghost use Rattle.rsp_events.specs.Instants.{IsInstant};
 
-    /// An engine that has taken no event. Takes no memory.
+    /// An engine that has taken no event, without a slack. Takes no memory.
     pub fn new(alloc: Global) -> Engine<A>
-        ensures { Stands result empty_world [] }
+        ensures { Stands result (empty_world 0) [] }
+    {
+        Engine::with_slack(alloc, 0)
+    }
+
+    /// An engine that has taken no event, whose items may be so many ms behind the latest one: at most `MOST_SLACK`. Takes no
+    /// memory.
+    pub fn with_slack(alloc: Global, slack: u64) -> Engine<A>
+        requires { slack ≤ most_slack }
+        ensures { Stands result (empty_world slack) [] }
     {
         Engine {
             alloc,
+            slack,
             next: None,
             queries: Vec::new(alloc),
             readers: Readers::new(alloc),
@@ -120,6 +133,13 @@ impl<A: Answer> Engine<A> {
         ensures left { (world : World) (left : List Moment) → Stands self.now world left → IsTrue result ↔ (left ≡ []) }
     {
         self.broken || self.first.is_none()
+    }
+
+    /// By how many ms an item may be behind the latest one.
+    pub fn slack(&self) -> u64
+        ensures { result ≡ self.now.slack }
+    {
+        self.slack
     }
 
     /// The first instant that isn't complete, in ms since 1970. None until an item or a tick was accepted.
@@ -208,10 +228,20 @@ impl<A: Answer> Engine<A> {
         ensures { (text : List ℕ) → parse text ≡ Ok (registered asked.query.value)
             → Offers self.old (Event.Register name text) result self.new }
     {
+        if self.refuses_arrivals(&asked.policy) {
+            return Err(Refused::SlackTuple);
+        }
         if self.live() >= MOST_QUERIES {
             return Err(Refused::QueriesFull);
         }
         self.begin(name, asked)
+    }
+
+    // whether a query with this policy looks at items, which come in no order under a slack
+    fn refuses_arrivals(&self, policy: &Chosen) -> bool
+        ensures { result ≡ is_refused_slack self.now policy.now }
+    {
+        self.slack > 0 && policy.tuple
     }
 
     // registers a query, if it has not too many rows over no facts
@@ -221,6 +251,7 @@ impl<A: Answer> Engine<A> {
         requires free { list_any (has_name name) (registrations_in self.old) ≡ false }
         requires few { length self.old.queries < most_queries }
         requires asked { IsAsked asked }
+        requires instants { is_refused_slack self.old asked.policy ≡ false }
         ensures { (text : List ℕ) → parse text ≡ Ok (registered asked.query.value)
             → Offers self.old (Event.Register name text) result self.new }
     {
@@ -239,6 +270,8 @@ impl<A: Answer> Engine<A> {
         requires free { list_any (has_name query.name) (registrations_in self.old) ≡ false }
         requires begins { Begins self.old (live_of A.facts query) }
         requires prompt { IsPrompt (next_in self.old) self.old.arrived (asked query) }
+        requires up_to { (latest : ℕ) → All (IsUpTo latest) query.watched.items }
+        requires instants { is_refused_slack self.old query.policy ≡ false }
         requires calm { IsCalm query.watched.items }
         requires sought { IsSought (next_in self.old) query }
         requires watches { watches_followed query.contents.items ≡ watches query.first query.windows }
@@ -354,7 +387,7 @@ impl<A: Answer> Engine<A> {
             return Err(Refused::ItemTooLarge { triples });
         }
         let end = self.end_of(&stream, time);
-        match self.too_many(end, time, triples) {
+        match self.too_many(end, self.next_after(time), triples) {
             Some(held) => Err(Refused::HeldFull { held }),
             None => self.keep(Arrival {
                 stream,
@@ -377,13 +410,21 @@ impl<A: Answer> Engine<A> {
         end_of(&self.readers, self.streams.accepted(), stream, time)
     }
 
-    // how many triples would be kept with the next item, where that is more than can be; an item that no window needs adds none
-    fn too_many(&self, end: Option<u64>, time: u64, triples: u64) -> Option<u64>
+    // the first instant that isn't complete, once an item of this time is accepted
+    fn next_after(&self, time: u64) -> u64
+        ensures { result ≡ next_after self.now time }
+    {
+        self.first_incomplete().max(time.saturating_sub(self.slack))
+    }
+
+    // how many triples would be kept from an instant on with the next item, where that is more than can be; an item that no window
+    // needs adds none
+    fn too_many(&self, end: Option<u64>, from: u64, triples: u64) -> Option<u64>
         requires few { triples ≤ most_triples }
-        ensures { result ≡ option_map_or (λ _. excess self.now.kept time triples) end None }
+        ensures { result ≡ option_map_or (λ _. excess self.now.kept from triples) end None }
     {
         match end {
-            Some(_) => too_many(&self.streams, time, triples),
+            Some(_) => too_many(&self.streams, from, triples),
             None => None,
         }
     }
@@ -416,7 +457,7 @@ impl<A: Answer> Engine<A> {
         self.next.unwrap_or(0)
     }
 
-    // Keeps an item up to its end, and passes to its time.
+    // Keeps an item up to its end, and passes to the instant up to which all is complete then.
     fn keep(&mut self, arrival: Arrival) -> Result<(), Refused>
         requires idle { IsTrue (is_idle self.old) }
         requires ready { self.old.broken ≡ false }
@@ -424,11 +465,12 @@ impl<A: Answer> Engine<A> {
         requires instant { arrival.time ≤ last_instant }
         requires end { EndsAt (watches_in self.old)
             (record { number = self.old.kept.accepted; item = accepted_of arrival }) arrival.end }
-        ensures ok { OnOk result (Passes self.old (accepted_of arrival ∷ []) (Some arrival.stream) arrival.time self.new) }
+        ensures ok { OnOk result (Passes self.old (accepted_of arrival ∷ []) (came_over self.old arrival.stream)
+            (next_after self.old arrival.time) self.new) }
         ensures err { IfErr result (λ why. (why ≡ OutOfMemory) × (self.new.broken ≡ true)) }
     {
         let from = self.next.unwrap_or(0);
-        let time = arrival.time;
+        let to = self.next_after(arrival.time);
         match take(
             self.alloc,
             &mut self.queries,
@@ -439,17 +481,17 @@ impl<A: Answer> Engine<A> {
             from,
         ) {
             Ok(stream) => {
-                let arrived = Some(stream);
+                let arrived = came_over(self.slack, stream);
                 self.first = first_moment(
                     &mut self.queries,
                     &self.readers,
                     &arrived,
                     self.next,
-                    time,
+                    to,
                 );
                 self.arrived = arrived;
-                self.next = Some(time);
-                self.streams.drop_before(cut_at(self.first, time));
+                self.next = Some(to);
+                self.streams.drop_before(cut_at(self.first, to));
                 Ok(())
             }
             Err(AllocError) => {
@@ -549,6 +591,13 @@ impl<A: Answer> Engine<A> {
             }
         }
     }
+}
+
+// the stream of an item that came, where it may bring a moment on itself
+fn came_over(slack: u64, stream: Text) -> Option<Text>
+    ensures { result ≡ (if nat_eq slack 0 then Some stream else None) }
+{
+    if slack == 0 { Some(stream) } else { None }
 }
 
 // the query goes live behind the others

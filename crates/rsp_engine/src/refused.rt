@@ -40,6 +40,9 @@ pub enum Refused {
     /// No live query has the name.
     #[error("no query has the name")]
     NoQuery,
+    /// The query looks at items, and under a slack these come in no order.
+    #[error("a slack, and a query that looks at items")]
+    SlackTuple,
     /// 256 queries are live.
     #[error("as many queries are live as can be")]
     QueriesFull,

@@ -8,11 +8,12 @@ ghost use Rattle.rsp_scope.specs.Ends.{as_accepted, AreEnds, EndsAt, IsKept};
 ghost use Rattle.rsp_scope.specs.Kept.{taken};
 ghost use Rattle.rsp_scope.specs.Needed.{is_needed};
 ghost use Rattle.rsp_scope.specs.declared.item.Item.{Item};
+ghost use Rattle.rsp_report.specs.Due.{IsFreshAt};
 ghost use Rattle.rsp_engine.specs.Inside.{IsSought, asked, fixed, parts_of};
 ghost use Rattle.rsp_engine.specs.Readers.{AreRead, IsEndBy, windows_of};
 ghost use Rattle.rsp_engine.specs.Keeping.{EndsBy, IsLess, accepted_of, excess, watches_by, watches_followed};
 ghost use Rattle.rsp_engine.specs.Passing.{is_overfull_outcome};
-ghost use Rattle.rsp_engine.specs.Watching.{IsPrompt, IsWatching, Tells};
+ghost use Rattle.rsp_engine.specs.Watching.{IsUpTo, IsWatching, Tells};
 
 use crate::Outcome;
 use crate::arrivals::watch;
@@ -95,7 +96,7 @@ pub(crate) fn take<A>(
     arrival: Arrival,
     from: u64,
 ) -> Result<Text, AllocError>
-    requires watching { All (λ live. IsWatching from (asked live)) queries.old }
+    requires watching { All (λ live. IsWatching (asked live)) queries.old }
     requires read { AreRead readers.old queries.old }
     requires sought { All (λ live. IsSought from live) queries.old }
     requires later { from ≤ arrival.time }
@@ -106,7 +107,12 @@ pub(crate) fn take<A>(
     ensures parts { OnOk result (map parts_of queries.new ≡ map parts_of queries.old) }
     ensures sought { OnOk result (All (λ live. IsSought from live) queries.new) }
     ensures read { OnOk result (AreRead readers.new queries.new) }
-    ensures prompt { OnOk result (All (λ live. IsPrompt arrival.time (Some arrival.stream) (asked live)) queries.new) }
+    ensures watching { OnOk result (All (λ live. IsWatching (asked live)) queries.new) }
+    ensures up_to { OnOk result ((latest : ℕ) → arrival.time ≤ latest
+        → All (λ live. All (IsUpTo latest) live.watched.items) queries.old
+        → All (λ live. All (IsUpTo latest) live.watched.items) queries.new) }
+    ensures fresh { OnOk result (All (λ live. All (IsUpTo arrival.time) live.watched.items) queries.old
+        → All (λ live. All (IsFreshAt arrival.time) live.watched.items) queries.new) }
     ensures told { OnOk result ((items : List Accepted)
         → All (λ live. live.first ≤ length items) queries.old
         → All (λ live. Tells items from (fixed live) live.watched.items) queries.old

@@ -180,7 +180,7 @@ fn is_due_over<A>(live: &LiveQuery<A>, stream: &Text, next: u64) -> bool
 
 /// Where nothing came before `to`, no query is looked at before it. Takes no memory.
 pub(crate) fn set_out<A>(queries: &mut [LiveQuery<A>], next: Option<u64>, to: u64)
-    requires watching { All (λ live. IsWatching to (asked live)) queries.old }
+    requires watching { All (λ live. IsWatching (asked live)) queries.old }
     requires sought { All (λ live. IsSought (unwrap_or next 0) live) queries.old }
     ensures same { map undated queries.new ≡ map undated queries.old }
     ensures sought { All (λ live. IsSought (unwrap_or next to) live) queries.new }
@@ -192,7 +192,7 @@ pub(crate) fn set_out<A>(queries: &mut [LiveQuery<A>], next: Option<u64>, to: u6
 }
 
 fn look_at_all<A>(queries: &mut [LiveQuery<A>], from: u64)
-    requires { All (λ live. IsWatching from (asked live)) queries.old }
+    requires { All (λ live. IsWatching (asked live)) queries.old }
     ensures same { map undated queries.new ≡ map undated queries.old }
     ensures sought { All (λ live. IsSought from live) queries.new }
 {

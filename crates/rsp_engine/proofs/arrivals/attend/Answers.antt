@@ -28,7 +28,7 @@ watch_query-requires-clause-watching g c =
     let within : c.loop-index.index < length c.watchers-places.result.now = omega (arith, c.loop-index-test.true) in
     holds_there (IsMoved c.args.stream.now c.args.time c.args.from) (is_watcher c.args.stream.now) c.watchers-places.result.now c.args.queries.now
     c.loop-index.queries c.loop-index.index 0 (c.watchers-places.ensures ∙ c.requires.read) within c.loop-index.invariant
-    (λ live. IsWatching c.args.from (asked live)) c.index-queries-place.result c.requires.watching
+    (λ live. IsWatching (asked live)) c.index-queries-place.result c.requires.watching
 
 pub loop-index-preserved : goal.loop-index-preserved
 loop-index-preserved g c =

@@ -6,21 +6,20 @@ use Rattle.rsp_engine.specs.declared.live_query.LiveQuery.{LiveQuery}
 use Rattle.rsp_engine.specs.Inside.{Parts, parts_of}
 use Rattle.rsp_engine.specs.Watched.{AreWatchedWith}
 use Rattle.rsp_engine.specs.Watching.{IsPolicy}
-use Rattle.rsp_engine.proofs.Watches.{timed_watched}
-use Rattle.rsp_engine.proofs.WatchedWith.{all_so_far, all_timed, more_so_far, so_far_long, timed_before}
+use Rattle.rsp_engine.proofs.WatchedWith.{all_so_far, all_watched, more_so_far, so_far_long, watched_before}
 use Rattle.rsp_engine.proofs.arrivals.watch_query.Goals as goal
 
-pub watch_window-requires-clause-timed : goal.watch_window-requires-clause-timed
-watch_window-requires-clause-timed g c =
+pub watch_window-requires-clause-watched : goal.watch_window-requires-clause-watched
+watch_window-requires-clause-watched g c =
     let live = c.args.live.now in
-    timed_before c.args.stream.now c.args.time c.args.from c.loop-window.window live.windows live.watched.items
+    watched_before c.args.stream.now c.args.time c.args.from c.loop-window.window live.windows live.watched.items
     c.loop-window.live.watched.items c.index_mut.result.now c.loop-window.invariant.watched
     (omega (
       arith,
       live.watched.ok.0,
       so_far_long c.args.stream.now c.args.time c.args.from c.loop-window.window live.windows live.watched.items
           c.loop-window.live.watched.items c.loop-window.invariant.watched,
-    )) c.index_mut.ensures.value c.requires.watching.timed
+    )) c.index_mut.ensures.value c.requires.watching.watched
 
 pub loop-window-preserved : goal.loop-window-preserved
 loop-window-preserved g c =
@@ -40,8 +39,8 @@ loop-window-preserved g c =
             so_far_long c.args.stream.now c.args.time c.args.from c.loop-window.window live.windows live.watched.items
                 c.loop-window.live.watched.items c.loop-window.invariant.watched,
           )) c.index_mut.ensures.value c.is_over-over.result c.watch_window.new.watched over
-          c.in_ok-watch_window.ensures.window c.in_ok-watch_window.ensures.timed c.in_ok-watch_window.ensures.fresh
-          c.in_ok-watch_window.ensures.seen;
+          c.in_ok-watch_window.ensures.window c.in_ok-watch_window.ensures.watched c.in_ok-watch_window.ensures.up_to
+          c.in_ok-watch_window.ensures.fresh c.in_ok-watch_window.ensures.told;
     }
 
 pub look-requires-clause-policy : goal.look-requires-clause-policy
@@ -51,10 +50,9 @@ look-requires-clause-policy g c =
 pub look-requires-clause-watched : goal.look-requires-clause-watched
 look-requires-clause-watched g c =
     let live = c.args.live.now in
-    timed_watched c.args.time c.loop-window.live.watched.items
-    (all_timed c.args.stream.now c.args.time c.args.from live.windows live.watched.items c.loop-window.live.watched.items
+    all_watched c.args.stream.now c.args.time c.args.from live.windows live.watched.items c.loop-window.live.watched.items
     (all_so_far c.args.stream.now c.args.time c.args.from c.loop-window.window live.windows live.watched.items
-    c.loop-window.live.watched.items c.loop-window.invariant.watched (omega (arith, live.watched.ok.0))))
+    c.loop-window.live.watched.items c.loop-window.invariant.watched (omega (arith, live.watched.ok.0))) c.requires.watching.watched
 
 pub returns-clause-parts : goal.returns-clause-parts
 returns-clause-parts g c = ap (λ (l : LiveQuery g.row.A.Denot). parts_of l) c.look.ensures.same ∙ c.loop-window.invariant.parts

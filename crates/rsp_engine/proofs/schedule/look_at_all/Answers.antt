@@ -1,6 +1,5 @@
 use Rattle.std.proofs.Common.{◌<◌, arith, length, refl}
 use Rattle.rsp_engine.proofs.DueNext.{one_dated, sought_so_far, watching_there}
-use Rattle.rsp_engine.proofs.Watches.{timed_watched}
 use Rattle.rsp_engine.proofs.schedule.look_at_all.Goals as goal
 
 pub loop-query-init : goal.loop-query-init
@@ -15,9 +14,8 @@ look-requires-clause-policy g c =
 pub look-requires-clause-watched : goal.look-requires-clause-watched
 look-requires-clause-watched g c =
     let below : c.loop-query.query < length c.loop-query.queries = omega arith in
-    timed_watched c.args.from _
     (watching_there c.args.from c.loop-query.query c.args.queries.now c.loop-query.queries c.index-queries-query.result below
-    c.loop-query.invariant.same c.requires).timed
+    c.loop-query.invariant.same c.requires).watched
 
 pub loop-query-preserved : goal.loop-query-preserved
 loop-query-preserved g c =

@@ -1,12 +1,12 @@
-use Rattle.std.proofs.Common.{◌≡◌, ◌∙◌, ap}
+use Rattle.std.proofs.Common.{◌≡◌, ◌∙◌, ap, sym}
 use Rattle.rsp_query.specs.Meanings.{registered}
 use Rattle.rsp_engine.specs.Accept.{new_query}
 use Rattle.rsp_engine.specs.Inside.{asked, live_of}
-use Rattle.rsp_engine.specs.Passing.{Begins}
+use Rattle.rsp_engine.specs.Passing.{Begins, is_refused_slack}
 use Rattle.rsp_engine.specs.Readings.{reading_of}
 use Rattle.rsp_engine.specs.Stands.{State, registration_of}
 use Rattle.rsp_engine.specs.World.{Registration}
-use Rattle.rsp_engine.proofs.Begun.{begun_calm, begun_prompt, begun_tells}
+use Rattle.rsp_engine.proofs.Begun.{begun_calm, begun_prompt, begun_tells, begun_up_to}
 use Rattle.rsp_engine.proofs.Offering.{begun_offers, breaks, overfull_refuses}
 use Rattle.rsp_engine.proofs.Readiness.{idle_first}
 use Rattle.rsp_engine.proofs.engine.Engine.begin.Goals as goal
@@ -26,6 +26,16 @@ go_live-requires-clause-begins g c =
 pub go_live-requires-clause-prompt : goal.go_live-requires-clause-prompt
 go_live-requires-clause-prompt g c =
     begun_prompt _ _ (asked c.in-Ok-Some.query) (rw c.in-Ok-Some.field-0-is at c.in-Ok-Some.ensures.policy) (rw c.in-Ok-Some.field-0-is at c.in-Ok-Some.ensures.watched)
+
+pub go_live-requires-clause-up_to : goal.go_live-requires-clause-up_to
+go_live-requires-clause-up_to g c = λ latest.
+    begun_up_to latest c.in-Ok-Some.query.watched.items c.in-Ok-Some.query.windows (rw c.in-Ok-Some.field-0-is at c.in-Ok-Some.ensures.watched)
+
+pub go_live-requires-clause-instants : goal.go_live-requires-clause-instants
+go_live-requires-clause-instants g c =
+    let begun = rw c.in-Ok-Some.field-0-is at c.in-Ok-Some.ensures.query in
+    let policy : c.in-Ok-Some.query.policy ≡ c.args.asked.policy = ap (λ (r : Registration). r.reading.policy) begun.1 ∙ sym c.requires.asked.policy in
+    ap (is_refused_slack c.args.self.now) policy ∙ c.requires.instants
 
 pub go_live-requires-clause-calm : goal.go_live-requires-clause-calm
 go_live-requires-clause-calm g c = begun_calm c.in-Ok-Some.query.watched.items c.in-Ok-Some.query.windows (rw c.in-Ok-Some.field-0-is at c.in-Ok-Some.ensures.watched)
@@ -48,12 +58,12 @@ returns-in-Ok-Some g c = λ text is.
       unseen = rw c.in-Ok-Some.field-0-is at c.in-Ok-Some.ensures.seen;
       unmoved = rw c.in-Ok-Some.field-0-is at c.in-Ok-Some.ensures.unmoved;
     } in
-    begun_offers old c.go_live.new.self c.args.name text q (live_of g.A.Answer.facts c.in-Ok-Some.query) c.go_live.result c.requires.ready made begins idle c.requires.free is c.requires.asked.translated.sound c.requires.asked.unmixed c.requires.few begun.0 c.go_live.ensures.ok c.go_live.ensures.err
+    begun_offers old c.go_live.new.self c.args.name text q (live_of g.A.Answer.facts c.in-Ok-Some.query) c.go_live.result c.requires.ready made begins idle c.requires.free is c.requires.asked.translated.sound c.requires.asked.unmixed (ap (is_refused_slack c.args.self.now) (sym c.requires.asked.policy) ∙ c.requires.instants) c.requires.few begun.0 c.go_live.ensures.ok c.go_live.ensures.err
 
 pub returns-in-Ok-None : goal.returns-in-Ok-None
 returns-in-Ok-None g c = λ text is.
     let starts = rw c.in-Ok-None.field-0-is at c.in-Ok-None.ensures.query in
-    overfull_refuses c.args.self.now c.args.name text (registered c.args.asked.query.value) c.requires.ready c.requires.free is c.requires.asked.translated.sound c.requires.asked.unmixed c.requires.few starts
+    overfull_refuses c.args.self.now c.args.name text (registered c.args.asked.query.value) c.requires.ready c.requires.free is c.requires.asked.translated.sound c.requires.asked.unmixed (ap (is_refused_slack c.args.self.now) (sym c.requires.asked.policy) ∙ c.requires.instants) c.requires.few starts
 
 pub returns-in-Err : goal.returns-in-Err
 returns-in-Err g c = λ text is.

@@ -15,7 +15,7 @@ lower-requires-clause-room g c =
 pub lower-requires-clause-timed : goal.lower-requires-clause-timed
 lower-requires-clause-timed g c =
     let sound : IsReady g.A.Answer.node g.A.Answer.width g.A.Answer.facts g.A.Answer.spent c.self.inside = (c.self.invariant (rw (← c.self.view_is) at c.requires.ready)).0 in
-    timed_below c.self.inside.streams.items _ sound.state.next_high sound.state.timed
+    timed_below c.self.inside.streams.items _ _ sound.state.next_high sound.state.slack_high sound.state.timed
 
 pub remove_at-requires-clause-read : goal.remove_at-requires-clause-read
 remove_at-requires-clause-read g c = (c.self.invariant (rw (← c.self.view_is) at c.requires.ready)).1.0
@@ -26,7 +26,7 @@ invariant_of-self g c = λ _.
     let idle = idle_first (state_of g.A.Answer.facts c.self.inside) (rw (← c.self.view_is) at c.requires.ready) (rw (← c.self.view_is) at c.requires.idle) in
     let cut = c.first_incomplete-cut.ensures in
     let kept = rw (c.as_slice.ensures.value, cut, ← c.self.view_is) at c.lower.ensures.kept in (
-      ready_without _ _ _ _ _ sound idle (record c.self.inside { queries = c.remove_at.new.queries; readers = c.remove_at.new.readers; streams = c.lower.new.streams; ends = c.lower.new.ends }) c.in-Some.place refl refl refl refl refl c.remove_at.ensures.queries c.lower.ensures.less.accepted (c.lower.ensures.less.timed _ sound.state.timed)
+      ready_without _ _ _ _ _ sound idle (record c.self.inside { queries = c.remove_at.new.queries; readers = c.remove_at.new.readers; streams = c.lower.new.streams; ends = c.lower.new.ends }) c.in-Some.place refl refl refl refl refl refl c.remove_at.ensures.queries c.lower.ensures.less.accepted (c.lower.ensures.less.timed _ sound.state.timed)
           (fits_without _ _ _ _ _ sound idle (record c.self.inside { queries = c.remove_at.new.queries; readers = c.remove_at.new.readers; streams = c.lower.new.streams; ends = c.lower.new.ends }) c.in-Some.place refl refl refl refl c.remove_at.ensures.queries kept) c.lower.ensures.room,
       (
         c.remove_at.ensures.read,
@@ -49,7 +49,7 @@ returns-in-Some g c =
       ready = rw (← c.self.view_is) at c.requires.ready;
       stands = λ world stands.
           let before : Stands here world [] = rw (← c.self.view_is) at stands in
-          cancel_leads here (state_of g.A.Answer.facts (record c.self.inside { queries = c.remove_at.new.queries; readers = c.remove_at.new.readers; streams = c.lower.new.streams; ends = c.lower.new.ends })) c.args.name.now c.in-Some.place found.0 world idle sound.state.names found.1 found.2 before refl refl refl refl (lives _ _ _ _ _ sound idle (record c.self.inside { queries = c.remove_at.new.queries; readers = c.remove_at.new.readers; streams = c.lower.new.streams; ends = c.lower.new.ends }) c.in-Some.place refl refl refl refl c.remove_at.ensures.queries kept)
+          cancel_leads here (state_of g.A.Answer.facts (record c.self.inside { queries = c.remove_at.new.queries; readers = c.remove_at.new.readers; streams = c.lower.new.streams; ends = c.lower.new.ends })) c.args.name.now c.in-Some.place found.0 world idle sound.state.names found.1 found.2 before refl refl refl refl refl (lives _ _ _ _ _ sound idle (record c.self.inside { queries = c.remove_at.new.queries; readers = c.remove_at.new.readers; streams = c.lower.new.streams; ends = c.lower.new.ends }) c.in-Some.place refl refl refl refl c.remove_at.ensures.queries kept)
           (fits_without _ _ _ _ _ sound idle (record c.self.inside { queries = c.remove_at.new.queries; readers = c.remove_at.new.readers; streams = c.lower.new.streams; ends = c.lower.new.ends }) c.in-Some.place refl refl refl refl c.remove_at.ensures.queries kept world.items before.fits);
     }
 

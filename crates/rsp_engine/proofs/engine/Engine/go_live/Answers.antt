@@ -11,7 +11,7 @@ pub invariant_of-self : goal.invariant_of-self
 invariant_of-self g c = λ _.
     let sound : IsReady g.A.Answer.node g.A.Answer.width g.A.Answer.facts g.A.Answer.spent c.self.inside = (c.self.invariant (rw (← c.self.view_is) at c.requires.ready)).0 in
     let idle = idle_first (state_of g.A.Answer.facts c.self.inside) (rw (← c.self.view_is) at c.requires.ready) (rw (← c.self.view_is) at c.requires.idle) in (
-      ready_more _ _ _ _ _ sound idle _ c.args.query refl refl refl refl refl refl refl refl c.in-Ok.ensures.queries (rw (← c.self.view_is) at c.requires.begins) (rw (← c.self.view_is) at c.requires.prompt) c.requires.watches (rw (← c.self.view_is) at c.requires.free) c.requires.answers,
+      ready_more _ _ _ _ _ sound idle _ c.args.query refl refl refl refl refl refl refl refl refl c.in-Ok.ensures.queries (rw (← c.self.view_is) at c.requires.begins) (rw (← c.self.view_is) at c.requires.prompt) c.requires.up_to (rw (← c.self.view_is) at c.requires.instants) c.requires.watches (rw (← c.self.view_is) at c.requires.free) c.requires.answers,
       (
         c.in-Ok.ensures.read,
         rw c.in-Ok.ensures.queries

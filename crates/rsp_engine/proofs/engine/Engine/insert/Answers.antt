@@ -18,7 +18,7 @@ pub invariant_of-self : goal.invariant_of-self
 invariant_of-self g c = λ _.
     let sound : IsReady g.A.Answer.node g.A.Answer.width g.A.Answer.facts g.A.Answer.spent c.self.inside = (c.self.invariant (rw (← c.self.view_is) at c.requires.ready)).0 in
     let logged = rw c.as_slice.ensures.value at c.in-Ok.ensures.logged in (
-      ready_stored _ _ _ _ _ sound _ refl refl refl refl refl refl (subst IsStore (sym c.in-Ok.ensures.stored) (store_more c.self.inside.stored c.args.quads.now sound.state.store))
+      ready_stored _ _ _ _ _ sound _ refl refl refl refl refl refl refl (subst IsStore (sym c.in-Ok.ensures.stored) (store_more c.self.inside.stored c.args.quads.now sound.state.store))
           (λ items fits. fits_logged (state_of g.A.Answer.facts c.self.inside) _ _ items (mapped (IsLoggedFor c.self.inside.stored c.self.inside.log c.insert.new.stored c.insert.new.log) (live_of g.A.Answer.facts) c.self.inside.queries.items logged) fits),
       (c.self.invariant (rw (← c.self.view_is) at c.requires.ready)).1,
     )

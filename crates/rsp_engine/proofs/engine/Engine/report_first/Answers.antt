@@ -7,7 +7,6 @@ use Rattle.rsp_engine.proofs.Costing.{costs_first}
 use Rattle.rsp_engine.proofs.Named.{get_index, get_map}
 use Rattle.rsp_engine.proofs.BehindReport.{answers, fits_behind, followed, high, left_there, listed, place_is, prompt_behind, reached, ready_behind, sought_behind, states_behind, store, watches_are, watching, within}
 use Rattle.rsp_engine.proofs.ReadersBehind.{read_set}
-use Rattle.rsp_engine.proofs.Watches.{timed_watched}
 use Rattle.rsp_engine.proofs.engine.Engine.report_first.Goals as goal
 
 pub index_mut-requires : goal.index_mut-requires
@@ -37,7 +36,7 @@ report_at-requires-clause-watched g c =
     let first : c.self.inside.first ≡ Some c.args.place = rw (← c.self.view_is) at c.requires.first in
     let live = c.index_mut.result.now in
     let is : slice_get c.self.inside.queries.items c.args.place.query ≡ Some live = get_index c.self.inside.queries.items c.args.place.query live (listed _ _ _ _ _ sound c.args.place first) c.index_mut.ensures.value in
-    timed_watched _ _ (watching _ _ _ _ _ sound c.args.place first live is).timed
+    (watching _ _ _ _ _ sound c.args.place first live is).watched
 
 pub report_at-requires-clause-store : goal.report_at-requires-clause-store
 report_at-requires-clause-store g c =
@@ -134,7 +133,7 @@ pub let_go-requires-clause-timed : goal.let_go-requires-clause-timed
 let_go-requires-clause-timed g c =
     let sound : IsReady g.A.Answer.node g.A.Answer.width g.A.Answer.facts g.A.Answer.spent c.self.inside = (c.self.invariant (rw (← c.self.view_is) at c.requires.ready)).0 in
     let first : c.self.inside.first ≡ Some c.args.place = rw (← c.self.view_is) at c.requires.first in
-    timed_below c.self.inside.streams.items _ sound.state.next_high sound.state.timed
+    timed_below c.self.inside.streams.items _ _ sound.state.next_high sound.state.slack_high sound.state.timed
 
 pub invariant_of-self : goal.invariant_of-self
 invariant_of-self g c = λ _.
@@ -147,7 +146,7 @@ invariant_of-self g c = λ _.
     let behind = c.place_behind-query.ensures.queries in
     let left = rw (c.unwrap_or-next.ensures, c.as_slice-queries.ensures.value, c.place_behind-query.ensures.place ∙ place_is c.args.place full) at c.first_left-self-inside.ensures.first in
     let kept = rw (c.as_slice-queries.ensures.value, c.cut_at.ensures, c.unwrap_or-next.ensures) at c.let_go.ensures.kept in (
-      ready_behind _ _ _ _ _ sound c.args.place first live is c.report_at.new.live c.in-Ok.report.outcome reported (record c.self.inside { queries = c.place_behind-query.new.queries; readers = c.place_behind-query.new.readers; streams = c.let_go.new.streams; ends = c.let_go.new.ends; first = c.first_left-self-inside.result }) refl refl refl refl behind left c.let_go.ensures.less c.let_go.ensures.room kept,
+      ready_behind _ _ _ _ _ sound c.args.place first live is c.report_at.new.live c.in-Ok.report.outcome reported (record c.self.inside { queries = c.place_behind-query.new.queries; readers = c.place_behind-query.new.readers; streams = c.let_go.new.streams; ends = c.let_go.new.ends; first = c.first_left-self-inside.result }) refl refl refl refl refl behind left c.let_go.ensures.less c.let_go.ensures.room kept,
       (
         c.place_behind-query.ensures.read,
         rw (c.unwrap_or-next.ensures, c.as_slice-queries.ensures.value) at c.first_left-self-inside.ensures.sought,
@@ -181,14 +180,15 @@ returns-in-Ok-clause-ok g c =
       watched = reported.watched;
       told = reported.told;
       stood = λ rows items follows contents. (reported.follows rows items follows contents).1;
+      slack = refl;
       next = refl;
       stored = refl;
       log = refl;
       arrived = refl;
       broken = refl;
       queries = ap (map (live_of g.A.Answer.facts)) behind ∙ states_behind _ _ _ _ _ sound c.args.place first live is now c.in-Ok.report.outcome reported full;
-      left = left_there _ _ _ _ _ sound c.args.place first live is now c.in-Ok.report.outcome reported (record c.self.inside { queries = c.place_behind-query.new.queries; readers = c.place_behind-query.new.readers; streams = c.let_go.new.streams; ends = c.let_go.new.ends; first = c.first_left-self-inside.result }) refl refl refl refl behind left c.let_go.ensures.less c.let_go.ensures.room kept;
-      fits = fits_behind _ _ _ _ _ sound c.args.place first live is now c.in-Ok.report.outcome reported (record c.self.inside { queries = c.place_behind-query.new.queries; readers = c.place_behind-query.new.readers; streams = c.let_go.new.streams; ends = c.let_go.new.ends; first = c.first_left-self-inside.result }) refl refl refl refl behind left c.let_go.ensures.less c.let_go.ensures.room kept;
+      left = left_there _ _ _ _ _ sound c.args.place first live is now c.in-Ok.report.outcome reported (record c.self.inside { queries = c.place_behind-query.new.queries; readers = c.place_behind-query.new.readers; streams = c.let_go.new.streams; ends = c.let_go.new.ends; first = c.first_left-self-inside.result }) refl refl refl refl refl behind left c.let_go.ensures.less c.let_go.ensures.room kept;
+      fits = fits_behind _ _ _ _ _ sound c.args.place first live is now c.in-Ok.report.outcome reported (record c.self.inside { queries = c.place_behind-query.new.queries; readers = c.place_behind-query.new.readers; streams = c.let_go.new.streams; ends = c.let_go.new.ends; first = c.first_left-self-inside.result }) refl refl refl refl refl behind left c.let_go.ensures.less c.let_go.ensures.room kept;
     })
 
 pub returns-in-Ok-clause-cost : goal.returns-in-Ok-clause-cost
