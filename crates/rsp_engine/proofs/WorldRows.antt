@@ -270,7 +270,7 @@ ticks_know_no_slack = refl
 -- the report at 10 comes once an item is more than 2 behind it, with the item that came out of order; 9 is late then
 reports_wait_for_the_slack : map (λ last. said (with_slack 2 (world None [] (at_tens (codes "q") ∷ []))) (arrives 4 1 ∷ arrives 3 3 ∷ last))
     ((arrives 12 5 ∷ []) ∷ (arrives 13 5 ∷ []) ∷ (Tick 10 ∷ []) ∷ (arrives 12 5 ∷ arrives 9 2 ∷ arrives 13 5 ∷ []) ∷ [])
-    ≡ [] ∷ (report 10 (1 ∷ 3 ∷ []) ∷ []) ∷ (report 10 (1 ∷ 3 ∷ []) ∷ []) ∷ []  ∷ []
+    ≡ [] ∷ (report 10 (1 ∷ 3 ∷ []) ∷ []) ∷ (report 10 (1 ∷ 3 ∷ []) ∷ []) ∷ [] ∷ []
 reports_wait_for_the_slack = refl
 
 -- items in the wrong order are due when they would be in order
