@@ -91,7 +91,7 @@ pub told_later : (items : List Accepted) (from to : ℕ) (lives : List Live) →
     → All (λ (live : Live). Tells items from (registration_of live) live.watched) lives → All (λ (live : Live). Tells items to (registration_of live) live.watched) lives
 told_later items from to lives low all =
     All-weaker (λ (live : Live). Tells items from (registration_of live) live.watched) (λ (live : Live). Tells items to (registration_of live) live.watched)
-    (λ live tells. record { windows = tells.windows; seen = λ asks t late. tells.seen asks t (omega (arith, low, late)) }) lives all
+    (λ live tells. record { windows = tells.windows; told = λ asks t late. tells.told asks t (omega (arith, low, late)) }) lives all
 
 -- the items with those that came fit an engine that keeps what it needs of them, from its new cut on
 pub fits_passed : (old new : State) (items more : List Accepted) (taken : Kept) → cut_of old ≤ cut_of new → map unwatched new.queries ≡ map unwatched old.queries

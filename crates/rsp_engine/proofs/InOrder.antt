@@ -3,21 +3,12 @@ use Rattle.std.proofs.Common.{◌≡◌, ℕ, ◌-◌, ◌<◌, ◌≤◌, true,
 use Rattle.std.specs.Prelude.{nat_le}
 use Rattle.std.specs.List.{All, insert}
 use Rattle.std.specs.List.Sorted.{IsNonDecreasing, IsPartitionPoint, IsPermutation}
-use Rattle.std.specs.Option.{option_map_or}
 use Rattle.std.proofs.lemmas.Bool.{leb-false, leb-true}
 use Rattle.std.proofs.lemmas.List.Elements.{All-cons}
-use Rattle.std.proofs.lemmas.List.Sorted.{All-permutation, Contains-permutation, IsNonDecreasingBy-insert, IsNonDecreasingBy-push, IsPermutation-sym, IsPermutation-to_front}
+use Rattle.std.proofs.lemmas.List.Sorted.{All-permutation, Contains-permutation, IsNonDecreasingBy-insert, IsPermutation-sym, IsPermutation-to_front}
 use Rattle.std.proofs.lemmas.Option.{slice_get-get_or}
 
--- at the end, where none is later
-pub pushed_sorted : (times : List ℕ) (time : ℕ) → IsNonDecreasing times
-    → option_map_or (λ last. nat_le last time) (slice_get times (length times - 1)) true ≡ true → IsNonDecreasing (times ++ time ∷ [])
-pushed_sorted times time sorted latest = IsNonDecreasingBy-push (λ t. t) times time sorted (λ d some. leb-true _ _ (last_early d some))
-  where
-    last_early : (d : ℕ) → 0 < length times → nat_le (get_or times (length times - 1) d) time ≡ true
-    last_early d some =
-        sym (ap (λ o. option_map_or (λ last. nat_le last time) o true) (slice_get-get_or times (length times - 1) d (omega (arith, some)))) ∙ latest
-
+-- at the end
 pub pushed_moved : (times : List ℕ) (time : ℕ) → IsPermutation (time ∷ times) (times ++ time ∷ [])
 pushed_moved times time = IsPermutation-sym (times ++ time ∷ []) (time ∷ times) (IsPermutation-to_front times time)
 
@@ -33,11 +24,12 @@ inserted_sorted times time place sorted within point =
 pub last_put : (times new : List ℕ) (time : ℕ) → All (λ t. t ≤ time) times → IsPermutation (time ∷ times) new → IsNonDecreasing new
     → slice_get new (length new - 1) ≡ Some time
 last_put times new time early put sorted =
-    let found = Contains-permutation (time ∷ times) new time put (0, (omega arith, refl)) in
-    let within : length new - 1 < length new = omega (arith, found.1.0) in
+    let found = Contains-permutation (time ∷ times) new time put (0, omega arith, refl) in
+    let within : length new - 1 < length new = omega (arith, found.1) in
     let low : get_or new found.0 time ≤ get_or new (length new - 1) time =
-    sorted found.0 (length new - 1) time (omega (arith, found.1.0)) within in
+    sorted found.0 (length new - 1) time (omega (arith, found.1)) within in
     let high : get_or new (length new - 1) time ≤ time =
     All-permutation (λ t. t ≤ time) (time ∷ times) new put (All-cons (λ t. t ≤ time) time times (omega arith) early) (length new - 1) time within in
-    let is : get_or new (length new - 1) time ≡ time = omega (arith, found.1.1, low, high) in
+    let there : get_or new found.0 time ≡ time = found.2 in
+    let is : get_or new (length new - 1) time ≡ time = omega (arith, there, low, high) in
     slice_get-get_or new (length new - 1) time within ∙ ap Some is

@@ -305,6 +305,9 @@ module _ (old : State) (world : World) (item : Accepted) (stands : Stands old wo
   abbrev on_item : Registration → Bool
   on_item query = is_due_on taken_in.items query item
 
+  abbrev moment_at : ℕ → Registration → Moment
+  moment_at t query = record { at = t; query = query.name }
+
   by_instants : 0 < old.slack → All (λ (query : Registration). on_item query ≡ false) (registrations world)
   by_instants slack =
       All-map (λ (query : Registration). on_item query ≡ false) (λ (query : Query). query.registration) world.queries
@@ -324,7 +327,8 @@ module _ (old : State) (world : World) (item : Accepted) (stands : Stands old wo
           ap (λ t. moments_at (λ query. is_due_over taken_in.items query item.stream t) (registrations world) t) at
       by false test =
           let slack : 0 < old.slack = grind (arith, nat_tests, test) in
-          ap (map _) (none_pass (registrations world) ∙ sym (none_left on_item (registrations world) (by_instants slack)))
+          ap (map (moment_at (next_after old item.time))) (none_pass (registrations world))
+          ∙ sym (ap (map (moment_at item.time)) (none_left on_item (registrations world) (by_instants slack)))
 
 -- an item that was taken, and time that passed
 pub item_leads : (old new : State) (stream : List ℕ) (time : ℕ) (graph : List Triple) (end : Option ℕ) (world : World) → old.first ≡ None → length graph ≤ most_triples → next_in old ≤ time

@@ -1,5 +1,5 @@
 -- An engine that is ready stays so: where time passes, an item is kept, a query becomes live, or one is cancelled.
-use Rattle.std.proofs.Common.{◌≡◌, ℕ, zero, suc, ◌+◌, ◌<◌, ◌≤◌, Bool, true, false, ◌||◌, ◌&&◌, cond, not, nat_eq, nat_le, nat_lt, max, ◌-◌, List, [], ◌∷◌, ◌++◌, length, map, filter, remove, take, Option, None, Some, refl, sym, ◌∙◌, ap, subst, arith, unwrap_or, bytes_eq}
+use Rattle.std.proofs.Common.{◌≡◌, ℕ, zero, suc, ◌+◌, ◌<◌, ◌≤◌, Bool, true, false, true≢false, ◌||◌, ◌&&◌, cond, not, nat_eq, nat_le, nat_lt, max, ◌-◌, List, [], ◌∷◌, ◌++◌, length, map, filter, remove, take, Option, None, Some, refl, sym, ◌∙◌, ap, subst, arith, unwrap_or, bytes_eq}
 use Rattle.std.specs.List.{All, IsDistinct, list_any}
 use Rattle.std.specs.Option.{is_some, option_map_or}
 use Rattle.std.proofs.lemmas.List.Elements.{All-append, All-cons, All-filter, All-map, All-weaker}
@@ -347,8 +347,8 @@ module _ {A : Type 0} (node : A → Node) (width : A → ℕ) (facts : A → Lis
   by_instants slack tuple is some = by (nat_lt 0 slack) (lt-ltb 0 slack some) is
     where
       by : (b : Bool) → b ≡ true → (b && tuple) ≡ false → tuple ≡ false
-      by true yes is = is
-      by false yes is = cc
+      by true holds is = is
+      by false holds is = absurd (true≢false (sym holds))
 
   -- a query that becomes live
   pub ready_more : (new : Inside A) (query : LiveQuery A) → new.slack ≡ e.slack → new.next ≡ e.next → new.streams ≡ e.streams → new.ends ≡ e.ends → new.stored ≡ e.stored → new.log ≡ e.log → new.arrived ≡ e.arrived → new.first ≡ e.first → new.broken ≡ e.broken

@@ -3,12 +3,13 @@ use Rattle.std.proofs.Common.{◌≡◌, ℕ, ◌-◌, ◌%◌, ◌==◌, Bool, 
 use Rattle.std.specs.Bool.{beq}
 use Rattle.std.specs.List.{list_any}
 use Rattle.std.specs.Option.{option_map_or}
+use Rattle.std.proofs.lemmas.Bool.{false_from_ne_true}
 use Rattle.std.proofs.lemmas.List.Folds.{list_any-append}
 use Rattle.rsp_spec.specs.Windows.{closes_at, in_content}
 use Rattle.rsp_report.specs.declared.chosen.Chosen.{Chosen}
 use Rattle.rsp_report.specs.declared.contents.Watched.{Watched}
 use Rattle.rsp_report.specs.Due as windows
-use Rattle.rsp_engine.specs.Watching.{Told, told_at, with_time}
+use Rattle.rsp_engine.specs.Watching.{Told, enters_at, leaves_at, told_at, with_time}
 
 -- ---- whether some of a list pass a test
 
@@ -38,13 +39,14 @@ any_last p xs x = list_any-append p xs (x ∷ []) ∙ ap (λ b. list_any p xs ||
 -- of those alone that pass another test, which all that pass this one do
 pub any_kept : {X : Type 0} (p q : X → Bool) → ((x : X) → p x ≡ true → q x ≡ true) → (xs : List X) → list_any p (filter q xs) ≡ list_any p xs
 any_kept p q implies [] = refl
-any_kept {X} p q implies (x ∷ xs) = by (q x) (p x) (implies x) (any_kept p q implies xs)
+any_kept p q implies (x ∷ xs) = by (q x) (implies x) (any_kept p q implies xs)
   where
-    by : (kept passes : Bool) → (passes ≡ true → kept ≡ true) → list_any p (filter q xs) ≡ list_any p xs
-        → list_any p (cond kept (x ∷ filter q xs) (filter q xs)) ≡ (passes || list_any p xs)
-    by true passes keeps rest = ap (λ b. passes || b) rest
-    by false true keeps rest = absurd (true≢false (sym (keeps refl)))
-    by false false keeps rest = rest
+    by : (kept : Bool) → (p x ≡ true → kept ≡ true) → list_any p (filter q xs) ≡ list_any p xs
+        → list_any p (cond kept (x ∷ filter q xs) (filter q xs)) ≡ (p x || list_any p xs)
+    by true keeps rest = ap (λ b. p x || b) rest
+    by false keeps rest =
+        let fails : p x ≡ false = false_from_ne_true (p x) (λ is. true≢false (sym (keeps is))) in
+        rest ∙ sym (ap (λ b. b || list_any p xs) fails)
 
 -- ---- when a query is due, by what its windows' times tell
 
@@ -131,12 +133,11 @@ told_by true time t w = λ k.
       fresh = true;
     }
 told_by false time t w = λ k.
-    let told = told_at t w in
     record {
       window = w.window;
-      holds = sym (or_false told.holds) k;
-      enters = sym (or_false told.enters) k;
-      leaves = sym (or_false told.leaves) k;
+      holds = sym (or_false (windows.has_content t w)) k;
+      enters = sym (or_false (enters_at t w)) k;
+      leaves = sym (or_false (leaves_at t w)) k;
       fresh = false;
     }
 

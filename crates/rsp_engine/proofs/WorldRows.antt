@@ -116,8 +116,8 @@ abbrev world : Option ℕ → List Accepted → List Query → World
 world next items queries = record { slack = 0; next = next; items = items; stored = []; queries = queries }
 
 -- a world whose items may be so far behind the latest one
-abbrev under : ℕ → World → World
-under slack world = record world { slack = slack }
+abbrev with_slack : ℕ → World → World
+with_slack slack world = record world { slack = slack }
 
 abbrev at_of : List ℕ → ℕ → Moment
 at_of name t = record { at = t; query = name }
@@ -207,7 +207,7 @@ module _ (text : List ℕ) (q : Registered) (is : parse text ≡ Ok q) (good : f
 
   -- a query that looks at items is refused under a slack, before the live ones are counted
   arrivals_are_refused : (reading_of q).policy.tuple ≡ true
-      → map (λ slack. accept (under slack (so_many 256)) (Register (codes "r2") text)) (0 ∷ 1 ∷ []) ≡ Err QueriesFull ∷ Err SlackTuple ∷ []
+      → map (λ slack. accept (with_slack slack (so_many 256)) (Register (codes "r2") text)) (0 ∷ 1 ∷ []) ≡ Err QueriesFull ∷ Err SlackTuple ∷ []
   arrivals_are_refused tuple = rw (is, good, unmixed, tuple) refl
 
   last_place_is_given : accept (so_many 255) (Register (codes "r2") text) ≡ accept_text (so_many 255) (codes "r2") (Ok q)
@@ -247,7 +247,7 @@ next_behind old event = option_map (λ (new : World). new.next) (result_ok (acce
 
 -- all that lies more than the slack behind an item is complete, and nothing is taken back
 items_complete_what_lies_behind : map
-    (λ slack. map (next_behind (under slack (world (Some 10) [] []))) (arrives 10 1 ∷ arrives 13 1 ∷ arrives 20 1 ∷ []))
+    (λ slack. map (next_behind (with_slack slack (world (Some 10) [] []))) (arrives 10 1 ∷ arrives 13 1 ∷ arrives 20 1 ∷ []))
     (0 ∷ 3 ∷ 30 ∷ [])
     ≡ (Some (Some 10) ∷ Some (Some 13) ∷ Some (Some 20) ∷ [])
     ∷ (Some (Some 10) ∷ Some (Some 10) ∷ Some (Some 17) ∷ [])
@@ -255,27 +255,27 @@ items_complete_what_lies_behind : map
 items_complete_what_lies_behind = refl
 
 -- before the first item, and where it lies less than the slack behind 0
-first_item_sets_the_next_instant : map (λ slack. next_behind (under slack (world None [] [])) (arrives 5 1)) (0 ∷ 3 ∷ 5 ∷ 7 ∷ [])
+first_item_sets_the_next_instant : map (λ slack. next_behind (with_slack slack (world None [] [])) (arrives 5 1)) (0 ∷ 3 ∷ 5 ∷ 7 ∷ [])
     ≡ Some (Some 5) ∷ Some (Some 2) ∷ Some (Some 0) ∷ Some (Some 0) ∷ []
 first_item_sets_the_next_instant = refl
 
 -- behind an item at 20 one at 17 still comes, and none before; a tick completes all up to its time, whatever the slack
-lateness_under_a_slack : map (accept (under 3 (world (Some 17) [] []))) (arrives 16 1 ∷ Tick 15 ∷ []) ≡ Err (Late 16 17) ∷ Err (Late 15 17) ∷ []
+lateness_under_a_slack : map (accept (with_slack 3 (world (Some 17) [] []))) (arrives 16 1 ∷ Tick 15 ∷ []) ≡ Err (Late 16 17) ∷ Err (Late 15 17) ∷ []
 lateness_under_a_slack = refl
 
-ticks_know_no_slack : map (next_behind (under 3 (world (Some 17) [] []))) (arrives 17 1 ∷ Tick 16 ∷ Tick 20 ∷ [])
+ticks_know_no_slack : map (next_behind (with_slack 3 (world (Some 17) [] []))) (arrives 17 1 ∷ Tick 16 ∷ Tick 20 ∷ [])
     ≡ Some (Some 17) ∷ Some (Some 17) ∷ Some (Some 21) ∷ []
 ticks_know_no_slack = refl
 
 -- the report at 10 comes once an item is more than 2 behind it, with the item that came out of order; 9 is late then
-reports_wait_for_the_slack : map (λ last. said (under 2 (world None [] (at_tens (codes "q") ∷ []))) (arrives 4 1 ∷ arrives 3 3 ∷ last))
+reports_wait_for_the_slack : map (λ last. said (with_slack 2 (world None [] (at_tens (codes "q") ∷ []))) (arrives 4 1 ∷ arrives 3 3 ∷ last))
     ((arrives 12 5 ∷ []) ∷ (arrives 13 5 ∷ []) ∷ (Tick 10 ∷ []) ∷ (arrives 12 5 ∷ arrives 9 2 ∷ arrives 13 5 ∷ []) ∷ [])
-    ≡ [] ∷ (report 10 (1 ∷ 3 ∷ []) ∷ []) ∷ (report 10 (1 ∷ 3 ∷ []) ∷ []) ∷ []  ∷ []
+    ≡ [] ∷ (report 10 (1 ∷ 3 ∷ []) ∷ []) ∷ (report 10 (1 ∷ 3 ∷ []) ∷ []) ∷ [] ∷ []
 reports_wait_for_the_slack = refl
 
 -- items in the wrong order are due when they would be in order
 order_is_no_matter : map
-    (λ asked. map (λ (r : Report). r.at) (said (under 3 (world (Some 0) [] (query (at_instants asked) (on_a 10 10) ∷ [])))
+    (λ asked. map (λ (r : Report). r.at) (said (with_slack 3 (world (Some 0) [] (query (at_instants asked) (on_a 10 10) ∷ [])))
     (arrives 12 1 ∷ arrives 9 1 ∷ arrives 11 1 ∷ Tick 22 ∷ [])))
     ((Close ∷ []) ∷ (Change ∷ []) ∷ (NonEmpty ∷ Close ∷ []) ∷ [])
     ≡ map (λ asked. instants_from_zero asked (arrives 9 1 ∷ arrives 11 1 ∷ arrives 12 1 ∷ Tick 22 ∷ []))
@@ -526,11 +526,15 @@ module _ (reading : Reading) (full : is_overfull (between reading) (ending readi
       ≡ at_of (codes "p") 20 ∷ at_of (codes "r") 20 ∷ []
   overfull_report_strikes_its_moments = rw full refl
 
-  others_report_on : reports (between reading) (all_at 10 ++ all_at 20)
+  others_report_on : reports (between reading) (all_at 10)
       ≡ report_of (codes "p") 10 (1 ∷ 3 ∷ [])
       ∷ record { query = codes "q"; at = 10; variables = reading.variables; outcome = Overfull }
-      ∷ report_of (codes "r") 10 (1 ∷ 3 ∷ []) ∷ report_of (codes "p") 20 [] ∷ report_of (codes "r") 20 [] ∷ []
+      ∷ report_of (codes "r") 10 (1 ∷ 3 ∷ []) ∷ []
   others_report_on = rw full refl
+
+  others_report_later : reports (after_report (between reading) (ending reading) 10) (all_at 20)
+      ≡ report_of (codes "p") 20 [] ∷ report_of (codes "r") 20 [] ∷ []
+  others_report_later = rw full refl
 
   ended_name_is_free : is_live (world_behind (between reading) (all_at 10)) (codes "q") ≡ false
   ended_name_is_free = rw full refl

@@ -2,7 +2,7 @@
 // contents watches no times, so it isn't looked at.
 ghost use Rattle.std.specs.Prelude.{◌≡◌, ◌-◌, ◌≤◌, ◌<◌, ◌++◌, ◌∷◌, ℕ, [], false, true, List, map, OnOk, bytes_eq, length, nat_le};
 ghost use Rattle.std.specs.Prelude.{slice_get, slice_index_or};
-ghost use Rattle.std.specs.List.{All};
+ghost use Rattle.std.specs.List.{All, insert};
 ghost use Rattle.std.specs.List.Sorted.{IsNonDecreasing, IsPermutation};
 ghost use Rattle.std.specs.Option.{option_map_or};
 ghost use Rattle.rsp_spec.specs.Limits.{last_instant};
@@ -176,8 +176,8 @@ fn watch_window(
     Ok(())
 }
 
-// Puts a time behind all that aren't later: at the end, where it is the latest, and else at the place that halving finds. Where
-// memory is refused, what is left is only to be dropped.
+// Puts a time among times in order: at the end, where none is later, and else at the place that halving finds. Where memory is
+// refused, what is left is only to be dropped.
 fn put_in_order(alloc: Global, times: &mut Listed<u64>, time: u64) -> Result<(), AllocError>
     requires { IsNonDecreasing times.old }
     ensures sorted { OnOk result (IsNonDecreasing times.new) }
@@ -187,7 +187,7 @@ fn put_in_order(alloc: Global, times: &mut Listed<u64>, time: u64) -> Result<(),
         times.push(time)?;
         return Ok(());
     }
-    let place = times.as_slice().partition_point(|other| *other <= time);
+    let place = place_of(times.as_slice(), time);
     let mut moved = mem::replace(times, Listed::new(alloc)).into_vec();
     moved.insert(place, time)?;
     *times = Listed::from_vec(moved);
@@ -202,4 +202,13 @@ fn is_latest(times: &[u64], time: u64) -> bool
         Some(last) => *last <= time,
         None => true,
     }
+}
+
+// where a time goes among times in order: behind all that aren't later
+fn place_of(times: &[u64], time: u64) -> usize
+    requires { IsNonDecreasing times.now }
+    ensures within { result ≤ length times.now }
+    ensures order { IsNonDecreasing (insert times.now result time) }
+{
+    times.partition_point(|other| *other <= time)
 }

@@ -1,9 +1,11 @@
 -- Sums over runs of endings and over items.
-use Rattle.std.proofs.Common.{◌≡◌, ℕ, zero, suc, ◌+◌, ◌<◌, ◌≤◌, Bool, true, false, true≢false, cond, min, nat_le, Option, None, Some, List, [], ◌∷◌, ◌++◌, drop, take, length, filter, sum_by, slice_index_or, slice_set, refl, sym, ap, ◌∙◌, le-leb, arith}
+use Rattle.std.proofs.Common.{◌≡◌, ℕ, zero, suc, ◌+◌, ◌<◌, ◌≤◌, Bool, true, false, true≢false, not, ◌==◌, cond, min, nat_le, Option, None, Some, List, [], ◌∷◌, ◌++◌, drop, take, length, filter, sum_by, slice_index_or, slice_set, refl, sym, ap, subst, ◌∙◌, le-leb, arith, eqb-true}
+use Rattle.std.specs.List.Retain.{RetainsInTurn}
 use Rattle.std.proofs.lemmas.Bool.Decides.{nat_tests}
-use Rattle.std.proofs.lemmas.List.Sums.{sum_by-append, sum_by-cons, sum_by-drop_more, sum_by-le-sum_by, sum_by-take-drop, sum_by_push}
+use Rattle.std.proofs.lemmas.List.{nil_from_length}
+use Rattle.std.proofs.lemmas.List.Sums.{sum_by-append, sum_by-cons, sum_by-drop_more, sum_by-le-sum_by, sum_by-set, sum_by-take-drop, sum_by_push}
 use Rattle.rsp_scope.specs.Kept.{needed, triples_of, ended, shortened}
-use Rattle.rsp_scope.specs.Runs.{AreTied, ending_of, from, one, over, over_items, triples}
+use Rattle.rsp_scope.specs.Runs.{AreTied, ending_of, from, one, over, over_items, reaching, triples}
 use Rattle.rsp_scope.specs.declared.ends.Ending.{Ending}
 use Rattle.rsp_scope.specs.declared.item.Item.{Item}
 
@@ -141,6 +143,45 @@ pub over-at : (f : Ending → ℕ) (runs : List (List Ending)) (at : ℕ) (run :
 over-at f runs at run below is =
     sum_by-drop_more (λ (r : List Ending). sum_by f r) runs at run below ∙ ap (λ (r : List Ending). sum_by f r + over f (drop (at + 1) runs)) (sym is)
 
+turned : (b : Bool) → not b ≡ false → b ≡ true
+turned true h = refl
+turned false h = absurd (true≢false h)
+
+-- a run that goes is empty
+emptied : (b : Bool) (run : List Ending) → b ≡ not (length run == 0) → b ≡ false → run ≡ []
+emptied b run is gone = nil_from_length run (eqb-true (length run) 0 (turned (length run == 0) (sym is ∙ gone)))
+
+-- a walk that lets go of what ends before `next`, and of the runs where nothing is left
+pub dropped : {F : Type 0} (R : F → List Ending → Bool → F → List Ending → Type 0) (next : ℕ) (g : F)
+    → ((run : List Ending) (b : Bool) (h : F) (left : List Ending) → R g run b h left
+    → (left ≡ reaching next run) × (b ≡ not (length left == 0)) × (h ≡ g))
+    → (f : Ending → ℕ) (runs left : List (List Ending)) → RetainsInTurn R g runs left
+    → over f left ≡ over (from next f) runs
+dropped R next g says f [] left h = ap (λ l. over f l) h
+dropped R next g says f (run ∷ runs) left h =
+    let told = says run h.0 h.1 h.2 h.3 in
+    let here : sum_by f h.2 ≡ sum_by (from next f) run
+    = ap (λ l. sum_by f l) told.0 ∙ sum-filter (λ (e : Ending). nat_le next e.end) f run in
+    let rest = dropped R next g says f runs h.4 (subst (λ u. RetainsInTurn R u runs h.4) told.2 h.5) in
+    ap (λ l. over f l) h.6
+    ∙ (by h.0 h.2 h.4 told.1
+    ∙ ((λ i. here i + rest i) ∙ sym (sum_by-cons (λ (r : List Ending). sum_by (from next f) r) run runs)))
+  where
+    by : (b : Bool) (y : List Ending) (zs : List (List Ending)) → b ≡ not (length y == 0) → over f (cond b (y ∷ zs) zs) ≡ sum_by f y + over f zs
+    by true y zs is = sum_by-cons (λ (r : List Ending). sum_by f r) y zs
+    by false y zs is =
+        let none : sum_by f y ≡ 0 = ap (λ l. sum_by f l) (emptied false y is refl) in
+        omega (arith, none)
+
+-- an ending more in a run
+pub put-more : (f : Ending → ℕ) (runs : List (List Ending)) (at : ℕ) (old new : List Ending) (more : ℕ) → at < length runs → old ≡ slice_index_or runs at old
+    → sum_by f new ≡ sum_by f old + more
+    → over f (slice_set runs at new) ≡ over f runs + more
+put-more f runs at old new more below is put =
+    let all = sum_by-set (λ (run : List Ending). sum_by f run) runs at new old below in
+    let here = ap (λ (run : List Ending). sum_by f run) is in
+    omega (arith, all, here, put)
+
 pub tied-later : (runs later : List (List Ending)) (items : List Item) (next : ℕ) → AreTied runs items
     → ((f : Ending → ℕ) → over f later ≡ over (from next f) runs)
     → AreTied later (needed next items)
@@ -193,18 +234,6 @@ pub shortened-few : (items : List Item) (untils : List (Option ℕ)) → length 
 shortened-few [] untils = omega arith
 shortened-few (item ∷ items) [] = omega arith
 shortened-few (item ∷ items) (until ∷ untils) = fewer-one item until (shortened items untils) (length items) (shortened-few items untils)
-
-module _ {X : Type 0} (h k : X → ℕ) where
-  -- the sum while a walk turns the list, element by element: what is done by k, what is to come by h
-  abbrev pub part : ℕ → List X → ℕ
-  part at xs = sum_by k (take at xs) + sum_by h (drop at xs)
-
-  pub part-next : (xs : List X) (at : ℕ) (y d : X) → at < length xs → part (at + 1) (slice_set xs at y) + h (slice_index_or xs at d) ≡ part at xs + k y
-  part-next xs at y d below =
-      let front = ap (λ l. sum_by k l) (take-then-set xs at y below) ∙ sum_by_push k (take at xs) y in
-      let behind = ap (λ l. sum_by h l) (drop-then-set xs at y) in
-      let here = sum_by-drop_more h xs at d below in
-      omega (arith, front, behind, here)
 
 -- one ending more of a walk over the items from `start` on
 pub refill-fits : (items : List Item) (start at : ℕ) (item : Item) (done : ℕ) → at < length items → item ≡ slice_index_or items at item

@@ -6,13 +6,14 @@ use Rattle.std.proofs.lemmas.Int.{ints}
 use Rattle.rsp_multiset.specs.Weights.{only, sum_z}
 use Rattle.rsp_multiset.proofs.Sums.{sum_z-alike, sum_z-filter}
 use Rattle.rsp_scope.proofs.Endings.{any-default}
-use Rattle.rsp_scope.proofs.LaneLaws.{at_place, placed-all, placed-none}
-use Rattle.rsp_scope.specs.Lanes.{AreStale, places_of}
+use Rattle.rsp_scope.proofs.LaneLaws.{at_slot, place-within, placed-none, places-rise, slot-is, slot-place, slots-long, slotted-all, up-to-peak}
+use Rattle.rsp_scope.specs.Lanes.{AreStale, is_new, places_of, slots_of}
 use Rattle.rsp_scope.specs.Kept.{needed, shortened}
 use Rattle.rsp_scope.specs.Moves.{Placed, enters, is_after, is_fresh, placed_as}
-use Rattle.rsp_scope.specs.Order.{AreInOrder, AreRising, number_of, peaks_from}
+use Rattle.rsp_scope.specs.Order.{AreInOrder, AreRising, number_of}
 use Rattle.rsp_scope.specs.declared.gate.Gate.{Gate}
 use Rattle.rsp_scope.specs.declared.item.Item.{Item}
+use Rattle.rsp_scope.specs.declared.lanes.Slot.{Slot}
 
 module _ {X : Type 0} (P : X → Type 0) where
   all-filter : (p : X → Bool) (xs : List X) → AllByRecursion P xs → AllByRecursion P (filter p xs)
@@ -95,41 +96,6 @@ module _ (accepted : ℕ) where
         numbers = rising-push number_of items item h.numbers (all-weaker Below (λ (x : Item). x.number ≤ item.number) (λ x k. omega (arith, k, numbered)) items h.below);
       }
 
--- a peak is no lower than what came before
-above-latest : (latest : ℕ) (items : List Item) (i e : ℕ) → i < length items → latest ≤ slice_index_or (peaks_from latest items) i e
-above-latest latest [] i e within = absurd (omega (arith, within))
-above-latest latest (x ∷ items) zero e within = omega arith
-above-latest latest (x ∷ items) (suc i) e within =
-    let rest = above-latest (max x.time latest) items i e (omega (arith, within)) in
-    omega (arith, rest)
-
--- nor than the times of the items up to it
-pub up-to-peak : (latest : ℕ) (items : List Item) (k i : ℕ) (d : Item) (e : ℕ) → k ≤ i → i < length items
-    → (slice_index_or items k d).time ≤ slice_index_or (peaks_from latest items) i e
-up-to-peak latest [] k i d e before within = absurd (omega (arith, within))
-up-to-peak latest (x ∷ items) zero zero d e before within = omega arith
-up-to-peak latest (x ∷ items) zero (suc i) d e before within =
-    let rest = above-latest (max x.time latest) items i e (omega (arith, within)) in
-    omega (arith, rest)
-up-to-peak latest (x ∷ items) (suc k) zero d e before within = absurd (omega (arith, before))
-up-to-peak latest (x ∷ items) (suc k) (suc i) d e before within =
-    up-to-peak (max x.time latest) items k i d e (omega (arith, before)) (omega (arith, within))
-
-pub peaks-long : (latest : ℕ) (items : List Item) → length (peaks_from latest items) ≡ length items
-peaks-long latest [] = refl
-peaks-long latest (x ∷ items) = let rest = peaks-long (max x.time latest) items in omega (arith, rest)
-
--- a peak more
-pub peaks-push : (latest : ℕ) (items : List Item) (last : ℕ) (item : Item) (peak : ℕ) → length items ≡ suc last
-    → ((e : ℕ) → peak ≡ max item.time (slice_index_or (peaks_from latest items) last e))
-    → peaks_from latest items ++ peak ∷ [] ≡ peaks_from latest (items ++ item ∷ [])
-peaks-push latest [] last item peak long is = absurd (omega (arith, long))
-peaks-push latest (x ∷ []) zero item peak long is = ap (λ n. max x.time latest ∷ n ∷ []) (is 0)
-peaks-push latest (x ∷ []) (suc last) item peak long is = absurd (omega (arith, long))
-peaks-push latest (x ∷ y ∷ items) zero item peak long is = absurd (omega (arith, long))
-peaks-push latest (x ∷ y ∷ items) (suc last) item peak long is =
-    ap (λ l. max x.time latest ∷ l) (peaks-push (max x.time latest) (y ∷ items) last item peak (omega (arith, long)) is)
-
 -- an item that isn't fresh, and those before it
 stale : (seen : ℕ) (since : Option ℕ) (number time number' time' : ℕ) → number' ≤ number → time' ≤ time → is_fresh seen since number time ≡ false → is_fresh seen since number' time' ≡ false
 stale seen None number time number' time' low early is = absurd (by (nat_le seen number) is)
@@ -139,17 +105,33 @@ stale seen None number time number' time' low early is = absurd (by (nat_le seen
     by false h = true≢false h
 stale seen (Some at) number time number' time' low early is = grind (arith, nat_tests, low, early, is)
 
-pub stale-before : (seen : ℕ) (since : Option ℕ) (items : List Item) (at k : ℕ) (d e : Item) (peak : ℕ) → AreRising number_of items → k ≤ at → at < length items
-    → e ≡ slice_index_or items at e
-    → peak ≡ slice_index_or (peaks_from 0 items) at peak
-    → is_fresh seen since e.number peak ≡ false
-    → is_fresh seen since (slice_index_or items k d).number (slice_index_or items k d).time ≡ false
-stale-before seen since items at k d e peak numbers before within is high old =
-    let here : e ≡ slice_index_or items at d = is ∙ any-default items at e d within in
-    stale seen since (slice_index_or items at d).number peak (slice_index_or items k d).number (slice_index_or items k d).time
-    (rising-at number_of items k at d numbers before within)
-    (let low = up-to-peak 0 items k at d peak before within in omega (arith, low, high))
-    (ap (λ (x : Item). is_fresh seen since x.number peak) (sym here) ∙ old)
+-- so the peak at a slot tells of it and of all before it in the lane
+pub stale-before : (gate : Gate) (items : List Item) (slots : List Slot) (at k p : ℕ) (slot : Slot) (here item : Item) → AreRising number_of items
+    → slots ≡ slots_of gate.stream 0 0 items
+    → at < length slots
+    → k ≤ at
+    → slot ≡ slice_index_or slots at slot
+    → here ≡ slice_index_or items slot.place here
+    → is_fresh gate.seen gate.since here.number slot.peak ≡ false
+    → is_new gate (slice_index_or items (slice_index_or (places_of gate.stream 0 items) k p) item) ≡ false
+stale-before gate items slots at k p slot here item numbers same within before is found old =
+    let long = ap (λ (l : List Slot). length l) same in
+    let inside : at < length (places_of gate.stream 0 items) = omega (arith, within, long, slots-long gate.stream 0 0 items) in
+    let place = slot-is gate.stream slots items at p slot same within is in
+    let low = place-within gate.stream items at p inside in
+    let below : slot.place < length items = omega (arith, place, low) in
+    let first = slice_index_or items (slice_index_or (places_of gate.stream 0 items) k p) item in
+    let last = slice_index_or items (slice_index_or (places_of gate.stream 0 items) at p) item in
+    let whose : here ≡ last = found ∙ (any-default items slot.place here item below ∙ ap (λ n. slice_index_or items n item) place) in
+    let number : first.number ≤ last.number
+    = rising-at number_of items (slice_index_or (places_of gate.stream 0 items) k p) (slice_index_or (places_of gate.stream 0 items) at p) item numbers
+    (places-rise gate.stream items k at p before inside)
+    low
+    in
+    let time : first.time ≤ (slice_index_or (slots_of gate.stream 0 0 items) at slot).peak = up-to-peak gate.stream items k at p slot item before (omega (arith, within, long)) in
+    let peak : slot.peak ≡ (slice_index_or (slots_of gate.stream 0 0 items) at slot).peak = ap (λ (x : Slot). x.peak) (is ∙ ap (λ l. slice_index_or l at slot) same) in
+    stale gate.seen gate.since last.number slot.peak first.number first.time number (omega (arith, time, peak))
+    (ap (λ (x : Item). is_fresh gate.seen gate.since x.number slot.peak) (sym whose) ∙ old)
 
 skipped : {X : Type 0} (h : X → ℤ) (xs : List X) (n : ℕ) → ((k : ℕ) (d : X) → k < n → h (slice_index_or xs k d) ≡ pos 0) → n ≤ length xs → sum_z h (drop n xs) ≡ sum_z h xs
 skipped h xs zero none within = refl
@@ -180,28 +162,29 @@ only-both false b n = refl
 abbrev pub passing : Gate → ℕ → (Placed → ℤ) → Item → ℤ
 passing gate cut f item = only (nat_le cut item.end && enters gate item) (f (placed_as item))
 
--- of the items at the places in front that aren't fresh none enters, nor any of another stream; so what enters of the rest
+-- of the items at the slots in front that aren't fresh none enters, nor any of another stream; so what enters of the rest
 -- of the lane is what enters of the kept items
-pub fresh-kept : (gate : Gate) (cut : ℕ) (items : List Item) (start : ℕ) (f : Placed → ℤ) → AreStale gate items (places_of gate.stream 0 items) start
-    → start ≤ length (places_of gate.stream 0 items)
-    → sum_z (at_place (passing gate cut f) items) (drop start (places_of gate.stream 0 items))
+pub fresh-kept : (gate : Gate) (cut : ℕ) (items : List Item) (start : ℕ) (f : Placed → ℤ) → AreStale gate items start → start ≤ length (slots_of gate.stream 0 0 items)
+    → sum_z (at_slot (passing gate cut f) items) (drop start (slots_of gate.stream 0 0 items))
     ≡ sum_z (λ (item : Item). only (enters gate item) (f (placed_as item))) (needed cut items)
 fresh-kept gate cut items start f front within =
-    skipped (at_place (passing gate cut f) items) (places_of gate.stream 0 items) start
-    (λ k place below. placed-none (passing gate cut f) items (slice_index_or (places_of gate.stream 0 items) k place)
+    skipped (at_slot (passing gate cut f) items) (slots_of gate.stream 0 0 items) start
+    (λ k slot below.
+    placed-none (passing gate cut f) items (slice_index_or (slots_of gate.stream 0 0 items) k slot).place
     (λ d.
-    let item = slice_index_or items (slice_index_or (places_of gate.stream 0 items) k place) d in
-    not-fresh (nat_le cut item.end) (nat_le gate.first item.number) (bytes_eq item.stream gate.stream) (is_after gate.opening item.time) (nat_le item.time gate.until) (is_fresh gate.seen gate.since item.number item.time) (f (placed_as item)) (front k place d below)))
+    let item = slice_index_or items (slice_index_or (slots_of gate.stream 0 0 items) k slot).place d in
+    let place : (slice_index_or (slots_of gate.stream 0 0 items) k slot).place ≡ slice_index_or (places_of gate.stream 0 items) k 0
+    = slot-place gate.stream 0 0 items k 0 slot (omega (arith, below, within))
+    in
+    not-fresh (nat_le cut item.end) (nat_le gate.first item.number) (bytes_eq item.stream gate.stream) (is_after gate.opening item.time) (nat_le item.time gate.until) (is_fresh gate.seen gate.since item.number item.time) (f (placed_as item))
+    (ap (λ n. is_new gate (slice_index_or items n d)) place ∙ front k 0 d below)))
     within
-    ∙ (placed-all gate.stream (passing gate cut f)
+    ∙ (slotted-all gate.stream (passing gate cut f)
     (λ item other.
     not-on (nat_le cut item.end) (nat_le gate.first item.number) (bytes_eq item.stream gate.stream)
     (is_after gate.opening item.time && (nat_le item.time gate.until && is_fresh gate.seen gate.since item.number item.time))
     (f (placed_as item))
     other)
     items
-    0
-    items
-    refl
     ∙ (sum_z-alike (passing gate cut f) (λ (item : Item). only (nat_le cut item.end) (only (enters gate item) (f (placed_as item)))) (λ item. only-both (nat_le cut item.end) (enters gate item) (f (placed_as item))) items
     ∙ sym (sum_z-filter (λ (item : Item). only (enters gate item) (f (placed_as item))) (λ (item : Item). nat_le cut item.end) items)))

@@ -1,5 +1,5 @@
 -- Runs of endings: what goes stands in front.
-use Rattle.std.proofs.Common.{◌≡◌, ℕ, suc, ◌+◌, ◌<◌, ◌≤◌, false, cond, nat_le, List, [], ◌∷◌, drop, length, slice_index_or, sym, ap, ◌∙◌, drop-cons, le-leb, arith}
+use Rattle.std.proofs.Common.{◌≡◌, ℕ, zero, suc, ◌+◌, ◌<◌, ◌≤◌, false, cond, nat_le, List, [], ◌∷◌, drop, length, slice_index_or, sym, ap, ◌∙◌, drop-cons, le-leb, arith}
 use Rattle.std.specs.List.Sorted.{IsNonDecreasingBy}
 use Rattle.std.proofs.lemmas.Bool.Decides.{nat_tests}
 use Rattle.std.proofs.lemmas.List.{drop_all}
@@ -39,3 +39,14 @@ pub triples-past : (es : List Ending) (at : ℕ) (e : Ending) → at < length es
     → triples_in (drop at es) ≡ e.triples + triples_in (drop (at + 1) es)
 triples-past es at e below is =
     sum_by-drop_more (λ (x : Ending). x.triples) es at e below ∙ ap (λ (x : Ending). x.triples + triples_in (drop (at + 1) es)) (sym is)
+
+-- an ending more in front
+pub rising-front : (es : List Ending) (e : Ending) → IsNonDecreasingBy (λ (x : Ending). x.end) es
+    → ((d : Ending) → 0 < length es → e.end ≤ (slice_index_or es 0 d).end)
+    → IsNonDecreasingBy (λ (x : Ending). x.end) (e ∷ es)
+rising-front es e sorted low zero zero d before inside = omega arith
+rising-front es e sorted low zero (suc j) d before inside =
+    let some : 0 < length es = omega (arith, inside) in
+    omega (arith, low d some, sorted 0 j d (omega arith) (omega (arith, inside)))
+rising-front es e sorted low (suc i) zero d before inside = absurd (omega (arith, before))
+rising-front es e sorted low (suc i) (suc j) d before inside = sorted i j d (omega (arith, before)) (omega (arith, inside))

@@ -3,7 +3,7 @@ use Rattle.std.specs.Prelude.{◌≡◌, ◌≤◌, ◌*◌, length}
 use Rattle.rsp_scope.specs.Kept.{Kept, needed, triples_of}
 use Rattle.rsp_scope.specs.Moves.{Followed}
 use Rattle.rsp_scope.specs.Lanes.{AreFiled}
-use Rattle.rsp_scope.specs.Order.{AreInOrder, peaks_from}
+use Rattle.rsp_scope.specs.Order.{AreInOrder}
 use Rattle.rsp_scope.specs.Runs.{AreTied}
 use Rattle.rsp_scope.specs.declared.streams.Streams.TheInside.{Inside}
 use Rattle.rsp_scope.specs.declared.contents.Contents.TheInside.{Inside as Window}
@@ -17,7 +17,6 @@ pub record IsStreams (s : Inside) : Type 0 where
   pub held : s.held ≡ triples_of (needed s.cut s.items.items)
   pub tied : AreTied s.ends.items (needed s.cut s.items.items)
   pub order : AreInOrder s.accepted s.items.items
-  pub peaks : s.peaks.items ≡ peaks_from 0 s.items.items
   pub filed : AreFiled s.lanes.entries s.items.items
   -- what has left is no more than what is kept
   pub few : length s.items.items ≤ 2 * s.count

@@ -1,5 +1,5 @@
 -- Words of the way: the order in which kept items stand.
-use Rattle.std.specs.Prelude.{ℕ, ◌<◌, ◌≤◌, ⊤, max, List, [], ◌∷◌}
+use Rattle.std.specs.Prelude.{ℕ, ◌<◌, ◌≤◌, ⊤, List, [], ◌∷◌}
 use Rattle.std.specs.List.{AllByRecursion}
 use Rattle.rsp_scope.specs.declared.item.Item.{Item}
 
@@ -15,8 +15,3 @@ number_of item = item.number
 pub record AreInOrder (accepted : ℕ) (items : List Item) : Type 0 where
   pub below : AllByRecursion (λ (item : Item). item.number < accepted) items
   pub numbers : AreRising number_of items
-
--- for each item the latest time up to it, where `latest` came before
-abbrev pub peaks_from : ℕ → List Item → List ℕ
-peaks_from latest [] = []
-peaks_from latest (item ∷ items) = max item.time latest ∷ peaks_from (max item.time latest) items

@@ -1,5 +1,5 @@
 // When the kept items end.
-ghost use Rattle.std.specs.Prelude.{◌≡◌, ◌-◌, ◌<◌, ◌≤◌, false, length, slice_index_or};
+ghost use Rattle.std.specs.Prelude.{◌≡◌, ◌-◌, ◌<◌, ◌≤◌, true, length, slice_index_or};
 ghost use Rattle.rsp_scope.specs.Runs.{ending_of};
 ghost use Rattle.rsp_scope.specs.declared.ends.Ending.{Ending};
 
@@ -15,7 +15,7 @@ pub(crate) struct Ending {
     pub triples: u64,
 }
 
-/// Endings, each not before the one in front of it.
+/// Endings, each not before the one in front of it. It grows at both ends.
 #[derive(Drop)]
 pub(crate) struct Run {
     triples: u64,
@@ -35,8 +35,8 @@ impl Model for Run {
 }
 
 impl Run {
-    ghost use Rattle.std.specs.Prelude.{◌≡◌, ◌+◌, ◌++◌, ◌∷◌, ◌≤◌, ℕ, [], List, cond, IfOk, OnErr, drop, length, min, take};
-    ghost use Rattle.std.specs.Prelude.{sum_by};
+    ghost use Rattle.std.specs.Prelude.{◌≡◌, ◌==◌, ◌+◌, ◌-◌, ◌++◌, ◌∷◌, ◌<◌, ◌≤◌, ℕ, [], true, cond, IfOk, OnErr, OnOk, drop};
+    ghost use Rattle.std.specs.Prelude.{length, min, slice_index_or, sum_by};
     ghost use Rattle.rsp_scope.specs.Kept.{triples_of};
     ghost use Rattle.rsp_scope.specs.Runs.{ending_of, over_items, reaching, triples_in};
     ghost use Rattle.rsp_scope.specs.declared.ends.Ending.{Ending};
@@ -54,20 +54,62 @@ impl Run {
         })
     }
 
-    /// Puts the ending last, unless the last one is later. Gives whether it did. Fails only where memory is refused.
+    /// Puts the ending last, unless the last one is later, and else first, unless the first one is earlier. Gives whether it
+    /// did either. Fails only where memory is refused.
     pub(crate) fn put(&mut self, ending: Ending) -> Result<bool, AllocError>
-        ensures ok { IfOk result (λ done. self.new ≡ cond done (self.old ++ ending ∷ []) self.old) }
+        ensures ok { IfOk result (λ done. (f : Ending → ℕ) → sum_by f self.new ≡ sum_by f self.old + cond done (f ending) 0) }
         ensures err { OnErr result (self.new ≡ self.old) }
     {
-        if is_later(&self.rising, ending.end) {
-            return Ok(false);
+        if self.ends_by(ending.end) {
+            self.put_last(ending)?;
+            return Ok(true);
         }
+        if self.begins_from(ending.end) {
+            self.put_first(ending)?;
+            return Ok(true);
+        }
+        Ok(false)
+    }
+
+    fn put_last(&mut self, ending: Ending) -> Result<(), AllocError>
+        requires { (d : Ending) → 0 < length self.old → (slice_index_or self.old (length self.old - 1) d).end ≤ ending.end }
+        ensures ok { OnOk result (self.new ≡ self.old ++ ending ∷ []) }
+        ensures err { OnErr result (self.new ≡ self.old) }
+    {
         let Some(triples) = self.triples.checked_add(ending.triples) else {
             return Err(AllocError);
         };
         self.rising.push_back(ending)?;
         self.triples = triples;
-        Ok(true)
+        Ok(())
+    }
+
+    fn put_first(&mut self, ending: Ending) -> Result<(), AllocError>
+        requires { (d : Ending) → 0 < length self.old → ending.end ≤ (slice_index_or self.old 0 d).end }
+        ensures ok { OnOk result (self.new ≡ ending ∷ self.old) }
+        ensures err { OnErr result (self.new ≡ self.old) }
+    {
+        let Some(triples) = self.triples.checked_add(ending.triples) else {
+            return Err(AllocError);
+        };
+        self.rising.push_front(ending)?;
+        self.triples = triples;
+        Ok(())
+    }
+
+    /// Whether no ending is after `end`.
+    pub(crate) fn ends_by(&self, end: u64) -> bool
+        ensures { result ≡ true → (d : Ending) → 0 < length self.now
+            → (slice_index_or self.now (length self.now - 1) d).end ≤ end }
+    {
+        ends_by(&self.rising, end)
+    }
+
+    /// Whether no ending is before `end`.
+    pub(crate) fn begins_from(&self, end: u64) -> bool
+        ensures { result ≡ true → (d : Ending) → 0 < length self.now → end ≤ (slice_index_or self.now 0 d).end }
+    {
+        begins_from(&self.rising, end)
     }
 
     /// Lets go of the endings before `next`. They stand in front.
@@ -96,6 +138,12 @@ impl Run {
             triples -= ending.triples;
         }
         triples
+    }
+
+    pub(crate) fn is_empty(&self) -> bool
+        ensures { result ≡ (length self.now == 0) }
+    {
+        self.rising.is_empty()
     }
 
     pub(crate) fn len(&self) -> usize
@@ -144,13 +192,23 @@ pub(crate) fn ending_of(item: &Item) -> Ending
     }
 }
 
-// whether the last ending is after this instant
-fn is_later(rising: &VecDeque<Ending, Global>, end: u64) -> bool
-    ensures { result ≡ false → (d : Ending) → 0 < length rising.now.items
+// whether the last ending isn't after `end`
+fn ends_by(rising: &VecDeque<Ending, Global>, end: u64) -> bool
+    ensures { result ≡ true → (d : Ending) → 0 < length rising.now.items
         → (slice_index_or rising.now.items (length rising.now.items - 1) d).end ≤ end }
 {
     match rising.back() {
-        Some(last) => end < last.end,
-        None => false,
+        Some(last) => last.end <= end,
+        None => true,
+    }
+}
+
+// whether the first ending isn't before `end`
+fn begins_from(rising: &VecDeque<Ending, Global>, end: u64) -> bool
+    ensures { result ≡ true → (d : Ending) → 0 < length rising.now.items → end ≤ (slice_index_or rising.now.items 0 d).end }
+{
+    match rising.front() {
+        Some(first) => end <= first.end,
+        None => true,
     }
 }

@@ -1,16 +1,15 @@
 // Walks over the queue of kept items. None takes memory.
-ghost use Rattle.std.specs.Prelude.{◌≡◌, ◌<◌, ◌≤◌, ◌*◌, ◌++◌, ℕ, List, drop, length, slice_index_or, OnOk};
+ghost use Rattle.std.specs.Prelude.{◌≡◌, ◌<◌, ◌≤◌, ◌*◌, ◌++◌, ℕ, List, drop, length, slice_index_or};
 ghost use Rattle.rsp_scope.specs.Kept.{ended, needed, shortened};
 ghost use Rattle.rsp_scope.specs.Lanes.{AreFiled, room_of};
-ghost use Rattle.rsp_scope.specs.Order.{AreInOrder, peaks_from};
+ghost use Rattle.rsp_scope.specs.Order.{AreInOrder};
 ghost use Rattle.rsp_scope.specs.declared.item.Item.{Item};
 
 use crate::lanes::Lane;
-use crate::peaks::fill_peaks;
 use crate::{Item, lanes};
 use indexmap::IndexMap;
 use rsp_terms::Text;
-use std::alloc::{AllocError, Global};
+use std::alloc::Global;
 use std::collections::VecDeque;
 
 /// Gives each item its new end, in order, and takes out those without one.
@@ -45,45 +44,37 @@ fn let_go(items: &mut VecDeque<Item, Global>, next: u64)
     items.retain(|item| next <= item.end);
 }
 
-/// Lets go of the items that end before `cut`, with their peaks and their places in the lanes.
+/// Lets go of the items that end before `cut`, with their slots in the lanes.
 pub(crate) fn close_up(
     items: &mut VecDeque<Item, Global>,
-    peaks: &mut VecDeque<u64, Global>,
     lanes: &mut IndexMap<Text, Lane>,
     cut: u64,
 )
-    requires peaks { peaks.old.items ≡ peaks_from 0 items.old.items }
     requires filed { AreFiled lanes.old.entries items.old.items }
     ensures items { items.new.items ≡ needed cut items.old.items }
-    ensures peaks { peaks.new.items ≡ peaks_from 0 items.new.items }
     ensures filed { AreFiled lanes.new.entries items.new.items }
-    ensures room { peaks.new.cap ≡ peaks.old.cap }
     ensures lanes { (s : List ℕ) → room_of lanes.new.entries s ≡ room_of lanes.old.entries s }
 {
     let_go(items, cut);
-    fill_peaks(peaks, items);
     lanes::fill(lanes, items);
 }
 
 /// Closes the queue up once more has left than is kept, which are `count` items.
 pub(crate) fn close_up_if_sparse(
     items: &mut VecDeque<Item, Global>,
-    peaks: &mut VecDeque<u64, Global>,
     lanes: &mut IndexMap<Text, Lane>,
     cut: u64,
     count: usize,
 )
     requires count { count ≡ length (needed cut items.old.items) }
-    requires peaks { peaks.old.items ≡ peaks_from 0 items.old.items }
     requires filed { AreFiled lanes.old.entries items.old.items }
     ensures few { length items.new.items ≤ 2 * count }
     ensures kept { needed cut items.new.items ≡ needed cut items.old.items }
-    ensures peaks { peaks.new.items ≡ peaks_from 0 items.new.items }
     ensures filed { AreFiled lanes.new.entries items.new.items }
     ensures order { (accepted : ℕ) → AreInOrder accepted items.old.items → AreInOrder accepted items.new.items }
 {
     if count < items.len() - count {
-        close_up(items, peaks, lanes, cut);
+        close_up(items, lanes, cut);
         lanes::tidy(lanes, items);
     }
 }
@@ -91,39 +82,22 @@ pub(crate) fn close_up_if_sparse(
 /// A cut that keeps the same items and one with this end too. Lets go of the others, where the cut would fall.
 pub(crate) fn lowered(
     items: &mut VecDeque<Item, Global>,
-    peaks: &mut VecDeque<u64, Global>,
     lanes: &mut IndexMap<Text, Lane>,
     cut: u64,
     end: u64,
 ) -> u64
-    requires peaks { peaks.old.items ≡ peaks_from 0 items.old.items }
     requires filed { AreFiled lanes.old.entries items.old.items }
     ensures low { result ≤ end }
     ensures few { length items.new.items ≤ length items.old.items }
     ensures kept { needed result items.new.items ≡ needed cut items.old.items }
-    ensures peaks { peaks.new.items ≡ peaks_from 0 items.new.items }
     ensures filed { AreFiled lanes.new.entries items.new.items }
     ensures order { (accepted : ℕ) → AreInOrder accepted items.old.items → AreInOrder accepted items.new.items }
 {
     if cut <= end {
         return cut;
     }
-    close_up(items, peaks, lanes, cut);
+    close_up(items, lanes, cut);
     end
-}
-
-/// Makes room for one item more.
-pub(crate) fn make_room(
-    items: &mut VecDeque<Item, Global>,
-    peaks: &mut VecDeque<u64, Global>,
-) -> Result<(), AllocError>
-    ensures items { items.new.items ≡ items.old.items }
-    ensures peaks { peaks.new.items ≡ peaks.old.items }
-    ensures room { OnOk result ((length items.new.items < items.new.cap) × (length peaks.new.items < peaks.new.cap)) }
-{
-    items.reserve(1)?;
-    peaks.reserve(1)?;
-    Ok(())
 }
 
 /// The place in the queue of the kept item with this index.

@@ -1,9 +1,9 @@
 // Kept items.
 use crate::ends::{Run, ending_of};
 use crate::gate::Gate;
-use crate::lanes::{Lane, places_in};
-use crate::peaks::{fill_peaks, first_fresh, peak_with};
-use crate::queue::{close_up, close_up_if_sparse, lowered, make_room, place, shorten_all};
+use crate::lanes::{Lane, slots_in};
+use crate::peaks::first_fresh;
+use crate::queue::{close_up, close_up_if_sparse, lowered, place, shorten_all};
 use crate::tally::{Tally, take_in, take_none};
 use crate::{Item, Shared, lanes, runs};
 use indexmap::IndexMap;
@@ -27,9 +27,7 @@ pub struct Streams {
     held: u64,
     ends: Vec<Run, Global>,
     items: VecDeque<Item, Global>,
-    // for each place of the queue the latest time up to there
-    peaks: VecDeque<u64, Global>,
-    // for each stream the places of its items in the queue
+    // for each stream the places of its items in the queue, each with the latest time up to there
     lanes: IndexMap<Text, Lane>,
 }
 
@@ -63,7 +61,6 @@ impl Streams {
             held: 0,
             ends: Vec::new(alloc),
             items: VecDeque::new(alloc),
-            peaks: VecDeque::new(alloc),
             lanes: IndexMap::new(alloc),
         }
     }
@@ -103,13 +100,7 @@ impl Streams {
             runs::drop_before(&mut self.ends, next);
             self.count = runs::count(self.ends.as_slice(), self.count);
             self.cut = next;
-            close_up_if_sparse(
-                &mut self.items,
-                &mut self.peaks,
-                &mut self.lanes,
-                next,
-                self.count,
-            );
+            close_up_if_sparse(&mut self.items, &mut self.lanes, next, self.count);
         }
     }
 
@@ -118,9 +109,8 @@ impl Streams {
         requires { length untils.now ≡ length self.old.items }
         ensures { self.new ≡ record self.old { items = shortened self.old.items untils.now } }
     {
-        close_up(&mut self.items, &mut self.peaks, &mut self.lanes, self.cut);
+        close_up(&mut self.items, &mut self.lanes, self.cut);
         shorten_all(&mut self.items, untils);
-        fill_peaks(&mut self.peaks, &self.items);
         lanes::fill(&mut self.lanes, &self.items);
         self.cut = 0;
         self.count = self.items.len();
@@ -132,7 +122,7 @@ impl Streams {
     pub fn settle(&mut self)
         ensures { self.new ≡ self.old }
     {
-        close_up(&mut self.items, &mut self.peaks, &mut self.lanes, self.cut);
+        close_up(&mut self.items, &mut self.lanes, self.cut);
         lanes::tidy(&mut self.lanes, &self.items);
     }
 
@@ -208,10 +198,10 @@ impl Streams {
         ensures moves { OnOk result (Moves tally.old.spot tally.old.content.entries tally.new.content.entries
             tally.old.counts tally.new.counts change.old change.new) }
     {
-        let Some(lane) = places_in(&self.lanes, &gate.stream) else {
+        let Some(lane) = slots_in(&self.lanes, &gate.stream) else {
             return take_none(tally, change, gate, &self.items, self.cut);
         };
-        let start = first_fresh(&self.items, &self.peaks, lane, gate);
+        let start = first_fresh(&self.items, lane, gate);
         take_in(tally, change, gate, &self.items, self.cut, lane, start)
     }
 
@@ -252,19 +242,11 @@ impl Streams {
         let Some(held) = self.held.checked_add(ending.triples) else {
             return Err(AllocError);
         };
-        self.cut = lowered(
-            &mut self.items,
-            &mut self.peaks,
-            &mut self.lanes,
-            self.cut,
-            item.end,
-        );
-        make_room(&mut self.items, &mut self.peaks)?;
+        self.cut = lowered(&mut self.items, &mut self.lanes, self.cut, item.end);
+        self.items.reserve(1)?;
         lanes::make_place(self.alloc, &mut self.lanes, &item.stream)?;
         runs::put(self.alloc, &mut self.ends, ending)?;
-        lanes::file(&mut self.lanes, &item.stream, self.items.len());
-        let peak = peak_with(&self.peaks, &item);
-        self.peaks.push_back_reserved(peak);
+        lanes::file(&mut self.lanes, &item.stream, self.items.len(), item.time);
         self.items.push_back_reserved(item);
         self.accepted = accepted;
         self.count += 1;

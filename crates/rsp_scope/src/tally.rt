@@ -7,11 +7,12 @@ ghost use Rattle.rsp_terms.specs.Same.{fact_eq};
 ghost use Rattle.rsp_scope.specs.Contents.{fact_in, facts_in};
 ghost use Rattle.rsp_scope.specs.Moves.{Moves, Placed, TakesIn, Tells, counted_by, enters, is_after, is_fresh, placed_as};
 ghost use Rattle.rsp_scope.specs.Kept.{needed};
-ghost use Rattle.rsp_scope.specs.Lanes.{AreStale, places_of};
+ghost use Rattle.rsp_scope.specs.Lanes.{AreStale, slots_of};
 ghost use Rattle.rsp_scope.specs.declared.item.Item.{Item};
 
 use crate::counting::count_by;
 use crate::gate::{Gate, is_after, passes};
+use crate::lanes::Slot;
 use crate::{Item, Shared};
 use rsp_multiset::{Changes, Count};
 use rsp_terms::{Fact, Listed, Spot, Triple};
@@ -80,12 +81,12 @@ pub(crate) fn take_in(
     gate: &Gate,
     items: &VecDeque<Item, Global>,
     cut: u64,
-    lane: &VecDeque<usize, Global>,
+    lane: &VecDeque<Slot, Global>,
     start: usize,
 ) -> Result<(), AllocError>
-    requires lane { lane.now.items ≡ places_of gate.now.stream 0 items.now.items }
+    requires lane { lane.now.items ≡ slots_of gate.now.stream 0 0 items.now.items }
     requires bound { start ≤ length lane.now.items }
-    requires stale { AreStale gate.now items.now.items lane.now.items start }
+    requires stale { AreStale gate.now items.now.items start }
     ensures spot { tally.new.spot ≡ tally.old.spot }
     ensures content { OnOk result (TakesIn gate.now (needed cut items.now.items)
         tally.old.content.entries tally.new.content.entries) }
@@ -93,7 +94,7 @@ pub(crate) fn take_in(
         tally.old.counts tally.new.counts change.old change.new) }
 {
     for index in start..lane.len() {
-        take_one(tally, change, gate, &items[lane[index]], cut)?;
+        take_one(tally, change, gate, &items[lane[index].place], cut)?;
     }
     Ok(())
 }
@@ -106,7 +107,7 @@ pub(crate) fn take_none(
     items: &VecDeque<Item, Global>,
     cut: u64,
 ) -> Result<(), AllocError>
-    requires { places_of gate.now.stream 0 items.now.items ≡ [] }
+    requires { slots_of gate.now.stream 0 0 items.now.items ≡ [] }
     ensures spot { tally.new.spot ≡ tally.old.spot }
     ensures content { OnOk result (TakesIn gate.now (needed cut items.now.items)
         tally.old.content.entries tally.new.content.entries) }

@@ -5,3 +5,4 @@ pub mod Optional
 pub mod Cutting
 pub mod Places
 pub mod Slack
+pub mod Fronts

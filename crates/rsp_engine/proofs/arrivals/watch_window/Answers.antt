@@ -1,4 +1,4 @@
-use Rattle.std.proofs.Common.{◌^◌, ◌≤◌}
+use Rattle.std.proofs.Common.{◌^◌, ◌≤◌, arith}
 use Rattle.rsp_engine.proofs.InOrder.{last_put}
 use Rattle.rsp_engine.proofs.TimesKept.{kept_all, kept_sorted, put_all, told_kept, told_more}
 use Rattle.rsp_engine.proofs.arrivals.watch_window.Goals as goal

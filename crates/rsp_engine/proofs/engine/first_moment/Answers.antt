@@ -8,7 +8,7 @@ use Rattle.rsp_engine.proofs.engine.first_moment.Goals as goal
 pub set_out-requires-clause-watching : goal.set_out-requires-clause-watching
 set_out-requires-clause-watching g c =
     rw c.deref_mut.ensures.value
-    (All-weaker (λ live. IsPrompt c.args.to c.args.arrived.now (asked live)) (λ live. IsWatching c.args.to (asked live)) (λ live is. is.watching)
+    (All-weaker (λ live. IsPrompt c.args.to c.args.arrived.now (asked live)) (λ live. IsWatching (asked live)) (λ live is. is.watching)
     c.args.queries.now.items c.requires.prompt)
 
 pub set_out-requires-clause-sought : goal.set_out-requires-clause-sought

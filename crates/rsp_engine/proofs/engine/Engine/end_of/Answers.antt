@@ -17,7 +17,7 @@ returns g c graph n =
     let sound : IsReady g.A.Answer.node g.A.Answer.width g.A.Answer.facts g.A.Answer.spent c.self.inside = (c.self.invariant (rw (← c.self.view_is) at c.requires.ready)).0 in
     let read = (c.self.invariant (rw (← c.self.view_is) at c.requires.ready)).1.0 in
     let here = state_of g.A.Answer.facts c.self.inside in
-    let followed = all_watches here.queries (next_in here) c.self.inside.streams.accepted (cut_of here) c.self.inside.arrived sound.state.lives in
+    let followed = all_watches here.queries (next_in here) c.self.inside.slack c.self.inside.streams.accepted (cut_of here) c.self.inside.arrived sound.state.lives in
     let entry : Numbered = record { number = c.self.inside.streams.accepted; item = record { stream = c.args.stream.now; time = c.args.time; graph = graph } } in
     let ends = subst (λ ws. IsEndBy ws entry.number c.args.time c.end_of.result) (read.windows c.args.stream.now) (rw c.accepted.ensures at c.end_of.ensures) in
     let found = ends_read c.self.inside.queries.items entry c.end_of.result

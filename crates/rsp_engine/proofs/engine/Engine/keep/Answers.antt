@@ -20,7 +20,7 @@ use Rattle.rsp_engine.proofs.engine.Engine.keep.Goals as goal
 pub take-requires-clause-watching : goal.take-requires-clause-watching
 take-requires-clause-watching g c =
     let sound : IsReady g.A.Answer.node g.A.Answer.width g.A.Answer.facts g.A.Answer.spent c.self.inside = (c.self.invariant (rw (← c.self.view_is) at c.requires.ready)).0 in
-    rw (c.deref_mut.ensures.value, c.unwrap_or-from.ensures) (all_watching g.A.Answer.facts c.self.inside.queries.items _ _ _ _ _ sound.state.lives)
+    rw c.deref_mut.ensures.value (all_watching g.A.Answer.facts c.self.inside.queries.items _ _ _ _ _ sound.state.lives)
 
 pub take-requires-clause-sought : goal.take-requires-clause-sought
 take-requires-clause-sought g c =

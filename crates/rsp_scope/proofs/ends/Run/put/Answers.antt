@@ -1,15 +1,17 @@
-use Rattle.std.proofs.Common.{sym, subst, arith}
-use Rattle.std.specs.List.Sorted.{IsNonDecreasingBy}
-use Rattle.std.proofs.lemmas.Grind.{common_steps}
-use Rattle.std.proofs.lemmas.List.Sorted.{IsNonDecreasingBy-push}
-use Rattle.std.proofs.lemmas.List.Sums.{sum_by_push}
-use Rattle.rsp_scope.specs.declared.ends.Ending.{Ending}
+use Rattle.std.proofs.Common.{sum_by, ap, ◌∙◌, arith}
+use Rattle.std.proofs.lemmas.List.Sums.{sum_by-cons, sum_by_push}
 use Rattle.rsp_scope.proofs.ends.Run.put.Goals as goal
 
-pub invariant_of-self-2 : goal.invariant_of-self-2
-invariant_of-self-2 c =
-    record {
-      order = subst (λ l. IsNonDecreasingBy (λ (e : Ending). e.end) l) (sym c.in_ok-push_back.ensures.items)
-          (IsNonDecreasingBy-push (λ (e : Ending). e.end) c.self.inside.rising.items c.args.ending c.self.invariant.order (c.is_later.ensures c.if-is_later.false));
-      triples = grind (arith, common_steps, sum_by_push (λ (e : Ending). e.triples) c.self.inside.rising.items c.args.ending);
-    }
+pub put_last-requires : goal.put_last-requires
+put_last-requires c = c.ends_by.ensures c.if-ends_by.true
+
+pub returns-then-ends_by-clause-ok : goal.returns-then-ends_by-clause-ok
+returns-then-ends_by-clause-ok c f = ap (λ l. sum_by f l) c.in_ok-put_last.ensures.ok ∙ sum_by_push f c.args.self.now c.args.ending
+
+pub put_first-requires : goal.put_first-requires
+put_first-requires c = c.begins_from.ensures c.if-begins_from.true
+
+pub returns-then-begins_from-clause-ok : goal.returns-then-begins_from-clause-ok
+returns-then-begins_from-clause-ok c f =
+    let all = ap (λ l. sum_by f l) c.in_ok-put_first.ensures.ok ∙ sum_by-cons f c.args.ending c.args.self.now in
+    omega (arith, all)

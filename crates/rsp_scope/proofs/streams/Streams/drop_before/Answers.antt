@@ -38,7 +38,6 @@ invariant_of-self c =
           ∙ (triples-from c.self.inside.ends.items kept c.args.next c.self.invariant.tied ∙ ap triples_of later));
       tied = subst (λ l. AreTied c.drop_before.new.runs.items l) later tied;
       order = c.close_up_if_sparse.ensures.order c.self.inside.accepted c.self.invariant.order;
-      peaks = c.close_up_if_sparse.ensures.peaks;
       filed = c.close_up_if_sparse.ensures.filed;
       few = c.close_up_if_sparse.ensures.few;
     }

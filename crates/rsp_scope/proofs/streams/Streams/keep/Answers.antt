@@ -2,11 +2,11 @@ use Rattle.std.proofs.Common.{rules, ◌≡◌, ◌+◌, ◌^◌, ◌<◌, ◌�
 use Rattle.std.proofs.lemmas.Grind.{common_steps}
 use Rattle.std.proofs.lemmas.List.{length-append}
 use Rattle.rsp_scope.specs.Kept.{needed, triples_of}
-use Rattle.rsp_scope.specs.Order.{AreInOrder, peaks_from}
+use Rattle.rsp_scope.specs.Order.{AreInOrder}
 use Rattle.rsp_scope.specs.Runs.{AreTied}
 use Rattle.rsp_scope.specs.declared.item.Item.{Item}
 use Rattle.rsp_scope.proofs.Endings.{filter-most, filter-push, tied-push, triples-push}
-use Rattle.rsp_scope.specs.Lanes.{places_of}
+use Rattle.rsp_scope.specs.Lanes.{slots_of}
 use Rattle.rsp_scope.proofs.LaneLaws.{filed-push}
 use Rattle.rsp_scope.proofs.Orders.{order-pushed}
 use Rattle.rsp_scope.proofs.streams.Streams.keep.Goals as goal
@@ -14,41 +14,38 @@ use Rattle.rsp_scope.proofs.streams.Streams.keep.Goals as goal
 -- where memory is refused the queue may be closed up
 pub invariant_of-self : goal.invariant_of-self
 invariant_of-self c =
-    let kept = ap (λ l. needed c.lowered-self-inside.result l) c.make_room.ensures.items ∙ c.lowered-self-inside.ensures.kept in
+    let kept = ap (λ l. needed c.lowered-self-inside.result l) c.reserve.ensures.items ∙ c.lowered-self-inside.ensures.kept in
     record {
       count = c.self.invariant.count ∙ ap (λ (l : List Item). length l) (sym kept);
       held = c.self.invariant.held ∙ ap triples_of (sym kept);
       tied = subst (λ l. AreTied c.self.inside.ends.items l) (sym kept) c.self.invariant.tied;
-      order = subst (λ l. AreInOrder c.self.inside.accepted l) (sym c.make_room.ensures.items) (c.lowered-self-inside.ensures.order c.self.inside.accepted c.self.invariant.order);
-      peaks = c.make_room.ensures.peaks ∙ (c.lowered-self-inside.ensures.peaks ∙ ap (λ l. peaks_from 0 l) (sym c.make_room.ensures.items));
-      filed = λ s. c.lowered-self-inside.ensures.filed s ∙ ap (λ l. places_of s 0 l) (sym c.make_room.ensures.items);
-      few = omega (arith, ap (λ (l : List Item). length l) c.make_room.ensures.items, c.lowered-self-inside.ensures.few, c.self.invariant.few);
+      order = subst (λ l. AreInOrder c.self.inside.accepted l) (sym c.reserve.ensures.items) (c.lowered-self-inside.ensures.order c.self.inside.accepted c.self.invariant.order);
+      filed = λ s. c.lowered-self-inside.ensures.filed s ∙ ap (λ l. slots_of s 0 0 l) (sym c.reserve.ensures.items);
+      few = omega (arith, ap (λ (l : List Item). length l) c.reserve.ensures.items, c.lowered-self-inside.ensures.few, c.self.invariant.few);
     }
 
 pub invariant_of-self-in_err-make_place : goal.invariant_of-self-in_err-make_place
 invariant_of-self-in_err-make_place c =
-    let kept = ap (λ l. needed c.lowered-self-inside.result l) c.make_room.ensures.items ∙ c.lowered-self-inside.ensures.kept in
+    let kept = ap (λ l. needed c.lowered-self-inside.result l) c.reserve.ensures.items ∙ c.lowered-self-inside.ensures.kept in
     record {
       count = c.self.invariant.count ∙ ap (λ (l : List Item). length l) (sym kept);
       held = c.self.invariant.held ∙ ap triples_of (sym kept);
       tied = subst (λ l. AreTied c.self.inside.ends.items l) (sym kept) c.self.invariant.tied;
-      order = subst (λ l. AreInOrder c.self.inside.accepted l) (sym c.make_room.ensures.items) (c.lowered-self-inside.ensures.order c.self.inside.accepted c.self.invariant.order);
-      peaks = c.make_room.ensures.peaks ∙ (c.lowered-self-inside.ensures.peaks ∙ ap (λ l. peaks_from 0 l) (sym c.make_room.ensures.items));
-      filed = λ s. c.make_place.ensures.same s ∙ (c.lowered-self-inside.ensures.filed s ∙ ap (λ l. places_of s 0 l) (sym c.make_room.ensures.items));
-      few = omega (arith, ap (λ (l : List Item). length l) c.make_room.ensures.items, c.lowered-self-inside.ensures.few, c.self.invariant.few);
+      order = subst (λ l. AreInOrder c.self.inside.accepted l) (sym c.reserve.ensures.items) (c.lowered-self-inside.ensures.order c.self.inside.accepted c.self.invariant.order);
+      filed = λ s. c.make_place.ensures.same s ∙ (c.lowered-self-inside.ensures.filed s ∙ ap (λ l. slots_of s 0 0 l) (sym c.reserve.ensures.items));
+      few = omega (arith, ap (λ (l : List Item). length l) c.reserve.ensures.items, c.lowered-self-inside.ensures.few, c.self.invariant.few);
     }
 
 pub invariant_of-self-in_err-put : goal.invariant_of-self-in_err-put
 invariant_of-self-in_err-put c =
-    let kept = ap (λ l. needed c.lowered-self-inside.result l) c.make_room.ensures.items ∙ c.lowered-self-inside.ensures.kept in
+    let kept = ap (λ l. needed c.lowered-self-inside.result l) c.reserve.ensures.items ∙ c.lowered-self-inside.ensures.kept in
     record {
       count = c.self.invariant.count ∙ ap (λ (l : List Item). length l) (sym kept);
       held = c.self.invariant.held ∙ ap triples_of (sym kept);
       tied = subst (λ l. AreTied c.put.new.runs.items l) (sym kept) (λ f. c.in_err-put.ensures.err f ∙ c.self.invariant.tied f);
-      order = subst (λ l. AreInOrder c.self.inside.accepted l) (sym c.make_room.ensures.items) (c.lowered-self-inside.ensures.order c.self.inside.accepted c.self.invariant.order);
-      peaks = c.make_room.ensures.peaks ∙ (c.lowered-self-inside.ensures.peaks ∙ ap (λ l. peaks_from 0 l) (sym c.make_room.ensures.items));
-      filed = λ s. c.make_place.ensures.same s ∙ (c.lowered-self-inside.ensures.filed s ∙ ap (λ l. places_of s 0 l) (sym c.make_room.ensures.items));
-      few = omega (arith, ap (λ (l : List Item). length l) c.make_room.ensures.items, c.lowered-self-inside.ensures.few, c.self.invariant.few);
+      order = subst (λ l. AreInOrder c.self.inside.accepted l) (sym c.reserve.ensures.items) (c.lowered-self-inside.ensures.order c.self.inside.accepted c.self.invariant.order);
+      filed = λ s. c.make_place.ensures.same s ∙ (c.lowered-self-inside.ensures.filed s ∙ ap (λ l. slots_of s 0 0 l) (sym c.reserve.ensures.items));
+      few = omega (arith, ap (λ (l : List Item). length l) c.reserve.ensures.items, c.lowered-self-inside.ensures.few, c.self.invariant.few);
     }
 
 pub overflow_add-self : goal.overflow_add-self
@@ -63,10 +60,10 @@ invariant_of-self-2 c =
     let before = needed c.self.inside.cut c.self.inside.items.items in
     let next : c.in-Some.accepted ≡ c.self.inside.accepted + 1 = grind (arith, common_steps) in
     let reached : nat_le c.lowered-self-inside.result c.args.item.end ≡ true = le-leb c.lowered-self-inside.result c.args.item.end c.lowered-self-inside.ensures.low in
-    let kept : needed c.lowered-self-inside.result c.push_back_reserved-2.new.self.items ≡ before ++ c.args.item ∷ []
-    = ap (λ l. needed c.lowered-self-inside.result l) c.push_back_reserved-2.ensures.items
-    ∙ (filter-push (λ (item : Item). nat_le c.lowered-self-inside.result item.end) c.make_room.new.items.items c.args.item reached
-    ∙ ap (λ l. l ++ c.args.item ∷ []) (ap (λ l. needed c.lowered-self-inside.result l) c.make_room.ensures.items ∙ c.lowered-self-inside.ensures.kept)) in
+    let kept : needed c.lowered-self-inside.result c.push_back_reserved.new.self.items ≡ before ++ c.args.item ∷ []
+    = ap (λ l. needed c.lowered-self-inside.result l) c.push_back_reserved.ensures.items
+    ∙ (filter-push (λ (item : Item). nat_le c.lowered-self-inside.result item.end) c.reserve.new.self.items c.args.item reached
+    ∙ ap (λ l. l ++ c.args.item ∷ []) (ap (λ l. needed c.lowered-self-inside.result l) c.reserve.ensures.items ∙ c.lowered-self-inside.ensures.kept)) in
     let long = ap (λ (l : List Item). length l) kept in
     let heavy = ap triples_of kept in
     let more : c.in-Some-checked_add.held ≡ c.self.inside.held + length c.args.item.graph = grind (arith, common_steps) in
@@ -75,25 +72,21 @@ invariant_of-self-2 c =
       held = omega (arith, heavy, more, triples-push before c.args.item, c.self.invariant.held);
       tied = subst (λ l. AreTied c.put.new.runs.items l) (sym kept)
           (tied-push c.self.inside.ends.items c.put.new.runs.items before c.args.item c.ending_of-ending.result c.ending_of-ending.ensures c.self.invariant.tied c.in_ok-put.ensures.ok);
-      order = subst (λ l. AreInOrder c.in-Some.accepted l) (sym (c.push_back_reserved-2.ensures.items ∙ ap (λ l. l ++ c.args.item ∷ []) c.make_room.ensures.items))
+      order = subst (λ l. AreInOrder c.in-Some.accepted l) (sym (c.push_back_reserved.ensures.items ∙ ap (λ l. l ++ c.args.item ∷ []) c.reserve.ensures.items))
           (order-pushed c.self.inside.accepted c.lowered-self-inside.new.items.items c.args.item c.in-Some.accepted next (rw (← c.self.view_is) at c.requires)
           (c.lowered-self-inside.ensures.order c.self.inside.accepted c.self.invariant.order));
-      peaks = c.push_back_reserved.ensures.items
-          ∙ (c.peak_with-peak.ensures c.make_room.new.items.items
-          (c.make_room.ensures.peaks ∙ (c.lowered-self-inside.ensures.peaks ∙ ap (λ l. peaks_from 0 l) (sym c.make_room.ensures.items)))
-          ∙ ap (λ l. peaks_from 0 l) (sym c.push_back_reserved-2.ensures.items));
       filed = λ s.
-          filed-push c.make_place.new.lanes.entries c.file.new.lanes.entries c.make_room.new.items.items c.args.item c.len.result
-          (λ t. c.make_place.ensures.same t ∙ (c.lowered-self-inside.ensures.filed t ∙ ap (λ l. places_of t 0 l) (sym c.make_room.ensures.items)))
-          (c.len.ensures ∙ c.make_room.new.items.ok.0)
+          filed-push c.make_place.new.lanes.entries c.file.new.lanes.entries c.reserve.new.self.items c.args.item c.len.result
+          (λ t. c.make_place.ensures.same t ∙ (c.lowered-self-inside.ensures.filed t ∙ ap (λ l. slots_of t 0 0 l) (sym c.reserve.ensures.items)))
+          (c.len.ensures ∙ c.reserve.new.self.ok.0)
           c.file.ensures.lane
           s
-          ∙ ap (λ l. places_of s 0 l) (sym c.push_back_reserved-2.ensures.items);
+          ∙ ap (λ l. slots_of s 0 0 l) (sym c.push_back_reserved.ensures.items);
       few = omega (
         arith,
-        ap (λ (l : List Item). length l) c.push_back_reserved-2.ensures.items,
-        length-append c.make_room.new.items.items (c.args.item ∷ []),
-        ap (λ (l : List Item). length l) c.make_room.ensures.items,
+        ap (λ (l : List Item). length l) c.push_back_reserved.ensures.items,
+        length-append c.reserve.new.self.items (c.args.item ∷ []),
+        ap (λ (l : List Item). length l) c.reserve.ensures.items,
         c.lowered-self-inside.ensures.few,
         c.self.invariant.few,
       );

@@ -16,7 +16,6 @@ invariant_of-self c =
       tied = subst (λ l. AreTied c.self.inside.ends.items l) (sym kept) c.self.invariant.tied;
       order = subst (λ l. AreInOrder c.self.inside.accepted l) (sym c.close_up.ensures.items)
           (order-needed c.self.inside.accepted c.self.inside.cut c.self.inside.items.items c.self.invariant.order);
-      peaks = c.close_up.ensures.peaks;
       filed = c.tidy.ensures.filed;
       few = omega (arith, ap (λ (l : List Item). length l) c.close_up.ensures.items, c.self.invariant.count);
     }

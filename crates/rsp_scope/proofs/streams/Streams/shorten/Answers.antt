@@ -3,29 +3,20 @@ use Rattle.rsp_scope.specs.Kept.{needed, shortened, triples_of}
 use Rattle.rsp_scope.specs.Order.{AreInOrder}
 use Rattle.rsp_scope.specs.Runs.{AreTied, from, over, triples}
 use Rattle.rsp_scope.specs.declared.item.Item.{Item}
+use Rattle.rsp_scope.specs.declared.lanes.Slot.{Slot}
 use Rattle.rsp_scope.proofs.Endings.{count-is, filter-most, needed-zero, shortened-few, shortened-triples, triples-from}
-use Rattle.rsp_scope.specs.Lanes.{places_of}
-use Rattle.rsp_scope.proofs.LaneLaws.{lane-fits, places-few, places-shortened}
-use Rattle.rsp_scope.proofs.Orders.{order-needed, order-shortened, peaks-long}
+use Rattle.rsp_scope.specs.Lanes.{slots_of}
+use Rattle.rsp_scope.proofs.LaneLaws.{lane-fits, slots-few, slots-shortened}
+use Rattle.rsp_scope.proofs.Orders.{order-needed, order-shortened}
 use Rattle.rsp_scope.proofs.streams.Streams.shorten.Goals as goal
-
-pub fill_peaks-requires : goal.fill_peaks-requires
-fill_peaks-requires c =
-    let kept = needed c.self.inside.cut c.self.inside.items.items in
-    let same = ap (λ (l : List Item). length l) (c.shorten_all.ensures ∙ ap (λ l. shortened l c.args.untils.now) c.close_up.ensures.items) in
-    let peaks = ap (λ (l : List ℕ). length l) c.self.invariant.peaks ∙ peaks-long 0 c.self.inside.items.items in
-    let room : length c.self.inside.peaks.items ≤ c.self.inside.peaks.cap = search rules in
-    let most = filter-most (λ (item : Item). nat_le c.self.inside.cut item.end) c.self.inside.items.items in
-    let few = shortened-few kept c.args.untils.now in
-    omega (arith, same, peaks, room, most, few, c.close_up.ensures.room)
 
 pub fill-requires : goal.fill-requires
 fill-requires c s =
     let kept = needed c.self.inside.cut c.self.inside.items.items in
-    let same = ap (λ (l : List Item). length (places_of s 0 l)) (c.shorten_all.ensures ∙ ap (λ l. shortened l c.args.untils.now) c.close_up.ensures.items) in
-    let few = places-shortened s kept c.args.untils.now in
-    let most = places-few s (λ (item : Item). nat_le c.self.inside.cut item.end) c.self.inside.items.items in
-    let filed = ap (λ (l : List ℕ). length l) (c.self.invariant.filed s) in
+    let same = ap (λ (l : List Item). length (slots_of s 0 0 l)) (c.shorten_all.ensures ∙ ap (λ l. shortened l c.args.untils.now) c.close_up.ensures.items) in
+    let few = slots-shortened s kept c.args.untils.now in
+    let most = slots-few s (λ (item : Item). nat_le c.self.inside.cut item.end) c.self.inside.items.items in
+    let filed = ap (λ (l : List Slot). length l) (c.self.invariant.filed s) in
     let fits = lane-fits c.self.inside.lanes.entries s in
     let room = c.close_up.ensures.lanes s in
     omega (arith, same, few, most, filed, fits, room)
@@ -67,7 +58,6 @@ invariant_of-self c =
       order = subst (λ l. AreInOrder c.self.inside.accepted l) (sym short)
           (order-shortened c.self.inside.accepted kept c.args.untils.now
           (order-needed c.self.inside.accepted c.self.inside.cut c.self.inside.items.items c.self.invariant.order));
-      peaks = c.fill_peaks.ensures.peaks;
       filed = c.fill.ensures.filed;
       few = omega (arith, c.len-self-inside.ensures, c.shorten_all.new.items.ok.0);
     }
