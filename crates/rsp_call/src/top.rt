@@ -57,7 +57,14 @@ pub fn rsp<S: Source, H: Shelf, K: Sink, L: Ledger>(
 {
     match mode_of(words) {
         Some(Mode::Events(log)) => events(alloc, log, input, out, steps),
-        Some(Mode::Run(asked)) => replay(alloc, &mut new_engine(alloc, 0), &asked, shelf, out, steps),
+        Some(Mode::Run(asked)) => replay(
+            alloc,
+            &mut new_engine(alloc, 0),
+            &asked,
+            shelf,
+            out,
+            steps,
+        ),
         Some(Mode::Check(query)) => check(alloc, query, shelf, out),
         Some(Mode::Generate(count)) => {
             generate(alloc, &mut new_engine(alloc, 0), count, out, steps)
