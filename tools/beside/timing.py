@@ -6,6 +6,7 @@ from query_model import LAST_INSTANT
 
 from .findings import Finding
 from .pages import TOOLS, page_of
+from .words import MOST_SLACK
 
 # as seconds these are the years 2001 to 2128, and as milliseconds some days of January and February 1970
 SECONDS = range(1_000_000_000, 5_000_000_000)
@@ -78,5 +79,6 @@ def late(course):
         count, whole = len(course.late), len(course.items)
         comes, is_refused = ("comes", "is refused") if count == 1 else ("come", "are refused")
         said = f"{count} of {whole} items {comes} too late, by {most} ms at most, and {is_refused}"
-        write = f"write them in the order of their times, or let ticks lag by {most} ms more"
+        slack = f", or run it under `--slack {course.slack + most}`," if course.slack + most <= MOST_SLACK else ""
+        write = f"write them in the order of their times{slack} and let ticks lag by {most} ms more"
         yield Finding(first.place, "late", said, write, page_of(TOOLS, "late"))
