@@ -37,7 +37,11 @@ pub fn value<R: ReadRow>(
 
 /// Whether the row passes the expression as a filter (SPARQL 1.1 Query, section 18.6): its boolean value exists and is
 /// true. Fails only where memory is refused.
-pub fn truth<R: ReadRow>(alloc: Global, expression: &Expression, row: &R) -> Result<bool, AllocError>
+pub fn truth<R: ReadRow>(
+    alloc: Global,
+    expression: &Expression,
+    row: &R,
+) -> Result<bool, AllocError>
     ensures { IfOk result (λ passing. passing ≡ passes (formula_of expression.now) (R.cells row.now)) }
 {
     let operand = evaluate(alloc, expression, row)?;

@@ -136,11 +136,7 @@ impl<'a, D: Domain> ReadRow for MergedRows<'a, D> {
 }
 
 // the term that the row's cell at the place shows
-fn shown_at<'a, D: Domain>(
-    row: &'a Row<D::Value>,
-    domain: &'a D,
-    place: usize,
-) -> Option<&'a Term>
+fn shown_at<'a, D: Domain>(row: &'a Row<D::Value>, domain: &'a D, place: usize) -> Option<&'a Term>
     requires { IsKnown (D.knows domain.now) row.now }
     ensures { option_copied result ≡ cell (shown_row (D.shown domain.now) row.now) place }
 {

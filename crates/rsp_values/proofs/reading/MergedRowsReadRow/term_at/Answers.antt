@@ -1,4 +1,4 @@
-use Rattle.std.proofs.Common.{ap, ◌∙◌}
+use Rattle.std.proofs.Common.{rules, ap, ◌∙◌}
 use Rattle.rsp_multiset.specs.Shown.{shown_row}
 use Rattle.rsp_multiset.specs.Variables.{cell}
 use Rattle.rsp_values.proofs.MergedCells.{bound_left, unbound_left, shown-long}
@@ -17,5 +17,5 @@ returns-in-None g c =
     let shown = g.D.Domain.shown c.self.inside.domain.now in
     let left = c.self.inside.left.now in
     let right = c.self.inside.right.now in
-    unbound_left (shown_row shown left) (shown_row shown right) c.args.place _ (shown-long shown left right c.self.invariant.0) (search rules) c.shown_at-2.ensures
+    unbound_left (shown_row shown left) (shown_row shown right) c.args.place _ (shown-long shown left right c.self.invariant.0) (search rules) c.shown_at-in-None.ensures
     ∙ ap (λ row. cell row c.args.place) c.self.view_is
