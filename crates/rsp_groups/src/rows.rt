@@ -72,8 +72,8 @@ fn aggregate_row<D: Domain, C, F>(
         → IsShownAlike (D.shown domain.old) (D.knows domain.new) (D.shown domain.new) v }
 {
     let mut row = key.share()?;
-    for (aggregate, result) in aggregates.iter().zip(results.iter()) {
-        row = extended_row(width, aggregate.variable, result, &row, domain)?;
+    for (aggregate, value) in aggregates.iter().zip(results.iter()) {
+        row = extended_row(width, aggregate.variable, value, &row, domain)?;
     }
     Ok(row)
 }

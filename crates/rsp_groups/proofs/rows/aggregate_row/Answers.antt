@@ -17,7 +17,7 @@ loop-aggregate-preserved g c =
     let shown0 = g.D.Domain.shown c.args.domain.now in
     let shown1 = g.D.Domain.shown c.loop-aggregate.domain in
     let shown2 = g.D.Domain.shown c.extended_row.new.domain in
-    let more = Zip-more _ c.next.new.self _ (c.in-Some.aggregate, c.in-Some.result) c.in-Some.is c.next.ensures.steps in
+    let more = Zip-more _ c.next.new.self _ (c.in-Some.aggregate, c.in-Some.value) c.in-Some.is c.next.ensures.steps in
     let row = shown_row shown1 c.loop-aggregate.row in (
       alike-twice knows0 knows1 knows2 shown0 shown1 shown2 c.loop-aggregate.invariant.0 c.extended_row.ensures.known,
       c.in_ok-row.ensures.row,
