@@ -13,7 +13,7 @@ use Rattle.rsp_groups.specs.Standing.{IsEntry}
 use Rattle.rsp_groups.specs.Values.{by_variable}
 use Rattle.rsp_groups.proofs.Turning.{shown_change, entries-read, known-unbound, row_by-long, rows-alike}
 use Rattle.rsp_groups.proofs.Answering.{unbound-shown}
-use Rattle.rsp_groups.proofs.Touching.{first-over, shown-option}
+use Rattle.rsp_groups.proofs.Giving.{first-over, shown-option}
 use Rattle.rsp_groups.proofs.Concluding.{items-have, net-shown, touched-may, groups-changed, rows-valued}
 use Rattle.rsp_multiset.specs.Rows.{Cells, row_eq}
 use Rattle.rsp_multiset.specs.RowSame.{row_decides}

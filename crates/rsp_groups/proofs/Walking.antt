@@ -108,6 +108,10 @@ module _ {K : Type 0} (eq : K → K → Bool) where
       → kept +ℤ times eq left q ≡ whole → kept' +ℤ times eq rest q ≡ whole
   first-more x left rest kept kept' whole q is made so_far = let step = ap (λ ys. times eq ys q) is in omega (arith, ints, step, made, so_far)
 
+  pub none-more : (left : List K) (kept whole : ℤ) (q : K) → length left ≡ 0 → kept +ℤ times eq left q ≡ whole → kept ≡ whole
+  none-more [] kept whole q none so_far = omega (arith, ints, so_far)
+  none-more (x ∷ left) kept whole q none so_far = absurd (omega (arith, none))
+
   -- one list counted, turned, and another counted
   pub differ : (none first turned last : List (K × ℤ)) (befores afters : List K) (q : K) → none ≡ [] → weight eq first q ≡ weight eq none q +ℤ times eq befores q
       → turned ≡ negation first → weight eq last q ≡ weight eq turned q +ℤ times eq afters q → weight eq last q ≡ times eq afters q +ℤ neg_ℤ (times eq befores q)

@@ -4,7 +4,7 @@ use Rattle.std.specs.Iterator.Adapters.{zip_first, zip_second}
 use Rattle.std.specs.Slice.Iter.{iter_rest}
 use Rattle.rsp_multiset.specs.Shown.{shown_row}
 use Rattle.rsp_groups.specs.Answers.{with_cells}
-use Rattle.rsp_groups.proofs.Touching.{cells-end}
+use Rattle.rsp_groups.proofs.Giving.{cells-end}
 use Rattle.rsp_groups.proofs.Walking.{alike-twice}
 use Rattle.rsp_groups.proofs.rows.aggregate_row.Goals as goal
 
@@ -20,8 +20,8 @@ loop-aggregate-preserved g c =
     let more = Zip-more _ c.next.new.self _ (c.in-Some.aggregate, c.in-Some.value) c.in-Some.is c.next.ensures.steps in
     let row = shown_row shown1 c.loop-aggregate.row in (
       alike-twice knows0 knows1 knows2 shown0 shown1 shown2 c.loop-aggregate.invariant.0 c.extended_row.ensures.known,
-      c.in_ok-row.ensures.row,
-      ap (with_cells width (map (λ a. a.variable) (iter_rest (zip_first c.next.new.self))) (iter_rest (zip_second c.next.new.self))) c.in_ok-row.ensures.shown
+      c.in_ok-row-2.ensures.row,
+      ap (with_cells width (map (λ a. a.variable) (iter_rest (zip_first c.next.new.self))) (iter_rest (zip_second c.next.new.self))) c.in_ok-row-2.ensures.shown
           ∙ sym (λ i. with_cells width (map (λ a. a.variable) (more.0 i)) (more.1 i) row) ∙ c.loop-aggregate.invariant.2,
     )
 

@@ -13,7 +13,7 @@ returns-in-Some-clause-shows g c =
     let knows = g.D.Domain.knows c.args.domain.now in
     let shown = g.D.Domain.shown c.args.domain.now in
     let cells = group_row width (map (λ a. a.variable) c.args.grouping.now.aggregates.items) arguments aggregates rows (shown_row shown c.args.key.now) in
-    subst (λ r. Shows width knows shown r cells) (sym is) (found-has (λ r. Shows width knows shown r cells) c.args.group.now.given c.in-Some.row.now c.in-Some.is kept))
+    subst (λ r. Shows width knows shown r cells) (sym is) (found-has (λ r. Shows width knows shown r cells) c.args.group.now.given c.in-Some.row c.in-Some.is kept))
     c.share.ensures
 
 pub returns-in-None-clause-shows : goal.returns-in-None-clause-shows

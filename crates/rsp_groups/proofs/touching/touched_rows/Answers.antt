@@ -1,7 +1,7 @@
 use Rattle.std.proofs.Common.{map, arith, ◌∙◌}
 use Rattle.rsp_groups.specs.Answers.{group_row}
 use Rattle.rsp_groups.specs.Carrying.{known_weaker, row_alike}
-use Rattle.rsp_groups.proofs.Touching.{touch-here, touch-weaker, row_over-alike, rows-next, rows-end}
+use Rattle.rsp_groups.proofs.Giving.{touch-here, touch-weaker, row_over-alike, rows-next, rows-end}
 use Rattle.rsp_groups.proofs.Turning.{rows-joined}
 use Rattle.rsp_groups.proofs.Walking.{alike-twice}
 use Rattle.rsp_groups.proofs.touching.touched_rows.Goals as goal
