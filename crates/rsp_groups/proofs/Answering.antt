@@ -1,5 +1,5 @@
 -- How the rows of all groups change where some groups do: by the rows of these before and after.
-use Rattle.std.proofs.Common.{◌≡◌, ℕ, zero, suc, Bool, true, false, not, cond, ◌||◌, true≢false, List, [], ◌∷◌, ℤ, pos, ◌+ℤ◌, length, map, filter, refl, sym, ap, subst, ◌∙◌, arith, Decides}
+use Rattle.std.proofs.Common.{◌≡◌, ℕ, zero, suc, Bool, true, false, not, ◌||◌, true≢false, List, [], ◌∷◌, ℤ, pos, ◌+ℤ◌, length, map, filter, refl, sym, ap, subst, ◌∙◌, arith, Decides}
 use Rattle.std.specs.Prelude.{Option, None, IsSome, nat_lt}
 use Rattle.std.specs.Bool.{then_some}
 use Rattle.std.specs.Map.{lookup}
@@ -7,17 +7,16 @@ use Rattle.std.proofs.lemmas.Bool.Decides.{nat_tests}
 use Rattle.std.specs.List.{AllByRecursion, IsDistinct, list_any}
 use Rattle.std.proofs.lemmas.Int.{ints}
 use Rattle.rsp_expr.specs.Groups.{group_keys, group_of, with_values}
-use Rattle.rsp_groups.specs.Answers.{is_group, with_cells, group_row, MayTouch}
+use Rattle.rsp_groups.specs.Answers.{is_group, with_cells, MayTouch}
 use Rattle.rsp_groups.specs.Moves.{columns, results_over}
 use Rattle.rsp_groups.specs.Standing.{GroupsStand}
 use Rattle.rsp_groups.proofs.Keyed.{none-left, some-left}
 use Rattle.rsp_multiset.specs.Rows.{Cells, row_eq}
 use Rattle.rsp_multiset.specs.RowSame.{row_decides}
-use Rattle.rsp_multiset.specs.RowLists.{each_once}
 use Rattle.rsp_multiset.specs.Shown.{shown_row, IsKnown, AreToldApart}
 use Rattle.rsp_multiset.specs.Variables.{row_by, projection, extension}
 use Rattle.rsp_multiset.specs.Weights.{sum_z, only, times, IsSameMultiset}
-use Rattle.rsp_multiset.proofs.Linear.{sum-same, turned}
+use Rattle.rsp_multiset.proofs.Linear.{sum-same}
 use Rattle.rsp_multiset.proofs.SameLists.{once-times}
 use Rattle.rsp_multiset.proofs.Shown.{tested-shown, rows-told_apart, row_by-shown}
 use Rattle.rsp_multiset.proofs.Sums.{sum_z-map, sum_z-filter, sum_z-alike, sum_z-plus}

@@ -1,6 +1,6 @@
 -- The rows of the groups that a change touches, before and after, make the change of all groups' rows.
-use Rattle.std.proofs.Common.{◌≡◌, ◌≢◌, ℕ, Bool, true, false, cond, ◌||◌, true≢false, List, [], ◌∷◌, ◌++◌, ℤ, pos, ◌+ℤ◌, ◌<ℤ◌, neg_ℤ, length, map, filter, refl, sym, ap, subst, ◌∙◌, arith, Decides}
-use Rattle.std.specs.Prelude.{Option, Some, None, nat_lt}
+use Rattle.std.proofs.Common.{◌≡◌, ◌≢◌, ℕ, Bool, true, false, ◌||◌, true≢false, List, [], ◌∷◌, ◌++◌, ℤ, pos, ◌+ℤ◌, neg_ℤ, length, map, filter, refl, sym, ap, subst, ◌∙◌, arith, Decides}
+use Rattle.std.specs.Prelude.{Option, nat_lt}
 use Rattle.std.specs.Option.{option_eq}
 use Rattle.std.specs.Cmp.{IsEquivalence, decided}
 use Rattle.std.specs.List.{AllByRecursion, IsDistinct, list_any}
@@ -8,22 +8,22 @@ use Rattle.std.specs.Map.{keys_of}
 use Rattle.std.proofs.lemmas.Int.{ints}
 use Rattle.std.proofs.lemmas.List.Elements.{recursion_from_All}
 use Rattle.std.proofs.lemmas.Map.Entries.{none_past_head}
-use Rattle.rsp_expr.specs.Groups.{group_keys, group_of, with_values, grouped_by}
+use Rattle.rsp_expr.specs.Groups.{group_keys, group_of, with_values}
 use Rattle.rsp_groups.specs.Answers.{is_group, group_row, rows_over, with_cells, MayTouch}
 use Rattle.rsp_groups.specs.Carrying.{known_weaker, row_alike, row_known}
-use Rattle.rsp_groups.proofs.Answering.{IsOnce, rows-changed, groups-once, group-of_keyed, some-rows, distinct-once, distinct-shown, valued, results-valued, cells-valued, values-alike}
+use Rattle.rsp_groups.proofs.Answering.{IsOnce, rows-changed, groups-once, group-of_keyed, some-rows, distinct-once, distinct-shown, results-valued, cells-valued, values-alike}
 use Rattle.rsp_groups.proofs.Turning.{known-projection, row_by-long}
 use Rattle.rsp_multiset.specs.Rows.{Cells, row_eq}
 use Rattle.rsp_multiset.specs.RowSame.{row_decides}
 use Rattle.rsp_multiset.specs.Shown.{shown_row, IsKnown, AreToldApart, weight_shown}
-use Rattle.rsp_multiset.specs.Variables.{row_by, projection}
-use Rattle.rsp_multiset.specs.Weights.{only, sum_z, weight, total, times, negation, AreChanges, IsSameMultiset}
+use Rattle.rsp_multiset.specs.Variables.{projection}
+use Rattle.rsp_multiset.specs.Weights.{only, sum_z, weight, times, negation, AreChanges, IsSameMultiset}
 use Rattle.rsp_multiset.proofs.Changing.{times-present}
 use Rattle.rsp_multiset.proofs.Held.{weight-append, weight-negated, weight-none}
 use Rattle.rsp_multiset.proofs.Linear.{entries_of, weight-entries_of, total-append, total-entries_of, length-same}
 use Rattle.rsp_multiset.proofs.SameLists.{same-map}
 use Rattle.rsp_multiset.proofs.Shown.{times-only, projection-shown, weight_shown-same, weight_shown-negated}
-use Rattle.rsp_multiset.proofs.Sums.{sum_z-map, sum_z-filter, sum_z-alike}
+use Rattle.rsp_multiset.proofs.Sums.{sum_z-map, sum_z-filter}
 use Rattle.rsp_terms.specs.declared.term.Term.{Term}
 use Rattle.rsp_terms.specs.Same.{term_eq, term_same}
 use Rattle.rsp_operators.specs.Laws.{Leads, IsShownAlike}

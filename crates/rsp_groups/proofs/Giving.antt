@@ -16,8 +16,7 @@ use Rattle.rsp_groups.proofs.Keyed.{found-has}
 use Rattle.rsp_groups.proofs.Turning.{rows-alike}
 use Rattle.rsp_groups.proofs.Written.{Written, stand-written}
 use Rattle.rsp_multiset.specs.Rows.{Cells, row_eq}
-use Rattle.rsp_multiset.specs.Shown.{shown_row, IsKnown, AreToldApart}
-use Rattle.rsp_multiset.specs.Variables.{extension}
+use Rattle.rsp_multiset.specs.Shown.{shown_row, AreToldApart}
 use Rattle.rsp_terms.specs.declared.term.Term.{Term}
 use Rattle.rsp_operators.specs.Laws.{IsShownAlike}
 
@@ -107,7 +106,6 @@ module _ {V : Type 0} (shown : V → Term) (width : ℕ) (keys : List ℕ) (row_
           (cond b (shown_row shown q ∷ filter (is_group width keys rows) (map (shown_row shown) qs)) (filter (is_group width keys rows) (map (shown_row shown) qs)))
       by true = refl
       by false = refl
-
 
   -- the rows so far, and those of the keys that are left
   pub rows-next : (knows1 knows2 : V → Type 0) (shown1 shown2 : V → Term) → ((v : V) → knows1 v → IsShownAlike shown1 knows2 shown2 v)

@@ -1,4 +1,4 @@
-use Rattle.std.proofs.Common.{[], true, true≢false, length, map, sym, ap, subst, cond, Some, ◌≡◌, ◌∙◌}
+use Rattle.std.proofs.Common.{[], true≢false, length, map, sym, ap, subst, cond, Some, ◌≡◌, ◌∙◌}
 use Rattle.std.specs.Map.{lookup}
 use Rattle.rsp_multiset.specs.Rows.{row_eq}
 use Rattle.rsp_groups.specs.Answers.{is_empty_key}

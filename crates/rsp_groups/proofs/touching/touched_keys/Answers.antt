@@ -1,4 +1,3 @@
-use Rattle.std.proofs.Common.{ap, ◌∙◌}
 use Rattle.rsp_multiset.specs.Rows.{row_eq}
 use Rattle.rsp_groups.proofs.Walking.{item-here, key-next, key-end}
 use Rattle.rsp_groups.proofs.touching.touched_keys.Goals as goal
