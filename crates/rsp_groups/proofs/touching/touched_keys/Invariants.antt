@@ -2,7 +2,7 @@ use Rattle.std.proofs.Common.{◌≡◌, ◌+ℤ◌, List, map, drop}
 use Rattle.std.specs.Prelude.{Option}
 use Rattle.rsp_multiset.specs.Rows.{row_eq}
 use Rattle.rsp_multiset.specs.Weights.{weight, times}
-use Rattle.rsp_groups.proofs.answers.touched_keys.Given as goal
+use Rattle.rsp_groups.proofs.touching.touched_keys.Given as goal
 
 abbrev pub invariant-loop-entry : goal.invariant-loop-entry
 invariant-loop-entry g l =

@@ -1,7 +1,6 @@
-use Rattle.std.proofs.Common.{ap, ◌∙◌}
 use Rattle.rsp_multiset.specs.Rows.{row_eq}
 use Rattle.rsp_groups.proofs.Walking.{item-here, key-next, key-end}
-use Rattle.rsp_groups.proofs.answers.touched_keys.Goals as goal
+use Rattle.rsp_groups.proofs.touching.touched_keys.Goals as goal
 
 pub loop-entry-preserved : goal.loop-entry-preserved
 loop-entry-preserved g c = λ q.
