@@ -55,11 +55,7 @@ impl Condition<Same> for Equals {
     }
 
     fn holds(&self, row: &Row<Term>, domain: &Same) -> Result<bool, AllocError> {
-        Ok(is_at(
-            &ShownRow::new(row, domain),
-            self.variable,
-            &self.term,
-        ))
+        Ok(is_at(&ShownRow::new(row, domain), self.variable, &self.term))
     }
 
     fn holds_on_merge(
