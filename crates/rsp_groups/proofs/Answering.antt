@@ -1,26 +1,22 @@
 -- How the rows of all groups change where some groups do: by the rows of these before and after.
-use Rattle.std.proofs.Common.{◌≡◌, ℕ, zero, suc, Bool, true, false, not, cond, ◌||◌, true≢false, List, [], ◌∷◌, ◌++◌, ℤ, pos, ◌+ℤ◌, neg_ℤ, length, ◌≤◌, drop, map, filter, refl, sym, ap, subst, ◌∙◌, arith, append_assoc, Decides}
-use Rattle.std.specs.Prelude.{Option, Some, None, is_some, unwrap_or, IsSome, IfSome, nat_lt}
+use Rattle.std.proofs.Common.{◌≡◌, ℕ, zero, suc, Bool, true, false, not, ◌||◌, true≢false, List, [], ◌∷◌, ℤ, pos, ◌+ℤ◌, length, map, filter, refl, sym, ap, subst, ◌∙◌, arith, Decides}
+use Rattle.std.specs.Prelude.{Option, None, IsSome, nat_lt}
 use Rattle.std.specs.Bool.{then_some}
-use Rattle.std.specs.Option.{option_map, option_to_list}
 use Rattle.std.specs.Map.{lookup}
 use Rattle.std.proofs.lemmas.Bool.Decides.{nat_tests}
-use Rattle.std.specs.List.{AllByRecursion, IsDistinct, list_any, filter_map, cons_option, fold}
-use Rattle.std.specs.Map.{keys_of}
+use Rattle.std.specs.List.{AllByRecursion, IsDistinct, list_any}
 use Rattle.std.proofs.lemmas.Int.{ints}
-use Rattle.std.proofs.lemmas.List.{append-nil, drop_all}
-use Rattle.rsp_expr.specs.Groups.{group_keys, group_of, with_values, grouped_by}
-use Rattle.rsp_groups.specs.Answers.{is_group, is_empty_key, with_cells, answer_over, answers_over, paired, MayTouch}
+use Rattle.rsp_expr.specs.Groups.{group_keys, group_of, with_values}
+use Rattle.rsp_groups.specs.Answers.{is_group, with_cells, MayTouch}
 use Rattle.rsp_groups.specs.Moves.{columns, results_over}
-use Rattle.rsp_groups.specs.Standing.{GroupStands, GroupsStand}
+use Rattle.rsp_groups.specs.Standing.{GroupsStand}
 use Rattle.rsp_groups.proofs.Keyed.{none-left, some-left}
 use Rattle.rsp_multiset.specs.Rows.{Cells, row_eq}
 use Rattle.rsp_multiset.specs.RowSame.{row_decides}
-use Rattle.rsp_multiset.specs.RowLists.{each_once}
 use Rattle.rsp_multiset.specs.Shown.{shown_row, IsKnown, AreToldApart}
 use Rattle.rsp_multiset.specs.Variables.{row_by, projection, extension}
 use Rattle.rsp_multiset.specs.Weights.{sum_z, only, times, IsSameMultiset}
-use Rattle.rsp_multiset.proofs.Linear.{sum-same, turned}
+use Rattle.rsp_multiset.proofs.Linear.{sum-same}
 use Rattle.rsp_multiset.proofs.SameLists.{once-times}
 use Rattle.rsp_multiset.proofs.Shown.{tested-shown, rows-told_apart, row_by-shown}
 use Rattle.rsp_multiset.proofs.Sums.{sum_z-map, sum_z-filter, sum_z-alike, sum_z-plus}
@@ -234,71 +230,24 @@ module _ (width : ℕ) (keys : List ℕ) (rows : List (Cells Term)) where
           positive (suc n) some = let more : nat_lt 0 (suc n) ≡ true = grind (arith, nat_tests) in more
       by false is = sym (ap (λ xs. nat_lt 0 (length xs)) (none-left (λ row. same_row key (projection width keys row)) rows is))
 
-pub group-there : {V : Type 0} (knows : V → Type 0) (shown : V → Term) (width : ℕ) (keys : List ℕ) (rows : List (Cells Term)) (key : Cells V)
-    → (shown_row shown (row_by width (λ _. None)) ≡ row_by width (λ _. None)) → MayTouch knows width keys key
-    → is_group width keys rows (shown_row shown key) ≡ (is_empty_key keys || nat_lt 0 (length (group_of width keys rows (shown_row shown key))))
-group-there knows shown width [] rows key unbound touch =
-    (decides (shown_row shown key) (row_by width (λ _. None))).1 (ap (shown_row shown) (touch.keyless refl) ∙ unbound)
-group-there knows shown width (v ∷ vs) rows key unbound touch =
-    group-of_keyed width v vs rows (shown_row shown key) ∙ some-rows width (v ∷ vs) rows (shown_row shown key)
-
 pub unbound-shown : {V : Type 0} (shown : V → Term) (width : ℕ) → shown_row shown (row_by width (λ _. None)) ≡ row_by width (λ _. None)
 unbound-shown shown width = sym (row_by-shown shown width (λ _. None) (λ _. None) (λ _. refl))
 
 -- a key whose group isn't kept has none
-pub nothing-at : {V G : Type 0} {test : V → V → Bool} (same : (x y : V) → Decides (test x y) (x ≡ y)) (knows : V → Type 0) (shown : V → Term)
-    → AreToldApart knows shown → (width : ℕ) (keys : List ℕ) (Holds : G → List (Cells Term) → Type 0) (groups : List (Cells V × G)) (rows : List (Cells Term))
-    (key : Cells V) (results : List (Option Term)) → MayTouch knows width keys key → GroupsStand test knows shown width keys Holds groups rows
-    → lookup (row_eq test key) groups ≡ None → None ≡ then_some (is_group width keys rows (shown_row shown key)) results
-nothing-at {V} {G} {test} same knows shown apart width [] Holds groups rows key results touch stands none =
+pub nothing-at : {V G R : Type 0} {test : V → V → Bool} (same : (x y : V) → Decides (test x y) (x ≡ y)) (knows : V → Type 0) (shown : V → Term)
+    → AreToldApart knows shown → (width : ℕ) (keys : List ℕ) (Holds : G → List (Cells Term) → Type 0) (given : G → Option (Cells V))
+    (row_of : List (Cells Term) → Cells Term → Cells Term) (groups : List (Cells V × G)) (rows : List (Cells Term)) (key : Cells V) (row : R)
+    → MayTouch knows width keys key → GroupsStand test knows shown width keys Holds given row_of groups rows → lookup (row_eq test key) groups ≡ None
+    → None ≡ then_some (is_group width keys rows (shown_row shown key)) row
+nothing-at {V} {G} {R} {test} same knows shown apart width [] Holds given row_of groups rows key row touch stands none =
     let there = subst (λ q. IsSome (lookup (row_eq test q) groups)) (sym (touch.keyless refl)) (stands.keyless refl) in
     absurd (true≢false (sym (subst IsSome none there)))
-nothing-at {V} {G} {test} same knows shown apart width (v ∷ vs) Holds groups rows key results touch stands none =
+nothing-at {V} {G} {R} {test} same knows shown apart width (v ∷ vs) Holds given row_of groups rows key row touch stands none =
     by (is_group width (v ∷ vs) rows (shown_row shown key)) refl
   where
-    by : (b : Bool) → is_group width (v ∷ vs) rows (shown_row shown key) ≡ b → None ≡ then_some b results
+    by : (b : Bool) → is_group width (v ∷ vs) rows (shown_row shown key) ≡ b → None ≡ then_some b row
     by false is = refl
     by true is =
         let found = stands.whole (shown_row shown key) (sym (group-of_keyed width v vs rows (shown_row shown key)) ∙ is) in
         let here : found.0 ≡ key = rows-told_apart {knows = knows} apart found.0 key (stands.known found.0 found.1.0) touch.known found.1.1 in
         absurd (true≢false (sym (subst IsSome (ap (λ q. lookup (row_eq test q) groups) here ∙ none) found.1.0)))
-
--- ---- the aggregates of one key after the other
-
-pub touch-here : {V : Type 0} (P : Cells V → Type 0) (here : List (Cells V × ℤ)) (key : Cells V) (n : ℤ) (rest : List (Cells V × ℤ)) → here ≡ (key, n) ∷ rest
-    → AllByRecursion P (keys_of here) → P key × AllByRecursion P (keys_of rest)
-touch-here P here key n rest split touch = subst (λ es. AllByRecursion P (keys_of es)) split touch
-
-pair-found : {V R : Type 0} (items : R → List (Option Term)) (key : Cells V) (found : Option R) (b : Bool) (results : List (Option Term))
-    → option_map items found ≡ then_some b results → option_map (λ r. paired key (items r)) found ≡ then_some b (paired key results)
-pair-found items key None true results is = absurd (true≢false (sym (ap is_some is)))
-pair-found items key None false results is = refl
-pair-found items key (Some r) true results is = ap (λ rs. Some (paired key rs)) (ap (λ o. unwrap_or o results) is)
-pair-found items key (Some r) false results is = absurd (true≢false (ap is_some is))
-
-one-more : {Y K : Type 0} (f : K → Option Y) (key : K) (rest : List K) (out : List Y) → (found : Option Y) → found ≡ f key
-    → (out ++ option_to_list found) ++ filter_map f rest ≡ out ++ filter_map f (key ∷ rest)
-one-more {Y} {K} f key rest out found is = ap (λ o. (out ++ option_to_list o) ++ filter_map f rest) is ∙ by (f key)
-  where
-    by : (o : Option Y) → (out ++ option_to_list o) ++ filter_map f rest ≡ out ++ cons_option o (filter_map f rest)
-    by None = append_assoc out [] (filter_map f rest)
-    by (Some y) = append_assoc out (y ∷ []) (filter_map f rest)
-
-pub answer-next : {V R : Type 0} (shown : V → Term) (width : ℕ) (keys : List ℕ) (arguments : List (Cells Term → Option Term)) (aggregates : List (List (Option Term) → Option Term))
-    (rows : List (Cells Term)) (here rest : List (Cells V × ℤ)) (key : Cells V) (n : ℤ) → here ≡ (key, n) ∷ rest → (items : R → List (Option Term)) (found : Option R)
-    (out out' : List (Cells V × List (Option Term))) {whole : List (Cells V × List (Option Term))} → out' ≡ out ++ option_to_list (option_map (λ r. paired key (items r)) found)
-    → option_map items found ≡ then_some (is_group width keys rows (shown_row shown key)) (results_over aggregates (columns arguments (group_of width keys rows (shown_row shown key))))
-    → out ++ answers_over shown width keys arguments aggregates rows (keys_of here) ≡ whole
-    → out' ++ answers_over shown width keys arguments aggregates rows (keys_of rest) ≡ whole
-answer-next shown width keys arguments aggregates rows here rest key n split items found out out' pushed is so_far =
-    ap (λ o. o ++ answers_over shown width keys arguments aggregates rows (keys_of rest)) pushed
-    ∙ one-more (answer_over shown width keys arguments aggregates rows) key (keys_of rest) out (option_map (λ r. paired key (items r)) found)
-    (pair-found items key found (is_group width keys rows (shown_row shown key)) _ is)
-    ∙ ap (λ es. out ++ answers_over shown width keys arguments aggregates rows (keys_of es)) (sym split) ∙ so_far
-
-pub answers-end : {V : Type 0} (shown : V → Term) (width : ℕ) (keys : List ℕ) (arguments : List (Cells Term → Option Term)) (aggregates : List (List (Option Term) → Option Term))
-    (rows : List (Cells Term)) (touched : List (Cells V × ℤ)) (i : ℕ) (out whole : List (Cells V × List (Option Term))) → length touched ≤ i
-    → out ++ answers_over shown width keys arguments aggregates rows (keys_of (drop i touched)) ≡ whole → out ≡ whole
-answers-end shown width keys arguments aggregates rows touched i out whole past so_far =
-    sym (append-nil out)
-    ∙ ap (λ es. out ++ answers_over shown width keys arguments aggregates rows (keys_of es)) (sym (drop_all i touched past)) ∙ so_far

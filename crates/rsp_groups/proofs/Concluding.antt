@@ -1,32 +1,29 @@
 -- The rows of the groups that a change touches, before and after, make the change of all groups' rows.
-use Rattle.std.proofs.Common.{◌≡◌, ◌≢◌, ℕ, Bool, true, false, cond, ◌||◌, true≢false, List, [], ◌∷◌, ◌++◌, ℤ, pos, ◌+ℤ◌, ◌<ℤ◌, neg_ℤ, length, map, filter, refl, sym, ap, subst, ◌∙◌, arith, Decides}
-use Rattle.std.specs.Prelude.{Option, Some, None, nat_lt}
-use Rattle.std.specs.Bool.{then_some}
+use Rattle.std.proofs.Common.{◌≡◌, ◌≢◌, ℕ, Bool, true, false, ◌||◌, true≢false, List, [], ◌∷◌, ◌++◌, ℤ, pos, ◌+ℤ◌, neg_ℤ, length, map, filter, refl, sym, ap, subst, ◌∙◌, arith, Decides}
+use Rattle.std.specs.Prelude.{Option, nat_lt}
 use Rattle.std.specs.Option.{option_eq}
 use Rattle.std.specs.Cmp.{IsEquivalence, decided}
-use Rattle.std.specs.List.{AllByRecursion, IsDistinct, list_any, cons_option}
+use Rattle.std.specs.List.{AllByRecursion, IsDistinct, list_any}
 use Rattle.std.specs.Map.{keys_of}
 use Rattle.std.proofs.lemmas.Int.{ints}
 use Rattle.std.proofs.lemmas.List.Elements.{recursion_from_All}
 use Rattle.std.proofs.lemmas.Map.Entries.{none_past_head}
-use Rattle.rsp_expr.specs.Groups.{group_keys, group_of, with_values, grouped_by}
-use Rattle.rsp_groups.specs.Answers.{is_group, answer_over, answers_over, with_cells, paired, MayTouch}
-use Rattle.rsp_groups.specs.Carrying.{row_alike, row_known}
-use Rattle.rsp_groups.specs.Moves.{columns, results_over}
-use Rattle.rsp_groups.proofs.Answering.{IsOnce, rows-changed, groups-once, group-of_keyed, some-rows, distinct-once, distinct-shown, valued, results-valued, cells-valued, values-alike}
+use Rattle.rsp_expr.specs.Groups.{group_keys, group_of, with_values}
+use Rattle.rsp_groups.specs.Answers.{is_group, group_row, rows_over, with_cells, MayTouch}
+use Rattle.rsp_groups.specs.Carrying.{known_weaker, row_alike, row_known}
+use Rattle.rsp_groups.proofs.Answering.{IsOnce, rows-changed, groups-once, group-of_keyed, some-rows, distinct-once, distinct-shown, results-valued, cells-valued, values-alike}
 use Rattle.rsp_groups.proofs.Turning.{known-projection, row_by-long}
-use Rattle.rsp_groups.proofs.Walking.{known-weaker}
 use Rattle.rsp_multiset.specs.Rows.{Cells, row_eq}
 use Rattle.rsp_multiset.specs.RowSame.{row_decides}
 use Rattle.rsp_multiset.specs.Shown.{shown_row, IsKnown, AreToldApart, weight_shown}
-use Rattle.rsp_multiset.specs.Variables.{row_by, projection}
-use Rattle.rsp_multiset.specs.Weights.{only, sum_z, weight, total, times, negation, AreChanges, IsSameMultiset}
+use Rattle.rsp_multiset.specs.Variables.{projection}
+use Rattle.rsp_multiset.specs.Weights.{only, sum_z, weight, times, negation, AreChanges, IsSameMultiset}
 use Rattle.rsp_multiset.proofs.Changing.{times-present}
 use Rattle.rsp_multiset.proofs.Held.{weight-append, weight-negated, weight-none}
 use Rattle.rsp_multiset.proofs.Linear.{entries_of, weight-entries_of, total-append, total-entries_of, length-same}
 use Rattle.rsp_multiset.proofs.SameLists.{same-map}
 use Rattle.rsp_multiset.proofs.Shown.{times-only, projection-shown, weight_shown-same, weight_shown-negated}
-use Rattle.rsp_multiset.proofs.Sums.{sum_z-map, sum_z-filter, sum_z-alike}
+use Rattle.rsp_multiset.proofs.Sums.{sum_z-map, sum_z-filter}
 use Rattle.rsp_terms.specs.declared.term.Term.{Term}
 use Rattle.rsp_terms.specs.Same.{term_eq, term_same}
 use Rattle.rsp_operators.specs.Laws.{Leads, IsShownAlike}
@@ -111,7 +108,7 @@ module _ {V : Type 0} {test : V → V → Bool} (same : (x y : V) → Decides (t
   touch-each [] known = tt
   touch-each (e ∷ es) known = (
     record {
-      known = row_known shown0 knows1 shown1 (projection width keys e.0) (known-weaker alike (projection width keys e.0) (known-projection knows0 width keys e.0 known.0));
+      known = row_known shown0 knows1 shown1 (projection width keys e.0) (known_weaker alike (projection width keys e.0) (known-projection knows0 width keys e.0 known.0));
       long = row_by-long width _;
       keyless = λ none. ap (λ ks. projection width ks e.0) none;
     },
@@ -164,7 +161,7 @@ module _ {V : Type 0} {test : V → V → Bool} (same : (x y : V) → Decides (t
       projected : projection width keys (shown_row shown0 e.0) ≡ shown_row shown1 (projection width keys e.0)
       projected =
           projection-shown shown0 width keys e.0
-          ∙ sym (row_alike shown0 knows1 shown1 (projection width keys e.0) (known-weaker alike (projection width keys e.0) (known-projection knows0 width keys e.0 known.0)))
+          ∙ sym (row_alike shown0 knows1 shown1 (projection width keys e.0) (known_weaker alike (projection width keys e.0) (known-projection knows0 width keys e.0 known.0)))
 
       by : (b : Bool) → same_row key (projection width keys (shown_row shown0 e.0)) ≡ b → b ≡ false
       by false is = refl
@@ -249,35 +246,22 @@ module _ {V : Type 0} {test : V → V → Bool} (same : (x y : V) → Decides (t
           (row_of before) (row_of after) (groups-once width keys before) (groups-once width keys after) touched-once
           (λ key none. (there-stays keys refl key none, row-stays key none))
 
--- ---- the rows that are answered
+-- ---- the rows of groups, as the algebra has them
 
 module _ {V A : Type 0} (shown : V → Term) (width : ℕ) (keys : List ℕ) (variable : A → ℕ) (argument : A → Cells Term → Option Term) (aggregate : A → List (Option Term) → Option Term)
     (aggregates : List A) (rows : List (Cells Term)) where
-  abbrev made_of : Cells V × List (Option Term) → Cells Term
-  made_of p = with_cells width (map variable aggregates) p.1 (shown_row shown p.0)
+  abbrev the_row : List (Cells Term) → Cells Term → Cells Term
+  the_row group key = with_values (λ a group. aggregate a (map (argument a) group)) width (map {B = ℕ × A} (λ a. (variable a, a)) aggregates) group key
 
-  abbrev the_row : Cells Term → Cells Term
-  the_row key =
-      with_values (λ a group. aggregate a (map (argument a) group)) width (map {B = ℕ × A} (λ a. (variable a, a)) aggregates) (group_of width keys rows key) key
+  row-valued : (group : List (Cells Term)) (key : Cells Term)
+      → group_row width (map variable aggregates) (map argument aggregates) (map aggregate aggregates) group key ≡ the_row group key
+  row-valued group key =
+      ap (λ rs. with_cells width (map variable aggregates) rs key) (results-valued variable argument aggregate aggregates group)
+      ∙ cells-valued variable argument aggregate width aggregates group key
 
-  pub rows-answered : (qs : List (Cells V)) → map made_of (answers_over shown width keys (map argument aggregates) (map aggregate aggregates) rows qs)
-      ≡ map the_row (filter (is_group width keys rows) (map (shown_row shown) qs))
-  rows-answered [] = refl
-  rows-answered (q ∷ qs) = by (is_group width keys rows (shown_row shown q)) (rows-answered qs)
-    where
-      results : List (Option Term)
-      results = results_over (map aggregate aggregates) (columns (map argument aggregates) (group_of width keys rows (shown_row shown q)))
-
-      the : made_of (paired q results) ≡ the_row (shown_row shown q)
-      the =
-          ap (λ rs. with_cells width (map variable aggregates) rs (shown_row shown q)) (results-valued variable argument aggregate aggregates (group_of width keys rows (shown_row shown q)))
-          ∙ cells-valued variable argument aggregate width aggregates (group_of width keys rows (shown_row shown q)) (shown_row shown q)
-
-      by : (b : Bool) → map made_of (answers_over shown width keys (map argument aggregates) (map aggregate aggregates) rows qs) ≡ map the_row (filter (is_group width keys rows) (map (shown_row shown) qs))
-          → map made_of (cons_option (then_some b (paired q results)) (answers_over shown width keys (map argument aggregates) (map aggregate aggregates) rows qs))
-          ≡ map the_row (cond b (shown_row shown q ∷ filter (is_group width keys rows) (map (shown_row shown) qs)) (filter (is_group width keys rows) (map (shown_row shown) qs)))
-      by true rest = λ i. the i ∷ rest i
-      by false rest = rest
+  pub rows-valued : (qs : List (Cells V)) → rows_over shown width keys (group_row width (map variable aggregates) (map argument aggregates) (map aggregate aggregates)) rows qs
+      ≡ map (λ key. the_row (group_of width keys rows key) key) (filter (is_group width keys rows) (map (shown_row shown) qs))
+  rows-valued qs = λ i. map (λ key. row-valued (group_of width keys rows key) key i) (filter (is_group width keys rows) (map (shown_row shown) qs))
 
 -- ---- the change that is answered
 

@@ -5,5 +5,6 @@ pub mod Answering
 pub mod Written
 pub mod Walking
 pub mod Turning
+pub mod Giving
 pub mod Concluding
 pub mod Applying

@@ -1,11 +1,11 @@
 -- Copies that come into lists, or go out of them, one list after the other.
 use Rattle.std.proofs.Common.{◌≡◌, ℕ, zero, suc, ◌+◌, ◌≤◌, ◌<◌, Bool, true, false, List, [], ◌∷◌, ◌++◌, length, map, get_or, refl, sym, ap, subst, ◌∙◌, arith, length-append}
-use Rattle.std.specs.Prelude.{⊤, Option}
-use Rattle.std.specs.List.{AllZip, AllByRecursion}
+use Rattle.std.specs.Prelude.{Option}
+use Rattle.std.specs.List.{AllZip}
 use Rattle.std.proofs.Math.ListN.{set}
 use Rattle.std.proofs.lemmas.List.{map-append}
 use Rattle.rsp_folds.specs.Copies.{copies}
-use Rattle.rsp_groups.specs.Moves.{Moved, AllMoved, MovedCount, IsShort, AreShort, columns, values_in, results_over}
+use Rattle.rsp_groups.specs.Moves.{Moved, AllMoved, MovedCount, IsShort, AreShort, columns, values_in}
 use Rattle.rsp_multiset.specs.Rows.{Cells}
 use Rattle.rsp_terms.specs.declared.term.Term.{Term}
 

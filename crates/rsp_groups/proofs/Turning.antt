@@ -1,20 +1,19 @@
 -- A change of rows as rows that come and then rows that go, and groups under lists that are one multiset.
-use Rattle.std.proofs.Common.{◌≡◌, ℕ, zero, suc, ◌+◌, nat_eq, drop, Bool, true, false, List, [], ◌∷◌, ◌++◌, ℤ, pos, negsuc, ◌+ℤ◌, length, map, filter, refl, sym, ap, subst, ◌∙◌, arith, Decides}
+use Rattle.std.proofs.Common.{◌≡◌, ℕ, zero, suc, nat_eq, Bool, true, false, List, [], ◌∷◌, ◌++◌, ℤ, pos, negsuc, ◌+ℤ◌, length, map, refl, sym, ap, subst, ◌∙◌, arith, Decides}
 use Rattle.std.specs.Prelude.{Option, Some, None, IfSome, if◌then◌else◌}
-use Rattle.std.specs.Option.{option_eq, option_map}
+use Rattle.std.specs.Option.{option_eq, option_map, option_to_list}
 use Rattle.std.specs.List.{AllByRecursion, AllZip, range_with_len}
 use Rattle.std.specs.Map.{lookup}
 use Rattle.std.proofs.lemmas.Int.{ints}
 use Rattle.rsp_folds.specs.Copies.{copies}
 use Rattle.rsp_expr.specs.Groups.{group_of}
-use Rattle.rsp_groups.specs.Moves.{part, columns, values_in}
+use Rattle.rsp_groups.specs.Moves.{part, columns, values_in, results_over}
 use Rattle.rsp_groups.specs.Standing.{GroupStands, GroupsStand, Steps, IsEntry}
 use Rattle.rsp_groups.specs.Turns.{Turn}
-use Rattle.rsp_groups.specs.Answers.{IsRow, is_group}
+use Rattle.rsp_groups.specs.Answers.{IsRow, Shows, is_group, with_cells, group_row}
 use Rattle.rsp_groups.proofs.Answering.{group-of_keyed}
-use Rattle.rsp_groups.proofs.Walking.{known-weaker, mapped-next}
 use Rattle.std.proofs.lemmas.List.FromFn.{length-map-range_with_len}
-use Rattle.rsp_groups.specs.Carrying.{row_alike, row_known}
+use Rattle.rsp_groups.specs.Carrying.{known_weaker, row_alike, row_known}
 use Rattle.rsp_multiset.specs.Rows.{Cells, row_eq}
 use Rattle.rsp_multiset.specs.RowSame.{row_decides}
 use Rattle.rsp_multiset.specs.Shown.{shown_row, IsKnown, weight_shown}
@@ -63,24 +62,51 @@ group-of_alike width (v ∷ vs) rows others key same =
     group-of_keyed width v vs others key
     ∙ (sym (same-any decides (λ row. same_row key (projection width (v ∷ vs) row)) rows others same) ∙ sym (group-of_keyed width v vs rows key))
 
+-- a group's row hangs on its rows as a multiset alone
+module _ {A : Type 0} (aggregate : A → List (Option Term) → Option Term)
+    (alike : (a : A) (values others : List (Option Term)) → IsSameMultiset (option_eq term_eq) values others → aggregate a values ≡ aggregate a others) where
+  results-same : (list : List A) (arguments : List (Cells Term → Option Term)) (rows others : List (Cells Term)) → IsSameMultiset same_row rows others
+      → results_over (map aggregate list) (columns arguments rows) ≡ results_over (map aggregate list) (columns arguments others)
+  results-same [] [] rows others same = refl
+  results-same [] (of ∷ arguments) rows others same = refl
+  results-same (a ∷ list) [] rows others same = refl
+  results-same (a ∷ list) (of ∷ arguments) rows others same =
+      λ i. alike a (map of rows) (map of others) (same-map decides (option_eq term_eq) of rows others same) i ∷ results-same list arguments rows others same i
+
+  pub group_row-same : (width : ℕ) (variables : List ℕ) (list : List A) (arguments : List (Cells Term → Option Term)) (rows others : List (Cells Term)) (key : Cells Term)
+      → IsSameMultiset same_row rows others → group_row width variables arguments (map aggregate list) rows key ≡ group_row width variables arguments (map aggregate list) others key
+  group_row-same width variables list arguments rows others key same = ap (λ rs. with_cells width variables rs key) (results-same list arguments rows others same)
+
 pub groups-alike : {V G : Type 0} {test : V → V → Bool} (knows : V → Type 0) (shown : V → Term) (width : ℕ) (keys : List ℕ) (Holds : G → List (Cells Term) → Type 0)
+    (given : G → Option (Cells V)) (row_of : List (Cells Term) → Cells Term → Cells Term)
     → ((h : G) (rows others : List (Cells Term)) → IsSameMultiset same_row rows others → Holds h rows → Holds h others)
+    → ((rows others : List (Cells Term)) (key : Cells Term) → IsSameMultiset same_row rows others → row_of rows key ≡ row_of others key)
     → (groups : List (Cells V × G)) (rows others : List (Cells Term)) → IsSameMultiset same_row rows others
-    → GroupsStand test knows shown width keys Holds groups rows → GroupsStand test knows shown width keys Holds groups others
-groups-alike {V} {G} {test} knows shown width keys Holds alike groups rows others same stands = record {
+    → GroupsStand test knows shown width keys Holds given row_of groups rows → GroupsStand test knows shown width keys Holds given row_of groups others
+groups-alike {V} {G} {test} knows shown width keys Holds given row_of alike alike_row groups rows others same stands = record {
   known = stands.known;
   held = λ q. by q (lookup (row_eq test q) groups) (stands.held q);
+  gave = λ q. by_given q (lookup (row_eq test q) groups) (stands.gave q);
   whole = λ key there. stands.whole key (same-any decides (λ row. same_row key (projection width keys row)) rows others same ∙ there);
   keyless = stands.keyless;
   are = λ q some. group-of_alike width keys rows others (shown_row shown q) same ∙ stands.are q some;
 }
   where
+    same_group : (q : Cells V) → IsSameMultiset same_row (group_of width keys rows (shown_row shown q)) (group_of width keys others (shown_row shown q))
+    same_group q = same-filter decides (λ row. same_row (shown_row shown q) (projection width keys row)) rows others same
+
     by : (q : Cells V) (found : Option G) → IfSome found (λ h. Holds h (group_of width keys rows (shown_row shown q)))
         → IfSome found (λ h. Holds h (group_of width keys others (shown_row shown q)))
     by q None held = tt
-    by q (Some h) held =
-        alike h (group_of width keys rows (shown_row shown q)) (group_of width keys others (shown_row shown q))
-        (same-filter decides (λ row. same_row (shown_row shown q) (projection width keys row)) rows others same) held
+    by q (Some h) held = alike h (group_of width keys rows (shown_row shown q)) (group_of width keys others (shown_row shown q)) (same_group q) held
+
+    by_given : (q : Cells V) (found : Option G)
+        → IfSome found (λ h. IfSome (given h) (λ row. Shows width knows shown row (row_of (group_of width keys rows (shown_row shown q)) (shown_row shown q))))
+        → IfSome found (λ h. IfSome (given h) (λ row. Shows width knows shown row (row_of (group_of width keys others (shown_row shown q)) (shown_row shown q))))
+    by_given q None gave = tt
+    by_given q (Some h) gave =
+        subst (λ cells. IfSome (given h) (λ row. Shows width knows shown row cells))
+        (alike_row (group_of width keys rows (shown_row shown q)) (group_of width keys others (shown_row shown q)) (shown_row shown q) (same_group q)) gave
 
 -- ---- rows that come, and rows that go
 
@@ -215,7 +241,7 @@ module _ {V X : Type 0} (knows0 knows1 : V → Type 0) (shown0 shown1 : V → Te
   entries-read (x ∷ entries) (e ∷ change) k v b known =
       let key_is = heads (key x) (projection width keys e.0) (map key entries) (map (λ e. projection width keys e.0) change) k in
       let projected = known-projection knows0 width keys e.0 known.0 in
-      let learnt = known-weaker alike (projection width keys e.0) projected in (
+      let learnt = known_weaker alike (projection width keys e.0) projected in (
         record {
           known = subst (IsKnown knows1) (sym key_is) (row_known shown0 knows1 shown1 (projection width keys e.0) learnt);
           key = projection-shown shown0 width keys e.0 ∙ sym (row_alike shown0 knows1 shown1 (projection width keys e.0) learnt) ∙ ap (shown_row shown1) (sym key_is);
@@ -238,13 +264,13 @@ module _ {V : Type 0} (knows0 knows2 : V → Type 0) (shown0 shown2 : V → Term
   pub extended-shown : (term : Option Term) (row made : Cells V) → IsKnown knows0 row → made ≡ extension width variable value row → option_map shown2 value ≡ term
       → shown_row shown2 made ≡ extension width variable term (shown_row shown0 row)
   extended-shown term row made known is value_is =
-      let rows = row_alike shown0 knows2 shown2 row (known-weaker alike row known) in
+      let rows = row_alike shown0 knows2 shown2 row (known_weaker alike row known) in
       ap (shown_row shown2) is ∙ (sym (extension-shown shown2 width variable value row) ∙ (λ i. extension width variable (value_is i) (rows i)))
 
   pub extended-is_row : (row made : Cells V) → IsKnown knows0 row → made ≡ extension width variable value row → IfSome value knows2 → IsRow width knows2 made
   extended-is_row row made known is value_known = record {
     long = ap length is ∙ row_by-long width _;
-    known = subst (IsKnown knows2) (sym is) (known-row_by knows2 width _ (λ v. either (nat_eq v variable) (cell row v) (known-cell knows2 row v (known-weaker (λ w k. (alike w k).0) row known))));
+    known = subst (IsKnown knows2) (sym is) (known-row_by knows2 width _ (λ v. either (nat_eq v variable) (cell row v) (known-cell knows2 row v (known_weaker (λ w k. (alike w k).0) row known))));
   }
     where
       either : (here : Bool) (other : Option V) → IfSome other knows2 → IfSome (if here then value else other) knows2
@@ -256,29 +282,20 @@ module _ {V : Type 0} (width : ℕ) (knows1 knows2 : V → Type 0) (shown1 shown
   pub rows-weaker : (rows : List (Cells V)) → AllByRecursion (IsRow width knows1) rows → AllByRecursion (IsRow width knows2) rows
   rows-weaker [] all = tt
   rows-weaker (row ∷ rows) all =
-      (record { long = all.0.long; known = known-weaker (λ w k. (next w k).0) row all.0.known }, rows-weaker rows all.1)
+      (record { long = all.0.long; known = known_weaker (λ w k. (next w k).0) row all.0.known }, rows-weaker rows all.1)
 
   pub rows-alike : (rows : List (Cells V)) → AllByRecursion (IsRow width knows1) rows → map (shown_row shown2) rows ≡ map (shown_row shown1) rows
   rows-alike [] all = refl
-  rows-alike (row ∷ rows) all = λ i. row_alike shown1 knows2 shown2 row (known-weaker next row all.0.known) i ∷ rows-alike rows all.1 i
+  rows-alike (row ∷ rows) all = λ i. row_alike shown1 knows2 shown2 row (known_weaker next row all.0.known) i ∷ rows-alike rows all.1 i
 
-  pub rows-pushed : (out out' : List (Cells V)) (made : Cells V) → out' ≡ out ++ made ∷ [] → AllByRecursion (IsRow width knows1) out → IsRow width knows2 made
-      → AllByRecursion (IsRow width knows2) out'
-  rows-pushed out out' made pushed all one = subst (AllByRecursion (IsRow width knows2)) (sym pushed) (join out (rows-weaker out all))
+  pub rows-joined : (out out' : List (Cells V)) (found : Option (Cells V)) → out' ≡ out ++ option_to_list found → AllByRecursion (IsRow width knows1) out
+      → IfSome found (IsRow width knows2) → AllByRecursion (IsRow width knows2) out'
+  rows-joined out out' found pushed all one = subst (AllByRecursion (IsRow width knows2)) (sym pushed) (join out (rows-weaker out all))
     where
-      join : (xs : List (Cells V)) → AllByRecursion (IsRow width knows2) xs → AllByRecursion (IsRow width knows2) (xs ++ made ∷ [])
-      join [] h = (one, tt)
+      last : (o : Option (Cells V)) → IfSome o (IsRow width knows2) → AllByRecursion (IsRow width knows2) (option_to_list o)
+      last None h = tt
+      last (Some row) h = (h, tt)
+
+      join : (xs : List (Cells V)) → AllByRecursion (IsRow width knows2) xs → AllByRecursion (IsRow width knows2) (xs ++ option_to_list found)
+      join [] h = last found one
       join (x ∷ xs) h = (h.0, join xs h.1)
-
-  pub shown-pushed : {X : Type 0} (f : X → Cells Term) (xs : List X) (i : ℕ) (x : X) (out out' : List (Cells V)) (made : Cells V) {whole : List (Cells Term)}
-      → drop i xs ≡ x ∷ drop (i + 1) xs → out' ≡ out ++ made ∷ [] → AllByRecursion (IsRow width knows1) out → shown_row shown2 made ≡ f x
-      → map (shown_row shown1) out ++ map f (drop i xs) ≡ whole → map (shown_row shown2) out' ++ map f (drop (i + 1) xs) ≡ whole
-  shown-pushed f xs i x out out' made split pushed all is so_far =
-      mapped-next (shown_row shown2) f (drop i xs) (drop (i + 1) xs) x made out out' split pushed is (ap (λ rs. rs ++ map f (drop i xs)) (rows-alike out all) ∙ so_far)
-
-pub rest-here : {X : Type 0} (P : X → Type 0) (here : List X) (x : X) (rest : List X) → here ≡ x ∷ rest → AllByRecursion P here → P x × AllByRecursion P rest
-rest-here P here x rest split all = subst (AllByRecursion P) split all
-
-pub answer-row : {V : Type 0} (width : ℕ) (knows0 knows1 : V → Type 0) (shown0 shown1 : V → Term) → ((v : V) → knows0 v → IsShownAlike shown0 knows1 shown1 v)
-    → (key : Cells V) → IsRow width knows0 key → IsRow width knows1 key
-answer-row width knows0 knows1 shown0 shown1 alike key row = record { long = row.long; known = known-weaker (λ v known. (alike v known).0) key row.known }

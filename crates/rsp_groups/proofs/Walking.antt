@@ -1,6 +1,5 @@
 -- Entries one after the other, and what a domain learns on the way.
 use Rattle.std.proofs.Common.{◌≡◌, ℕ, ◌+◌, ◌<◌, ◌≤◌, Bool, true, false, List, [], ◌∷◌, ◌++◌, ℤ, pos, ◌+ℤ◌, neg_ℤ, length, map, get_or, drop, drop-cons, add-one, sym, ap, subst, ◌∙◌, arith, append_assoc}
-use Rattle.std.specs.Prelude.{Some, None}
 use Rattle.std.specs.List.{AllZip, AllByRecursion}
 use Rattle.std.proofs.lemmas.List.{drop_all, map-append}
 use Rattle.rsp_folds.specs.Copies.{copies}
@@ -64,11 +63,6 @@ module _ {V : Type 0} (knows0 knows1 knows2 : V → Type 0) (shown0 shown1 shown
   pub alike-twice : (v : V) → knows0 v → IsShownAlike shown0 knows2 shown2 v
   alike-twice v known = ((next v (first v known).0).0, (next v (first v known).0).1 ∙ (first v known).1)
 
-pub known-weaker : {V : Type 0} {P Q : V → Type 0} → ((v : V) → P v → Q v) → (row : Cells V) → IsKnown P row → IsKnown Q row
-known-weaker f [] known = tt
-known-weaker f (None ∷ row) known = (tt, known-weaker f row known.1)
-known-weaker f (Some v ∷ row) known = (f v known.0, known-weaker f row known.1)
-
 -- ---- lists that are built item by item
 
 pub item-here : {X : Type 0} (xs : List X) (i : ℕ) (x : X) → i < length xs → x ≡ get_or xs i x → drop i xs ≡ x ∷ drop (i + 1) xs
@@ -109,16 +103,14 @@ module _ {X K : Type 0} (eq : K → K → Bool) (key : X → K) where
       let none = ap (λ ys. times eq (map key ys) q) (drop_all i xs past) in omega (arith, ints, none, so_far)
 
 module _ {K : Type 0} (eq : K → K → Bool) where
-  pub row-next : (xs : List K) (i : ℕ) (x shared : K) (kept kept' whole : ℤ) (q : K) → drop i xs ≡ x ∷ drop (i + 1) xs → shared ≡ x
-      → kept' ≡ kept +ℤ only (eq q shared) (pos 1) → kept +ℤ times eq (drop i xs) q ≡ whole → kept' +ℤ times eq (drop (i + 1) xs) q ≡ whole
-  row-next xs i x shared kept kept' whole q split is made so_far =
-      let step = ap (λ ys. times eq ys q) split in
-      let one = ap (λ k. only (eq q k) (pos 1)) is in
-      omega (arith, ints, step, one, made, so_far)
+  -- the first of those that are left comes in
+  pub first-more : (x : K) (left rest : List K) (kept kept' whole : ℤ) (q : K) → left ≡ x ∷ rest → kept' ≡ kept +ℤ only (eq q x) (pos 1)
+      → kept +ℤ times eq left q ≡ whole → kept' +ℤ times eq rest q ≡ whole
+  first-more x left rest kept kept' whole q is made so_far = let step = ap (λ ys. times eq ys q) is in omega (arith, ints, step, made, so_far)
 
-  pub row-end : (xs : List K) (i : ℕ) (kept whole : ℤ) (q : K) → length xs ≤ i → kept +ℤ times eq (drop i xs) q ≡ whole → kept ≡ whole
-  row-end xs i kept whole q past so_far =
-      let none = ap (λ ys. times eq ys q) (drop_all i xs past) in omega (arith, ints, none, so_far)
+  pub none-more : (left : List K) (kept whole : ℤ) (q : K) → length left ≡ 0 → kept +ℤ times eq left q ≡ whole → kept ≡ whole
+  none-more [] kept whole q none so_far = omega (arith, ints, so_far)
+  none-more (x ∷ left) kept whole q none so_far = absurd (omega (arith, none))
 
   -- one list counted, turned, and another counted
   pub differ : (none first turned last : List (K × ℤ)) (befores afters : List K) (q : K) → none ≡ [] → weight eq first q ≡ weight eq none q +ℤ times eq befores q

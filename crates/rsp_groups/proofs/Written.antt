@@ -5,7 +5,7 @@ use Rattle.std.specs.Bool.{then_some}
 use Rattle.std.specs.List.{list_any}
 use Rattle.std.specs.Map.{lookup}
 use Rattle.rsp_expr.specs.Groups.{group_of}
-use Rattle.rsp_groups.specs.Answers.{is_group, is_empty_key}
+use Rattle.rsp_groups.specs.Answers.{is_group, is_empty_key, Shows}
 use Rattle.rsp_groups.specs.Moves.{Moved}
 use Rattle.rsp_groups.specs.Standing.{GroupsStand}
 use Rattle.rsp_groups.proofs.Answering.{group-of_keyed, some-rows, unbound-shown}
@@ -76,13 +76,17 @@ then-some true g = refl
 then-some false g = refl
 
 module _ {V G : Type 0} {test : V → V → Bool} (same : (x y : V) → Decides (test x y) (x ≡ y)) (knows : V → Type 0) (shown : V → Term)
-    (width : ℕ) (keys : List ℕ) (Holds : G → List (Cells Term) → Type 0) where
+    (width : ℕ) (keys : List ℕ) (Holds : G → List (Cells Term) → Type 0) (given : G → Option (Cells V)) (row_of : List (Cells Term) → Cells Term → Cells Term) where
   abbrev Stand : List (Cells V × G) → List (Cells Term) → Type 0
-  Stand groups rows = GroupsStand test knows shown width keys Holds groups rows
+  Stand groups rows = GroupsStand test knows shown width keys Holds given row_of groups rows
 
   -- the rows of what a key shows
   abbrev of_shown : List (Cells Term) → Cells V → List (Cells Term)
   of_shown rows q = group_of width keys rows (shown_row shown q)
+
+  -- the row that the group keeps is that of the key's rows
+  abbrev Gives : List (Cells Term) → Cells V → G → Type 0
+  Gives rows q g = IfSome (given g) (λ row. Shows width knows shown row (row_of (of_shown rows q) (shown_row shown q)))
 
   abbrev unbound : Cells V
   unbound = row_by width (λ _. None)
@@ -100,15 +104,16 @@ module _ {V G : Type 0} {test : V → V → Bool} (same : (x y : V) → Decides 
           absurd (true≢false (sym (subst IsSome (ap (λ q. lookup (row_eq test q) groups) here ∙ none) found.1.0)))
 
   -- a group takes another's place, comes or goes, as its key has rows; other keys' rows stay
-  stand-written : AreToldApart knows shown → (key : Cells V) (w : Option G) (groups groups' : List (Cells V × G)) (rows rows' : List (Cells Term))
-      → Written test key w groups groups' → IsKnown knows key → IfSome w (λ g. Holds g (of_shown rows' key))
+  pub stand-written : AreToldApart knows shown → (key : Cells V) (w : Option G) (groups groups' : List (Cells V × G)) (rows rows' : List (Cells Term))
+      → Written test key w groups groups' → IsKnown knows key → IfSome w (λ g. Holds g (of_shown rows' key)) → IfSome w (Gives rows' key)
       → is_some w ≡ is_group width keys rows' (shown_row shown key) → (keys ≡ [] → shown_row shown key ≡ row_by width (λ _. None))
       → ((other : Cells Term) → same_row other (shown_row shown key) ≡ false
       → (group_of width keys rows other ≡ group_of width keys rows' other) × (has_rows width keys rows' other ≡ has_rows width keys rows other))
       → Stand groups rows → Stand groups' rows'
-  stand-written apart key w groups groups' rows rows' written known here there one elsewhere stands = record {
+  stand-written apart key w groups groups' rows rows' written known here gives there one elsewhere stands = record {
     known = λ q some. known_at q (row_eq test key q) refl (subst IsSome (written q) some);
     held = λ q. subst (λ o. IfSome o (λ h. Holds h (of_shown rows' q))) (sym (written q)) (held_at q (row_eq test key q) refl (known_if q) (stands.held q));
+    gave = λ q. subst (λ o. IfSome o (Gives rows' q)) (sym (written q)) (gave_at q (row_eq test key q) refl (known_if q) (stands.gave q));
     whole = λ other some. by other (same_row other (shown_row shown key)) refl some;
     keyless = λ none. subst IsSome (sym (written unbound)) (one_at none (row_eq test key unbound) (stands.keyless none));
     are = λ q some. is_at q (row_eq test key q) refl (subst IsSome (written q) some);
@@ -139,6 +144,17 @@ module _ {V G : Type 0} {test : V → V → Bool} (same : (x y : V) → Decides 
               → IfSome found (λ h. Holds h (of_shown rows' q))
           stays None of_q held = tt
           stays (Some h) of_q held = subst (Holds h) (elsewhere (shown_row shown q) (apart_from q is (of_q refl))).0 held
+
+      gave_at : (q : Cells V) (b : Bool) → row_eq test key q ≡ b → (IsSome (lookup (row_eq test q) groups) → IsKnown knows q)
+          → IfSome (lookup (row_eq test q) groups) (Gives rows q) → IfSome (cond b w (lookup (row_eq test q) groups)) (Gives rows' q)
+      gave_at q true is of_q gave = subst (λ k. IfSome w (Gives rows' k)) ((row_decides same key q).0 is) gives
+      gave_at q false is of_q gave = stays (lookup (row_eq test q) groups) of_q gave
+        where
+          stays : (found : Option G) → (IsSome found → IsKnown knows q) → IfSome found (Gives rows q) → IfSome found (Gives rows' q)
+          stays None of_q gave = tt
+          stays (Some h) of_q gave =
+              subst (λ xs. IfSome (given h) (λ row. Shows width knows shown row (row_of xs (shown_row shown q))))
+              (elsewhere (shown_row shown q) (apart_from q is (of_q refl))).0 gave
 
       one_at : keys ≡ [] → (b : Bool) → IsSome (lookup (row_eq test unbound) groups) → IsSome (cond b w (lookup (row_eq test unbound) groups))
       one_at none true some =
@@ -174,14 +190,20 @@ module _ {V G : Type 0} {test : V → V → Bool} (same : (x y : V) → Decides 
               (row_decides term_same (shown_row shown q) (shown_row shown key)).1 (ap (shown_row shown) (sym ((row_decides same key q).0 is))) in
               absurd (true≢false (sym alike ∙ unlike))
 
+  -- a group that keeps no row keeps none that isn't its row
+  none-gives : (rows : List (Cells Term)) (q : Cells V) (w : Option G) → IfSome w (λ g. given g ≡ None) → IfSome w (Gives rows q)
+  none-gives rows q None none = tt
+  none-gives rows q (Some g) none =
+      subst (λ o. IfSome o (λ row. Shows width knows shown row (row_of (of_shown rows q) (shown_row shown q)))) (sym none) tt
+
   -- copies of a row with the key come into its group, or go
   pub stand-moved : AreToldApart knows shown → (key : Cells V) (w : Option G) (groups groups' : List (Cells V × G)) (out : Bool) (n : ℕ)
       (row : Cells Term) (before after : List (Cells Term)) → projection width keys row ≡ shown_row shown key → Moved out n row before after
-      → Written test key w groups groups' → IsKnown knows key → IfSome w (λ g. Holds g (of_shown after key))
+      → Written test key w groups groups' → IsKnown knows key → IfSome w (λ g. Holds g (of_shown after key)) → IfSome w (λ g. given g ≡ None)
       → is_some w ≡ (is_empty_key keys || nat_lt 0 (length (of_shown after key)))
       → Stand groups before → Stand groups' after
-  stand-moved apart key w groups groups' out n row before after is moved written known here there stands =
-      stand-written apart key w groups groups' before after written known here
+  stand-moved apart key w groups groups' out n row before after is moved written known here none_given there stands =
+      stand-written apart key w groups groups' before after written known here (none-gives after key w none_given)
       (there ∙ sym (group-counted width keys after row (shown_row shown key) is))
       (λ none. sym is ∙ ap (λ ks. projection width ks row) none)
       (λ other unlike.
@@ -195,16 +217,18 @@ module _ {V G : Type 0} {test : V → V → Bool} (same : (x y : V) → Decides 
   stand-first keyed groups none = subst (λ gs. Stand gs []) (sym none) (record {
     known = λ q some. absurd (true≢false (sym some));
     held = λ q. tt;
+    gave = λ q. tt;
     whole = λ other there. absurd (true≢false (sym there));
     keyless = λ empty. absurd (keyed empty);
     are = λ q some. absurd (true≢false (sym some));
   })
 
   pub stand-keyless : is_empty_key keys ≡ true → IsKnown knows unbound → (g : G) (groups groups' : List (Cells V × G)) → groups ≡ []
-      → Written test unbound (Some g) groups groups' → Holds g [] → Stand groups' []
-  stand-keyless no_keys known_there g groups groups' none written fresh = record {
+      → Written test unbound (Some g) groups groups' → Holds g [] → given g ≡ None → Stand groups' []
+  stand-keyless no_keys known_there g groups groups' none written fresh none_given = record {
     known = λ q some. known_at q (row_eq test unbound q) refl (subst IsSome (found q) some);
     held = λ q. subst (λ w. IfSome w (λ h. Holds h [])) (sym (found q)) (held_at (row_eq test unbound q));
+    gave = λ q. subst (λ w. IfSome w (Gives [] q)) (sym (found q)) (gave_at q (row_eq test unbound q));
     whole = λ other there. absurd (true≢false (sym there));
     keyless = λ empty. subst IsSome (sym (found unbound)) (there_at (row_eq test unbound unbound) ((row_decides same unbound unbound).1 refl));
     are = λ q some. is_at q (row_eq test unbound q) refl (subst IsSome (found q) some);
@@ -220,6 +244,10 @@ module _ {V G : Type 0} {test : V → V → Bool} (same : (x y : V) → Decides 
       held_at : (b : Bool) → IfSome (cond b (Some g) None) (λ h. Holds h [])
       held_at true = fresh
       held_at false = tt
+
+      gave_at : (q : Cells V) (b : Bool) → IfSome (cond b (Some g) None) (Gives [] q)
+      gave_at q true = none-gives [] q (Some g) none_given
+      gave_at q false = tt
 
       there_at : (b : Bool) → b ≡ true → IsSome (cond b (Some g) None)
       there_at true is = refl

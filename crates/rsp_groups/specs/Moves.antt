@@ -1,5 +1,5 @@
 -- Words of the way: copies of values that come into lists, or go out of them.
-use Rattle.std.specs.Prelude.{◌≡◌, ℕ, zero, suc, ◌+◌, ◌≤◌, ◌^◌, Bool, true, false, List, [], ◌∷◌, ◌++◌, length}
+use Rattle.std.specs.Prelude.{◌≡◌, ℕ, suc, ◌+◌, ◌≤◌, ◌^◌, Bool, true, false, List, [], ◌∷◌, ◌++◌, length}
 use Rattle.std.specs.Prelude.{map, ⊤, ℤ, pos, negsuc, Option}
 use Rattle.std.specs.List.{AllByRecursion}
 use Rattle.rsp_folds.specs.Copies.{copies}

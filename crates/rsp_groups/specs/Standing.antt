@@ -3,7 +3,7 @@ use Rattle.std.specs.Prelude.{◌≡◌, ℕ, Bool, List, [], ◌∷◌, map, le
 use Rattle.std.specs.List.{AllZip, list_any}
 use Rattle.std.specs.Map.{lookup}
 use Rattle.rsp_expr.specs.Groups.{group_of}
-use Rattle.rsp_groups.specs.Answers.{is_group}
+use Rattle.rsp_groups.specs.Answers.{is_group, Shows}
 use Rattle.rsp_groups.specs.Moves.{Moved, columns, values_in, part}
 use Rattle.rsp_multiset.specs.Rows.{Cells, row_eq}
 use Rattle.rsp_multiset.specs.Shown.{shown_row, IsKnown}
@@ -20,11 +20,14 @@ pub record GroupStands {F : Type 0} (stands : F → List (Option Term) → Type 
   pub aggregates : map aggregate kept ≡ kinds
 
 -- each group that is kept stands for the rows of its key and is a group of the rows: with keys it has a row, without it is the
--- one; each row has its group, and without keys the one is there
+-- one; the row that it keeps, if it keeps one, is its row; each row has its group, and without keys the one is there
 pub record GroupsStand {V G : Type 0} (test : V → V → Bool) (knows : V → Type 0) (shown : V → Term) (width : ℕ) (keys : List ℕ)
-    (Holds : G → List (Cells Term) → Type 0) (groups : List (Cells V × G)) (rows : List (Cells Term)) : Type 0 where
+    (Holds : G → List (Cells Term) → Type 0) (given : G → Option (Cells V)) (row_of : List (Cells Term) → Cells Term → Cells Term)
+    (groups : List (Cells V × G)) (rows : List (Cells Term)) : Type 0 where
   pub known : (q : Cells V) → IsSome (lookup (row_eq test q) groups) → IsKnown knows q
   pub held : (q : Cells V) → IfSome (lookup (row_eq test q) groups) (λ g. Holds g (group_of width keys rows (shown_row shown q)))
+  pub gave : (q : Cells V) → IfSome (lookup (row_eq test q) groups) (λ g. IfSome (given g) (λ row.
+      Shows width knows shown row (row_of (group_of width keys rows (shown_row shown q)) (shown_row shown q))))
   pub whole : (key : Cells Term) → list_any (λ row. row_eq term_eq key (projection width keys row)) rows ≡ true
       → (q : Cells V) × (IsSome (lookup (row_eq test q) groups) × (shown_row shown q ≡ key))
   pub keyless : keys ≡ [] → IsSome (lookup (row_eq test (row_by width (λ _. None))) groups)

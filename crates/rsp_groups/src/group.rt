@@ -1,5 +1,5 @@
 // A group of rows.
-ghost use Rattle.std.specs.Prelude.{◌≡◌, ◌≤◌, ◌^◌, ◌||◌, nat_lt, [], List, Option, length, map, IfOk, OnOk};
+ghost use Rattle.std.specs.Prelude.{◌≡◌, ◌≤◌, ◌^◌, ◌||◌, nat_lt, [], List, Option, None, length, map, IfOk, OnOk};
 ghost use Rattle.rsp_multiset.specs.Rows.{Cells};
 ghost use Rattle.rsp_terms.specs.declared.term.Term.{Term};
 ghost use Rattle.rsp_groups.specs.Moves.{Moved, MovedCount, values_in};
@@ -7,14 +7,16 @@ ghost use Rattle.rsp_groups.specs.Standing.{GroupStands};
 
 use crate::folds::move_values;
 use rsp_folds::Fold;
+use rsp_multiset::{Cell, Row};
 use rsp_terms::Term;
 use std::alloc::{AllocError, Global};
 
-/// How many rows a group has, and what its aggregates hold of them.
+/// How many rows a group has, what its aggregates hold of them, and the row that it gave last, until its rows change.
 #[derive(Drop)]
-pub struct Group<F: Drop> {
+pub struct Group<V: Cell, F: Drop> {
     pub(crate) rows: u64,
     pub(crate) folds: Vec<F>,
+    pub(crate) given: Option<Row<V>>,
 }
 
 // so many rows a group can have
@@ -42,11 +44,11 @@ fn moved_count(rows: u64, times: u64, out: bool) -> Result<u64, AllocError>
     }
 }
 
-/// Takes copies of a row with these values of the arguments into the group, or gives them back. Fails where memory is
-/// refused, and past 2^32 rows.
-pub(crate) fn move_row<F: Fold>(
+/// Takes copies of a row with these values of the arguments into the group, or gives them back. What the group gave is then no
+/// longer its row. Fails where memory is refused, and past 2^32 rows.
+pub(crate) fn move_row<V: Cell, F: Fold>(
     alloc: Global,
-    group: &mut Group<F>,
+    group: &mut Group<V, F>,
     values: &[Option<Term>],
     times: u64,
     out: bool,
@@ -55,12 +57,15 @@ pub(crate) fn move_row<F: Fold>(
         × ((row : Cells Term) × ((before : List (Cells Term)) × ((after : List (Cells Term))
         × ((values.now ≡ values_in arguments row) × (Moved out times row before after
         × GroupStands F.stands F.aggregate arguments aggregates group.old.rows group.old.folds.items before)))))) }
-    ensures { OnOk result ((arguments : List (Cells Term → Option Term)) (aggregates : List (List (Option Term) → Option Term))
-        (row : Cells Term) (before after : List (Cells Term)) → values.now ≡ values_in arguments row
+    ensures given { group.new.given ≡ None }
+    ensures law { OnOk result ((arguments : List (Cells Term → Option Term))
+        (aggregates : List (List (Option Term) → Option Term)) (row : Cells Term) (before after : List (Cells Term))
+        → values.now ≡ values_in arguments row
         → Moved out times row before after
         → GroupStands F.stands F.aggregate arguments aggregates group.old.rows group.old.folds.items before
         → GroupStands F.stands F.aggregate arguments aggregates group.new.rows group.new.folds.items after) }
 {
+    group.given = None;
     group.rows = moved_count(group.rows, times, out)?;
     move_values(alloc, &mut group.folds, values, times, out)
 }

@@ -6,7 +6,7 @@ ghost use Rattle.rsp_expr.specs.Groups.{group_of};
 ghost use Rattle.rsp_multiset.specs.Rows.{Cells, row_eq};
 ghost use Rattle.rsp_multiset.specs.Shown.{shown_row, IsKnown};
 ghost use Rattle.rsp_terms.specs.declared.term.Term.{Term};
-ghost use Rattle.rsp_groups.specs.Answers.{is_empty_key};
+ghost use Rattle.rsp_groups.specs.Answers.{is_empty_key, group_row};
 ghost use Rattle.rsp_groups.specs.Standing.{GroupStands, GroupsStand};
 
 use crate::aggregated::{Aggregated, Grouping, is_keyless};
@@ -18,7 +18,7 @@ use rsp_terms::{Domain, Term};
 use std::alloc::{AllocError, Global};
 
 /// The groups by their keys' cells.
-pub(crate) type Groups<V, F> = IndexMap<Row<V>, Group<F>>;
+pub(crate) type Groups<V, F> = IndexMap<Row<V>, Group<V, F>>;
 
 // folds of these kinds with nothing in them
 fn fresh_folds<C, F: Fold>(
@@ -35,17 +35,23 @@ fn fresh_folds<C, F: Fold>(
     Ok(folds)
 }
 
-/// A group of no rows.
-pub(crate) fn fresh_group<C, F: Fold>(
+/// A group of no rows, which has given none.
+pub(crate) fn fresh_group<V: Cell, C, F: Fold>(
     alloc: Global,
     aggregates: &[Aggregated<C, F>],
-) -> Result<Group<F>, AllocError>
-    ensures { IfOk result (λ group. (arguments : List (Cells Term → Option Term)) → length arguments ≡ length aggregates.now
+) -> Result<Group<V, F>, AllocError>
+    ensures stands { IfOk result (λ group. (arguments : List (Cells Term → Option Term))
+        → length arguments ≡ length aggregates.now
         → GroupStands F.stands F.aggregate arguments (map (λ a. F.aggregate a.fold) aggregates.now) group.rows
         group.folds.items []) }
+    ensures given { IfOk result (λ group. group.given ≡ None) }
 {
     let folds = fresh_folds(alloc, aggregates)?;
-    Ok(Group { rows: 0, folds })
+    Ok(Group {
+        rows: 0,
+        folds,
+        given: None,
+    })
 }
 
 /// Takes the key's group out of the others, or makes one of no rows where the key has none.
@@ -54,14 +60,16 @@ pub(crate) fn take_group<D: Domain, C, F: Fold>(
     grouping: &Grouping<C, F>,
     groups: &mut Groups<D::Value, F>,
     key: &Row<D::Value>,
-) -> Result<Group<F>, AllocError>
+) -> Result<Group<D::Value, F>, AllocError>
     ensures others { (q : Cells D.Value) → lookup (row_eq D.Value.eq q) groups.new.entries
         ≡ cond (row_eq D.Value.eq key.now q) None (lookup (row_eq D.Value.eq q) groups.old.entries) }
-    ensures group { IfOk result (λ group. (domain : D) (width : ℕ) (keys : List ℕ)
+    ensures group { IfOk result (λ group. (domain : D) (width : ℕ) (keys variables : List ℕ)
         (arguments : List (Cells Term → Option Term)) (rows : List (Cells Term))
         → IsKnown (D.knows domain) key.now → length arguments ≡ length grouping.now.aggregates.items
         → GroupsStand D.Value.eq (D.knows domain) (D.shown domain) width keys (λ g. GroupStands F.stands F.aggregate arguments
-        (map (λ a. F.aggregate a.fold) grouping.now.aggregates.items) g.rows g.folds.items) groups.old.entries rows
+        (map (λ a. F.aggregate a.fold) grouping.now.aggregates.items) g.rows g.folds.items) (λ g. g.given)
+        (group_row width variables arguments (map (λ a. F.aggregate a.fold) grouping.now.aggregates.items))
+        groups.old.entries rows
         → GroupStands F.stands F.aggregate arguments (map (λ a. F.aggregate a.fold) grouping.now.aggregates.items) group.rows
         group.folds.items (group_of width keys rows (shown_row (D.shown domain) key.now))) }
 {
@@ -76,7 +84,7 @@ pub(crate) fn put_group<V: Cell, C, F: Fold>(
     grouping: &Grouping<C, F>,
     groups: &mut Groups<V, F>,
     key: &Row<V>,
-    group: Group<F>,
+    group: Group<V, F>,
 ) -> Result<(), AllocError>
     ensures { OnOk result ((q : Cells V) → lookup (row_eq V.eq q) groups.new.entries
         ≡ cond ((is_empty_key grouping.now.keys.items || nat_lt 0 group.rows) && row_eq V.eq key.now q) (Some group)

@@ -4,15 +4,16 @@ ghost use Rattle.rsp_expr.specs.Groups.{grouped_by};
 ghost use Rattle.rsp_multiset.specs.Rows.{Cells};
 ghost use Rattle.rsp_terms.specs.declared.term.Term.{Term};
 ghost use Rattle.rsp_operators.specs.Laws.{Leads, MayBeGiven, AnswersFit, IsShownAlike};
+ghost use Rattle.rsp_groups.specs.Answers.{group_row};
 ghost use Rattle.rsp_groups.specs.Standing.{GroupStands, GroupsStand};
 ghost use Rattle.rsp_groups.specs.Values.{by_variable};
 
 use crate::aggregated::{Grouping, is_keyless};
-use crate::answers::{push_answer, results_at, touched_keys};
 use crate::entries::read_entries;
 use crate::groups::{Groups, fresh_group};
-use crate::rows::{difference, rows_of_answers};
-use crate::touching::turn_groups;
+use crate::rows::difference;
+use crate::touching::{push_row, row_at, touched_keys, touched_rows};
+use crate::walk::move_all;
 use indexmap::IndexMap;
 use rsp_folds::Fold;
 use rsp_multiset::{Changes, Row};
@@ -22,7 +23,8 @@ use std::alloc::{AllocError, Global};
 
 /// Groups of rows with their aggregates (SPARQL 1.1 Query, section 18.5, Group and AggregateJoin): a row for each group, its
 /// cells for the keys, and each aggregate's value for its variable; an error leaves that unbound. Without keys all rows are
-/// one group, also where there are none. It keeps how many rows a group has and a fold for each of its aggregates.
+/// one group, also where there are none. It keeps how many rows a group has, a fold for each of its aggregates, and the row
+/// that it gave last: so a change works out once the row of each group that it touches.
 #[derive(Drop)]
 pub struct GroupOp<D: Domain, C, F: Fold> {
     grouping: Grouping<C, F>,
@@ -33,6 +35,7 @@ impl<D: Domain, C: Computed<D> + Drop, F: Fold> GroupOp<D, C, F> {
     ghost use Rattle.std.specs.Prelude.{◌≡◌, [], map, IfOk};
     ghost use Rattle.rsp_expr.specs.Groups.{grouped_by};
     ghost use Rattle.rsp_operators.specs.Laws.{Leads, AnswersFit, IsShownAlike};
+    ghost use Rattle.rsp_groups.specs.Answers.{group_row};
     ghost use Rattle.rsp_groups.specs.Standing.{GroupStands, GroupsStand};
     ghost use Rattle.rsp_groups.specs.Values.{by_variable};
 
@@ -42,7 +45,10 @@ impl<D: Domain, C: Computed<D> + Drop, F: Fold> GroupOp<D, C, F> {
         ensures stands { IfOk result (λ made. (domain : D)
             → GroupsStand D.Value.eq (D.knows domain) (D.shown domain) made.grouping.width made.grouping.keys.items
             (λ g. GroupStands F.stands F.aggregate (map (λ a. C.of a.argument) made.grouping.aggregates.items)
-            (map (λ a. F.aggregate a.fold) made.grouping.aggregates.items) g.rows g.folds.items) made.groups.entries []) }
+            (map (λ a. F.aggregate a.fold) made.grouping.aggregates.items) g.rows g.folds.items) (λ g. g.given)
+            (group_row made.grouping.width (map (λ a. a.variable) made.grouping.aggregates.items)
+            (map (λ a. C.of a.argument) made.grouping.aggregates.items)
+            (map (λ a. F.aggregate a.fold) made.grouping.aggregates.items)) made.groups.entries []) }
     {
         let groups = first_groups::<D, C, F>(alloc, &grouping)?;
         Ok(GroupOp { grouping, groups })
@@ -67,9 +73,9 @@ impl<D: Domain, C: Computed<D> + Drop, F: Fold> GroupOp<D, C, F> {
 
 impl<D: Domain, C: Computed<D>, F: Fold> Unary<D> for GroupOp<D, C, F> {
     ghost use Rattle.std.specs.Prelude.{[], map};
-    ghost use Rattle.std.specs.Map.{keys_of};
     ghost use Rattle.rsp_expr.specs.Groups.{grouped_by};
-    ghost use Rattle.rsp_groups.specs.Carrying.{carried_groups};
+    ghost use Rattle.rsp_groups.specs.Answers.{group_row};
+    ghost use Rattle.rsp_groups.specs.Carrying.{rows_kept, carried_groups};
     ghost use Rattle.rsp_groups.specs.Standing.{GroupStands, GroupsStand};
     ghost use Rattle.rsp_groups.specs.Values.{by_variable};
 
@@ -84,16 +90,20 @@ impl<D: Domain, C: Computed<D>, F: Fold> Unary<D> for GroupOp<D, C, F> {
     ghost stands = { λ operator domain rows. GroupsStand D.Value.eq (D.knows domain) (D.shown domain) operator.grouping.width
         operator.grouping.keys.items (λ g. GroupStands F.stands F.aggregate
         (map (λ a. C.of a.argument) operator.grouping.aggregates.items)
-        (map (λ a. F.aggregate a.fold) operator.grouping.aggregates.items) g.rows g.folds.items)
-        operator.groups.entries rows };
+        (map (λ a. F.aggregate a.fold) operator.grouping.aggregates.items) g.rows g.folds.items) (λ g. g.given)
+        (group_row operator.grouping.width (map (λ a. a.variable) operator.grouping.aggregates.items)
+        (map (λ a. C.of a.argument) operator.grouping.aggregates.items)
+        (map (λ a. F.aggregate a.fold) operator.grouping.aggregates.items)) operator.groups.entries rows };
 
-    ghost kept = { λ operator. keys_of operator.groups.entries };
+    ghost kept = { λ operator. rows_kept (λ g. g.given) operator.groups.entries };
 
     ghost carried = { λ operator before after rows alike stands. carried_groups D.Value.identical (D.knows before)
         (D.shown before) (D.knows after) (D.shown after) operator.grouping.width operator.grouping.keys.items
         (λ g. GroupStands F.stands F.aggregate (map (λ a. C.of a.argument) operator.grouping.aggregates.items)
-        (map (λ a. F.aggregate a.fold) operator.grouping.aggregates.items) g.rows g.folds.items)
-        operator.groups.entries rows alike stands };
+        (map (λ a. F.aggregate a.fold) operator.grouping.aggregates.items) g.rows g.folds.items) (λ g. g.given)
+        (group_row operator.grouping.width (map (λ a. a.variable) operator.grouping.aggregates.items)
+        (map (λ a. C.of a.argument) operator.grouping.aggregates.items)
+        (map (λ a. F.aggregate a.fold) operator.grouping.aggregates.items)) operator.groups.entries rows alike stands };
 
     fn apply(
         &mut self,
@@ -114,7 +124,8 @@ fn first_groups<D: Domain, C, F: Fold>(
         → length arguments ≡ length grouping.now.aggregates.items
         → GroupsStand D.Value.eq (D.knows domain) (D.shown domain) grouping.now.width grouping.now.keys.items
         (λ g. GroupStands F.stands F.aggregate arguments (map (λ a. F.aggregate a.fold) grouping.now.aggregates.items) g.rows
-        g.folds.items) groups.entries []) }
+        g.folds.items) (λ g. g.given) (group_row grouping.now.width (map (λ a. a.variable) grouping.now.aggregates.items)
+        arguments (map (λ a. F.aggregate a.fold) grouping.now.aggregates.items)) groups.entries []) }
 {
     let mut groups = IndexMap::new(alloc);
     if is_keyless(grouping.keys.as_slice()) {
@@ -139,15 +150,13 @@ fn nothing_grouped<D: Domain, C: Computed<D>, F: Fold>(
         (grouped_by (λ a group. F.aggregate a.fold (map (C.of a.argument) group)) grouping.now.width grouping.now.keys.items
         (by_variable (λ a. a.variable) grouping.now.aggregates.items) [])) }
 {
-    let groups = first_groups::<D, C, F>(alloc, grouping)?;
+    let mut groups = first_groups::<D, C, F>(alloc, grouping)?;
     let key = Row::unbound(alloc, grouping.width)?;
-    let keyless = is_keyless(grouping.keys.as_slice());
-    let found = results_at::<D, F>(alloc, &groups, &key, keyless)?;
-    let mut made = Vec::new(alloc);
-    push_answer(&mut made, &key, found)?;
-    let rows = rows_of_answers(alloc, grouping, made.as_slice(), domain)?;
+    let found = row_at(alloc, grouping, &mut groups, &key, domain)?;
+    let mut rows = Vec::new(alloc);
+    push_row(&mut rows, found)?;
     let none = Vec::new(alloc);
-    difference(alloc, none.as_slice(), rows.as_slice())
+    difference(alloc, none, rows)
 }
 
 fn apply_change<D: Domain, C: Computed<D>, F: Fold>(
@@ -160,18 +169,27 @@ fn apply_change<D: Domain, C: Computed<D>, F: Fold>(
     requires { MayBeGiven grouping.now.width [] (D.knows domain.old) (D.shown domain.old)
         (λ rows. GroupsStand D.Value.eq (D.knows domain.old) (D.shown domain.old) grouping.now.width grouping.now.keys.items
         (λ g. GroupStands F.stands F.aggregate (map (λ a. C.of a.argument) grouping.now.aggregates.items)
-        (map (λ a. F.aggregate a.fold) grouping.now.aggregates.items) g.rows g.folds.items) groups.old.entries rows) change.now }
+        (map (λ a. F.aggregate a.fold) grouping.now.aggregates.items) g.rows g.folds.items) (λ g. g.given)
+        (group_row grouping.now.width (map (λ a. a.variable) grouping.now.aggregates.items)
+        (map (λ a. C.of a.argument) grouping.now.aggregates.items)
+        (map (λ a. F.aggregate a.fold) grouping.now.aggregates.items)) groups.old.entries rows) change.now }
     ensures known { (v : D.Value) → D.knows domain.old v
         → IsShownAlike (D.shown domain.old) (D.knows domain.new) (D.shown domain.new) v }
     ensures rows { IfOk result (λ net. AnswersFit D.Value.eq grouping.now.width (D.knows domain.new) net) }
     ensures law { IfOk result (λ net. (before after : List (Cells Term))
         → GroupsStand D.Value.eq (D.knows domain.old) (D.shown domain.old) grouping.now.width grouping.now.keys.items
         (λ g. GroupStands F.stands F.aggregate (map (λ a. C.of a.argument) grouping.now.aggregates.items)
-        (map (λ a. F.aggregate a.fold) grouping.now.aggregates.items) g.rows g.folds.items) groups.old.entries before
+        (map (λ a. F.aggregate a.fold) grouping.now.aggregates.items) g.rows g.folds.items) (λ g. g.given)
+        (group_row grouping.now.width (map (λ a. a.variable) grouping.now.aggregates.items)
+        (map (λ a. C.of a.argument) grouping.now.aggregates.items)
+        (map (λ a. F.aggregate a.fold) grouping.now.aggregates.items)) groups.old.entries before
         → Leads (D.shown domain.old) before change.now after
         → GroupsStand D.Value.eq (D.knows domain.new) (D.shown domain.new) grouping.now.width grouping.now.keys.items
         (λ g. GroupStands F.stands F.aggregate (map (λ a. C.of a.argument) grouping.now.aggregates.items)
-        (map (λ a. F.aggregate a.fold) grouping.now.aggregates.items) g.rows g.folds.items) groups.new.entries after
+        (map (λ a. F.aggregate a.fold) grouping.now.aggregates.items) g.rows g.folds.items) (λ g. g.given)
+        (group_row grouping.now.width (map (λ a. a.variable) grouping.now.aggregates.items)
+        (map (λ a. C.of a.argument) grouping.now.aggregates.items)
+        (map (λ a. F.aggregate a.fold) grouping.now.aggregates.items)) groups.new.entries after
         × Leads (D.shown domain.new)
         (grouped_by (λ a group. F.aggregate a.fold (map (C.of a.argument) group)) grouping.now.width grouping.now.keys.items
         (by_variable (λ a. a.variable) grouping.now.aggregates.items) before)
@@ -182,8 +200,8 @@ fn apply_change<D: Domain, C: Computed<D>, F: Fold>(
     let entries = read_entries(alloc, grouping, change, domain)?;
     let touched = touched_keys(alloc, entries.as_slice())?;
     let _touched = touched.distinct();
-    let answers = turn_groups::<D, C, F>(alloc, grouping, groups, &touched, entries.as_slice())?;
-    let befores = rows_of_answers(alloc, grouping, answers.0.as_slice(), domain)?;
-    let afters = rows_of_answers(alloc, grouping, answers.1.as_slice(), domain)?;
-    difference(alloc, befores.as_slice(), afters.as_slice())
+    let befores = touched_rows(alloc, grouping, groups, &touched, domain)?;
+    move_all::<D, C, F>(alloc, grouping, groups, entries.as_slice())?;
+    let afters = touched_rows(alloc, grouping, groups, &touched, domain)?;
+    difference(alloc, befores, afters)
 }

@@ -1,6 +1,5 @@
 // The rows of groups.
-ghost use Rattle.std.specs.Prelude.{◌≡◌, ◌+ℤ◌, neg_ℤ, ℕ, ℤ, Bool, List, Option, IfOk, OnOk, IfSome, map, length};
-ghost use Rattle.std.specs.List.{AllByRecursion};
+ghost use Rattle.std.specs.Prelude.{◌≡◌, ◌+ℤ◌, neg_ℤ, ℕ, ℤ, Bool, List, Option, Some, IfOk, OnOk, IfSome, map, length};
 ghost use Rattle.std.specs.Option.{option_map};
 ghost use Rattle.rsp_multiset.specs.Rows.{Cells, row_eq};
 ghost use Rattle.rsp_multiset.specs.Shown.{shown_row, IsKnown};
@@ -8,10 +7,13 @@ ghost use Rattle.rsp_multiset.specs.Variables.{extension};
 ghost use Rattle.rsp_multiset.specs.Weights.{weight, times};
 ghost use Rattle.rsp_terms.specs.declared.term.Term.{Term};
 ghost use Rattle.rsp_operators.specs.Laws.{IsShownAlike};
-ghost use Rattle.rsp_groups.specs.Answers.{with_cells, IsRow, MayAnswer};
+ghost use Rattle.rsp_groups.specs.Answers.{with_cells, group_row, IsRow, Shows};
+ghost use Rattle.rsp_groups.specs.Standing.{GroupStands};
 
 use crate::aggregated::{Aggregated, Grouping};
-use crate::answers::Answer;
+use crate::folds::results_of;
+use crate::group::Group;
+use rsp_folds::Fold;
 use rsp_multiset::{Cell, Changes, Row};
 use rsp_terms::{Domain, Term};
 use std::alloc::{AllocError, Global};
@@ -62,8 +64,7 @@ fn aggregate_row<D: Domain, C, F>(
     key: &Row<D::Value>,
     domain: &mut D,
 ) -> Result<Row<D::Value>, AllocError>
-    requires row { IsRow width (D.knows domain.old) key.now }
-    requires long { length results.now ≡ length aggregates.now }
+    requires { IsRow width (D.knows domain.old) key.now }
     ensures shown { IfOk result (λ made. shown_row (D.shown domain.new) made
         ≡ with_cells width (map (λ a. a.variable) aggregates.now) results.now (shown_row (D.shown domain.old) key.now)) }
     ensures row { IfOk result (λ made. IsRow width (D.knows domain.new) made) }
@@ -71,54 +72,82 @@ fn aggregate_row<D: Domain, C, F>(
         → IsShownAlike (D.shown domain.old) (D.knows domain.new) (D.shown domain.new) v }
 {
     let mut row = key.share()?;
-    for place in 0..aggregates.len() {
-        row = extended_row(
-            width,
-            aggregates[place].variable,
-            &results[place],
-            &row,
-            domain,
-        )?;
+    for (aggregate, value) in aggregates.iter().zip(results.iter()) {
+        row = extended_row(width, aggregate.variable, value, &row, domain)?;
     }
     Ok(row)
 }
 
-/// The rows of the groups.
-pub(crate) fn rows_of_answers<D: Domain, C, F>(
+// works the group's row out, and keeps it
+fn renew_row<D: Domain, C, F: Fold>(
     alloc: Global,
     grouping: &Grouping<C, F>,
-    answers: &[Answer<D::Value>],
+    group: &mut Group<D::Value, F>,
+    key: &Row<D::Value>,
     domain: &mut D,
-) -> Result<Vec<Row<D::Value>>, AllocError>
-    requires { AllByRecursion (λ a. MayAnswer grouping.now.width (D.knows domain.old) (length grouping.now.aggregates.items)
-        a.key a.results.items) answers.now }
-    ensures shown { IfOk result (λ rows. map (shown_row (D.shown domain.new)) rows.items
-        ≡ map (λ a. with_cells grouping.now.width (map (λ b. b.variable) grouping.now.aggregates.items) a.results.items
-        (shown_row (D.shown domain.old) a.key)) answers.now) }
-    ensures rows { IfOk result (λ rows. AllByRecursion (IsRow grouping.now.width (D.knows domain.new)) rows.items) }
+) -> Result<Row<D::Value>, AllocError>
+    requires { IsRow grouping.now.width (D.knows domain.old) key.now }
+    ensures count { group.new.rows ≡ group.old.rows }
+    ensures folds { group.new.folds ≡ group.old.folds }
+    ensures given { IfOk result (λ row. group.new.given ≡ Some row) }
+    ensures shows { IfOk result (λ row. (arguments : List (Cells Term → Option Term))
+        (aggregates : List (List (Option Term) → Option Term)) (rows : List (Cells Term))
+        → GroupStands F.stands F.aggregate arguments aggregates group.old.rows group.old.folds.items rows
+        → Shows grouping.now.width (D.knows domain.new) (D.shown domain.new) row
+        (group_row grouping.now.width (map (λ a. a.variable) grouping.now.aggregates.items) arguments aggregates rows
+        (shown_row (D.shown domain.old) key.now))) }
     ensures known { (v : D.Value) → D.knows domain.old v
         → IsShownAlike (D.shown domain.old) (D.knows domain.new) (D.shown domain.new) v }
 {
-    let mut rows = Vec::new(alloc);
-    for answer in answers {
-        rows.push(aggregate_row(
-            grouping.width,
-            grouping.aggregates.as_slice(),
-            answer.results.as_slice(),
-            &answer.key,
-            domain,
-        )?)?;
+    let results = results_of(alloc, group.folds.as_slice())?;
+    let row = aggregate_row(
+        grouping.width,
+        grouping.aggregates.as_slice(),
+        results.as_slice(),
+        key,
+        domain,
+    )?;
+    group.given = Some(row.share()?);
+    Ok(row)
+}
+
+/// The group's row: the one that it keeps, or else worked out, and kept.
+pub(crate) fn row_of_group<D: Domain, C, F: Fold>(
+    alloc: Global,
+    grouping: &Grouping<C, F>,
+    group: &mut Group<D::Value, F>,
+    key: &Row<D::Value>,
+    domain: &mut D,
+) -> Result<Row<D::Value>, AllocError>
+    requires { IsRow grouping.now.width (D.knows domain.old) key.now }
+    ensures count { group.new.rows ≡ group.old.rows }
+    ensures folds { group.new.folds ≡ group.old.folds }
+    ensures given { IfOk result (λ row. group.new.given ≡ Some row) }
+    ensures shows { IfOk result (λ row. (arguments : List (Cells Term → Option Term))
+        (aggregates : List (List (Option Term) → Option Term)) (rows : List (Cells Term))
+        → GroupStands F.stands F.aggregate arguments aggregates group.old.rows group.old.folds.items rows
+        → IfSome group.old.given (λ kept. Shows grouping.now.width (D.knows domain.old) (D.shown domain.old) kept
+        (group_row grouping.now.width (map (λ a. a.variable) grouping.now.aggregates.items) arguments aggregates rows
+        (shown_row (D.shown domain.old) key.now)))
+        → Shows grouping.now.width (D.knows domain.new) (D.shown domain.new) row
+        (group_row grouping.now.width (map (λ a. a.variable) grouping.now.aggregates.items) arguments aggregates rows
+        (shown_row (D.shown domain.old) key.now))) }
+    ensures known { (v : D.Value) → D.knows domain.old v
+        → IsShownAlike (D.shown domain.old) (D.knows domain.new) (D.shown domain.new) v }
+{
+    match &group.given {
+        Some(row) => row.share(),
+        None => renew_row(alloc, grouping, group, key, domain),
     }
-    Ok(rows)
 }
 
 // adds each row once
-fn count_rows<V: Cell>(net: &mut Changes<Row<V>>, rows: &[Row<V>]) -> Result<(), AllocError>
+fn count_rows<V: Cell>(net: &mut Changes<Row<V>>, rows: Vec<Row<V>>) -> Result<(), AllocError>
     ensures { OnOk result ((q : List (Option V)) → weight (row_eq V.eq) net.new q
-        ≡ weight (row_eq V.eq) net.old q +ℤ times (row_eq V.eq) rows.now q) }
+        ≡ weight (row_eq V.eq) net.old q +ℤ times (row_eq V.eq) rows.items q) }
 {
     for row in rows {
-        net.alter(row.share()?, 1)?;
+        net.alter(row, 1)?;
     }
     Ok(())
 }
@@ -126,11 +155,11 @@ fn count_rows<V: Cell>(net: &mut Changes<Row<V>>, rows: &[Row<V>]) -> Result<(),
 /// The change from the one list of rows to the other.
 pub(crate) fn difference<V: Cell>(
     alloc: Global,
-    befores: &[Row<V>],
-    afters: &[Row<V>],
+    befores: Vec<Row<V>>,
+    afters: Vec<Row<V>>,
 ) -> Result<Changes<Row<V>>, AllocError>
     ensures { IfOk result (λ net. (q : List (Option V)) → weight (row_eq V.eq) net q
-        ≡ times (row_eq V.eq) afters.now q +ℤ neg_ℤ (times (row_eq V.eq) befores.now q)) }
+        ≡ times (row_eq V.eq) afters.items q +ℤ neg_ℤ (times (row_eq V.eq) befores.items q)) }
 {
     let mut net = Changes::new(alloc);
     count_rows(&mut net, befores)?;

@@ -3,8 +3,10 @@ ghost use Rattle.std.specs.Prelude.{◌≡◌, ℕ, ℤ, List, Option, OnOk, map
 ghost use Rattle.std.specs.List.{AllZip};
 ghost use Rattle.rsp_multiset.specs.Rows.{Cells};
 ghost use Rattle.rsp_terms.specs.declared.term.Term.{Term};
+ghost use Rattle.rsp_groups.specs.Answers.{group_row};
 ghost use Rattle.rsp_groups.specs.Moves.{Moved, part};
 ghost use Rattle.rsp_groups.specs.Standing.{GroupStands, GroupsStand, IsEntry, Steps, MayMoveEntry, MayStep};
+ghost use Rattle.rsp_groups.specs.Turns.{Turn, MayTurn};
 
 use crate::aggregated::Grouping;
 use crate::entries::Entry;
@@ -40,7 +42,9 @@ fn move_entry<D: Domain, C, F: Fold>(
         × MayMoveEntry (IsEntry (D.knows domain) (D.shown domain) grouping.now.width grouping.now.keys.items arguments
         entry.now.key entry.now.values.items entry.now.by) (GroupsStand D.Value.eq (D.knows domain) (D.shown domain)
         grouping.now.width grouping.now.keys.items (λ g. GroupStands F.stands F.aggregate arguments
-        (map (λ a. F.aggregate a.fold) grouping.now.aggregates.items) g.rows g.folds.items) groups.old.entries) out)) }
+        (map (λ a. F.aggregate a.fold) grouping.now.aggregates.items) g.rows g.folds.items) (λ g. g.given)
+        (group_row grouping.now.width (map (λ a. a.variable) grouping.now.aggregates.items) arguments
+        (map (λ a. F.aggregate a.fold) grouping.now.aggregates.items)) groups.old.entries) out)) }
     ensures { OnOk result ((domain : D) (arguments : List (Cells Term → Option Term)) (row : Cells Term × ℤ)
         (before after : List (Cells Term)) → length arguments ≡ length grouping.now.aggregates.items
         → IsEntry (D.knows domain) (D.shown domain) grouping.now.width grouping.now.keys.items arguments entry.now.key
@@ -48,10 +52,12 @@ fn move_entry<D: Domain, C, F: Fold>(
         → Moved out (part out row.1) row.0 before after
         → GroupsStand D.Value.eq (D.knows domain) (D.shown domain) grouping.now.width grouping.now.keys.items
         (λ g. GroupStands F.stands F.aggregate arguments (map (λ a. F.aggregate a.fold) grouping.now.aggregates.items) g.rows
-        g.folds.items) groups.old.entries before
+        g.folds.items) (λ g. g.given) (group_row grouping.now.width (map (λ a. a.variable) grouping.now.aggregates.items)
+        arguments (map (λ a. F.aggregate a.fold) grouping.now.aggregates.items)) groups.old.entries before
         → GroupsStand D.Value.eq (D.knows domain) (D.shown domain) grouping.now.width grouping.now.keys.items
         (λ g. GroupStands F.stands F.aggregate arguments (map (λ a. F.aggregate a.fold) grouping.now.aggregates.items) g.rows
-        g.folds.items) groups.new.entries after) }
+        g.folds.items) (λ g. g.given) (group_row grouping.now.width (map (λ a. a.variable) grouping.now.aggregates.items)
+        arguments (map (λ a. F.aggregate a.fold) grouping.now.aggregates.items)) groups.new.entries after) }
 {
     let times = part_of(entry.by, out);
     if times == 0 {
@@ -62,8 +68,8 @@ fn move_entry<D: Domain, C, F: Fold>(
     put_group(grouping, groups, &entry.key, group)
 }
 
-/// Takes all changed rows in that come, or gives all back that go.
-pub(crate) fn move_entries<D: Domain, C, F: Fold>(
+// takes all changed rows in that come, or gives all back that go
+fn move_entries<D: Domain, C, F: Fold>(
     alloc: Global,
     grouping: &Grouping<C, F>,
     groups: &mut Groups<D::Value, F>,
@@ -75,7 +81,9 @@ pub(crate) fn move_entries<D: Domain, C, F: Fold>(
         × MayStep (λ entry. IsEntry (D.knows domain) (D.shown domain) grouping.now.width grouping.now.keys.items arguments
         entry.key entry.values.items entry.by) (GroupsStand D.Value.eq (D.knows domain) (D.shown domain) grouping.now.width
         grouping.now.keys.items (λ g. GroupStands F.stands F.aggregate arguments (map (λ a. F.aggregate a.fold)
-        grouping.now.aggregates.items) g.rows g.folds.items) groups.old.entries) out entries.now)) }
+        grouping.now.aggregates.items) g.rows g.folds.items) (λ g. g.given)
+        (group_row grouping.now.width (map (λ a. a.variable) grouping.now.aggregates.items) arguments
+        (map (λ a. F.aggregate a.fold) grouping.now.aggregates.items)) groups.old.entries) out entries.now)) }
     ensures { OnOk result ((domain : D) (arguments : List (Cells Term → Option Term)) (rows : List (Cells Term × ℤ))
         (before after : List (Cells Term)) → length arguments ≡ length grouping.now.aggregates.items
         → AllZip (λ entry. IsEntry (D.knows domain) (D.shown domain) grouping.now.width grouping.now.keys.items arguments
@@ -83,13 +91,48 @@ pub(crate) fn move_entries<D: Domain, C, F: Fold>(
         → Steps out rows before after
         → GroupsStand D.Value.eq (D.knows domain) (D.shown domain) grouping.now.width grouping.now.keys.items
         (λ g. GroupStands F.stands F.aggregate arguments (map (λ a. F.aggregate a.fold) grouping.now.aggregates.items) g.rows
-        g.folds.items) groups.old.entries before
+        g.folds.items) (λ g. g.given) (group_row grouping.now.width (map (λ a. a.variable) grouping.now.aggregates.items)
+        arguments (map (λ a. F.aggregate a.fold) grouping.now.aggregates.items)) groups.old.entries before
         → GroupsStand D.Value.eq (D.knows domain) (D.shown domain) grouping.now.width grouping.now.keys.items
         (λ g. GroupStands F.stands F.aggregate arguments (map (λ a. F.aggregate a.fold) grouping.now.aggregates.items) g.rows
-        g.folds.items) groups.new.entries after) }
+        g.folds.items) (λ g. g.given) (group_row grouping.now.width (map (λ a. a.variable) grouping.now.aggregates.items)
+        arguments (map (λ a. F.aggregate a.fold) grouping.now.aggregates.items)) groups.new.entries after) }
 {
     for entry in entries {
         move_entry::<D, C, F>(alloc, grouping, groups, entry, out)?;
     }
     Ok(())
+}
+
+/// Takes all changed rows in that come, then gives all back that go. The groups that they touch keep no row.
+pub(crate) fn move_all<D: Domain, C, F: Fold>(
+    alloc: Global,
+    grouping: &Grouping<C, F>,
+    groups: &mut Groups<D::Value, F>,
+    entries: &[Entry<D::Value>],
+) -> Result<(), AllocError>
+    requires { (domain : D) × ((arguments : List (Cells Term → Option Term))
+        × ((length arguments ≡ length grouping.now.aggregates.items)
+        × MayTurn (λ entry. IsEntry (D.knows domain) (D.shown domain) grouping.now.width grouping.now.keys.items arguments
+        entry.key entry.values.items entry.by) (GroupsStand D.Value.eq (D.knows domain) (D.shown domain) grouping.now.width
+        grouping.now.keys.items (λ g. GroupStands F.stands F.aggregate arguments (map (λ a. F.aggregate a.fold)
+        grouping.now.aggregates.items) g.rows g.folds.items) (λ g. g.given)
+        (group_row grouping.now.width (map (λ a. a.variable) grouping.now.aggregates.items) arguments
+        (map (λ a. F.aggregate a.fold) grouping.now.aggregates.items)) groups.old.entries) entries.now)) }
+    ensures { OnOk result ((domain : D) (arguments : List (Cells Term → Option Term)) (rows : List (Cells Term × ℤ))
+        (before after : List (Cells Term)) → length arguments ≡ length grouping.now.aggregates.items
+        → AllZip (λ entry. IsEntry (D.knows domain) (D.shown domain) grouping.now.width grouping.now.keys.items arguments
+        entry.key entry.values.items entry.by) entries.now rows
+        → Turn rows before after
+        → GroupsStand D.Value.eq (D.knows domain) (D.shown domain) grouping.now.width grouping.now.keys.items
+        (λ g. GroupStands F.stands F.aggregate arguments (map (λ a. F.aggregate a.fold) grouping.now.aggregates.items) g.rows
+        g.folds.items) (λ g. g.given) (group_row grouping.now.width (map (λ a. a.variable) grouping.now.aggregates.items)
+        arguments (map (λ a. F.aggregate a.fold) grouping.now.aggregates.items)) groups.old.entries before
+        → GroupsStand D.Value.eq (D.knows domain) (D.shown domain) grouping.now.width grouping.now.keys.items
+        (λ g. GroupStands F.stands F.aggregate arguments (map (λ a. F.aggregate a.fold) grouping.now.aggregates.items) g.rows
+        g.folds.items) (λ g. g.given) (group_row grouping.now.width (map (λ a. a.variable) grouping.now.aggregates.items)
+        arguments (map (λ a. F.aggregate a.fold) grouping.now.aggregates.items)) groups.new.entries after) }
+{
+    move_entries::<D, C, F>(alloc, grouping, groups, entries, false)?;
+    move_entries::<D, C, F>(alloc, grouping, groups, entries, true)
 }

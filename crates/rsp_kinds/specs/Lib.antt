@@ -7,6 +7,5 @@ pub mod Choices
 pub mod Kept
 pub mod Made
 pub mod Moved
-pub mod MovedGroups
 pub mod Patterns
 pub mod Ways

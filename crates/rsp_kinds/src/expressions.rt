@@ -1,19 +1,19 @@
 // Conditions and values by expressions.
-ghost use Rattle.std.specs.Prelude.{◌≡◌, true, IsTrue};
+ghost use Rattle.std.specs.Prelude.{◌≡◌, true, IsTrue, IfOk};
 ghost use Rattle.rsp_multiset.specs.Rows.{Cells};
+ghost use Rattle.rsp_multiset.specs.Shown.{shown_row, IsKnown};
 ghost use Rattle.rsp_terms.specs.declared.term.Term.{Term};
 ghost use Rattle.rsp_expr.specs.Meanings.{formula_of};
-ghost use Rattle.rsp_expr.specs.Values.{truth as passes};
+ghost use Rattle.rsp_expr.specs.Values.{truth as passes, value as value_of};
 
-use crate::showing::show_row;
 use rsp_expr::Expression;
 use rsp_multiset::Row;
 use rsp_operators::{Computed, Condition};
-use rsp_terms::Domain;
-use rsp_values::{truth, value};
+use rsp_terms::{Domain, Term};
+use rsp_values::{MergedRows, ShownRow, truth, value};
 use std::alloc::{AllocError, Global};
 
-/// An expression, as a test and as a value of a row by the terms that it shows.
+/// An expression, as a test and as a value of a row by the terms that it shows. It reads the row's cells where they stand.
 #[derive(Drop)]
 pub struct ByExpression {
     alloc: Global,
@@ -42,11 +42,17 @@ impl<D: Domain> Condition<D> for ByExpression {
     }
 
     fn holds(&self, row: &Row<D::Value>, domain: &D) -> Result<bool, AllocError> {
-        truth(
-            self.alloc,
-            &self.expression,
-            &show_row(self.alloc, row, domain)?,
-        )
+        truth(self.alloc, &self.expression, &ShownRow::new(row, domain))
+    }
+
+    fn holds_on_merge(
+        &self,
+        left: &Row<D::Value>,
+        right: &Row<D::Value>,
+        domain: &D,
+    ) -> Result<bool, AllocError> {
+        let rows = MergedRows::new(left, right, domain);
+        truth(self.alloc, &self.expression, &rows)
     }
 }
 
@@ -57,12 +63,24 @@ impl<D: Domain> Computed<D> for ByExpression {
     ghost of = { λ computed row. value_of (formula_of computed.expression) row };
 
     fn value(&self, row: &Row<D::Value>, domain: &mut D) -> Result<Option<D::Value>, AllocError> {
-        let shown = show_row(self.alloc, row, domain)?;
-        match value(self.alloc, &self.expression, &shown)? {
+        match shown_value(self.alloc, &self.expression, row, domain)? {
             None => Ok(None),
             Some(term) => Ok(Some(domain.keep(term)?)),
         }
     }
+}
+
+// the value of the expression by the terms that the row shows
+fn shown_value<D: Domain>(
+    alloc: Global,
+    expression: &Expression,
+    row: &Row<D::Value>,
+    domain: &D,
+) -> Result<Option<Term>, AllocError>
+    requires { IsKnown (D.knows domain.now) row.now }
+    ensures { IfOk result (λ found. found ≡ value_of (formula_of expression.now) (shown_row (D.shown domain.now) row.now)) }
+{
+    value(alloc, expression, &ShownRow::new(row, domain))
 }
 
 /// Whether the expression is the conjunction of none, which holds on every row. Takes no memory.

@@ -6,6 +6,7 @@ ghost use Rattle.rsp_algebra.specs.Meanings.{aggregations_of};
 ghost use Rattle.rsp_algebra.specs.Nodes as node;
 ghost use Rattle.rsp_expr.specs.Groups.{grouped_by};
 ghost use Rattle.rsp_expr.specs.Meanings.{aggregation_of};
+ghost use Rattle.rsp_groups.specs.Answers.{group_row};
 ghost use Rattle.rsp_groups.specs.Standing.{GroupStands, GroupsStand};
 ghost use Rattle.rsp_groups.specs.Values.{by_variable};
 ghost use Rattle.rsp_kinds.specs.Aggregations.{IsAggregated};
@@ -33,8 +34,10 @@ impl<D: Domain, C: Computed<D> + Drop, F: Fold> Keeping<D> for GroupOp<D, C, F> 
     ghost use Rattle.std.specs.Option.{option_eq};
     ghost use Rattle.rsp_groups.specs.Standing.{GroupStands};
     ghost use Rattle.rsp_groups.specs.Values.{by_variable};
-    ghost use Rattle.rsp_kinds.specs.AlikeGroups.{alike_group, alike_groups, alike_grouped};
-    ghost use Rattle.rsp_kinds.specs.MovedGroups.{moved_groups};
+    ghost use Rattle.rsp_groups.specs.Answers.{group_row};
+    ghost use Rattle.rsp_groups.specs.Carrying.{learnt_groups};
+    ghost use Rattle.rsp_groups.proofs.Turning.{group-alike, groups-alike, group_row-same};
+    ghost use Rattle.rsp_kinds.specs.AlikeGroups.{alike_grouped};
 
     fn over_nothing(
         &self,
@@ -44,20 +47,27 @@ impl<D: Domain, C: Computed<D> + Drop, F: Fold> Keeping<D> for GroupOp<D, C, F> 
         GroupOp::over_nothing(self, alloc, domain)
     }
 
-    ghost moved = { λ operator before after rows alike stands. moved_groups D.Value.identical (D.knows before) (D.shown before)
+    ghost moved = { λ operator before after rows alike stands. learnt_groups (D.knows before) (D.shown before)
         (D.knows after) (D.shown after) operator.grouping.width operator.grouping.keys.items
         (λ g. GroupStands F.stands F.aggregate (map (λ a. C.of a.argument) operator.grouping.aggregates.items)
-        (map (λ a. F.aggregate a.fold) operator.grouping.aggregates.items) g.rows g.folds.items)
-        operator.groups.entries rows alike stands };
+        (map (λ a. F.aggregate a.fold) operator.grouping.aggregates.items) g.rows g.folds.items) (λ g. g.given)
+        (group_row operator.grouping.width (map (λ a. a.variable) operator.grouping.aggregates.items)
+        (map (λ a. C.of a.argument) operator.grouping.aggregates.items)
+        (map (λ a. F.aggregate a.fold) operator.grouping.aggregates.items)) operator.groups.entries rows alike stands };
 
-    ghost stands_alike = { λ operator domain rows others same stands. alike_groups D.Value.eq (D.knows domain) (D.shown domain)
+    ghost stands_alike = { λ operator domain rows others same stands. groups-alike (D.knows domain) (D.shown domain)
         operator.grouping.width operator.grouping.keys.items
         (λ g. GroupStands F.stands F.aggregate (map (λ a. C.of a.argument) operator.grouping.aggregates.items)
+        (map (λ a. F.aggregate a.fold) operator.grouping.aggregates.items) g.rows g.folds.items) (λ g. g.given)
+        (group_row operator.grouping.width (map (λ a. a.variable) operator.grouping.aggregates.items)
+        (map (λ a. C.of a.argument) operator.grouping.aggregates.items)
+        (map (λ a. F.aggregate a.fold) operator.grouping.aggregates.items))
+        (λ g. group-alike F.stands F.stands_alike F.aggregate (map (λ a. C.of a.argument) operator.grouping.aggregates.items)
         (map (λ a. F.aggregate a.fold) operator.grouping.aggregates.items) g.rows g.folds.items)
-        operator.groups.entries rows others
-        (λ g. alike_group F.stands F.aggregate (map (λ a. C.of a.argument) operator.grouping.aggregates.items)
-        (map (λ a. F.aggregate a.fold) operator.grouping.aggregates.items) g.rows g.folds.items F.stands_alike)
-        same stands };
+        (group_row-same (λ a. F.aggregate a.fold) (λ a. F.aggregates_alike a.fold) operator.grouping.width
+        (map (λ a. a.variable) operator.grouping.aggregates.items) operator.grouping.aggregates.items
+        (map (λ a. C.of a.argument) operator.grouping.aggregates.items))
+        operator.groups.entries rows others same stands };
 
     ghost values_alike = { λ operator rows others same. alike_grouped
         (λ a group. F.aggregate a.fold (map (C.of a.argument) group))
@@ -82,7 +92,10 @@ pub(crate) fn grouping<D: Domain>(
         → GroupsStand D.Value.eq (D.knows domain) (D.shown domain) made.grouping.width made.grouping.keys.items
         (λ g. GroupStands FoldingStands folding_aggregate
         (map (λ a row. argument_value a.argument.expression row) made.grouping.aggregates.items)
-        (map (λ a. folding_aggregate a.fold) made.grouping.aggregates.items) g.rows g.folds.items) made.groups.entries []) }
+        (map (λ a. folding_aggregate a.fold) made.grouping.aggregates.items) g.rows g.folds.items) (λ g. g.given)
+        (group_row made.grouping.width (map (λ a. a.variable) made.grouping.aggregates.items)
+        (map (λ a row. argument_value a.argument.expression row) made.grouping.aggregates.items)
+        (map (λ a. folding_aggregate a.fold) made.grouping.aggregates.items)) made.groups.entries []) }
 {
     let grouping = Grouping {
         width,

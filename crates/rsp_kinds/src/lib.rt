@@ -20,7 +20,6 @@ mod nodes;
 mod over_one;
 mod over_two;
 mod patterns;
-mod showing;
 mod single;
 mod way;
 

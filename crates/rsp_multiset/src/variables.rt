@@ -68,7 +68,7 @@ impl<V: Cell> Row<V> {
 fn unbound_cells<V: Cell>(alloc: Global, width: usize) -> Result<Vec<Option<V>>, AllocError>
     ensures { IfOk result (λ cells. cells.items ≡ row_by width (λ _. None)) }
 {
-    let mut cells = Vec::new(alloc);
+    let mut cells = Vec::with_capacity(alloc, width)?;
     for _variable in 0..width {
         cells.push(None)?;
     }
@@ -83,7 +83,7 @@ fn projected_cells<V: Cell>(
 ) -> Result<Vec<Option<V>>, AllocError>
     ensures { IfOk result (λ cells. cells.items ≡ projection width variables.now row.now) }
 {
-    let mut cells = Vec::new(alloc);
+    let mut cells = Vec::with_capacity(alloc, width)?;
     for variable in 0..width {
         cells.push(projected_cell(variables, row, variable)?)?;
     }
@@ -114,7 +114,7 @@ fn extended_cells<V: Cell>(
 ) -> Result<Vec<Option<V>>, AllocError>
     ensures { IfOk result (λ cells. cells.items ≡ extension width variable value.now row.now) }
 {
-    let mut cells = Vec::new(alloc);
+    let mut cells = Vec::with_capacity(alloc, width)?;
     for place in 0..width {
         cells.push(extended_cell(row, place, variable, value)?)?;
     }
@@ -143,7 +143,7 @@ fn chosen_cells<V: Cell>(
 ) -> Result<Vec<Option<V>>, AllocError>
     ensures { IfOk result (λ cells. cells.items ≡ cells_at variables.now row.now) }
 {
-    let mut cells = Vec::new(alloc);
+    let mut cells = Vec::with_capacity(alloc, variables.len())?;
     for variable in variables {
         cells.push(cell_at(row, *variable)?)?;
     }
@@ -166,7 +166,7 @@ fn moved_cells<V: Cell>(
 ) -> Result<Vec<Option<V>>, AllocError>
     ensures { IfOk result (λ cells. cells.items ≡ cells_at variables.now row.items) }
 {
-    let mut cells = Vec::new(*row.allocator());
+    let mut cells = Vec::with_capacity(*row.allocator(), variables.len())?;
     for index in 0..variables.len() {
         let later = &variables[index + 1..];
         cells.push(moved_cell(&mut row, variables[index], later)?)?;

@@ -37,18 +37,9 @@ fn put_element(
 {
     match element {
         Written::Triples(subject) => put_triples(alloc, at, before, subject, parts),
-        Written::Optional(body) => {
-            let body = group(alloc, at, before, body)?;
-            put(parts, Element::Optional(body))
-        }
-        Written::Minus(body) => {
-            let body = group(alloc, at, before, body)?;
-            put(parts, Element::Minus(body))
-        }
-        Written::Union(branches) => {
-            let branches = groups(alloc, at, before, branches)?;
-            put(parts, Element::Union(branches))
-        }
+        Written::Optional(body) => put_optional(alloc, at, before, body, parts),
+        Written::Minus(body) => put_minus(alloc, at, before, body, parts),
+        Written::Union(branches) => put_union(alloc, at, before, branches, parts),
         Written::Graph {
             name,
             at: place,
@@ -69,11 +60,83 @@ fn put_element(
             put_bind(alloc, at, before, expression, name, parts)
         }
         Written::Values(block) => put_values(alloc, at, before, block, parts),
-        Written::Sub(inner) => {
-            let inner = select(alloc, at, before, inner)?;
-            put(parts, Element::Sub(Box::new(alloc, inner)?))
-        }
+        Written::Sub(inner) => put_sub(alloc, at, before, inner, parts),
     }
+}
+
+#[cycle(groups)]
+fn put_optional(
+    alloc: Global,
+    at: &[Scope],
+    before: &mut Before,
+    body: &[Written],
+    parts: &mut Vec<Element>,
+) -> Result<(), AllocError>
+    ensures parts { OnOk result (map query.part_of parts.new.items
+        ≡ numbered.with_element (scopes_of at.now) before.old (map query.part_of parts.old.items)
+        (trees.optional_group (elements_in (map written.element_of body.now)))) }
+    ensures behind { OnOk result (before.new
+        ≡ numbered.behind_element (scopes_of at.now) before.old
+        (trees.optional_group (elements_in (map written.element_of body.now)))) }
+{
+    let body = group(alloc, at, before, body)?;
+    put(parts, Element::Optional(body))
+}
+
+#[cycle(groups)]
+fn put_minus(
+    alloc: Global,
+    at: &[Scope],
+    before: &mut Before,
+    body: &[Written],
+    parts: &mut Vec<Element>,
+) -> Result<(), AllocError>
+    ensures parts { OnOk result (map query.part_of parts.new.items
+        ≡ numbered.with_element (scopes_of at.now) before.old (map query.part_of parts.old.items)
+        (trees.minus_group (elements_in (map written.element_of body.now)))) }
+    ensures behind { OnOk result (before.new
+        ≡ numbered.behind_element (scopes_of at.now) before.old
+        (trees.minus_group (elements_in (map written.element_of body.now)))) }
+{
+    let body = group(alloc, at, before, body)?;
+    put(parts, Element::Minus(body))
+}
+
+#[cycle(groups)]
+fn put_union(
+    alloc: Global,
+    at: &[Scope],
+    before: &mut Before,
+    branches: &[Vec<Written>],
+    parts: &mut Vec<Element>,
+) -> Result<(), AllocError>
+    ensures parts { OnOk result (map query.part_of parts.new.items
+        ≡ numbered.with_element (scopes_of at.now) before.old (map query.part_of parts.old.items)
+        (trees.union_of (groups_in (written_branches_of branches.now)))) }
+    ensures behind { OnOk result (before.new
+        ≡ numbered.behind_element (scopes_of at.now) before.old
+        (trees.union_of (groups_in (written_branches_of branches.now)))) }
+{
+    let branches = groups(alloc, at, before, branches)?;
+    put(parts, Element::Union(branches))
+}
+
+#[cycle(groups)]
+fn put_sub(
+    alloc: Global,
+    at: &[Scope],
+    before: &mut Before,
+    inner: &rsp_written::Select,
+    parts: &mut Vec<Element>,
+) -> Result<(), AllocError>
+    ensures parts { OnOk result (map query.part_of parts.new.items
+        ≡ numbered.with_element (scopes_of at.now) before.old (map query.part_of parts.old.items)
+        (trees.sub_select (written.select_of inner.now))) }
+    ensures behind { OnOk result (before.new
+        ≡ numbered.behind_element (scopes_of at.now) before.old (trees.sub_select (written.select_of inner.now))) }
+{
+    let inner = select(alloc, at, before, inner)?;
+    put(parts, Element::Sub(Box::new(alloc, inner)?))
 }
 
 #[cycle(groups)]

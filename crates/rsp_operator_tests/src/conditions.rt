@@ -1,8 +1,13 @@
 // Conditions on merged rows.
+ghost use Rattle.std.specs.Prelude.{◌≡◌};
+ghost use Rattle.rsp_multiset.specs.Variables.{cell};
+ghost use Rattle.rsp_operator_tests.specs.Asked.{equals};
+
 use rsp_multiset::Row;
 use rsp_operators::Condition;
 use rsp_terms::{Same, Term};
 use rsp_trials::term;
+use rsp_values::{MergedRows, ReadRow, ShownRow};
 use std::alloc::{AllocError, Global};
 
 /// True on every row, which it tells at once: asked of a row, it gives up.
@@ -19,6 +24,15 @@ impl Condition<Same> for Always {
     }
 
     fn holds(&self, _row: &Row<Term>, _domain: &Same) -> Result<bool, AllocError> {
+        Err(AllocError)
+    }
+
+    fn holds_on_merge(
+        &self,
+        _left: &Row<Term>,
+        _right: &Row<Term>,
+        _domain: &Same,
+    ) -> Result<bool, AllocError> {
         Err(AllocError)
     }
 }
@@ -40,11 +54,28 @@ impl Condition<Same> for Equals {
         false
     }
 
-    fn holds(&self, row: &Row<Term>, _domain: &Same) -> Result<bool, AllocError> {
-        match row.cells().get(self.variable) {
-            Some(Some(term)) => Ok(*term == self.term),
-            _ => Ok(false),
-        }
+    fn holds(&self, row: &Row<Term>, domain: &Same) -> Result<bool, AllocError> {
+        Ok(is_at(&ShownRow::new(row, domain), self.variable, &self.term))
+    }
+
+    fn holds_on_merge(
+        &self,
+        left: &Row<Term>,
+        right: &Row<Term>,
+        domain: &Same,
+    ) -> Result<bool, AllocError> {
+        let rows = MergedRows::new(left, right, domain);
+        Ok(is_at(&rows, self.variable, &self.term))
+    }
+}
+
+// whether the row binds the variable to the term
+fn is_at<R: ReadRow>(row: &R, variable: usize, term: &Term) -> bool
+    ensures { result ≡ equals term.now (cell (R.cells row.now) variable) }
+{
+    match row.term_at(variable) {
+        Some(found) => *found == *term,
+        None => false,
     }
 }
 

@@ -1,4 +1,7 @@
 // Operators on one input, turn by turn.
+ghost use Rattle.std.specs.Prelude.{◌≡◌, is_some};
+ghost use Rattle.rsp_multiset.specs.Variables.{cell};
+
 use crate::notation::single_turns_out;
 use crate::trials::{WIDTH, once};
 use rsp_multiset::Row;
@@ -6,6 +9,7 @@ use rsp_operators::{Computed, Condition};
 use rsp_simple_operators::{Extending, Projecting, Select};
 use rsp_terms::{Same, Term};
 use rsp_trials::{Refused, UnaryTrial};
+use rsp_values::{MergedRows, ReadRow, ShownRow};
 use std::alloc::{AllocError, Global};
 use std::test::Fail;
 
@@ -22,12 +26,24 @@ impl Condition<Same> for BindsFirst {
         false
     }
 
-    fn holds(&self, row: &Row<Term>, _domain: &Same) -> Result<bool, AllocError> {
-        match row.cells().get(0) {
-            Some(cell) => Ok(cell.is_some()),
-            None => Ok(false),
-        }
+    fn holds(&self, row: &Row<Term>, domain: &Same) -> Result<bool, AllocError> {
+        Ok(binds_first(&ShownRow::new(row, domain)))
     }
+
+    fn holds_on_merge(
+        &self,
+        left: &Row<Term>,
+        right: &Row<Term>,
+        domain: &Same,
+    ) -> Result<bool, AllocError> {
+        Ok(binds_first(&MergedRows::new(left, right, domain)))
+    }
+}
+
+fn binds_first<R: ReadRow>(row: &R) -> bool
+    ensures { result ≡ is_some (cell (R.cells row.now) 0) }
+{
+    row.term_at(0).is_some()
 }
 
 // the first cell, an error where it isn't bound

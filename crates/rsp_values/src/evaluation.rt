@@ -14,22 +14,22 @@ use crate::nodes;
 use crate::nodes::{
     boolean, decides, either, equals, membership, truth_of, undecided, without_item,
 };
+use crate::reading::ReadRow;
 use rsp_expr::{Expression, Function, Sign};
-use rsp_multiset::Row;
 use rsp_operands::{Operand, arithmetic, comparison, concatenation};
 use rsp_terms::Term;
 use std::alloc::{AllocError, Global};
 
 /// The value of the expression in the row (SPARQL 1.1 Query, section 17); None exactly where it is an error. A variable
 /// that the row has no place for is unbound. Fails only where memory is refused.
-pub fn value(
+pub fn value<R: ReadRow>(
     alloc: Global,
     expression: &Expression,
-    row: &Row<Term>,
+    row: &R,
 ) -> Result<Option<Term>, AllocError>
-    ensures { IfOk result (λ value_there. value_there ≡ value (formula_of expression.now) row.now) }
+    ensures { IfOk result (λ value_there. value_there ≡ value (formula_of expression.now) (R.cells row.now)) }
 {
-    match evaluate(alloc, expression, row.cells())? {
+    match evaluate(alloc, expression, row)? {
         None => Ok(None),
         Some(operand) => Ok(Some(operand.into_term(alloc)?)),
     }
@@ -37,20 +37,24 @@ pub fn value(
 
 /// Whether the row passes the expression as a filter (SPARQL 1.1 Query, section 18.6): its boolean value exists and is
 /// true. Fails only where memory is refused.
-pub fn truth(alloc: Global, expression: &Expression, row: &Row<Term>) -> Result<bool, AllocError>
-    ensures { IfOk result (λ passing. passing ≡ passes (formula_of expression.now) row.now) }
+pub fn truth<R: ReadRow>(
+    alloc: Global,
+    expression: &Expression,
+    row: &R,
+) -> Result<bool, AllocError>
+    ensures { IfOk result (λ passing. passing ≡ passes (formula_of expression.now) (R.cells row.now)) }
 {
-    let operand = evaluate(alloc, expression, row.cells())?;
+    let operand = evaluate(alloc, expression, row)?;
     Ok(truth_of(operand).unwrap_or(false))
 }
 
 #[cycle(evaluation)]
-fn evaluate(
+fn evaluate<R: ReadRow>(
     alloc: Global,
     expression: &Expression,
-    row: &[Option<Term>],
+    row: &R,
 ) -> Result<Option<Operand>, AllocError>
-    ensures { IfOk result (λ operand. value_for operand ≡ value (formula_of expression.now) row.now) }
+    ensures { IfOk result (λ operand. value_for operand ≡ value (formula_of expression.now) (R.cells row.now)) }
 {
     match expression {
         Expression::Variable(variable) => nodes::cell(row, *variable),
@@ -91,15 +95,15 @@ fn evaluate(
 
 // an operator that compares, of a value and another
 #[cycle(evaluation)]
-fn compared(
+fn compared<R: ReadRow>(
     alloc: Global,
     sign: Sign,
     left: Operand,
     right: &Expression,
-    row: &[Option<Term>],
+    row: &R,
 ) -> Result<Option<Operand>, AllocError>
     ensures { IfOk result (λ operand. value_for operand ≡ boolean_result
-        (value_of_both (comparing.comparison sign) (Some (term_for left)) (value (formula_of right.now) row.now))) }
+        (value_of_both (comparing.comparison sign) (Some (term_for left)) (value (formula_of right.now) (R.cells row.now)))) }
 {
     match evaluate(alloc, right, row)? {
         None => Ok(None),
@@ -109,15 +113,15 @@ fn compared(
 
 // an operator of arithmetic, of a value and another
 #[cycle(evaluation)]
-fn calculated(
+fn calculated<R: ReadRow>(
     alloc: Global,
     sign: Sign,
     left: Operand,
     right: &Expression,
-    row: &[Option<Term>],
+    row: &R,
 ) -> Result<Option<Operand>, AllocError>
     ensures { IfOk result (λ operand. value_for operand
-        ≡ value_of_both (functions.arithmetic sign) (Some (term_for left)) (value (formula_of right.now) row.now)) }
+        ≡ value_of_both (functions.arithmetic sign) (Some (term_for left)) (value (formula_of right.now) (R.cells row.now))) }
 {
     match evaluate(alloc, right, row)? {
         None => Ok(None),
@@ -127,14 +131,14 @@ fn calculated(
 
 // `||` where the value that decides is true, and `&&` where it is false
 #[cycle(evaluation)]
-fn connected(
+fn connected<R: ReadRow>(
     alloc: Global,
     deciding: bool,
     parts: &[Expression],
-    row: &[Option<Term>],
+    row: &R,
 ) -> Result<Option<Operand>, AllocError>
     ensures { IfOk result (λ operand. value_for operand
-        ≡ boolean_result (connective deciding (map truth_of (argument_values parts.now row.now)))) }
+        ≡ boolean_result (connective deciding (map truth_of (argument_values parts.now (R.cells row.now))))) }
 {
     let mut erred = false;
     for part in parts {
@@ -149,14 +153,14 @@ fn connected(
 
 // whether a value is equal to one of the members
 #[cycle(evaluation)]
-fn among(
+fn among<R: ReadRow>(
     alloc: Global,
     item: &Operand,
     list: &[Expression],
-    row: &[Option<Term>],
+    row: &R,
 ) -> Result<Option<bool>, AllocError>
     ensures { IfOk result (λ truth. truth
-        ≡ comparing.member_truth (Some (term_for item.now)) (argument_values list.now row.now)) }
+        ≡ comparing.member_truth (Some (term_for item.now)) (argument_values list.now (R.cells row.now))) }
 {
     let mut erred = false;
     for other in list {
@@ -170,13 +174,14 @@ fn among(
 }
 
 #[cycle(evaluation)]
-fn call(
+fn call<R: ReadRow>(
     alloc: Global,
     function: Function,
     arguments: &[Expression],
-    row: &[Option<Term>],
+    row: &R,
 ) -> Result<Option<Operand>, AllocError>
-    ensures { IfOk result (λ operand. value_for operand ≡ functions.call_value function (argument_values arguments.now row.now)) }
+    ensures { IfOk result (λ operand. value_for operand
+        ≡ functions.call_value function (argument_values arguments.now (R.cells row.now))) }
 {
     match function {
         Function::If => chosen(alloc, arguments, row),
@@ -191,12 +196,12 @@ fn call(
 
 // IF: only the argument that is chosen
 #[cycle(evaluation)]
-fn chosen(
+fn chosen<R: ReadRow>(
     alloc: Global,
     arguments: &[Expression],
-    row: &[Option<Term>],
+    row: &R,
 ) -> Result<Option<Operand>, AllocError>
-    ensures { IfOk result (λ operand. value_for operand ≡ if_value (argument_values arguments.now row.now)) }
+    ensures { IfOk result (λ operand. value_for operand ≡ if_value (argument_values arguments.now (R.cells row.now))) }
 {
     match arguments {
         [condition, first, second] => match truth_of(evaluate(alloc, condition, row)?) {
@@ -213,12 +218,12 @@ fn chosen(
 
 // COALESCE: none behind the first that is no error
 #[cycle(evaluation)]
-fn first_value(
+fn first_value<R: ReadRow>(
     alloc: Global,
     arguments: &[Expression],
-    row: &[Option<Term>],
+    row: &R,
 ) -> Result<Option<Operand>, AllocError>
-    ensures { IfOk result (λ operand. value_for operand ≡ first_value (argument_values arguments.now row.now)) }
+    ensures { IfOk result (λ operand. value_for operand ≡ first_value (argument_values arguments.now (R.cells row.now))) }
 {
     for argument in arguments {
         if let Some(operand) = evaluate(alloc, argument, row)? {
@@ -230,13 +235,13 @@ fn first_value(
 
 // all arguments, where none is an error
 #[cycle(evaluation)]
-fn operands(
+fn operands<R: ReadRow>(
     alloc: Global,
     arguments: &[Expression],
-    row: &[Option<Term>],
+    row: &R,
 ) -> Result<Option<Vec<Operand>>, AllocError>
     ensures { IfOk result (λ parts. option_map (λ items. map term_for items.items) parts
-        ≡ all_values (argument_values arguments.now row.now)) }
+        ≡ all_values (argument_values arguments.now (R.cells row.now))) }
 {
     let mut parts = Vec::new(alloc);
     for argument in arguments {
@@ -250,14 +255,14 @@ fn operands(
 
 // a function of one, two or three arguments, none of which is an error
 #[cycle(evaluation)]
-fn applied(
+fn applied<R: ReadRow>(
     alloc: Global,
     function: Function,
     arguments: &[Expression],
-    row: &[Option<Term>],
+    row: &R,
 ) -> Result<Option<Operand>, AllocError>
     ensures { IfOk result (λ operand. value_for operand
-        ≡ option_and_then (functions.function_value function) (all_values (argument_values arguments.now row.now))) }
+        ≡ option_and_then (functions.function_value function) (all_values (argument_values arguments.now (R.cells row.now)))) }
 {
     match arguments {
         [first] => nodes::unary(alloc, function, evaluate(alloc, first, row)?),
@@ -279,13 +284,14 @@ fn applied(
 
 // a value and another, where that is no error
 #[cycle(evaluation)]
-fn beside(
+fn beside<R: ReadRow>(
     alloc: Global,
     left: Operand,
     right: &Expression,
-    row: &[Option<Term>],
+    row: &R,
 ) -> Result<Option<(Operand, Operand)>, AllocError>
-    ensures { IfOk result (λ both. terms_for both ≡ both_values (Some (term_for left)) (value (formula_of right.now) row.now)) }
+    ensures { IfOk result (λ both. terms_for both
+        ≡ both_values (Some (term_for left)) (value (formula_of right.now) (R.cells row.now))) }
 {
     match evaluate(alloc, right, row)? {
         None => Ok(None),

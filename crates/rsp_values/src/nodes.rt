@@ -13,6 +13,7 @@ ghost use Rattle.rsp_values.specs.Parts.{terms_for, of_two, of_third, undecided,
 ghost use Rattle.rsp_multiset.specs.Rows.{Cells};
 ghost use Rattle.rsp_terms.specs.declared.term.Term.{Term};
 
+use crate::reading::ReadRow;
 use rsp_expr::{Expression, Function};
 use rsp_operands::{Operand, binary_value, equality, ternary_value, unary_value};
 use rsp_terms::Term;
@@ -26,29 +27,26 @@ pub(crate) fn constant(term: &Term) -> Result<Option<Operand>, AllocError>
     Ok(Some(Operand::Term(term.share()?)))
 }
 
-pub(crate) fn cell(row: &[Option<Term>], variable: usize) -> Result<Option<Operand>, AllocError>
-    ensures { IfOk result (λ operand. value_for operand ≡ cell row.now variable) }
+pub(crate) fn cell<R: ReadRow>(row: &R, variable: usize) -> Result<Option<Operand>, AllocError>
+    ensures { IfOk result (λ operand. value_for operand ≡ cell (R.cells row.now) variable) }
 {
-    match row.get(variable) {
-        Some(Some(term)) => constant(term),
-        _ => Ok(None),
+    match row.term_at(variable) {
+        Some(term) => constant(term),
+        None => Ok(None),
     }
 }
 
 /// BOUND.
-pub(crate) fn bound(row: &[Option<Term>], variable: usize) -> Option<Operand>
-    ensures { value_for result ≡ boolean_result (Some (is_some (cell row.now variable))) }
+pub(crate) fn bound<R: ReadRow>(row: &R, variable: usize) -> Option<Operand>
+    ensures { value_for result ≡ boolean_result (Some (is_some (cell (R.cells row.now) variable))) }
 {
     Some(Operand::Boolean(is_bound(row, variable)))
 }
 
-fn is_bound(row: &[Option<Term>], variable: usize) -> bool
-    ensures { result ≡ is_some (cell row.now variable) }
+fn is_bound<R: ReadRow>(row: &R, variable: usize) -> bool
+    ensures { result ≡ is_some (cell (R.cells row.now) variable) }
 {
-    match row.get(variable) {
-        Some(Some(_)) => true,
-        _ => false,
-    }
+    row.term_at(variable).is_some()
 }
 
 // ---- booleans

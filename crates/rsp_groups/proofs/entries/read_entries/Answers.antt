@@ -1,6 +1,6 @@
 use Rattle.std.proofs.Common.{ap, map, ◌∙◌}
-use Rattle.rsp_groups.specs.Carrying.{row_alike}
-use Rattle.rsp_groups.proofs.Walking.{alike-twice, known-weaker, mapped-next, known-here}
+use Rattle.rsp_groups.specs.Carrying.{known_weaker, row_alike}
+use Rattle.rsp_groups.proofs.Walking.{alike-twice, mapped-next, known-here}
 use Rattle.rsp_groups.proofs.entries.read_entries.Goals as goal
 
 pub loop-index-preserved : goal.loop-index-preserved
@@ -13,7 +13,7 @@ loop-index-preserved g c =
     let shown2 = g.D.Domain.shown c.read_entry.new.domain in
     let row = c.counted_at-by.result.0.now in
     let known = known-here knows0 _ row c.counted_at-by.result.1 _ c.counted_at-by.ensures.rest c.loop-index.invariant.1 in
-    let alike = row_alike shown0 knows1 shown1 row (known-weaker c.loop-index.invariant.0 row known.0) in
+    let alike = row_alike shown0 knows1 shown1 row (known_weaker c.loop-index.invariant.0 row known.0) in
     let made = c.in_ok-read_entry.ensures in (
       alike-twice knows0 knows1 knows2 shown0 shown1 shown2 c.loop-index.invariant.0 c.read_entry.ensures.known,
       known.1,

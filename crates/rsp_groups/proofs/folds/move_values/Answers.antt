@@ -1,4 +1,4 @@
-use Rattle.std.proofs.Common.{◌≡◌, ◌<◌, ◌∙◌, sym, subst, length, ap, get_or, arith}
+use Rattle.std.proofs.Common.{◌<◌, ◌∙◌, sym, subst, length, ap, arith}
 use Rattle.std.proofs.lemmas.List.{length-set}
 use Rattle.rsp_terms.specs.declared.term.Term.{Term}
 use Rattle.std.specs.Prelude.{Option}

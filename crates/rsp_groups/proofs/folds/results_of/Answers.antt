@@ -1,4 +1,4 @@
-use Rattle.std.proofs.Common.{◌≡◌, ◌∙◌, ◌++◌, ◌+◌, ap, map, drop, arith}
+use Rattle.std.proofs.Common.{◌∙◌, ◌++◌, ◌+◌, ap, map, drop}
 use Rattle.rsp_groups.specs.Moves.{results_over}
 use Rattle.rsp_groups.proofs.Stepping.{results-next}
 use Rattle.rsp_groups.proofs.folds.results_of.Goals as goal

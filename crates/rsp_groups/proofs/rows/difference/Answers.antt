@@ -1,4 +1,3 @@
-use Rattle.std.proofs.Common.{ap, ◌∙◌}
 use Rattle.rsp_multiset.specs.Rows.{row_eq}
 use Rattle.rsp_groups.proofs.Walking.{differ}
 use Rattle.rsp_groups.proofs.rows.difference.Goals as goal

@@ -1,4 +1,5 @@
 use Rattle.std.proofs.Common.{map}
+use Rattle.rsp_groups.specs.Answers.{group_row}
 use Rattle.rsp_groups.specs.Standing.{GroupStands, GroupsStand}
 use Rattle.rsp_groups.proofs.Walking.{step-may, step-next, step-end}
 use Rattle.rsp_groups.proofs.walk.move_entries.Goals as goal
@@ -29,5 +30,6 @@ returns g c = λ domain arguments rows before after long are steps stands.
     let so_far = c.loop-entry.invariant domain arguments rows before after long are steps stands in
     step-end _ c.args.out c.args.entries.now rows c.loop-entry.entry-index c.loop-entry-test.false are
     (GroupsStand g.D.Value.PartialEq.eq (g.D.Domain.knows domain) (g.D.Domain.shown domain) c.args.grouping.now.width c.args.grouping.now.keys.items
-    (λ h. GroupStands g.F.Fold.stands g.F.Fold.aggregate arguments (map (λ a. g.F.Fold.aggregate a.fold) c.args.grouping.now.aggregates.items) h.rows h.folds.items)
+    (λ h. GroupStands g.F.Fold.stands g.F.Fold.aggregate arguments (map (λ a. g.F.Fold.aggregate a.fold) c.args.grouping.now.aggregates.items) h.rows h.folds.items) (λ h. h.given)
+    (group_row c.args.grouping.now.width (map (λ a. a.variable) c.args.grouping.now.aggregates.items) arguments (map (λ a. g.F.Fold.aggregate a.fold) c.args.grouping.now.aggregates.items))
     c.loop-entry.groups.entries) so_far.0 after so_far.1.0 so_far.1.1

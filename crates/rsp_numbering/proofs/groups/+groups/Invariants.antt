@@ -31,6 +31,18 @@ decreases-put_elements l = 8 * goal.size-put_elements l + 1
 abbrev pub decreases-group : goal.decreases-group
 decreases-group l = 8 * goal.size-group l + 2
 
+abbrev pub decreases-put_optional : goal.decreases-put_optional
+decreases-put_optional l = 8 * goal.size-put_optional l + 3
+
+abbrev pub decreases-put_minus : goal.decreases-put_minus
+decreases-put_minus l = 8 * goal.size-put_minus l + 3
+
+abbrev pub decreases-put_union : goal.decreases-put_union
+decreases-put_union l = 8 * goal.size-put_union l + 4
+
+abbrev pub decreases-put_sub : goal.decreases-put_sub
+decreases-put_sub l = 8 * goal.size-put_sub l + 3
+
 abbrev pub decreases-put_graph : goal.decreases-put_graph
 decreases-put_graph l = 8 * goal.size-put_graph l + 3
 

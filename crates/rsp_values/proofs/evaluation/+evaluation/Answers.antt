@@ -17,39 +17,41 @@ use Rattle.rsp_values.proofs.OtherLengths.{choice_of_few, choice_of_many, value_
 use Rattle.rsp_values.proofs.evaluation.+evaluation.Goals as goal
 
 pub applied-returns-in-len4-up : goal.applied-returns-in-len4-up
-applied-returns-in-len4-up t c = value_of_many c.args.function c.args.arguments.now c.args.row.now c.in-len4-up.len_at_least
+applied-returns-in-len4-up g t c = value_of_many c.args.function c.args.arguments.now (g.R.ReadRow.cells c.args.row.now) c.in-len4-up.len_at_least
 
 pub chosen-returns-in-len4-up : goal.chosen-returns-in-len4-up
-chosen-returns-in-len4-up t c = choice_of_many c.args.arguments.now c.args.row.now c.in-len4-up.len_at_least
+chosen-returns-in-len4-up g t c = choice_of_many c.args.arguments.now (g.R.ReadRow.cells c.args.row.now) c.in-len4-up.len_at_least
 
 pub chosen-returns-in-len1 : goal.chosen-returns-in-len1
-chosen-returns-in-len1 t c = choice_of_few c.args.arguments.now c.args.row.now (omega (arith, c.in-len1.len_below))
+chosen-returns-in-len1 g t c = choice_of_few c.args.arguments.now (g.R.ReadRow.cells c.args.row.now) (omega (arith, c.in-len1.len_below))
 
 pub chosen-returns-in-len2 : goal.chosen-returns-in-len2
-chosen-returns-in-len2 t c = choice_of_few c.args.arguments.now c.args.row.now (omega (arith, c.in-len2.len_below))
+chosen-returns-in-len2 g t c = choice_of_few c.args.arguments.now (g.R.ReadRow.cells c.args.row.now) (omega (arith, c.in-len2.len_below))
 
 pub applied-returns-in_ok-beside-in-Some : goal.applied-returns-in_ok-beside-in-Some
-applied-returns-in_ok-beside-in-Some t c =
+applied-returns-in_ok-beside-in-Some g t c =
+    let row = g.R.ReadRow.cells c.args.row.now in
     let a = c.first-item-then-arguments-lt3 in
     let b = c.second-item in
     let left = c.in-Some.first in
     let both = c.in_ok-beside-in-Some.field-0 in
-    let first : Some (term_for left) ≡ value (formula_of a.result) c.args.row.now = search rules in
-    let together : terms_for both ≡ both_values (Some (term_for left)) (value (formula_of b.result) c.args.row.now) = search rules in
-    let law = two_give c.args.function c.args.arguments.now c.args.row.now a.result b.result _ _
+    let first : Some (term_for left) ≡ value (formula_of a.result) row = search rules in
+    let together : terms_for both ≡ both_values (Some (term_for left)) (value (formula_of b.result) row) = search rules in
+    let law = two_give c.args.function c.args.arguments.now row a.result b.result _ _
     c.in-len2.len_at_least c.in-len2.len_below a.is b.is first together in
     IfOk-weaker c.binary.result _ _ (λ operand made. made ∙ law) c.binary.ensures
 
 pub applied-returns-in_ok-evaluate-in-Some-3 : goal.applied-returns-in_ok-evaluate-in-Some-3
-applied-returns-in_ok-evaluate-in-Some-3 t c =
+applied-returns-in_ok-evaluate-in-Some-3 g t c =
+    let row = g.R.ReadRow.cells c.args.row.now in
     let a = c.first-item-then-arguments-lt4 in
     let b = c.second-item-then-arguments-lt4 in
     let d = c.third-item in
     let left = c.in-Some-2.first in
-    let first : Some (term_for left) ≡ value (formula_of a.result) c.args.row.now = search rules in
-    let together : terms_for (Some c.in-Some-3.two) ≡ both_values (Some (term_for left)) (value (formula_of b.result) c.args.row.now) = search rules in
-    let last : value_for c.in_ok-evaluate-in-Some-3.field-0 ≡ value (formula_of d.result) c.args.row.now = search rules in
-    let law = three_give c.args.function c.args.arguments.now c.args.row.now a.result b.result d.result _ _ _
+    let first : Some (term_for left) ≡ value (formula_of a.result) row = search rules in
+    let together : terms_for (Some c.in-Some-3.two) ≡ both_values (Some (term_for left)) (value (formula_of b.result) row) = search rules in
+    let last : value_for c.in_ok-evaluate-in-Some-3.field-0 ≡ value (formula_of d.result) row = search rules in
+    let law = three_give c.args.function c.args.arguments.now row a.result b.result d.result _ _ _
     c.in-len3.len_at_least c.in-len3.len_below a.is b.is d.is first together last in
     IfOk-weaker c.ternary.result _ _ (λ operand made. made ∙ law) c.ternary.ensures
 
@@ -62,9 +64,9 @@ cut parts i part below is =
     ∙ ap (λ x. x ∷ drop (i + 1) parts) (sym is)
 
 pub connected-loop-part-preserved : goal.connected-loop-part-preserved
-connected-loop-part-preserved t c =
+connected-loop-part-preserved g t c =
     let deciding = c.args.deciding in
-    let row = c.args.row.now in
+    let row = g.R.ReadRow.cells c.args.row.now in
     let truth = c.truth_of-truth.result in
     let rest = map truth_of (argument_values (drop (c.loop-part.part-index + 1) c.args.parts.now) row) in
     let first : truth ≡ truth_of (value (formula_of c.part-item.result) row) = search rules in
@@ -79,9 +81,9 @@ connected-loop-part-preserved t c =
     ∙ c.loop-part.invariant
 
 pub connected-returns-then-decides : goal.connected-returns-then-decides
-connected-returns-then-decides t c =
+connected-returns-then-decides g t c =
     let deciding = c.args.deciding in
-    let row = c.args.row.now in
+    let row = g.R.ReadRow.cells c.args.row.now in
     let truth = c.truth_of-truth.result in
     let rest = map truth_of (argument_values (drop (c.loop-part.part-index + 1) c.args.parts.now) row) in
     let first : truth ≡ truth_of (value (formula_of c.part-item.result) row) = search rules in
@@ -96,9 +98,9 @@ connected-returns-then-decides t c =
     ∙ connective_is deciding (map truth_of (argument_values c.args.parts.now row)))
 
 pub connected-returns : goal.connected-returns
-connected-returns t c =
+connected-returns g t c =
     let deciding = c.args.deciding in
-    let row = c.args.row.now in
+    let row = g.R.ReadRow.cells c.args.row.now in
     let none = drop_of_length-le c.args.parts.now c.loop-part-test.false in
     c.boolean.ensures
     ∙ ap boolean_result
@@ -109,8 +111,8 @@ connected-returns t c =
     ∙ connective_is deciding (map truth_of (argument_values c.args.parts.now row)))
 
 pub among-returns-then-decides : goal.among-returns-then-decides
-among-returns-then-decides t c =
-    let row = c.args.row.now in
+among-returns-then-decides g t c =
+    let row = g.R.ReadRow.cells c.args.row.now in
     let item = Some (term_for c.args.item.now) in
     let truth = c.equals-truth.result in
     let rest = map (value_of_both equality item) (argument_values (drop (c.loop-other.other-index + 1) c.args.list.now) row) in
@@ -125,8 +127,8 @@ among-returns-then-decides t c =
     ∙ member_is item (argument_values c.args.list.now row)
 
 pub among-returns : goal.among-returns
-among-returns t c =
-    let row = c.args.row.now in
+among-returns g t c =
+    let row = g.R.ReadRow.cells c.args.row.now in
     let item = Some (term_for c.args.item.now) in
     let none = drop_of_length-le c.args.list.now c.loop-other-test.false in
     c.undecided.ensures
