@@ -1,7 +1,8 @@
 // The top call.
 ghost use Rattle.std.specs.Prelude.{◌≡◌, ◌≤◌, IsTrue, [], false};
 ghost use Rattle.rsp_engine.specs.Stands.{Stands, is_idle};
-ghost use Rattle.rsp_engine.specs.World.{empty_world, most_slack};
+ghost use Rattle.rsp_spec.specs.Limits.{most_slack};
+ghost use Rattle.rsp_engine.specs.World.{empty_world};
 ghost use Rattle.rsp_call.specs.Output.{start_of};
 ghost use Rattle.rsp_words.specs.Words.{mode_of};
 ghost use Rattle.rsp_call.specs.Shelves.{shelf_seen};

@@ -6,7 +6,7 @@ use Rattle.std.specs.Option.{option_map_or}
 use Rattle.std.proofs.lemmas.List.{length-map}
 use Rattle.std.proofs.lemmas.List.Elements.{All-set, All-weaker}
 use Rattle.std.proofs.lemmas.Option.{get_or_from_slice_get, same_Some, slice_get_within}
-use Rattle.rsp_spec.specs.Limits.{last_instant}
+use Rattle.rsp_spec.specs.Limits.{last_instant, most_slack}
 use Rattle.rsp_terms.specs.declared.statement.Fact.{Fact}
 use Rattle.rsp_algebra.specs.Nodes.{Node}
 use Rattle.rsp_scope.specs.Contents.{Accepted, Numbered, Watch}
@@ -25,7 +25,7 @@ use Rattle.rsp_engine.specs.Left.{IsFirstLeft, IsWaiting}
 use Rattle.rsp_engine.specs.Passing.{IsFollowed, IsReported, is_overfull_outcome, place_behind, queries_behind}
 use Rattle.rsp_engine.specs.Stands.{Fits, Follows, IsLive, IsStore, Live, State, asked_in, asked_of, cut_of, latest_in, next_in, registration_of, registrations_in, test_in, watches_in}
 use Rattle.rsp_engine.specs.Watching.{IsPrompt, IsUpTo, IsWatching, Tells, name_of, reports_by}
-use Rattle.rsp_engine.specs.World.{Registration, most_slack}
+use Rattle.rsp_engine.specs.World.{Registration}
 use Rattle.rsp_engine.proofs.DueNext.{sought_gone, sought_on}
 use Rattle.rsp_engine.proofs.Fitting.{contents_here, told_later}
 use Rattle.rsp_engine.proofs.Left.{waits_at}

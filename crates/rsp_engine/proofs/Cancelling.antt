@@ -2,7 +2,7 @@
 use Rattle.std.proofs.Common.{◌≡◌, ℕ, ◌+◌, ◌≤◌, ◌^◌, Bool, true, List, map, remove, None, refl, sym, ◌∙◌, ap, subst, arith}
 use Rattle.std.specs.List.{All}
 use Rattle.std.proofs.lemmas.List.Elements.{All-weaker}
-use Rattle.rsp_spec.specs.Limits.{last_instant}
+use Rattle.rsp_spec.specs.Limits.{last_instant, most_slack}
 use Rattle.rsp_terms.specs.declared.statement.Fact.{Fact}
 use Rattle.rsp_algebra.specs.Nodes.{Node}
 use Rattle.rsp_scope.specs.Contents.{Accepted, Numbered, Watch}
@@ -15,7 +15,6 @@ use Rattle.rsp_engine.specs.Keeping.{watches_by}
 use Rattle.rsp_engine.specs.Kept.{watches_of}
 use Rattle.rsp_engine.specs.Stands.{Fits, Follows, IsLive, Live, State, cut_of, next_in, registration_of, registrations_in, watches_in}
 use Rattle.rsp_engine.specs.Watching.{Tells}
-use Rattle.rsp_engine.specs.World.{most_slack}
 use Rattle.rsp_engine.proofs.Named.{All-remove, remove_map}
 use Rattle.rsp_engine.proofs.Needing.{less_needed}
 use Rattle.rsp_engine.proofs.BehindReport.{all_watches, watches_same}

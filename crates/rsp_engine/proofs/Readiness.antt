@@ -8,7 +8,7 @@ use Rattle.std.proofs.lemmas.Bool.Decides.{nat_tests}
 use Rattle.std.specs.Prelude.{if◌then◌else◌, slice_index_or}
 use Rattle.rsp_report.specs.Due.{IsFreshAt}
 use Rattle.std.proofs.lemmas.Simd.{map-map}
-use Rattle.rsp_spec.specs.Limits.{last_instant}
+use Rattle.rsp_spec.specs.Limits.{last_instant, most_slack}
 use Rattle.rsp_terms.specs.declared.statement.Fact.{Fact}
 use Rattle.rsp_terms.specs.declared.statement.Triple.{Triple}
 use Rattle.rsp_algebra.specs.Changing.{IsSet}
@@ -30,7 +30,6 @@ use Rattle.rsp_engine.specs.Keeping.{IsUnmoved, watches_followed}
 use Rattle.rsp_engine.specs.Left.{IsFirstLeft}
 use Rattle.rsp_engine.specs.Passing.{Begins, Passes, is_refused_slack, unwatched}
 use Rattle.rsp_engine.specs.Stands.{Fits, IsLive, IsState, IsStore, Live, State, asked_in, asked_of, cut_of, is_idle, latest_in, next_in, registration_of, registrations_in, watches_in}
-use Rattle.rsp_engine.specs.World.{most_slack}
 use Rattle.rsp_engine.specs.Watching.{Asked, IsPrompt, IsUpTo, IsWatching, Tells, name_of, reports_by}
 use Rattle.rsp_engine.proofs.FactSets.{store_new}
 use Rattle.rsp_engine.proofs.Fitting.{fits_passed}

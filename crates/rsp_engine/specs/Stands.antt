@@ -2,7 +2,7 @@
 use Rattle.std.specs.Prelude.{◌≡◌, ℕ, ℤ, pos, ◌+◌, ◌+ℤ◌, ◌-◌, ◌*◌, ◌<◌, ◌≤◌, ◌↔◌, Bool, true, false, ◌||◌, not, if◌then◌else◌, Option, None, Some, List, [], ◌∷◌, ⊤, filter, length, map, slice_get, take, bytes_eq, unwrap_or}
 use Rattle.std.specs.List.{All, IsDistinct, flat_map}
 use Rattle.std.specs.Option.{is_some, option_map_or, ForSome}
-use Rattle.rsp_spec.specs.Limits.{last_instant}
+use Rattle.rsp_spec.specs.Limits.{last_instant, most_slack}
 use Rattle.rsp_terms.specs.declared.statement.Fact.{Fact}
 use Rattle.rsp_terms.specs.declared.statement.Triple.{Triple}
 use Rattle.rsp_terms.specs.declared.statement.Spot.TheVariants as spot
@@ -24,7 +24,7 @@ use Rattle.rsp_scope.specs.Logged.{since}
 use Rattle.rsp_scope.specs.Logged.{Log}
 use Rattle.rsp_engine.specs.declared.schedule.Pending.{Pending}
 use Rattle.rsp_engine.specs.declared.live_query.StreamWindow.{StreamWindow}
-use Rattle.rsp_engine.specs.World.{World, Query, Reading, Registration, most_slack, registrations}
+use Rattle.rsp_engine.specs.World.{World, Query, Reading, Registration, registrations}
 use Rattle.rsp_engine.specs.Contents.{watches}
 use Rattle.rsp_scope.specs.declared.item.Item.{Item}
 use Rattle.rsp_engine.specs.Bounds.{IsWorld}

@@ -50,10 +50,6 @@ pub record World : Type 0 where
 abbrev pub registrations : World → List Registration
 registrations world = map (λ (query : Query). query.registration) world.queries
 
--- the most slack: a day
-abbrev pub most_slack : ℕ
-most_slack = 86400000
-
 abbrev pub empty_world : ℕ → World
 empty_world slack = record { slack = slack; next = None; items = []; stored = []; queries = [] }
 

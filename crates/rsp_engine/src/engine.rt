@@ -78,7 +78,7 @@ impl<A: Answer> Engine<A> {
     ghost use Rattle.std.specs.Prelude.{IsTrue, MatchOption, Ok, OnOk, OnErr, Some, IfErr, IfOk, length, slice_get};
     ghost use Rattle.std.specs.List.{All, list_any};
     ghost use Rattle.std.specs.Option.{is_some, option_map_or};
-    ghost use Rattle.rsp_spec.specs.Limits.{last_instant};
+    ghost use Rattle.rsp_spec.specs.Limits.{last_instant, most_slack};
     ghost use Rattle.rsp_terms.specs.declared.statement.Triple.{Triple};
     ghost use Rattle.rsp_syntax.specs.Deciding.{parse};
     ghost use Rattle.rsp_query.specs.Meanings.{registered};
@@ -90,7 +90,7 @@ impl<A: Answer> Engine<A> {
     ghost use Rattle.rsp_engine.specs.Keeping.{accepted_of, excess, watches_followed};
     ghost use Rattle.rsp_engine.specs.Kept.{held};
     ghost use Rattle.rsp_engine.specs.Passing.{Begins, CostsFirst, IsAsked, Passes, ReportsFirst, came_over, is_refused_slack, next_after};
-    ghost use Rattle.rsp_engine.specs.World.{World, empty_world, most_slack};
+    ghost use Rattle.rsp_engine.specs.World.{World, empty_world};
     ghost use Rattle.rsp_engine.specs.Moments.{Moment};
     ghost use Rattle.rsp_engine.specs.Stands.{Live, Stands, is_idle, next_in, registrations_in, watches_in};
     ghost use Rattle.rsp_engine.specs.Offers.{Offers, NextReport};
@@ -105,8 +105,8 @@ impl<A: Answer> Engine<A> {
         Engine::with_slack(alloc, 0)
     }
 
-    /// An engine that has taken no event, whose items may be so many ms behind the latest one: at most `MOST_SLACK`. Takes no
-    /// memory.
+    /// An engine that has taken no event, whose items may be so many ms behind the latest one: at most 86,400,000, a day. Takes
+    /// no memory.
     pub fn with_slack(alloc: Global, slack: u64) -> Engine<A>
         requires { slack ≤ most_slack }
         ensures { Stands result (empty_world slack) [] }

@@ -39,10 +39,6 @@ count-moved false n a b c first second = omega (arith, first, second)
 count-moved true n a b c first second = omega (arith, first, second)
 
 -- what may be taken is within the bounds of a fold
-pub short-before : {A : Type 0} (n : ℕ) (x : A) (before after : List A) → Moved false n x before after → IsShort after
-    → IsShort (copies n x ++ before)
-short-before n x before after moved short = subst IsShort moved short
-
 pub room-before : {A : Type 0} (n : ℕ) (x : A) (before after : List A) → Moved false n x before after → IsShort after
     → length before + n ≤ 4294967296
 room-before n x before after moved short = let all = more-long n x before after moved in omega (arith, all, short)

@@ -33,6 +33,10 @@ most_quads = 1000000
 abbrev pub most_rows : ℕ
 most_rows = 1000000
 
+-- ms that an item may be behind the latest one, at most: a day
+abbrev pub most_slack : ℕ
+most_slack = 86400000
+
 -- bytes of a block of a log
 abbrev pub most_block_bytes : ℕ
 most_block_bytes = 16777216

@@ -6,6 +6,7 @@ use Rattle.std.specs.Map.{lookup}
 use Rattle.std.specs.Option.{is_some, option_and_then, option_map_or, option_or}
 use Rattle.std.specs.Path.{rsplit_once}
 use Rattle.std.specs.Str.{byte, chars}
+use Rattle.rsp_spec.specs.Limits.{most_slack}
 use Rattle.rsp_terms.specs.Characters.{is_iri_text}
 use Rattle.rsp_text.specs.Digits.{read_u64}
 use Rattle.rsp_words.specs.declared.form.Form.{Form}
@@ -122,7 +123,7 @@ is_count count = nat_le 1 count && nat_le count 1000000
 -- a slack in milliseconds, in digits: at most a day; none is 0
 abbrev pub slack_read : Option (List ℕ) → Option ℕ
 slack_read None = Some 0
-slack_read (Some digits) = option_and_then (λ slack. then_some (nat_le slack 86400000) slack) (read_u64 digits)
+slack_read (Some digits) = option_and_then (λ slack. then_some (nat_le slack most_slack) slack) (read_u64 digits)
 
 abbrev pub log_for : Form → List (List ℕ) → Option ℕ → Option Log
 log_for form [] slack = option_map (λ slack. record { form = form; slack = slack }) slack
