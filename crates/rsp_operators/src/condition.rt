@@ -21,8 +21,8 @@ pub trait Condition<D: Domain> {
         requires { IsKnown (D.knows domain.now) row.now }
         ensures { IfOk result (λ holds. holds ≡ test self.now (shown_row (D.shown domain.now) row.now)) };
 
-    /// Whether it holds on the merge of the rows (SPARQL 1.1 Query, section 18.3), which need not be made to ask. Fails only where
-    /// memory is refused.
+    /// Whether it holds on the merge of the rows (SPARQL 1.1 Query, section 18.3), which need not be made to
+    /// ask. Fails only where memory is refused.
     fn holds_on_merge(
         &self,
         left: &Row<D::Value>,

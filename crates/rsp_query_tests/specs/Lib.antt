@@ -1,0 +1,2 @@
+-- Words of the way: they link code to definitions, and need no belief
+pub mod Followed

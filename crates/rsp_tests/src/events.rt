@@ -100,20 +100,54 @@ fn describe_event(alloc: Global, number: u64, event: &Event) -> Result<String, A
     }
 }
 
+fn push_block(alloc: Global, text: &mut String, block: &Block) -> Result<(), AllocError> {
+    let said = describe(alloc, block)?;
+    text.push_str(said.as_str())
+}
+
+// the blocks that end in the piece
+fn push_fed(
+    alloc: Global,
+    text: &mut String,
+    blocks: &mut Blocks,
+    piece: &[u8],
+) -> Result<(), AllocError> {
+    let fed = blocks.feed(piece)?;
+    for block in fed.as_slice() {
+        push_block(alloc, text, block)?;
+    }
+    Ok(())
+}
+
+fn push_last(alloc: Global, text: &mut String, blocks: &mut Blocks) -> Result<(), AllocError> {
+    match blocks.finish()? {
+        Some(last) => push_block(alloc, text, &last),
+        None => Ok(()),
+    }
+}
+
 // the blocks of a log that comes in pieces of `size` bytes
+fn push_all(
+    alloc: Global,
+    text: &mut String,
+    blocks: &mut Blocks,
+    log: &[u8],
+    size: usize,
+) -> Result<(), AllocError>
+    requires { 0 < size }
+{
+    for piece in log.chunks(size) {
+        push_fed(alloc, text, blocks, piece)?;
+    }
+    push_last(alloc, text, blocks)
+}
+
 fn read(alloc: Global, log: &[u8], size: usize) -> Result<String, AllocError>
     requires { 0 < size }
 {
     let mut blocks = Blocks::new(alloc, 7);
     let mut text = String::new(alloc);
-    for piece in log.chunks(size) {
-        for block in blocks.feed(piece)?.as_slice() {
-            text.push_str(describe(alloc, block)?.as_str())?;
-        }
-    }
-    if let Some(last) = blocks.finish()? {
-        text.push_str(describe(alloc, &last)?.as_str())?;
-    }
+    push_all(alloc, &mut text, &mut blocks, log, size)?;
     Ok(text)
 }
 

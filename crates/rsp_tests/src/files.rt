@@ -1,5 +1,7 @@
 // Files of recorded streams and of stored quads, and several streams as one.
-use rsp_events::{Event, LineRefused, RefusedAs, loaded, merge, recorded};
+use rsp_events::{
+    Event, LineRefused, LoadedQuads, RecordedItems, RefusedAs, loaded, merge, recorded,
+};
 use rsp_terms::{Listed, Quad, Term, Text, print};
 use std::alloc::{AllocError, Global};
 use std::str;
@@ -88,12 +90,11 @@ fn describe_item(alloc: Global, event: &Event) -> Result<String, AllocError> {
     }
 }
 
-fn describe_items(alloc: Global, items: &Listed<Event>) -> Result<String, AllocError> {
-    let mut text = String::new(alloc);
+fn push_items(alloc: Global, text: &mut String, items: &Listed<Event>) -> Result<(), AllocError> {
     for item in items.as_slice() {
         text.push_str(describe_item(alloc, item)?.as_str())?;
     }
-    Ok(text)
+    Ok(())
 }
 
 fn printed(alloc: Global, term: &Term) -> Result<String, AllocError> {
@@ -114,7 +115,61 @@ fn describe_quad(alloc: Global, quad: &Quad) -> Result<String, AllocError> {
     format!(in alloc; "{subject} in {graph}\n")
 }
 
-fn item(alloc: Global, stream: &str, time: u64) -> Result<Event, AllocError> {
+fn push_quads(alloc: Global, text: &mut String, quads: &Listed<Quad>) -> Result<(), AllocError> {
+    for quad in quads.as_slice() {
+        text.push_str(describe_quad(alloc, quad)?.as_str())?;
+    }
+    Ok(())
+}
+
+fn describe_recorded(alloc: Global, read: &RecordedItems) -> Result<String, AllocError> {
+    let mut text = String::new(alloc);
+    push_items(alloc, &mut text, &read.items)?;
+    push_refused(alloc, &mut text, &read.refused)?;
+    Ok(text)
+}
+
+fn stream_says(alloc: Global) -> Result<String, AllocError> {
+    let stream = Text::new(alloc, "s:a")?;
+    let read = recorded(alloc, &stream, 3, STREAM)?;
+    describe_recorded(alloc, &read)
+}
+
+#[test]
+fn a_stream_has_items_and_refused_lines(rt: HostRuntime) -> Result<(), Fail> {
+    assert_eq!(rt; stream_says(rt.alloc())?.as_str(), STREAM_SAYS);
+    Ok(())
+}
+
+fn describe_loaded(alloc: Global, read: &LoadedQuads) -> Result<String, AllocError> {
+    let mut text = String::new(alloc);
+    push_quads(alloc, &mut text, &read.quads)?;
+    push_refused(alloc, &mut text, &read.refused)?;
+    Ok(text)
+}
+
+fn store_says(alloc: Global) -> Result<String, AllocError> {
+    let read = loaded(alloc, 3, STORE)?;
+    describe_loaded(alloc, &read)
+}
+
+#[test]
+fn a_store_has_quads_and_refused_lines(rt: HostRuntime) -> Result<(), Fail> {
+    assert_eq!(rt; store_says(rt.alloc())?.as_str(), STORE_SAYS);
+    Ok(())
+}
+
+// streams with times; one without a name is a tick
+const FIRST: [(&str, u64); 2] = [("s:a2", 2), ("s:a1", 1)];
+
+const SECOND: [(&str, u64); 4] = [("s:b1", 1), ("", 1), ("s:b1again", 1), ("s:b0", 0)];
+
+const MERGED: &str = "s:b0 0: 0\ns:a1 1: 0\ns:b1 1: 0\ns:b1again 1: 0\ns:a2 2: 0\n";
+
+fn event(alloc: Global, stream: &str, time: u64) -> Result<Event, AllocError> {
+    if stream.is_empty() {
+        return Ok(Event::Tick { time });
+    }
     Ok(Event::Item {
         stream: Text::new(alloc, stream)?,
         time,
@@ -122,47 +177,30 @@ fn item(alloc: Global, stream: &str, time: u64) -> Result<Event, AllocError> {
     })
 }
 
-#[test]
-fn a_stream_has_items_and_refused_lines(rt: HostRuntime) -> Result<(), Fail> {
-    let alloc = rt.alloc();
-    let stream = Text::new(alloc, "s:a")?;
-    let read = recorded(alloc, &stream, 3, STREAM)?;
-    let mut text = describe_items(alloc, &read.items)?;
-    push_refused(alloc, &mut text, &read.refused)?;
-    assert_eq!(rt; text.as_str(), STREAM_SAYS);
-    Ok(())
+fn events(alloc: Global, of: &[(&str, u64)]) -> Result<Listed<Event>, AllocError> {
+    let mut events = Vec::new(alloc);
+    for (stream, time) in of {
+        events.push(event(alloc, stream, *time)?)?;
+    }
+    Ok(Listed::from_vec(events))
 }
 
-#[test]
-fn a_store_has_quads_and_refused_lines(rt: HostRuntime) -> Result<(), Fail> {
-    let alloc = rt.alloc();
-    let read = loaded(alloc, 3, STORE)?;
+fn three_lists(alloc: Global) -> Result<Listed<Listed<Event>>, AllocError> {
+    let first = events(alloc, &FIRST)?;
+    let second = events(alloc, &SECOND)?;
+    let lists = Vec::from_array(alloc, [first, Listed::new(alloc), second])?;
+    Ok(Listed::from_vec(lists))
+}
+
+fn merged_says(alloc: Global) -> Result<String, AllocError> {
+    let merged = merge(alloc, three_lists(alloc)?)?;
     let mut text = String::new(alloc);
-    for quad in read.quads.as_slice() {
-        text.push_str(describe_quad(alloc, quad)?.as_str())?;
-    }
-    push_refused(alloc, &mut text, &read.refused)?;
-    assert_eq!(rt; text.as_str(), STORE_SAYS);
-    Ok(())
+    push_items(alloc, &mut text, &merged)?;
+    Ok(text)
 }
 
 #[test]
 fn streams_are_one_by_time_list_and_place(rt: HostRuntime) -> Result<(), Fail> {
-    let alloc = rt.alloc();
-    let mut first = Listed::new(alloc);
-    first.push(item(alloc, "s:a2", 2)?)?;
-    first.push(item(alloc, "s:a1", 1)?)?;
-    let mut second = Listed::new(alloc);
-    second.push(item(alloc, "s:b1", 1)?)?;
-    second.push(Event::Tick { time: 1 })?;
-    second.push(item(alloc, "s:b1again", 1)?)?;
-    second.push(item(alloc, "s:b0", 0)?)?;
-    let mut lists = Listed::new(alloc);
-    lists.push(first)?;
-    lists.push(Listed::new(alloc))?;
-    lists.push(second)?;
-    let merged = merge(alloc, lists)?;
-    let expected = "s:b0 0: 0\ns:a1 1: 0\ns:b1 1: 0\ns:b1again 1: 0\ns:a2 2: 0\n";
-    assert_eq!(rt; describe_items(alloc, &merged)?.as_str(), expected);
+    assert_eq!(rt; merged_says(rt.alloc())?.as_str(), MERGED);
     Ok(())
 }

@@ -10,57 +10,115 @@ use std::test::Fail;
 // a row of IRIs; the empty text is an unbound cell
 fn row(alloc: Global, iris: &[&str]) -> Result<Row<Term>, AllocError> {
     let mut cells = Vec::new(alloc);
-    for iri in iris {
-        if iri.is_empty() {
-            cells.push(None)?;
-        } else {
-            cells.push(Some(Term::Iri(Text::new(alloc, iri)?)))?;
-        }
+    for text in iris {
+        cells.push(cell(alloc, text)?)?;
     }
     Ok(Row::new(cells))
 }
 
+fn cell(alloc: Global, text: &str) -> Result<Option<Term>, AllocError> {
+    if text.is_empty() {
+        return Ok(None);
+    }
+    Ok(Some(iri(alloc, text)?))
+}
+
+// the variables s and o
+fn variables(alloc: Global) -> Result<Vec<Text>, AllocError> {
+    let first = Text::new(alloc, "s")?;
+    let second = Text::new(alloc, "o")?;
+    Ok(Vec::from_array(alloc, [first, second])?)
+}
+
+// the rows of these pairs
+fn pairs(alloc: Global, of: &[(&str, &str)]) -> Result<Listed<Row<Term>>, AllocError> {
+    let mut rows = Listed::new(alloc);
+    for (first, second) in of {
+        rows.push(row(alloc, &[first, second])?)?;
+    }
+    Ok(rows)
+}
+
+// a report, and an overfull one
+fn write_both(
+    alloc: Global,
+    variables: &[Text],
+    rows: &[Row<Term>],
+    out: &mut Vec<u8>,
+) -> Result<(), AllocError> {
+    report_text(alloc, "q", 10_000, variables, rows, out)?;
+    overfull_text(alloc, "q", 20_000, out)
+}
+
+const IN_TEXT: &str = "# report q 10000 2\n?s\t?o\n<a:1>\t<a:2>\n\t<a:4>\n# overfull q 20000\n";
+
+fn are_both_told(alloc: Global, rows: &[Row<Term>]) -> Result<bool, AllocError> {
+    let variables = variables(alloc)?;
+    let mut out = Vec::new(alloc);
+    write_both(alloc, &variables, rows, &mut out)?;
+    Ok(out.as_slice() == IN_TEXT.as_bytes())
+}
+
+fn is_report_told(alloc: Global) -> Result<bool, AllocError> {
+    let rows = pairs(alloc, &[("a:1", "a:2"), ("", "a:4")])?;
+    are_both_told(alloc, rows.as_slice())
+}
+
+fn is_row_told(alloc: Global) -> Result<bool, AllocError> {
+    let row = row(alloc, &["a:1", "a:2"])?;
+    let text = row_text(alloc, &row)?;
+    Ok(text.as_slice() == b"<a:1>\t<a:2>".as_slice())
+}
+
 #[test]
 fn report_has_head_variables_and_rows(rt: HostRuntime) -> Result<(), Fail> {
-    let alloc = rt.alloc();
-    let variables = [Text::new(alloc, "s")?, Text::new(alloc, "o")?];
-    let rows = [row(alloc, &["a:1", "a:2"])?, row(alloc, &["", "a:4"])?];
-    let mut out = Vec::new(alloc);
-    report_text(alloc, "q", 10_000, &variables, &rows, &mut out)?;
-    overfull_text(alloc, "q", 20_000, &mut out)?;
-    let wanted = "# report q 10000 2\n?s\t?o\n<a:1>\t<a:2>\n\t<a:4>\n# overfull q 20000\n";
-    assert_eq!(rt; out.as_slice(), wanted.as_bytes());
-    let first = row_text(alloc, &rows[0])?;
-    assert_eq!(rt; first.as_slice(), "<a:1>\t<a:2>".as_bytes());
+    assert!(rt; is_report_told(rt.alloc())?);
+    assert!(rt; is_row_told(rt.alloc())?);
     Ok(())
+}
+
+const GIVEN: [(&str, &str); 5] = [
+    ("b:1", "z:1"),
+    ("a:2", "z:1"),
+    ("b:1", "z:1"),
+    ("", "z:1"),
+    ("a:1", "z:1"),
+];
+
+const ORDERED: [(&str, &str); 5] = [
+    ("", "z:1"),
+    ("a:1", "z:1"),
+    ("a:2", "z:1"),
+    ("b:1", "z:1"),
+    ("b:1", "z:1"),
+];
+
+fn are_ordered(alloc: Global) -> Result<bool, AllocError> {
+    let rows = ordered(alloc, pairs(alloc, &GIVEN)?)?;
+    let wanted = pairs(alloc, &ORDERED)?;
+    Ok(rows == wanted)
 }
 
 #[test]
 fn rows_of_one_text_stand_together(rt: HostRuntime) -> Result<(), Fail> {
-    let alloc = rt.alloc();
-    let mut rows = Listed::new(alloc);
-    for first in ["b:1", "a:2", "b:1", "", "a:1"] {
-        rows.push(row(alloc, &[first, "z:1"])?)?;
-    }
-    let mut wanted = Listed::new(alloc);
-    for first in ["", "a:1", "a:2", "b:1", "b:1"] {
-        wanted.push(row(alloc, &[first, "z:1"])?)?;
-    }
-    assert!(rt; ordered(alloc, rows)? == wanted);
+    assert!(rt; are_ordered(rt.alloc())?);
     Ok(())
+}
+
+fn listed_in_order(alloc: Global, bag: &Bag<Term>) -> Result<Listed<Row<Term>>, AllocError> {
+    ordered(alloc, rows_of(alloc, bag)?)
+}
+
+fn is_bag_listed(alloc: Global) -> Result<bool, AllocError> {
+    let bag = bag_of(alloc, &[("b:1", 2), ("a:1", 1)])?;
+    let rows = listed_in_order(alloc, &bag)?;
+    let wanted = listed(alloc, &["a:1", "b:1", "b:1"])?;
+    Ok(rows == wanted)
 }
 
 #[test]
 fn a_row_is_listed_as_often_as_it_is_there(rt: HostRuntime) -> Result<(), Fail> {
-    let alloc = rt.alloc();
-    let mut bag = Bag::new(alloc);
-    bag.add(row(alloc, &["b:1"])?, 2)?;
-    bag.add(row(alloc, &["a:1"])?, 1)?;
-    let mut wanted = Listed::new(alloc);
-    for first in ["a:1", "b:1", "b:1"] {
-        wanted.push(row(alloc, &[first])?)?;
-    }
-    assert!(rt; ordered(alloc, rows_of(alloc, &bag)?)? == wanted);
+    assert!(rt; is_bag_listed(rt.alloc())?);
     Ok(())
 }
 
@@ -118,29 +176,47 @@ fn turned(
     turn(alloc, operator, &change, &solutions)
 }
 
+// an operator, a change, the solutions, and the rows that are reported
+type OperatorCase = (
+    Operator,
+    &'static [(&'static str, i64)],
+    &'static [(&'static str, u64)],
+    &'static [&'static str],
+);
+
+const OPERATOR_CASES: [OperatorCase; 6] = [
+    (Operator::Rstream, CHANGE, PRESENT, ALL),
+    (Operator::Rstream, OTHER_CHANGE, PRESENT, ALL),
+    (Operator::Istream, CHANGE, PRESENT, NEW),
+    (Operator::Istream, CHANGE, OTHER_ROWS, NEW),
+    (Operator::Dstream, CHANGE, PRESENT, GONE),
+    (Operator::Dstream, CHANGE, OTHER_ROWS, GONE),
+];
+
+fn is_reported(
+    alloc: Global,
+    operator: Operator,
+    change: &[(&str, i64)],
+    solutions: &[(&str, u64)],
+    iris: &[&str],
+) -> Result<bool, AllocError> {
+    let rows = turned(alloc, operator, change, solutions)?;
+    let wanted = listed(alloc, iris)?;
+    Ok(rows == wanted)
+}
+
 #[test]
 fn an_operator_reads_its_own_part(rt: HostRuntime) -> Result<(), Fail> {
-    let alloc = rt.alloc();
-    for (operator, change, solutions, rows) in [
-        (Operator::Rstream, CHANGE, PRESENT, ALL),
-        (Operator::Rstream, OTHER_CHANGE, PRESENT, ALL),
-        (Operator::Istream, CHANGE, PRESENT, NEW),
-        (Operator::Istream, CHANGE, OTHER_ROWS, NEW),
-        (Operator::Dstream, CHANGE, PRESENT, GONE),
-        (Operator::Dstream, CHANGE, OTHER_ROWS, GONE),
-    ] {
-        let wanted = listed(alloc, rows)?;
-        assert!(rt; turned(alloc, operator, change, solutions)? == wanted);
+    for (operator, change, solutions, rows) in &OPERATOR_CASES {
+        assert!(rt; is_reported(rt.alloc(), *operator, change, solutions, rows)?);
     }
     Ok(())
 }
 
 #[test]
 fn what_has_not_changed_is_not_reported(rt: HostRuntime) -> Result<(), Fail> {
-    let alloc = rt.alloc();
     for operator in [Operator::Istream, Operator::Dstream] {
-        let rows = turned(alloc, operator, &[], PRESENT)?;
-        assert!(rt; rows.as_slice().is_empty());
+        assert!(rt; is_reported(rt.alloc(), operator, &[], PRESENT, &[])?);
     }
     Ok(())
 }
@@ -193,26 +269,57 @@ fn pair(alloc: Global, subject: Option<Term>, object: Term) -> Result<Row<Term>,
     Ok(Row::new(Vec::from_array(alloc, [subject, Some(object)])?))
 }
 
+fn string_row(alloc: Global) -> Result<Row<Term>, AllocError> {
+    let subject = iri(alloc, "a:1")?;
+    let object = literal(alloc, "\"\\/\té", XSD_STRING)?;
+    pair(alloc, Some(subject), object)
+}
+
+fn number_row(alloc: Global) -> Result<Row<Term>, AllocError> {
+    let subject = blank(alloc, "l.1")?;
+    let object = literal(alloc, "1", "d:t")?;
+    pair(alloc, Some(subject), object)
+}
+
+fn tagged_row(alloc: Global) -> Result<Row<Term>, AllocError> {
+    pair(alloc, None, tagged(alloc, "chat", "fr")?)
+}
+
 // a term of each kind, and an unbound variable
-fn each_kind(alloc: Global) -> Result<Listed<Row<Term>>, AllocError> {
-    let mut rows = Listed::new(alloc);
-    let string = literal(alloc, "\"\\/\té", XSD_STRING)?;
-    rows.push(pair(alloc, Some(iri(alloc, "a:1")?), string)?)?;
-    let number = literal(alloc, "1", "d:t")?;
-    rows.push(pair(alloc, Some(blank(alloc, "l.1")?), number)?)?;
-    rows.push(pair(alloc, None, tagged(alloc, "chat", "fr")?)?)?;
+fn each_kind(alloc: Global) -> Result<Vec<Row<Term>>, AllocError> {
+    let mut rows = Vec::new(alloc);
+    rows.push(string_row(alloc)?)?;
+    rows.push(number_row(alloc)?)?;
+    rows.push(tagged_row(alloc)?)?;
     Ok(rows)
+}
+
+fn write_in_json(
+    alloc: Global,
+    variables: &[Text],
+    rows: &[Row<Term>],
+    out: &mut Vec<u8>,
+) -> Result<(), AllocError> {
+    report_json(alloc, "q", 10_000, variables, rows, out)?;
+    report_json(alloc, "q", 20_000, variables, &[], out)
+}
+
+fn told_in_json(alloc: Global) -> Result<Vec<u8>, AllocError> {
+    let variables = variables(alloc)?;
+    let rows = each_kind(alloc)?;
+    let mut out = Vec::new(alloc);
+    write_in_json(alloc, &variables, &rows, &mut out)?;
+    Ok(out)
+}
+
+fn is_told_in_json(alloc: Global) -> Result<bool, AllocError> {
+    let told = told_in_json(alloc)?;
+    let wanted = joined(alloc, IN_JSON)?;
+    Ok(told.as_slice() == wanted.as_slice())
 }
 
 #[test]
 fn a_report_is_a_line_of_json(rt: HostRuntime) -> Result<(), Fail> {
-    let alloc = rt.alloc();
-    let variables = [Text::new(alloc, "s")?, Text::new(alloc, "o")?];
-    let rows = each_kind(alloc)?;
-    let mut out = Vec::new(alloc);
-    report_json(alloc, "q", 10_000, &variables, rows.as_slice(), &mut out)?;
-    report_json(alloc, "q", 20_000, &variables, &[], &mut out)?;
-    let wanted = joined(alloc, IN_JSON)?;
-    assert_eq!(rt; out.as_slice(), wanted.as_slice());
+    assert!(rt; is_told_in_json(rt.alloc())?);
     Ok(())
 }

@@ -1,4 +1,4 @@
-use Rattle.rsp_plan_tests.proofs.plans.beside.Given as goal
+use Rattle.rsp_query_tests.proofs.plans.beside.Given as goal
 
 -- the ledger of a count that nobody reads
 abbrev pub ghosts-run_beside : goal.ghosts-run_beside

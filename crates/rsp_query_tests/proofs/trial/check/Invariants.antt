@@ -1,8 +1,8 @@
 use Rattle.std.proofs.Common.{ℤ, drop}
 use Rattle.std.specs.List.{AllByRecursion}
 use Rattle.rsp_terms.specs.declared.statement.Fact.{Fact}
-use Rattle.rsp_plan_tests.specs.Followed.{Turns, MayTurn}
-use Rattle.rsp_plan_tests.proofs.trial.check.Given as goal
+use Rattle.rsp_query_tests.specs.Followed.{Turns, MayTurn}
+use Rattle.rsp_query_tests.proofs.trial.check.Given as goal
 
 abbrev pub invariant-loop-index : goal.invariant-loop-index
 invariant-loop-index l =

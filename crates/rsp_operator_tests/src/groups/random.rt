@@ -1,8 +1,8 @@
 // Random changes, beside values made anew.
 ghost use Rattle.std.specs.Prelude.{◌<◌};
 
-use crate::column::{Asked, Trial, groups, of_values, rows_counted};
-use crate::values::{decimal, integer, value};
+use super::column::{Asked, Trial, groups, of_values, rows_counted};
+use super::values::{decimal, integer, value};
 use rsp_functions::Kind;
 use rsp_multiset::{Changes, Row};
 use rsp_terms::Term;

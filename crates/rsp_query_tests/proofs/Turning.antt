@@ -6,7 +6,7 @@ use Rattle.rsp_multiset.specs.Weights.{only, weight, times, Holds}
 use Rattle.rsp_terms.specs.declared.statement.Fact.{Fact}
 use Rattle.rsp_terms.specs.Same.{fact_eq, fact_same}
 use Rattle.rsp_algebra.specs.Changing.{MayChange}
-use Rattle.rsp_plan_tests.specs.Followed.{Turns, MayTurn}
+use Rattle.rsp_query_tests.specs.Followed.{Turns, MayTurn}
 
 module _ {E : Type 0} (eq : E → E → Bool) (same : (x y : E) → Decides (eq x y) (x ≡ y)) where
   -- what each entry has, each value has that is weighed

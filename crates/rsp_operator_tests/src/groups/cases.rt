@@ -1,6 +1,6 @@
 // Small cases. A row has a key, a value, and a place for the aggregate.
-use crate::column::{Asked, Trial, begins_with, gives, groups, of_values, rows_counted};
-use crate::values::Line;
+use super::column::{Asked, Trial, begins_with, gives, groups, of_values, rows_counted};
+use super::values::Line;
 use rsp_functions::Kind;
 use std::alloc::Global;
 use std::test::Fail;

@@ -5,7 +5,7 @@ ghost use Rattle.rsp_terms.specs.declared.statement.Fact.{Fact};
 ghost use Rattle.rsp_terms.specs.Same.{fact_eq};
 ghost use Rattle.rsp_algebra.specs.Changing.{is_overfull};
 ghost use Rattle.rsp_algebra.specs.Fitting.{IsPlaced};
-ghost use Rattle.rsp_plan_tests.specs.Followed.{MayTurn};
+ghost use Rattle.rsp_query_tests.specs.Followed.{MayTurn};
 
 use rsp_algebra::{Answer, Translated, Turn};
 use rsp_multiset::{Bag, Changes, Count};
@@ -27,7 +27,7 @@ pub(crate) struct Trial<A: Answer> {
 impl<A: Answer> Model for Trial<A> {
     ghost use Rattle.std.specs.Prelude.{◌≡◌, true, List, ℤ};
     ghost use Rattle.rsp_terms.specs.declared.statement.Fact.{Fact};
-    ghost use Rattle.rsp_plan_tests.specs.Followed.{Follows};
+    ghost use Rattle.rsp_query_tests.specs.Followed.{Follows};
 
     ghost Value = { List (Fact × ℤ) };
 

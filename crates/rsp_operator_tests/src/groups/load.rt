@@ -1,6 +1,6 @@
 // Groups under load: many rows, of which one changes at a time. A body that walks a group would take hours.
-use crate::column::{Asked, Trial, groups, of_values, rows_counted};
-use crate::values::{integer, value};
+use super::column::{Asked, Trial, groups, of_values, rows_counted};
+use super::values::{integer, value};
 use rsp_functions::Kind;
 use rsp_multiset::{Changes, Row};
 use rsp_terms::Term;

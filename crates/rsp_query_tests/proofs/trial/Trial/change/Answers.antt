@@ -1,6 +1,6 @@
 use Rattle.std.proofs.Common.{rules}
-use Rattle.rsp_plan_tests.proofs.Turning.{may_change}
-use Rattle.rsp_plan_tests.proofs.trial.Trial.change.Goals as goal
+use Rattle.rsp_query_tests.proofs.Turning.{may_change}
+use Rattle.rsp_query_tests.proofs.trial.Trial.change.Goals as goal
 
 pub change-requires-clause-allowed : goal.change-requires-clause-allowed
 change-requires-clause-allowed g c =

@@ -1,7 +1,7 @@
 // Groups on trial.
 ghost use Rattle.std.specs.Prelude.{◌≡◌, IfOk};
 
-use crate::values::{Line, change};
+use super::values::{Line, change};
 use rsp_aggregates::Folding;
 use rsp_functions::Kind;
 use rsp_groups::{Aggregated, GroupOp, Grouping};
