@@ -1,29 +1,15 @@
 // The top call.
-ghost use Rattle.std.specs.Prelude.{◌≡◌, ◌≤◌, IsTrue, [], false};
-ghost use Rattle.rsp_engine.specs.Stands.{Stands, is_idle};
-ghost use Rattle.rsp_spec.specs.Limits.{most_slack};
-ghost use Rattle.rsp_engine.specs.World.{empty_world};
-ghost use Rattle.rsp_call.specs.Output.{start_of};
+ghost use Rattle.std.specs.Prelude.{◌≡◌, false};
 ghost use Rattle.rsp_words.specs.Words.{mode_of};
-ghost use Rattle.rsp_call.specs.Shelves.{shelf_seen};
-ghost use Rattle.rsp_call.specs.Answers.{Answers, AnswersLog, AnswersUsage, reads_shelf, reads_source};
-ghost use Rattle.rsp_call.specs.Costs.{Costs, CostsLog};
+ghost use Rattle.rsp_modes.specs.Shelves.{shelf_seen};
+ghost use Rattle.rsp_call.specs.Answers.{Answers, AnswersUsage, reads_shelf, reads_source};
+ghost use Rattle.rsp_call.specs.Costs.{Costs};
 
-use crate::checking::check;
-use crate::drive::{drive, status_of_drive};
-use crate::generator::generate;
-use crate::log::LogFeed;
-use crate::run::replay;
-use crate::status::Status;
-use crate::voice::Voice;
-use crate::writing::write_whole;
-use rsp_answers::Maintained;
-use rsp_engine::Engine;
 use rsp_io::{Failed, Shelf, Sink, Source};
-use rsp_spec::limits::MOST_LOG_BYTES;
+use rsp_modes::{Status, check, events, generate, replay, write_whole};
 use rsp_steps::Steps;
 use rsp_terms::Text;
-use rsp_words::{Log, Mode, mode_of};
+use rsp_words::{Mode, mode_of};
 use std::alloc::Global;
 use std::sync::ledger::Ledger;
 
@@ -58,18 +44,9 @@ pub fn rsp<S: Source, H: Shelf, K: Sink, L: Ledger>(
 {
     match mode_of(words) {
         Some(Mode::Events(log)) => events(alloc, log, input, out, steps),
-        Some(Mode::Run(asked)) => replay(
-            alloc,
-            &mut new_engine(alloc, 0),
-            &asked,
-            shelf,
-            out,
-            steps,
-        ),
+        Some(Mode::Run(asked)) => replay(alloc, &asked, shelf, out, steps),
         Some(Mode::Check(query)) => check(alloc, query, shelf, out),
-        Some(Mode::Generate(count)) => {
-            generate(alloc, &mut new_engine(alloc, 0), count, out, steps)
-        }
+        Some(Mode::Generate(count)) => generate(alloc, count, out, steps),
         None => usage(out),
     }
 }
@@ -82,37 +59,4 @@ fn usage<K: Sink>(out: &mut K) -> Status
         Ok(()) => Status::Usage,
         Err(Failed) => Status::WriteFault,
     }
-}
-
-// The log's document number.
-const LOG: u32 = 1;
-
-// an engine of the empty world of this slack, with no report left; of all answers one is taken here alone
-fn new_engine(alloc: Global, slack: u64) -> Engine<Maintained>
-    requires day { slack ≤ most_slack }
-    ensures stands { Stands result (empty_world slack) [] }
-    ensures idle { IsTrue (is_idle result) }
-{
-    let engine = Engine::with_slack(alloc, slack);
-    let _is_idle = engine.is_idle();
-    engine
-}
-
-// Reads the log to its end and works it off.
-fn events<S: Source, K: Sink, L: Ledger>(
-    alloc: Global,
-    log: Log,
-    input: &mut S,
-    out: &mut K,
-    steps: &mut Steps<L>,
-) -> Status
-    requires day { log.slack ≤ most_slack }
-    ensures log { AnswersLog (start_of log) (S.seen input.old) (S.seen input.new) (K.seen out.old) (K.seen out.new) result }
-    ensures cost { CostsLog (empty_world log.slack) 1 (S.seen input.old) (S.seen input.new) steps.old steps.new }
-{
-    let mut engine = new_engine(alloc, log.slack);
-    let mut feed = LogFeed::new(alloc, LOG, MOST_LOG_BYTES);
-    let mut voice = Voice::Writes(log.form);
-    let driven = drive(alloc, &mut engine, &mut feed, input, &mut voice, out, steps);
-    status_of_drive(driven)
 }

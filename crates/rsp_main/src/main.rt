@@ -6,7 +6,7 @@
 
 ghost use Rattle.std.specs.Prelude.{◌≡◌, ◌<◌};
 ghost use Rattle.std.specs.Process.{exit_status};
-ghost use Rattle.rsp_call.specs.Statuses.{code_of};
+ghost use Rattle.rsp_modes.specs.Statuses.{code_of};
 
 use rsp_call::{Status, rsp, words_behind_name};
 use rsp_io::{DirShelf, StdSink, StdSource};
