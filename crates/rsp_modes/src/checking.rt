@@ -19,12 +19,7 @@ use rsp_io::{Shelf, Sink};
 use std::alloc::{AllocError, Global};
 
 /// Reads the file of this name from `shelf`, and writes `ok` or the first fault of the query in it.
-pub fn check<H: Shelf, K: Sink>(
-    alloc: Global,
-    query: &str,
-    shelf: &mut H,
-    out: &mut K,
-) -> Status
+pub fn check<H: Shelf, K: Sink>(alloc: Global, query: &str, shelf: &mut H, out: &mut K) -> Status
     ensures file { AnswersFiles most_file_bytes Table (query.now ∷ []) checked
         (shelf_seen (H.files shelf.old) (H.seen shelf.old))
         (shelf_seen (H.files shelf.new) (H.seen shelf.new)) (K.seen out.old) (K.seen out.new) result }
