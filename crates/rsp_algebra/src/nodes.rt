@@ -20,12 +20,24 @@ pub fn pattern(
     ensures { IfOk result (λ tree. node_of tree ≡ node.pattern place.now
         (record { subject = subject.now; predicate = predicate.now; object = object.now })) }
 {
+    let place = place.share()?;
+    let (subject, predicate, object) = shared(subject, predicate, object)?;
     Ok(Tree::Pattern {
-        place: place.share()?,
-        subject: subject.share()?,
-        predicate: predicate.share()?,
-        object: object.share()?,
+        place,
+        subject,
+        predicate,
+        object,
     })
+}
+
+fn shared(subject: &Slot, predicate: &Slot, object: &Slot) -> Result<(Slot, Slot, Slot), AllocError>
+    ensures subject { IfOk result (λ slots. slots.0 ≡ subject.now) }
+    ensures predicate { IfOk result (λ slots. slots.1 ≡ predicate.now) }
+    ensures object { IfOk result (λ slots. slots.2 ≡ object.now) }
+{
+    let subject = subject.share()?;
+    let predicate = predicate.share()?;
+    Ok((subject, predicate, object.share()?))
 }
 
 /// The join of two trees.

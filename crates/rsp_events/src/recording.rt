@@ -207,9 +207,15 @@ fn take_quad(reading: &mut Recording, number: u64, quad: Quad) -> Result<(), All
     ensures { OnOk result (reading.new ≡ way.behind_quad number quad reading.old) }
 {
     match &mut reading.opened {
-        Some(item) if is_of(&item.name, &quad) => Ok(item.graph.push(quad.triple)?),
+        Some(item) if is_of(&item.name, &quad) => Ok(item.graph.push(triple_of(quad))?),
         _ => refuse(&mut reading.refused, number, RefusedAs::NoTimeLine),
     }
+}
+
+fn triple_of(quad: Quad) -> Triple
+    ensures { result ≡ quad.triple }
+{
+    quad.triple
 }
 
 // whether a quad is of the graph of this name

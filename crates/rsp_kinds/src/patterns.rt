@@ -20,6 +20,20 @@ fn part_of(slot: &Slot) -> Result<Part, AllocError>
     }
 }
 
+fn parts_of(
+    subject: &Slot,
+    predicate: &Slot,
+    object: &Slot,
+) -> Result<(Part, Part, Part), AllocError>
+    ensures subject { IfOk result (λ parts. parts.0 ≡ part_of subject.now) }
+    ensures predicate { IfOk result (λ parts. parts.1 ≡ part_of predicate.now) }
+    ensures object { IfOk result (λ parts. parts.2 ≡ part_of object.now) }
+{
+    let subject = part_of(subject)?;
+    let predicate = part_of(predicate)?;
+    Ok((subject, predicate, part_of(object)?))
+}
+
 fn graph_of(place: &Place) -> Result<Graph, AllocError>
     ensures { IfOk result (λ graph. graph ≡ graph_of place.now) }
 {
@@ -44,11 +58,13 @@ pub fn scan_of(
         ≡ eval width (pattern place.now
         (record { subject = subject.now; predicate = predicate.now; object = object.now })) facts) }
 {
+    let graph = graph_of(place)?;
+    let (subject, predicate, object) = parts_of(subject, predicate, object)?;
     let pattern = Pattern {
-        graph: graph_of(place)?,
-        subject: part_of(subject)?,
-        predicate: part_of(predicate)?,
-        object: part_of(object)?,
+        graph,
+        subject,
+        predicate,
+        object,
     };
     Ok(Scan::new(width, pattern))
 }

@@ -3,6 +3,7 @@ pub mod FieldLaws
 pub mod Judging
 pub mod Lines
 pub mod NoBlanks
+pub mod Parting
 pub mod ReadBack
 pub mod StatementLaws
 pub mod StatementRows

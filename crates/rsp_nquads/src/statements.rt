@@ -4,7 +4,7 @@ ghost use Rattle.std.specs.Option.{option_map};
 ghost use Rattle.rsp_nquads.specs.Grammar.{is_relative};
 ghost use Rattle.rsp_nquads.specs.Parts as part;
 ghost use Rattle.rsp_nquads.specs.Statements as lines;
-ghost use Rattle.rsp_nquads.specs.Results.{reader, Halts};
+ghost use Rattle.rsp_nquads.specs.Results.{reader, three_of, graph_to_end, Halts};
 ghost use Rattle.rsp_nquads.specs.Answers.{IsAnswer, IsByGrammar, IsTied};
 
 use crate::LineFault;
@@ -21,6 +21,14 @@ use std::str;
 pub(crate) struct Part {
     pub term: Term,
     pub left: usize,
+}
+
+/// Subject, predicate and object.
+#[derive(Drop)]
+pub(crate) struct Three {
+    pub subject: Part,
+    pub predicate: Part,
+    pub object: Part,
 }
 
 /// The parts of a statement.
@@ -185,23 +193,53 @@ fn is_relative(term: &Term) -> bool
     }
 }
 
-#[tactic(auto, unfolding(crate::specs::Statements::parts_of))]
+#[tactic(auto, using(crate::proofs::Parting::parted))]
 fn parts_of(alloc: Global, document: u32, line: &[u8]) -> Result<Parts, Halt>
     ensures { MatchResult result (λ parts. lines.parts_of document line.now ≡ Ok parts)
         (λ halt. Halts halt (lines.parts_of document line.now)) }
 {
+    let (three, rest) = three_of(alloc, document, line)?;
+    let graph = graph_to_end(alloc, document, rest)?;
+    let Three {
+        subject,
+        predicate,
+        object,
+    } = three;
+    Ok(Parts {
+        subject,
+        predicate,
+        object,
+        graph,
+    })
+}
+
+// what every statement has, apart from its graph, so that few parts are owned where one is missing
+fn three_of<'a>(alloc: Global, document: u32, line: &'a [u8]) -> Result<(Three, &'a [u8]), Halt>
+    ensures { MatchResult result (λ x. three_of document line.now ≡ Ok (x.0, x.1.now))
+        (λ halt. Halts halt (three_of document line.now)) }
+{
     let (subject, rest) = read_part(alloc, Wanted::Node, document, line)?;
     let (predicate, rest) = read_part(alloc, Wanted::Iri, document, rest)?;
     let (object, rest) = read_part(alloc, Wanted::Object, document, rest)?;
-    let (graph, rest) = read_graph(alloc, document, rest)?;
-    match fault_at_end(rest) {
-        Some(left) => Err(Halt::At(left)),
-        None => Ok(Parts {
+    Ok((
+        Three {
             subject,
             predicate,
             object,
-            graph,
-        }),
+        },
+        rest,
+    ))
+}
+
+// the graph where one is named, and nothing behind it but the end
+fn graph_to_end(alloc: Global, document: u32, text: &[u8]) -> Result<Option<Part>, Halt>
+    ensures { MatchResult result (λ graph. graph_to_end document text.now ≡ Ok graph)
+        (λ halt. Halts halt (graph_to_end document text.now)) }
+{
+    let (graph, rest) = read_graph(alloc, document, text)?;
+    match fault_at_end(rest) {
+        Some(left) => Err(Halt::At(left)),
+        None => Ok(graph),
     }
 }
 

@@ -7,4 +7,5 @@ pub mod Shortest
 pub mod Summing
 pub mod Tallied
 pub mod Tallying
+pub mod Widening
 pub mod Writing

@@ -1,9 +1,11 @@
 // The query that a text is, within the limits.
-ghost use Rattle.std.specs.Prelude.{◌≡◌, IfOk};
-ghost use Rattle.rsp_query.specs.Meanings.{registered};
+ghost use Rattle.std.specs.Prelude.{◌≡◌, [], IfOk, map};
+ghost use Rattle.rsp_query.specs.Meanings.{registered, selection_of};
 ghost use Rattle.rsp_written.specs.GroupMeanings as written;
 ghost use Rattle.rsp_numbering.specs.Counting as counting;
+ghost use Rattle.rsp_numbering.specs.Naming.{nothing, variable_text};
 ghost use Rattle.rsp_numbering.specs.Results.{IsNumbered, IsNumberedBehind, IsNumberedBy, query_behind};
+ghost use Rattle.rsp_numbering.specs.SelectionSteps.{behind_selected, selected_of};
 
 use crate::clauses::{has_periods, operator_of, policy_of, windows_of};
 use crate::counts::{Count, in_select};
@@ -12,6 +14,7 @@ use crate::names::variables_of;
 use crate::operators::{of_select, plus};
 use crate::{Before, LimitName};
 use rsp_query::{PolicyWords, Query, WindowClause};
+use rsp_terms::Text;
 use rsp_written::{Registration, Select};
 use std::alloc::{AllocError, Global};
 
@@ -66,10 +69,7 @@ fn numbered(
 ) -> Result<Query, AllocError>
     ensures { IfOk result (λ query. registered query ≡ query_behind (written.written_of text.now) policy windows.items) }
 {
-    let mut before = Before::new(alloc);
-    let select = select(alloc, &[], &mut before, &text.select)?;
-    let output = text.output.share()?;
-    let variables = before.texts(alloc)?;
+    let (output, select, variables) = named(alloc, text)?;
     Ok(Query {
         operator: operator_of(text.operator),
         output,
@@ -78,6 +78,32 @@ fn numbered(
         select,
         variables,
     })
+}
+
+// the output stream's name, the SELECT with numbers in place of names, and what its variables are called
+fn named(
+    alloc: Global,
+    text: &Registration,
+) -> Result<(Text, rsp_query::Select, Vec<Text>), AllocError>
+    ensures output { IfOk result (λ made. made.0 ≡ (written.written_of text.now).output) }
+    ensures selection { IfOk result (λ made. selection_of made.1 ≡ selected_of [] nothing (written.written_of text.now).select) }
+    ensures variables { IfOk result (λ made. made.2.items
+        ≡ map variable_text (behind_selected [] nothing (written.written_of text.now).select).variables) }
+{
+    let output = text.output.share()?;
+    let (select, variables) = selected(alloc, &text.select)?;
+    Ok((output, select, variables))
+}
+
+fn selected(alloc: Global, text: &Select) -> Result<(rsp_query::Select, Vec<Text>), AllocError>
+    ensures selection { IfOk result (λ made. selection_of made.0 ≡ selected_of [] nothing (written.select_of text.now)) }
+    ensures variables { IfOk result (λ made. made.1.items
+        ≡ map variable_text (behind_selected [] nothing (written.select_of text.now)).variables) }
+{
+    let mut before = Before::new(alloc);
+    let select = select(alloc, &[], &mut before, text)?;
+    let variables = before.texts(alloc)?;
+    Ok((select, variables))
 }
 
 // counted on the tree as it is written, before anything is built

@@ -60,22 +60,22 @@ pub fn unary_plus(operand: &Operand) -> Option<Operand>
 pub fn unary_value(
     alloc: Global,
     function: Function,
-    argument: Operand,
+    argument: &Operand,
 ) -> Result<Option<Operand>, AllocError>
-    ensures { IfOk result (λ value. value_for value ≡ unary_value function (term_for argument)) }
+    ensures { IfOk result (λ value. value_for value ≡ unary_value function (term_for argument.now)) }
 {
     match function {
         Function::IsIri => Ok(Some(Operand::Boolean(argument.is_iri()))),
         Function::IsUri => Ok(Some(Operand::Boolean(argument.is_iri()))),
         Function::IsBlank => Ok(Some(Operand::Boolean(argument.is_blank()))),
         Function::IsLiteral => Ok(Some(Operand::Boolean(argument.is_literal()))),
-        Function::IsNumeric => Ok(literals::is_numeric(&argument)),
+        Function::IsNumeric => Ok(literals::is_numeric(argument)),
         Function::Str => literals::lexical_form(alloc, argument),
         Function::Lang => literals::language_tag(alloc, argument),
         Function::Datatype => literals::datatype_iri(alloc, argument),
-        Function::Iri => Ok(literals::iri_of(argument)),
-        Function::Uri => Ok(literals::iri_of(argument)),
-        Function::StrLen => Ok(texts::length(&argument)),
+        Function::Iri => literals::iri_of(argument),
+        Function::Uri => literals::iri_of(argument),
+        Function::StrLen => Ok(texts::length(argument)),
         Function::Abs => Ok(numeric_value(argument.number().map(|number| abs(&number)))),
         Function::Ceil => Ok(numeric_value(argument.number().map(|number| ceil(&number)))),
         Function::Floor => Ok(numeric_value(argument.number().map(|number| floor(&number)))),
@@ -97,22 +97,22 @@ fn numeric_value(number: Option<Number>) -> Option<Operand>
 pub fn binary_value(
     alloc: Global,
     function: Function,
-    first: Operand,
-    second: Operand,
+    first: &Operand,
+    second: &Operand,
 ) -> Result<Option<Operand>, AllocError>
-    ensures { IfOk result (λ value. value_for value ≡ binary_value function (term_for first) (term_for second)) }
+    ensures { IfOk result (λ value. value_for value ≡ binary_value function (term_for first.now) (term_for second.now)) }
 {
     match function {
         Function::SameTerm => Ok(same_term(first, second)),
-        Function::StrDt => Ok(literals::typed_literal(first, second)),
-        Function::StrLang => Ok(literals::language_literal(first, second)),
-        Function::Substr => texts::part_from(alloc, &first, &second),
-        Function::StrStarts => Ok(texts::starts_with(&first, &second)),
-        Function::StrEnds => Ok(texts::ends_with(&first, &second)),
-        Function::Contains => Ok(texts::contains(&first, &second)),
-        Function::StrBefore => texts::part_before(alloc, &first, &second),
-        Function::StrAfter => texts::part_after(alloc, &first, &second),
-        Function::LangMatches => Ok(texts::matches_language(&first, &second)),
+        Function::StrDt => literals::typed_literal(first, second),
+        Function::StrLang => literals::language_literal(first, second),
+        Function::Substr => texts::part_from(alloc, first, second),
+        Function::StrStarts => Ok(texts::starts_with(first, second)),
+        Function::StrEnds => Ok(texts::ends_with(first, second)),
+        Function::Contains => Ok(texts::contains(first, second)),
+        Function::StrBefore => texts::part_before(alloc, first, second),
+        Function::StrAfter => texts::part_after(alloc, first, second),
+        Function::LangMatches => Ok(texts::matches_language(first, second)),
         _ => Ok(None),
     }
 }
@@ -121,15 +121,15 @@ pub fn binary_value(
 pub fn ternary_value(
     alloc: Global,
     function: Function,
-    first: Operand,
-    second: Operand,
-    third: Operand,
+    first: &Operand,
+    second: &Operand,
+    third: &Operand,
 ) -> Result<Option<Operand>, AllocError>
     ensures { IfOk result (λ value. value_for value
-        ≡ ternary_value function (term_for first) (term_for second) (term_for third)) }
+        ≡ ternary_value function (term_for first.now) (term_for second.now) (term_for third.now)) }
 {
     match function {
-        Function::Substr => texts::part_within(alloc, &first, &second, &third),
+        Function::Substr => texts::part_within(alloc, first, second, third),
         _ => Ok(None),
     }
 }

@@ -1,14 +1,15 @@
 // Functions on terms (SPARQL 1.1 Query, section 17.4.2). Of another kind of argument they are errors.
-ghost use Rattle.std.specs.Prelude.{◌≡◌, IfOk};
-ghost use Rattle.rsp_expr.specs.Strings.{string_of as string_of_term};
-ghost use Rattle.rsp_expr.specs.Functions.{lexical_form, language_tag, datatype_iri, iri_of, iri_in};
+ghost use Rattle.std.specs.Prelude.{◌≡◌, Some, IfOk};
+ghost use Rattle.rsp_terms.specs.declared.term.Term.TheVariants as term;
+ghost use Rattle.rsp_expr.specs.Strings.{string_literal, string_of as string_of_term};
+ghost use Rattle.rsp_expr.specs.Functions.{lexical_form, language_tag, datatype_iri, iri_of, iri_in, typed_literal};
 ghost use Rattle.rsp_functions.specs.declared.function.Function.TheVariants as function;
 ghost use Rattle.rsp_operands.specs.Operands.{unary_value, binary_value, term_for, value_for};
 
 use crate::operand::Operand;
 use rsp_expr::Datatype;
 use rsp_literals::{RDF_LANG_STRING, boolean_term, datatype_of, term_of};
-use rsp_terms::{Term, Text, is_iri, is_tag};
+use rsp_terms::{Term, Text, XSD_STRING, is_iri, is_tag};
 use std::alloc::{AllocError, Global};
 
 /// isNumeric; an error of a double or a float.
@@ -22,64 +23,84 @@ pub(crate) fn is_numeric(argument: &Operand) -> Option<Operand>
 }
 
 /// STR. Fails only where memory is refused.
-pub(crate) fn lexical_form(alloc: Global, argument: Operand) -> Result<Option<Operand>, AllocError>
-    ensures { IfOk result (λ value. value_for value ≡ lexical_form (term_for argument)) }
+pub(crate) fn lexical_form(alloc: Global, argument: &Operand) -> Result<Option<Operand>, AllocError>
+    ensures { IfOk result (λ value. value_for value ≡ lexical_form (term_for argument.now)) }
 {
     match argument {
-        Operand::Term(term) => Ok(lexical_form_of(term)),
-        Operand::Number(number) => Ok(lexical_form_of(term_of(alloc, &number)?)),
-        Operand::Boolean(value) => Ok(lexical_form_of(boolean_term(alloc, value)?)),
-        Operand::String(text) => Ok(Some(Operand::String(text))),
+        Operand::Term(term) => lexical_form_of(term),
+        Operand::Number(number) => lexical_form_of(&term_of(alloc, number)?),
+        Operand::Boolean(value) => lexical_form_of(&boolean_term(alloc, *value)?),
+        Operand::String(text) => string(text),
     }
 }
 
-fn lexical_form_of(term: Term) -> Option<Operand>
-    ensures { value_for result ≡ lexical_form term }
+fn lexical_form_of(term: &Term) -> Result<Option<Operand>, AllocError>
+    ensures { IfOk result (λ value. value_for value ≡ lexical_form term.now) }
 {
     match term {
-        Term::Iri(text) => Some(Operand::String(text)),
-        Term::Blank { .. } => None,
-        Term::Literal { lexical, .. } => Some(Operand::String(lexical)),
-        Term::Tagged { lexical, .. } => Some(Operand::String(lexical)),
+        Term::Iri(text) => string(text),
+        Term::Blank { .. } => Ok(None),
+        Term::Literal { lexical, .. } => string(lexical),
+        Term::Tagged { lexical, .. } => string(lexical),
     }
+}
+
+fn string(text: &Text) -> Result<Option<Operand>, AllocError>
+    ensures { IfOk result (λ value. value_for value ≡ Some (string_literal text.now)) }
+{
+    Ok(Some(Operand::String(text.share()?)))
+}
+
+fn iri(text: &Text) -> Result<Option<Operand>, AllocError>
+    ensures { IfOk result (λ value. value_for value ≡ Some (term.Iri text.now)) }
+{
+    Ok(Some(Operand::Term(Term::Iri(text.share()?))))
 }
 
 /// LANG. Fails only where memory is refused.
-pub(crate) fn language_tag(alloc: Global, argument: Operand) -> Result<Option<Operand>, AllocError>
-    ensures { IfOk result (λ value. value_for value ≡ language_tag (term_for argument)) }
+pub(crate) fn language_tag(alloc: Global, argument: &Operand) -> Result<Option<Operand>, AllocError>
+    ensures { IfOk result (λ value. value_for value ≡ language_tag (term_for argument.now)) }
 {
     match argument {
         Operand::Term(Term::Iri(_)) => Ok(None),
         Operand::Term(Term::Blank { .. }) => Ok(None),
-        Operand::Term(Term::Tagged { language, .. }) => Ok(Some(Operand::String(language))),
+        Operand::Term(Term::Tagged { language, .. }) => string(language),
         _ => Ok(Some(Operand::String(Text::new(alloc, "")?))),
     }
 }
 
 /// DATATYPE. Fails only where memory is refused.
-pub(crate) fn datatype_iri(alloc: Global, argument: Operand) -> Result<Option<Operand>, AllocError>
-    ensures { IfOk result (λ value. value_for value ≡ datatype_iri (term_for argument)) }
+pub(crate) fn datatype_iri(alloc: Global, argument: &Operand) -> Result<Option<Operand>, AllocError>
+    ensures { IfOk result (λ value. value_for value ≡ datatype_iri (term_for argument.now)) }
 {
-    match argument.into_term(alloc)? {
-        Term::Iri(_) => Ok(None),
-        Term::Blank { .. } => Ok(None),
-        Term::Literal { datatype, .. } => Ok(Some(Operand::Term(Term::Iri(datatype)))),
-        Term::Tagged { .. } => {
-            let datatype = Text::new(alloc, RDF_LANG_STRING)?;
-            Ok(Some(Operand::Term(Term::Iri(datatype))))
-        }
+    match argument {
+        Operand::Term(term) => datatype_iri_of(alloc, term),
+        Operand::Number(number) => datatype_iri_of(alloc, &term_of(alloc, number)?),
+        Operand::Boolean(value) => datatype_iri_of(alloc, &boolean_term(alloc, *value)?),
+        Operand::String(_) => iri(&Text::new(alloc, XSD_STRING)?),
     }
 }
 
-/// IRI, and URI.
-pub(crate) fn iri_of(argument: Operand) -> Option<Operand>
-    ensures { value_for result ≡ iri_of (term_for argument) }
+fn datatype_iri_of(alloc: Global, term: &Term) -> Result<Option<Operand>, AllocError>
+    ensures { IfOk result (λ value. value_for value ≡ datatype_iri term.now) }
+{
+    match term {
+        Term::Iri(_) => Ok(None),
+        Term::Blank { .. } => Ok(None),
+        Term::Literal { datatype, .. } => iri(datatype),
+        Term::Tagged { .. } => iri(&Text::new(alloc, RDF_LANG_STRING)?),
+    }
+}
+
+/// IRI, and URI. Fails only where memory is refused.
+pub(crate) fn iri_of(argument: &Operand) -> Result<Option<Operand>, AllocError>
+    ensures { IfOk result (λ value. value_for value ≡ iri_of (term_for argument.now)) }
 {
     match argument {
-        Operand::Term(Term::Iri(text)) => Some(Operand::Term(Term::Iri(text))),
-        other => match string_in(other) {
-            Some(text) => iri_in(text),
-            None => None,
+        Operand::Term(Term::Iri(text)) => iri(text),
+        other => match string_in(other)? {
+            Some(text) => Ok(iri_in(text)),
+            None => Ok(None),
         },
     }
 }
@@ -94,50 +115,58 @@ fn iri_in(text: Text) -> Option<Operand>
     }
 }
 
-/// STRDT.
-pub(crate) fn typed_literal(text: Operand, datatype: Operand) -> Option<Operand>
-    ensures { value_for result ≡ binary_value function.StrDt (term_for text) (term_for datatype) }
+/// STRDT. Fails only where memory is refused.
+pub(crate) fn typed_literal(
+    text: &Operand,
+    datatype: &Operand,
+) -> Result<Option<Operand>, AllocError>
+    ensures { IfOk result (λ value. value_for value ≡ binary_value function.StrDt (term_for text.now) (term_for datatype.now)) }
 {
-    let Some(lexical) = string_in(text) else {
-        return None;
+    let Some(lexical) = string_in(text)? else {
+        return Ok(None);
     };
     match datatype {
-        Operand::Term(Term::Iri(datatype)) => {
-            if datatype.as_str() == RDF_LANG_STRING {
-                return None;
-            }
-            Some(Operand::Term(Term::Literal { lexical, datatype }))
-        }
-        _ => None,
+        Operand::Term(Term::Iri(datatype)) => literal_of(lexical, datatype),
+        _ => Ok(None),
     }
 }
 
-/// STRLANG.
-pub(crate) fn language_literal(text: Operand, tag: Operand) -> Option<Operand>
-    ensures { value_for result ≡ binary_value function.StrLang (term_for text) (term_for tag) }
+fn literal_of(lexical: Text, datatype: &Text) -> Result<Option<Operand>, AllocError>
+    ensures { IfOk result (λ value. value_for value ≡ typed_literal lexical (term.Iri datatype.now)) }
 {
-    let (Some(lexical), Some(language)) = (string_in(text), string_in(tag)) else {
-        return None;
+    if datatype.as_str() == RDF_LANG_STRING {
+        return Ok(None);
+    }
+    let datatype = datatype.share()?;
+    Ok(Some(Operand::Term(Term::Literal { lexical, datatype })))
+}
+
+/// STRLANG. Fails only where memory is refused.
+pub(crate) fn language_literal(text: &Operand, tag: &Operand) -> Result<Option<Operand>, AllocError>
+    ensures { IfOk result (λ value. value_for value ≡ binary_value function.StrLang (term_for text.now) (term_for tag.now)) }
+{
+    let (Some(lexical), Some(language)) = (string_in(text)?, string_in(tag)?) else {
+        return Ok(None);
     };
     if is_tag(language.as_str()) {
-        Some(Operand::Term(Term::Tagged { lexical, language }))
+        Ok(Some(Operand::Term(Term::Tagged { lexical, language })))
     } else {
-        None
+        Ok(None)
     }
 }
 
 // the text of a string
-fn string_in(operand: Operand) -> Option<Text>
-    ensures { result ≡ string_of_term (term_for operand) }
+fn string_in(operand: &Operand) -> Result<Option<Text>, AllocError>
+    ensures { IfOk result (λ text. text ≡ string_of_term (term_for operand.now)) }
 {
     match operand {
         Operand::Term(Term::Literal { lexical, datatype }) => {
             match datatype_of(datatype.as_str()) {
-                Datatype::String => Some(lexical),
-                _ => None,
+                Datatype::String => Ok(Some(lexical.share()?)),
+                _ => Ok(None),
             }
         }
-        Operand::String(text) => Some(text),
-        _ => None,
+        Operand::String(text) => Ok(Some(text.share()?)),
+        _ => Ok(None),
     }
 }

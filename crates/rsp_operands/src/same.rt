@@ -12,10 +12,10 @@ use rsp_number::Number;
 use rsp_terms::Term;
 
 /// sameTerm. Takes no memory.
-pub(crate) fn same_term(left: Operand, right: Operand) -> Option<Operand>
-    ensures { value_for result ≡ binary_value function.SameTerm (term_for left) (term_for right) }
+pub(crate) fn same_term(left: &Operand, right: &Operand) -> Option<Operand>
+    ensures { value_for result ≡ binary_value function.SameTerm (term_for left.now) (term_for right.now) }
 {
-    Some(Operand::Boolean(is_same_term(&left, &right)))
+    Some(Operand::Boolean(is_same_term(left, right)))
 }
 
 // whether both stand for one term

@@ -9,5 +9,5 @@ abbrev pub part_rank : Parts → ℕ
 part_rank Arguments = 1
 part_rank (Row level.Product) = 10
 part_rank (Row level.Sum) = 14
-part_rank (Row level.And) = 19
-part_rank (Row level.Or) = 23
+part_rank (Row level.And) = 20
+part_rank (Row level.Or) = 24

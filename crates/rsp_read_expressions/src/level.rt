@@ -34,54 +34,37 @@ pub(crate) enum Parts {
 }
 
 impl Parts {
+    // the signs that may stand between two parts
+    fn signs(self) -> &'static [Kind]
+        ensures { result.now ≡ signs_of self }
+    {
+        match self {
+            Parts::Row(Level::Or) => &[Kind::Symbol(Symbol::Or)],
+            Parts::Row(Level::And) => &[Kind::Symbol(Symbol::And)],
+            Parts::Row(Level::Sum) => &[
+                Kind::Symbol(Symbol::Sign(Sign::Add)),
+                Kind::Symbol(Symbol::Sign(Sign::Subtract)),
+            ],
+            Parts::Row(Level::Product) => &[
+                Kind::Symbol(Symbol::Sign(Sign::Multiply)),
+                Kind::Symbol(Symbol::Sign(Sign::Divide)),
+            ],
+            Parts::Arguments => &[Kind::Symbol(Symbol::Comma)],
+        }
+    }
+
     /// Whether a sign between two parts is next.
     pub(crate) fn go_on(self, tokens: &[Said]) -> bool
         ensures { result ≡ starts kind_number (numbers (signs_of self)) tokens.now }
     {
-        match self {
-            Parts::Row(Level::Or) => first_is_among(&[Kind::Symbol(Symbol::Or)], tokens),
-            Parts::Row(Level::And) => first_is_among(&[Kind::Symbol(Symbol::And)], tokens),
-            Parts::Row(Level::Sum) => first_is_among(
-                &[
-                    Kind::Symbol(Symbol::Sign(Sign::Add)),
-                    Kind::Symbol(Symbol::Sign(Sign::Subtract)),
-                ],
-                tokens,
-            ),
-            Parts::Row(Level::Product) => first_is_among(
-                &[
-                    Kind::Symbol(Symbol::Sign(Sign::Multiply)),
-                    Kind::Symbol(Symbol::Sign(Sign::Divide)),
-                ],
-                tokens,
-            ),
-            Parts::Arguments => first_is_among(&[Kind::Symbol(Symbol::Comma)], tokens),
-        }
+        first_is_among(self.signs(), tokens)
     }
 
     /// The sign between two parts.
     pub(crate) fn sign<'a>(self, tokens: &'a [Said]) -> Result<(&'a Said, &'a [Said]), Halt>
         ensures { Gives (λ x. (x.0.now, x.1.now)) result (one_read (signs_of self) tokens.now) }
     {
-        match self {
-            Parts::Row(Level::Or) => one(&[Kind::Symbol(Symbol::Or)], tokens),
-            Parts::Row(Level::And) => one(&[Kind::Symbol(Symbol::And)], tokens),
-            Parts::Row(Level::Sum) => one(
-                &[
-                    Kind::Symbol(Symbol::Sign(Sign::Add)),
-                    Kind::Symbol(Symbol::Sign(Sign::Subtract)),
-                ],
-                tokens,
-            ),
-            Parts::Row(Level::Product) => one(
-                &[
-                    Kind::Symbol(Symbol::Sign(Sign::Multiply)),
-                    Kind::Symbol(Symbol::Sign(Sign::Divide)),
-                ],
-                tokens,
-            ),
-            Parts::Arguments => one(&[Kind::Symbol(Symbol::Comma)], tokens),
-        }
+        one(self.signs(), tokens)
     }
 }
 

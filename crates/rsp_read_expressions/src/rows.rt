@@ -3,6 +3,7 @@
 ghost use Rattle.std.specs.Prelude.{◌≡◌, map};
 ghost use Rattle.rsp_read_expressions.specs.Lists.{bracketed_list_read, list_read};
 ghost use Rattle.rsp_read_expressions.specs.Levels.{inner_read, level_read, operand_read, operands_at_most, part_read};
+ghost use Rattle.rsp_written.specs.Building.{compared_to, one_of};
 ghost use Rattle.rsp_written.specs.Gives.{Gives};
 ghost use Rattle.rsp_written.specs.Meanings.{expr_of, operand_of};
 ghost use Rattle.rsp_written.specs.Readings as readings;
@@ -106,7 +107,7 @@ fn operands<P: Primaries>(
 }
 
 #[cycle(rows)]
-#[tactic(auto, unfolding(rsp_written::specs::Readings::relation_read, rsp_written::specs::Readings::sum_read, rsp_written::specs::Readings::comparison_read, rsp_written::specs::Readings::membership_read, rsp_written::specs::Readings::arguments_read))]
+#[tactic(auto, unfolding(rsp_written::specs::Readings::relation_read, rsp_written::specs::Readings::sum_read))]
 fn relation<P: Primaries>(
     depth: usize,
     alloc: Global,
@@ -120,14 +121,44 @@ fn relation<P: Primaries>(
         return Ok((left, rest));
     }
     if compares(rest) {
-        let (sign, rest) = comparison_sign(rest)?;
-        let (right, rest) = row::<P>(Level::Sum, depth, alloc, rest)?;
-        return Ok((comparison(alloc, sign.kind, left, right)?, rest));
+        let (sign, right, rest) = compared::<P>(depth, alloc, rest)?;
+        return Ok((comparison(alloc, sign, left, right)?, rest));
     }
-    let (negated, rest) = maybe_word(Keyword::Not, rest)?;
+    let (negated, list, rest) = members::<P>(depth, alloc, rest)?;
+    Ok((membership(alloc, negated, left, list)?, rest))
+}
+
+// the sign of a comparison and its right side; on its own, so that no halt here has a left side to drop
+#[cycle(rows)]
+#[tactic(auto, unfolding(rsp_written::specs::Readings::comparison_read, rsp_written::specs::Readings::sum_read))]
+fn compared<P: Primaries>(
+    depth: usize,
+    alloc: Global,
+    tokens: &[Said],
+) -> Result<(Kind, Expression, &[Said]), Halt>
+    ensures { Gives (λ x. (compared_to x.0 (expr_of x.1), x.2.now)) result
+        (readings.comparison_read P.first P.reading (inner_read P.first P.reading depth) tokens.now) }
+{
+    let (sign, rest) = comparison_sign(tokens)?;
+    let (right, rest) = row::<P>(Level::Sum, depth, alloc, rest)?;
+    Ok((sign.kind, right, rest))
+}
+
+// whether NOT stands before IN, and the list behind it; on its own as well
+#[cycle(rows)]
+#[tactic(auto, unfolding(rsp_written::specs::Readings::membership_read, rsp_written::specs::Readings::arguments_read))]
+fn members<P: Primaries>(
+    depth: usize,
+    alloc: Global,
+    tokens: &[Said],
+) -> Result<(bool, Vec<Expression>, &[Said]), Halt>
+    ensures { Gives (λ x. (one_of x.0 (map expr_of x.1.items), x.2.now)) result
+        (readings.membership_read (inner_read P.first P.reading depth) tokens.now) }
+{
+    let (negated, rest) = maybe_word(Keyword::Not, tokens)?;
     let (_, rest) = word(Keyword::In, rest)?;
     let (list, rest) = arguments::<P>(Arity::Any, depth, alloc, rest)?;
-    Ok((membership(alloc, negated, left, list)?, rest))
+    Ok((negated, list, rest))
 }
 
 #[cycle(rows)]

@@ -2,7 +2,7 @@
 ghost use Rattle.std.specs.Prelude.{◌≡◌, map};
 ghost use Rattle.rsp_phrases.specs.Gathering.{as_read, gathered, single};
 ghost use Rattle.rsp_phrases.specs.Readers.{mapped_read, starts};
-ghost use Rattle.rsp_read_queries.specs.Clauses.{clause_of, tail_of, wide_read};
+ghost use Rattle.rsp_read_queries.specs.Clauses.{clause_of, name_end_read, tail_of, wide_read};
 ghost use Rattle.rsp_written.specs.Building.{keys_or_none};
 ghost use Rattle.rsp_written.specs.Gives.{Gives};
 ghost use Rattle.rsp_written.specs.Grammar.{kind_number, numbers};
@@ -43,8 +43,19 @@ pub(crate) struct Named {
     pub name: Text,
 }
 
+// AS, a name and `)`; no expression is owned here, which every early return would have to drop
+#[tactic(auto, unfolding(crate::specs::Clauses::name_end_read))]
+fn name_behind(tokens: &[Said]) -> Result<(Text, &[Said]), Halt>
+    ensures { Gives (λ x. (x.0, x.1.now)) result (name_end_read tokens.now) }
+{
+    let (_, rest) = word(Keyword::As, tokens)?;
+    let (name, rest) = variable(rest)?;
+    let (_, rest) = sign(Symbol::CloseParen, rest)?;
+    Ok((name, rest))
+}
+
 /// An expression and its name, in parentheses.
-#[tactic(auto, unfolding(rsp_written::specs::GroupReadings::as_variable_read))]
+#[tactic(auto, using(crate::proofs::Naming::named_is))]
 pub(crate) fn named_expression(
     wide: bool,
     alloc: Global,
@@ -55,9 +66,7 @@ pub(crate) fn named_expression(
 {
     let (_, rest) = sign(Symbol::OpenParen, tokens)?;
     let (expression, rest) = wide_expression(wide, alloc, rest)?;
-    let (_, rest) = word(Keyword::As, rest)?;
-    let (name, rest) = variable(rest)?;
-    let (_, rest) = sign(Symbol::CloseParen, rest)?;
+    let (name, rest) = name_behind(rest)?;
     Ok((Named { expression, name }, rest))
 }
 

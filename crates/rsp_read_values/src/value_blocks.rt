@@ -1,5 +1,5 @@
 // Reading VALUES: rows of values for variables.
-ghost use Rattle.std.specs.Prelude.{◌≡◌, [], IfOk, map, reverse};
+ghost use Rattle.std.specs.Prelude.{◌≡◌, ◌≤◌, [], IfOk, Ok, drop, length, map, reverse};
 ghost use Rattle.rsp_phrases.specs.Gathering.{gathered, as_read, single};
 ghost use Rattle.rsp_phrases.specs.Languages.{has};
 ghost use Rattle.rsp_phrases.specs.Readers.{first_read, second_read, starts};
@@ -248,20 +248,29 @@ fn listed(alloc: Global, names: &IndexSet<Text>) -> Result<Vec<Text>, AllocError
     Ok(list)
 }
 
-// variables as often as they stand here, up to the first that stood before
+// the variables that stand here, up to the first that stood before: a set, to know at each whether it is new
 #[tactic(auto, unfolding(rsp_written::specs::TripleReadings::columns_read))]
-fn columns(alloc: Global, tokens: &[Said]) -> Result<(Vec<Text>, &[Said]), Halt>
-    ensures { Gives (λ x. (x.0.items, x.1.now)) result (readings.columns_read tokens.now) }
+fn new_names(alloc: Global, tokens: &[Said]) -> Result<IndexSet<Text>, AllocError>
+    ensures within { IfOk result (λ names. length names.keys ≤ length tokens.now) }
+    ensures read { IfOk result (λ names. readings.columns_read tokens.now ≡
+        Ok (names.keys, drop (length names.keys) tokens.now)) }
 {
     let mut names = IndexSet::new(alloc);
     for said in tokens {
         if !is_new_name(said, &names) {
-            let (_, rest) = tokens.split_at(names.len());
-            return Ok((listed(alloc, &names)?, rest));
+            return Ok(names);
         }
         names.insert(said.text.share()?)?;
     }
-    let (_, rest) = tokens.split_at(tokens.len());
+    Ok(names)
+}
+
+// variables as often as they stand here, up to the first that stood before
+fn columns(alloc: Global, tokens: &[Said]) -> Result<(Vec<Text>, &[Said]), Halt>
+    ensures { Gives (λ x. (x.0.items, x.1.now)) result (readings.columns_read tokens.now) }
+{
+    let names = new_names(alloc, tokens)?;
+    let (_, rest) = tokens.split_at(names.len());
     Ok((listed(alloc, &names)?, rest))
 }
 

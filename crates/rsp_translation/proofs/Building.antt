@@ -7,7 +7,7 @@ use Rattle.rsp_query.specs.Groups.{Part, Parts, triple, optional, minus, union, 
 use Rattle.rsp_query.specs.Meanings.{part_of}
 use Rattle.rsp_algebra.specs.declared.tree.Place.{Place}
 use Rattle.rsp_algebra.specs.Nodes.{Node}
-use Rattle.rsp_translation.specs.Building.{bare, tests_of, tests_in}
+use Rattle.rsp_translation.specs.Building.{bare, own_node, with_own, tests_of, tests_in}
 use Rattle.rsp_translation.specs.Begun.{Setting, Begun, Test, nothing, with_part, with_parts, slashes_of, filters, filtered, tested, elements_node, group_node}
 
 pub bare_part : (s : Setting) (at : Place) (fresh : ℕ) (group : Begun) (part : Part) → bare (with_part s at fresh (bare group) part) ≡ bare (with_part s at fresh group part)
@@ -60,6 +60,26 @@ tests_parts s at fresh group (part_then part more) =
     tests_parts s at (fresh + slashes_of part) (with_part s at fresh group part) more
     ∙ (ap (λ tests. tests ++ tests_in s at (fresh + slashes_of part) more) (tests_part s at fresh group part)
     ∙ append_assoc group.tests (tests_of s at fresh part) (tests_in s at (fresh + slashes_of part) more))
+
+-- ---- one more element by its own tree
+
+pub with_own_is : (s : Setting) (at : Place) (fresh : ℕ) (group : Begun) (part : Part) → bare (with_own group (own_node s at fresh part) part) ≡ bare (with_part s at fresh group part)
+with_own_is s at fresh group (triple subject verb object) = refl
+with_own_is s at fresh group (optional body) = refl
+with_own_is s at fresh group (minus body) = refl
+with_own_is s at fresh group (union groups) = refl
+with_own_is s at fresh group (graph name word body) = refl
+with_own_is s at fresh group (window name word body) = refl
+with_own_is s at fresh group (filter condition) = refl
+with_own_is s at fresh group (exists negated word body) = refl
+with_own_is s at fresh group (bind v formula) = refl
+with_own_is s at fresh group (values variables rows) = refl
+with_own_is s at fresh group (sub inner) = refl
+
+pub element_added : (s : Setting) (at : Place) (fresh : ℕ) (group after : Begun) (tree : Node) (part : Part) → tree ≡ own_node s at fresh part
+    → bare after ≡ bare (with_own group tree part) → bare after ≡ bare (with_part s at fresh group part)
+element_added s at fresh group after tree part own made =
+    made ∙ (ap (λ (t : Node). bare (with_own group t part)) own ∙ with_own_is s at fresh group part)
 
 -- ---- a step of the code's loop over elements
 

@@ -5,7 +5,7 @@ ghost use Rattle.rsp_query.specs.Groups.{groups_in, parts_in};
 ghost use Rattle.rsp_query.specs.Meanings.{part_of, selection_of};
 ghost use Rattle.rsp_algebra.specs.Meanings.{node_of};
 ghost use Rattle.rsp_shapes.specs.Seeing.{branches_of};
-ghost use Rattle.rsp_translation.specs.Building.{bare, begun_of, fixed_by, tests_in, tests_of};
+ghost use Rattle.rsp_translation.specs.Building.{bare, begun_of, fixed_by, own_node, tests_in, tests_of, with_own};
 ghost use Rattle.rsp_translation.specs.Begun as trees;
 
 use crate::begun::{
@@ -24,7 +24,68 @@ use rsp_algebra::{Place, Tree};
 use rsp_query::{Element, Select};
 use std::alloc::{AllocError, Global};
 
-// the group with one more element; its EXISTS are tested at its end
+// what an element has as a tree of its own, the unit where it has none; made apart from its group, which is owned elsewhere
+#[cycle(groups)]
+fn element_tree(
+    element: &Element,
+    alloc: Global,
+    setting: &Setting<'_>,
+    place: &Place,
+    fresh: usize,
+) -> Result<Tree, AllocError>
+    ensures { IfOk result (λ tree. node_of tree ≡ own_node (fixed_by setting.now) place.now fresh (part_of element.now)) }
+{
+    match element {
+        Element::Triple {
+            subject,
+            verb,
+            object,
+        } => path_tree(verb, alloc, place, fresh, subject, object),
+        Element::Filter(_) => Ok(Tree::Unit),
+        Element::Exists { .. } => Ok(Tree::Unit),
+        Element::Optional(body) => elements_tree(body, alloc, setting, place, fresh),
+        Element::Minus(body) => group_tree(body, alloc, setting, place, fresh),
+        Element::Union(branches) => {
+            unite_all(alloc, branch_trees(branches, alloc, setting, place, fresh)?)
+        }
+        Element::Graph { name, body, .. } => {
+            group_tree(body, alloc, setting, &graph_place(name)?, fresh)
+        }
+        Element::Window { name, body, .. } => {
+            let place = window_place(setting.windows, name)?;
+            group_tree(body, alloc, setting, &place, fresh)
+        }
+        Element::Bind { .. } => Ok(Tree::Unit),
+        Element::Values { variables, rows } => {
+            values_tree(alloc, setting.width, variables.as_slice(), rows)
+        }
+        Element::Sub(select) => select_tree(select, alloc, setting, place, fresh),
+    }
+}
+
+// the group with one more element, of which this is the tree; its EXISTS are tested at its end
+fn with_own(element: &Element, alloc: Global, group: Begun, tree: Tree) -> Result<Begun, AllocError>
+    ensures { IfOk result (λ next. begun_of next ≡ with_own (begun_of group) (node_of tree) (part_of element.now)) }
+{
+    match element {
+        Element::Triple { .. } => with_triple(alloc, group, tree),
+        Element::Filter(_) => Ok(group),
+        Element::Exists { .. } => Ok(group),
+        Element::Optional(body) => with_optional(alloc, group, tree, body),
+        Element::Minus(_) => with_minus(alloc, group, tree),
+        Element::Union(_) => with_joined(alloc, group, tree),
+        Element::Graph { .. } => with_joined(alloc, group, tree),
+        Element::Window { .. } => with_joined(alloc, group, tree),
+        Element::Bind {
+            variable,
+            expression,
+        } => with_bind(alloc, group, *variable, expression),
+        Element::Values { .. } => with_joined(alloc, group, tree),
+        Element::Sub(_) => with_joined(alloc, group, tree),
+    }
+}
+
+// the group with one more element
 #[cycle(groups)]
 fn with_element(
     element: &Element,
@@ -37,65 +98,8 @@ fn with_element(
     ensures { IfOk result (λ next. begun_of next
         ≡ bare (trees.with_part (fixed_by setting.now) place.now fresh (begun_of group) (part_of element.now))) }
 {
-    match element {
-        Element::Triple {
-            subject,
-            verb,
-            object,
-        } => with_triple(
-            alloc,
-            group,
-            path_tree(verb, alloc, place, fresh, subject, object)?,
-        ),
-        Element::Filter(_) => Ok(group),
-        Element::Exists { .. } => Ok(group),
-        Element::Optional(body) => {
-            let right = elements_tree(body, alloc, setting, place, fresh)?;
-            with_optional(alloc, group, right, body)
-        }
-        Element::Minus(body) => {
-            with_minus(
-                alloc,
-                group,
-                group_tree(body, alloc, setting, place, fresh)?,
-            )
-        }
-        Element::Union(branches) => {
-            let trees = branch_trees(branches, alloc, setting, place, fresh)?;
-            with_joined(alloc, group, unite_all(alloc, trees)?)
-        }
-        Element::Graph { name, body, .. } => {
-            let place = graph_place(name)?;
-            with_joined(
-                alloc,
-                group,
-                group_tree(body, alloc, setting, &place, fresh)?,
-            )
-        }
-        Element::Window { name, body, .. } => {
-            let place = window_place(setting.windows, name)?;
-            with_joined(
-                alloc,
-                group,
-                group_tree(body, alloc, setting, &place, fresh)?,
-            )
-        }
-        Element::Bind {
-            variable,
-            expression,
-        } => with_bind(alloc, group, *variable, expression),
-        Element::Values { variables, rows } => {
-            let right = values_tree(alloc, setting.width, variables.as_slice(), rows)?;
-            with_joined(alloc, group, right)
-        }
-        Element::Sub(select) => {
-            with_joined(
-                alloc,
-                group,
-                select_tree(select, alloc, setting, place, fresh)?,
-            )
-        }
-    }
+    let tree = element_tree(element, alloc, setting, place, fresh)?;
+    with_own(element, alloc, group, tree)
 }
 
 #[cycle(groups)]

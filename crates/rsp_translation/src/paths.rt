@@ -1,6 +1,8 @@
 // The trees of property paths.
-ghost use Rattle.std.specs.Prelude.{◌≡◌, ◌+◌, IfOk, map};
-ghost use Rattle.rsp_query.specs.Paths.{ways_in};
+ghost use Rattle.std.specs.Prelude.{◌≡◌, ◌+◌, IfOk, map, unwrap_or};
+ghost use Rattle.std.specs.Option.{option_map};
+ghost use Rattle.rsp_expr.specs.declared.slot.Slot.TheVariants.{Variable};
+ghost use Rattle.rsp_query.specs.Paths.{slashes, ways_in};
 ghost use Rattle.rsp_query.specs.Meanings.{way_of};
 ghost use Rattle.rsp_algebra.specs.Nodes as node;
 ghost use Rattle.rsp_algebra.specs.Meanings.{node_of};
@@ -53,16 +55,63 @@ fn steps(
 {
     let mut trees = Vec::new(alloc);
     let mut next = fresh;
-    let mut begin = subject.share()?;
+    let mut before = None;
     for index in 0..parts.len() {
-        let part = &parts[index];
-        let variable = sum(next, slashes(part)?)?;
-        let end = end_of(&parts[index + 1..], variable, object)?;
-        trees.push(path_tree(part, alloc, place, next, &begin, &end)?)?;
-        begin = Slot::Variable(variable);
+        let variable = behind(&parts[index], next)?;
+        trees.push(step(
+            &parts[index],
+            &parts[index + 1..],
+            alloc,
+            place,
+            next,
+            subject,
+            before,
+            variable,
+            object,
+        )?)?;
+        before = Some(variable);
         next = sum(variable, 1)?;
     }
     Ok(trees)
+}
+
+// one part of a `/`, between the variables of the `/` before and behind it; both ends are owned here, and not in the loop
+#[cycle(paths)]
+fn step(
+    part: &Path,
+    following: &[Path],
+    alloc: Global,
+    place: &Place,
+    fresh: usize,
+    subject: &Slot,
+    before: Option<usize>,
+    variable: usize,
+    object: &Slot,
+) -> Result<Tree, AllocError>
+    ensures { IfOk result (λ tree. node_of tree
+        ≡ paths.path_node place.now fresh (unwrap_or (option_map Variable before) subject.now) (way_of part.now)
+        (paths.end_of object.now variable (ways_in (map way_of following.now)))) }
+{
+    let begin = begin_of(before, subject)?;
+    let end = end_of(following, variable, object)?;
+    path_tree(part, alloc, place, fresh, &begin, &end)
+}
+
+// the variable of the `/` behind a part
+fn behind(part: &Path, fresh: usize) -> Result<usize, AllocError>
+    ensures { IfOk result (λ variable. variable ≡ fresh + slashes (way_of part.now)) }
+{
+    sum(fresh, slashes(part)?)
+}
+
+// where a part of a `/` begins: at the variable of the `/` before it, or at the begin of the whole
+fn begin_of(before: Option<usize>, subject: &Slot) -> Result<Slot, AllocError>
+    ensures { IfOk result (λ begin. begin ≡ unwrap_or (option_map Variable before) subject.now) }
+{
+    match before {
+        None => subject.share(),
+        Some(variable) => Ok(Slot::Variable(variable)),
+    }
 }
 
 // where a part of a `/` ends: at the end of the whole, or at the variable of the `/` behind it

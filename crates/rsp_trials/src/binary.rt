@@ -5,7 +5,7 @@ ghost use Rattle.rsp_terms.specs.declared.term.Term.{Term};
 ghost use Rattle.rsp_operators.specs.Laws.{Leads, MayBothBeGiven};
 
 use crate::Refused;
-use crate::rows::{Line, are_same, change};
+use crate::rows::{Line, change, is_change};
 use crate::side::Side;
 use rsp_multiset::{Bag, Changes, Row};
 use rsp_operators::Binary;
@@ -110,8 +110,19 @@ impl<O: Binary<Same> + Drop> BinaryTrial<O> {
         right: &[Line],
         wanted: &[Line],
     ) -> Result<bool, Refused> {
-        let net = self.change(alloc, &change(alloc, left)?, &change(alloc, right)?)?;
-        Ok(are_same(alloc, &net, &change(alloc, wanted)?)?)
+        let net = self.answer_to(alloc, left, right)?;
+        Ok(is_change(alloc, &net, wanted)?)
+    }
+
+    fn answer_to(
+        &mut self,
+        alloc: Global,
+        left: &[Line],
+        right: &[Line],
+    ) -> Result<Changes<Row<Term>>, Refused> {
+        let left = change(alloc, left)?;
+        let right = change(alloc, right)?;
+        self.change(alloc, &left, &right)
     }
 
     /// The rows that the left input holds.

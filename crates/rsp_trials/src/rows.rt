@@ -83,3 +83,13 @@ pub fn are_same(
     apart.subtract_changes(second)?;
     Ok(apart.is_empty())
 }
+
+/// Whether the changes are that of the lines.
+pub(crate) fn is_change(
+    alloc: Global,
+    net: &Changes<Row<Term>>,
+    lines: &[Line],
+) -> Result<bool, AllocError> {
+    let wanted = change(alloc, lines)?;
+    are_same(alloc, net, &wanted)
+}

@@ -2,7 +2,7 @@
 ghost use Rattle.std.specs.Prelude.{◌≡◌, List, [], IfOk};
 
 use crate::Refused;
-use crate::rows::{Line, are_same, change};
+use crate::rows::{Line, change, is_change};
 use crate::side::Side;
 use rsp_multiset::{Bag, Changes, Row};
 use rsp_operators::Unary;
@@ -85,7 +85,7 @@ impl<O: Unary<Same>> UnaryTrial<O> {
         wanted: &[Line],
     ) -> Result<bool, Refused> {
         let net = self.change(alloc, &change(alloc, lines)?)?;
-        Ok(are_same(alloc, &net, &change(alloc, wanted)?)?)
+        Ok(is_change(alloc, &net, wanted)?)
     }
 
     /// The rows that the input holds.

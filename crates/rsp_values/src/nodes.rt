@@ -168,7 +168,7 @@ pub(crate) fn unary(
 {
     match argument {
         None => Ok(None),
-        Some(argument) => unary_value(alloc, function, argument),
+        Some(argument) => unary_value(alloc, function, &argument),
     }
 }
 
@@ -182,7 +182,7 @@ pub(crate) fn binary(
 {
     match both {
         None => Ok(None),
-        Some((first, second)) => binary_value(alloc, function, first, second),
+        Some((first, second)) => binary_value(alloc, function, &first, &second),
     }
 }
 
@@ -199,6 +199,6 @@ pub(crate) fn ternary(
     let (first, second) = two;
     match third {
         None => Ok(None),
-        Some(third) => ternary_value(alloc, function, first, second, third),
+        Some(third) => ternary_value(alloc, function, &first, &second, &third),
     }
 }

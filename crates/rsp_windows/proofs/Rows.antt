@@ -1,9 +1,9 @@
 -- The instants that are both a closing and a multiple of the period stand in one row, or there are none.
-use Rattle.std.specs.Prelude.{◌≡◌, ℕ, ◌+◌, ◌-◌, ◌*◌, ◌/◌, ◌%◌, ◌<◌, ◌≤◌, None, Some}
+use Rattle.std.specs.Prelude.{◌≡◌, ℕ, ◌+◌, ◌-◌, ◌*◌, ◌^◌, ◌/◌, ◌%◌, ◌<◌, ◌≤◌, None, Some}
 use Rattle.std.proofs.Common.{arith, ap, inl, inr}
-use Rattle.std.proofs.Math.Nat.{mul-le-mul_right, le-mul_of_pos_right}
+use Rattle.std.proofs.Math.Nat.{div-le_self, mul-le-mul_right, le-mul_of_pos_right}
 use Rattle.std.proofs.lemmas.Bool.{cases_lt}
-use Rattle.std.proofs.lemmas.Nat.{mod_below, div-add-mod'}
+use Rattle.std.proofs.lemmas.Nat.{mul-le, mod_below, div-add-mod'}
 use Rattle.rsp_spec.specs.Instants.{IsLeastIn}
 use Rattle.rsp_windows.specs.Congruences.{IsShared, IsRow, IsBezout}
 use Rattle.rsp_windows.proofs.Divisors.{exact, multiple_is_whole}
@@ -73,6 +73,26 @@ row_at base slide period g u v k a p f slide_low period_low g_low slide_is perio
       ];
 }
 
+turn_low : (period g : ℕ) → 0 < period → period % g ≡ 0 → 0 < period / g
+turn_low period g low whole = elim (cases_lt 0 (period / g)) [
+  | inl more ↦ more
+  | inr none ↦
+      let period_is : period ≡ period / g * g = exact period g whole in
+      let zero_turns : period / g ≡ 0 = omega (arith, none) in absurd (omega (arith, low, period_is, ap (λ x. x * g) zero_turns))
+]
+
+-- how far a row's first instant and its step reach, for any number of slides that is cut by whole turns
+pub row_sizes : (base slide period g number : ℕ) → 0 < period → period % g ≡ 0 → base ≤ 2 ^ 49 → slide ≤ 2 ^ 48 → period ≤ 2 ^ 48
+    → (base + number % (period / g) * slide ≤ 2 ^ 97) × (period / g * slide ≤ 2 ^ 96)
+row_sizes base slide period g number low whole base_high slide_high period_high =
+    let less = div-le_self period g in
+    let turn_high : period / g ≤ 2 ^ 48 = omega (arith, less) in
+    let below = mod_below number (period / g) (turn_low period g low whole) in
+    let number_high : number % (period / g) ≤ 2 ^ 48 = omega (arith, below, turn_high) in
+    let reach : number % (period / g) * slide ≤ 2 ^ 48 * 2 ^ 48 = mul-le _ _ (2 ^ 48) (2 ^ 48) number_high slide_high in
+    let step : period / g * slide ≤ 2 ^ 48 * 2 ^ 48 = mul-le _ _ (2 ^ 48) (2 ^ 48) turn_high slide_high in
+    (omega (arith, reach), omega (arith, step))
+
 -- `missing` leads from the base to a multiple of the period; so many times the coefficient, cut by whole turns
 pub row_from : (base slide period g u v c m : ℕ) → 0 < slide → 0 < period → IsBezout slide period g u v → base % g ≡ 0
     → base + m ≡ c * period
@@ -84,11 +104,7 @@ row_from base slide period g u v c m slide_low period_low common whole missing =
     let m_is : m ≡ (c * (period / g) - base / g) * g
     = apart_of m (base / g) (c * (period / g)) g (omega (arith, missing, base_is, ap (λ x. c * x) period_is)) in
     let m_exact : m ≡ m / g * g = exact m g (multiple_is_whole m _ g common.positive m_is) in
-    let some : 0 < period / g = elim (cases_lt 0 (period / g)) [
-      | inl more ↦ more
-      | inr none ↦ let zero_turns : period / g ≡ 0 = omega (arith, none) in absurd (omega (arith, period_low, period_is, ap (λ x. x * g) zero_turns))
-    ] in
-    let small : m / g * u % (period / g) < period / g = mod_below (m / g * u) (period / g) some in
+    let small : m / g * u % (period / g) < period / g = mod_below (m / g * u) (period / g) (turn_low period g period_low common.right) in
     let k_is : m / g * u / (period / g) * (period / g) + m / g * u % (period / g) ≡ m / g * u = div-add-mod' (m / g * u) (period / g) in
     row_at base slide period g u v (m / g * u % (period / g)) (slide / g) (period / g) _ slide_low period_low common.positive slide_is period_is common.meets small
     (apart_of _ (m / g * u / (period / g) * (slide / g)) (c + m / g * v) period

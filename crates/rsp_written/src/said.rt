@@ -244,6 +244,12 @@ impl Kind {
         ensures value { result ≡ numbers.number_of self }
         ensures own { (j k : Kind) → numbers.number_of j ≡ numbers.number_of k → j ≡ k }
     {
+        self.place()
+    }
+
+    fn place(self) -> u8
+        ensures { result ≡ numbers.number_of self }
+    {
         match self {
             Kind::Iri => 0,
             Kind::Prefixed => 1,

@@ -20,7 +20,13 @@ abbrev pub decreases-operands : goal.decreases-operands
 decreases-operands g l = 32 * l.depth + (part_rank l.parts + 2)
 
 abbrev pub decreases-relation : goal.decreases-relation
-decreases-relation g l = 32 * l.depth + 18
+decreases-relation g l = 32 * l.depth + 19
+
+abbrev pub decreases-compared : goal.decreases-compared
+decreases-compared g l = 32 * l.depth + 18
+
+abbrev pub decreases-members : goal.decreases-members
+decreases-members g l = 32 * l.depth + 18
 
 abbrev pub decreases-primary : goal.decreases-primary
 decreases-primary g l = 32 * l.depth + 8

@@ -28,14 +28,17 @@ invariant-branch_trees-loop-branch l =
     ++ trees.group_nodes (fixed_by l.setting) l.place l.next (groups_in (branches_of (drop l.branch-index l.branches)))
     ≡ trees.group_nodes (fixed_by l.setting) l.place l.fresh (groups_in (branches_of l.branches))
 
+abbrev pub decreases-element_tree : goal.decreases-element_tree
+decreases-element_tree l = 8 * goal.size-element_tree l
+
 abbrev pub decreases-with_element : goal.decreases-with_element
-decreases-with_element l = 8 * goal.size-with_element l
+decreases-with_element l = 8 * goal.size-with_element l + 1
 
 abbrev pub decreases-with_elements : goal.decreases-with_elements
-decreases-with_elements l = 8 * goal.size-with_elements l + 1
+decreases-with_elements l = 8 * goal.size-with_elements l + 2
 
 abbrev pub decreases-elements_tree : goal.decreases-elements_tree
-decreases-elements_tree l = 8 * goal.size-elements_tree l + 2
+decreases-elements_tree l = 8 * goal.size-elements_tree l + 3
 
 abbrev pub decreases-with_test : goal.decreases-with_test
 decreases-with_test l = 8 * goal.size-with_test l
@@ -44,10 +47,10 @@ abbrev pub decreases-with_tests : goal.decreases-with_tests
 decreases-with_tests l = 8 * goal.size-with_tests l + 1
 
 abbrev pub decreases-group_tree : goal.decreases-group_tree
-decreases-group_tree l = 8 * goal.size-group_tree l + 3
+decreases-group_tree l = 8 * goal.size-group_tree l + 4
 
 abbrev pub decreases-branch_trees : goal.decreases-branch_trees
-decreases-branch_trees l = 8 * goal.size-branch_trees l + 4
+decreases-branch_trees l = 8 * goal.size-branch_trees l + 5
 
 abbrev pub decreases-select_tree : goal.decreases-select_tree
 decreases-select_tree l = 8 * goal.size-select_tree l

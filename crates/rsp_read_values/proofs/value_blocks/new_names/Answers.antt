@@ -1,4 +1,4 @@
-use Rattle.std.proofs.Common.{rules, ◌≡◌, ◌+◌, ◌∷◌, ◌++◌, [], ◌∙◌, ap, sym, subst, drop, length, length-append, reverse, true, false, Ok, drop_of_length-le}
+use Rattle.std.proofs.Common.{rules, ◌≡◌, ◌+◌, ◌∷◌, [], ◌∙◌, ap, sym, subst, drop, length, length-append, reverse, true, false, Ok, drop_of_length-le}
 use Rattle.std.proofs.lemmas.List.{at_drop_more}
 use Rattle.std.specs.Str.{bytes_eq}
 use Rattle.indexmap.specs.IndexSet.{insert_key}
@@ -8,19 +8,16 @@ use Rattle.rsp_written.specs.Grammar.{name_if_variable}
 use Rattle.rsp_written.specs.TripleReadings.{columns_read}
 use Rattle.rsp_read_values.specs.Rows.{is_new}
 use Rattle.rsp_read_values.proofs.NewNames.{name_inserted, name_more_at, name_old_at, name_end_at}
-use Rattle.rsp_read_values.proofs.value_blocks.columns.Goals as goal
+use Rattle.rsp_read_values.proofs.value_blocks.new_names.Goals as goal
 
-pub returns-then-not-is_new_name : goal.returns-then-not-is_new_name
-returns-then-not-is_new_name c =
+pub returns-then-not-is_new_name-clause-read : goal.returns-then-not-is_new_name-clause-read
+returns-then-not-is_new_name-clause-read c =
     let next =
     at_drop_more (λ xs. xs) c.args.tokens.now c.loop-said.said-index c.said-item.result c.loop-said-test.true
     ∙ ap (λ x. x ∷ drop (c.loop-said.said-index + 1) c.args.tokens.now) (sym c.said-item.is) in
     let old : is_new (reverse c.loop-said.names.keys) (name_if_variable c.said-item.result) ≡ false = search rules in
-    let at : c.len.result ≡ c.loop-said.said-index = search rules in
-    let list : c.in_ok-listed.field-0.items ≡ c.loop-said.names.keys = search rules in
     name_old_at c.loop-said.names.keys c.said-item.result _ _ _ next old c.loop-said.invariant.1
-    ∙ (ap (λ us. Ok (c.loop-said.names.keys, us)) (sym (c.split_at.ensures.back ∙ ap (λ n. drop n c.args.tokens.now) at))
-    ∙ ap (λ names. Ok (names, c.split_at.result.1.now)) (sym list))
+    ∙ ap (λ n. Ok (c.loop-said.names.keys, drop n c.args.tokens.now)) (sym c.loop-said.invariant.0)
 
 pub loop-said-preserved : goal.loop-said-preserved
 loop-said-preserved c =
@@ -35,10 +32,7 @@ loop-said-preserved c =
           (sym pushed) (name_more_at c.loop-said.names.keys c.said-item.result _ _ _ next new c.loop-said.invariant.1),
     )
 
-pub returns : goal.returns
-returns c =
-    let next = drop_of_length-le c.args.tokens.now c.loop-said-test.false in
-    let rest : drop c.loop-said.said-index c.args.tokens.now ≡ c.split_at-2.result.1.now = search rules in
-    let list : c.in_ok-listed-2.field-0.items ≡ c.loop-said.names.keys = search rules in
-    name_end_at c.loop-said.names.keys _ _ next c.loop-said.invariant.1
-    ∙ (ap (λ us. Ok (c.loop-said.names.keys, us)) rest ∙ ap (λ names. Ok (names, c.split_at-2.result.1.now)) (sym list))
+pub returns-clause-read : goal.returns-clause-read
+returns-clause-read c =
+    name_end_at c.loop-said.names.keys _ _ (drop_of_length-le c.args.tokens.now c.loop-said-test.false) c.loop-said.invariant.1
+    ∙ ap (λ n. Ok (c.loop-said.names.keys, drop n c.args.tokens.now)) (sym c.loop-said.invariant.0)

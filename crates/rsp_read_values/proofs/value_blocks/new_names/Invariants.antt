@@ -4,7 +4,7 @@ use Rattle.rsp_phrases.specs.Gathering.{gathered, as_read}
 use Rattle.rsp_phrases.specs.Readers.{distinct_read}
 use Rattle.rsp_written.specs.Grammar.{name_if_variable}
 use Rattle.rsp_written.specs.TripleReadings.{columns_read}
-use Rattle.rsp_read_values.proofs.value_blocks.columns.Given as goal
+use Rattle.rsp_read_values.proofs.value_blocks.new_names.Given as goal
 
 abbrev pub invariant-loop-said : goal.invariant-loop-said
 invariant-loop-said l =
