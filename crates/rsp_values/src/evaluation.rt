@@ -62,10 +62,9 @@ fn evaluate<R: ReadRow>(
         Expression::Or(parts) => connected(alloc, true, parts, row),
         Expression::And(parts) => connected(alloc, false, parts, row),
         Expression::Not(part) => Ok(nodes::negation(evaluate(alloc, part, row)?)),
-        Expression::Compare { sign, left, right } => match evaluate(alloc, left, row)? {
-            None => Ok(None),
-            Some(left) => compared(alloc, *sign, left, right, row),
-        },
+        Expression::Compare { sign, left, right } => {
+            compared(alloc, *sign, evaluate(alloc, left, row)?, right, row)
+        }
         Expression::Member {
             negated,
             item,
@@ -74,15 +73,12 @@ fn evaluate<R: ReadRow>(
             if list.is_empty() {
                 return Ok(Some(Operand::Boolean(*negated)));
             }
-            match evaluate(alloc, item, row)? {
-                None => Ok(membership(*negated, without_item(list))),
-                Some(item) => Ok(membership(*negated, among(alloc, &item, list, row)?)),
-            }
+            let truth = member_truth(alloc, evaluate(alloc, item, row)?, list, row)?;
+            Ok(membership(*negated, truth))
         }
-        Expression::Arithmetic { sign, left, right } => match evaluate(alloc, left, row)? {
-            None => Ok(None),
-            Some(left) => calculated(alloc, *sign, left, right, row),
-        },
+        Expression::Arithmetic { sign, left, right } => {
+            calculated(alloc, *sign, evaluate(alloc, left, row)?, right, row)
+        }
         Expression::Negate(part) => Ok(nodes::unary_minus(evaluate(alloc, part, row)?)),
         Expression::Plus(part) => Ok(nodes::unary_plus(evaluate(alloc, part, row)?)),
         Expression::Bound(variable) => Ok(nodes::bound(row, *variable)),
@@ -98,13 +94,16 @@ fn evaluate<R: ReadRow>(
 fn compared<R: ReadRow>(
     alloc: Global,
     sign: Sign,
-    left: Operand,
+    left: Option<Operand>,
     right: &Expression,
     row: &R,
 ) -> Result<Option<Operand>, AllocError>
     ensures { IfOk result (λ operand. value_for operand ≡ boolean_result
-        (value_of_both (comparing.comparison sign) (Some (term_for left)) (value (formula_of right.now) (R.cells row.now)))) }
+        (value_of_both (comparing.comparison sign) (value_for left) (value (formula_of right.now) (R.cells row.now)))) }
 {
+    let Some(left) = left else {
+        return Ok(None);
+    };
     match evaluate(alloc, right, row)? {
         None => Ok(None),
         Some(right) => Ok(boolean(comparison(sign, &left, &right))),
@@ -116,13 +115,16 @@ fn compared<R: ReadRow>(
 fn calculated<R: ReadRow>(
     alloc: Global,
     sign: Sign,
-    left: Operand,
+    left: Option<Operand>,
     right: &Expression,
     row: &R,
 ) -> Result<Option<Operand>, AllocError>
     ensures { IfOk result (λ operand. value_for operand
-        ≡ value_of_both (functions.arithmetic sign) (Some (term_for left)) (value (formula_of right.now) (R.cells row.now))) }
+        ≡ value_of_both (functions.arithmetic sign) (value_for left) (value (formula_of right.now) (R.cells row.now))) }
 {
+    let Some(left) = left else {
+        return Ok(None);
+    };
     match evaluate(alloc, right, row)? {
         None => Ok(None),
         Some(right) => Ok(arithmetic(sign, &left, &right)),
@@ -149,6 +151,22 @@ fn connected<R: ReadRow>(
         erred = either(erred, truth.is_none());
     }
     Ok(boolean(undecided(deciding, erred)))
+}
+
+// whether an item is equal to one of the members
+#[cycle(evaluation)]
+fn member_truth<R: ReadRow>(
+    alloc: Global,
+    item: Option<Operand>,
+    list: &[Expression],
+    row: &R,
+) -> Result<Option<bool>, AllocError>
+    ensures { IfOk result (λ truth. truth ≡ comparing.member_truth (value_for item) (argument_values list.now (R.cells row.now))) }
+{
+    match item {
+        None => Ok(without_item(list)),
+        Some(item) => among(alloc, &item, list, row),
+    }
 }
 
 // whether a value is equal to one of the members
