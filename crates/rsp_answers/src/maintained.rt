@@ -5,12 +5,12 @@ use rsp_maintained::Plan;
 use rsp_multiset::{Bag, Changes};
 use rsp_plan::Operator;
 use rsp_steps::Steps;
-use rsp_terms::{Fact, Same, Term};
+use rsp_terms::{Fact, Term};
 use std::alloc::{AllocError, Global};
 use std::sync::ledger::Ledger;
 
 /// A node of a plan: an operator of any kind, on rows of terms.
-type Kind = Operator<SingleOp<Same>, DoubleOp<Same>>;
+type Kind = Operator<SingleOp, DoubleOp>;
 
 /// An answer that is kept by maintained operators: each call is the plan's.
 #[derive(Drop)]

@@ -1,10 +1,10 @@
 // Operators with a bound.
 ghost use Rattle.std.specs.Prelude.{◌≡◌};
 
-use crate::conditions::Always;
 use crate::notation::{Told, answers, goes_on, turns_out};
 use crate::trials::{bounded_join, bounded_left_join};
-use rsp_kinds::KeepingBoth;
+use rsp_expr::Expression;
+use rsp_kinds::{ByExpression, DoubleOp, KeepingBoth};
 use rsp_multiset::{Changes, Row};
 use rsp_operators::Binary;
 use rsp_outer::CompatibleWhere;
@@ -17,27 +17,26 @@ use std::test::Fail;
 
 /// An operator that gives up where more rows come than may, and says so.
 #[derive(Drop)]
-pub(crate) struct Bounded<B> {
-    pub(crate) operator: B,
+pub(crate) struct Bounded {
+    pub(crate) operator: DoubleOp,
     pub(crate) most: u64,
     pub(crate) full: bool,
 }
 
-impl<B: KeepingBoth<Same>> Binary<Same> for Bounded<B> {
-    ghost width = { λ bounded. B.width bounded.operator };
+impl Binary<Same> for Bounded {
+    ghost width = { λ bounded. ⟦<DoubleOp as Binary<Same>>⟧.width bounded.operator };
 
-    ghost key = { λ bounded. B.key bounded.operator };
+    ghost key = { λ bounded. ⟦<DoubleOp as Binary<Same>>⟧.key bounded.operator };
 
-    ghost factor = { λ bounded. B.factor bounded.operator };
+    ghost factor = { λ bounded. ⟦<DoubleOp as Binary<Same>>⟧.factor bounded.operator };
 
-    ghost value = { λ bounded. B.value bounded.operator };
+    ghost value = { λ bounded. ⟦<DoubleOp as Binary<Same>>⟧.value bounded.operator };
 
-    ghost stands = { λ bounded domain lefts rights. B.stands bounded.operator domain lefts rights };
+    ghost stands = { λ bounded. ⟦<DoubleOp as Binary<Same>>⟧.stands bounded.operator };
 
-    ghost kept = { λ bounded. B.kept bounded.operator };
+    ghost kept = { λ bounded. ⟦<DoubleOp as Binary<Same>>⟧.kept bounded.operator };
 
-    ghost carried = { λ bounded before after lefts rights alike stands.
-        B.carried bounded.operator before after lefts rights alike stands };
+    ghost carried = { λ bounded before after lefts rights alike stands. stands };
 
     fn apply<L: Ledger>(
         &mut self,
@@ -59,18 +58,18 @@ impl<B: KeepingBoth<Same>> Binary<Same> for Bounded<B> {
 }
 
 // whether it answers as the turns tell, and gives up at the last one, since more pairs came than may
-fn gives_up<B: KeepingBoth<Same>>(
+fn gives_up(
     alloc: Global,
-    mut trial: BinaryTrial<Bounded<B>>,
+    mut trial: BinaryTrial<Bounded>,
     turns: &str,
     last: &str,
 ) -> Result<bool, Refused> {
     gives_up_at(alloc, &mut trial, turns, last)
 }
 
-fn gives_up_at<B: KeepingBoth<Same>>(
+fn gives_up_at(
     alloc: Global,
-    trial: &mut BinaryTrial<Bounded<B>>,
+    trial: &mut BinaryTrial<Bounded>,
     turns: &str,
     last: &str,
 ) -> Result<bool, Refused> {
@@ -122,8 +121,13 @@ fn a_join_gives_up_where_more_pairs_come(rt: HostRuntime) -> Result<(), Fail> {
     Ok(())
 }
 
-fn compatible(alloc: Global, key: &[usize]) -> Result<CompatibleWhere<Always>, AllocError> {
-    Ok(CompatibleWhere::new(Vec::from_slice(alloc, key)?, Always {}))
+/// Compatible rows with this key, and no other condition.
+pub(crate) fn compatible(
+    alloc: Global,
+    key: &[usize],
+) -> Result<CompatibleWhere<ByExpression>, AllocError> {
+    let always = ByExpression::new(alloc, Expression::And(Vec::new(alloc)));
+    Ok(CompatibleWhere::new(Vec::from_slice(alloc, key)?, always))
 }
 
 fn left_join_goes_on(

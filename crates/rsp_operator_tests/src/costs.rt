@@ -1,10 +1,10 @@
 // Large inputs, and small changes of them: each of these is a matter of seconds.
+use crate::bounded;
 use crate::bounded::Bounded;
 use crate::conditions::Always;
 use crate::trials::{
     anti, bounded_join, bounded_left_join, joined, keyed_anti, keyed_semi, left_join, semi,
 };
-use rsp_kinds::KeepingBoth;
 use rsp_multiset::{Changes, Row};
 use rsp_operators::Binary;
 use rsp_outer::{CompatibleSharing, CompatibleWhere};
@@ -170,10 +170,7 @@ fn refuses_many<O: Binary<Same> + Drop>(
 }
 
 // whether that is too much
-fn is_too_much<B: KeepingBoth<Same>>(
-    alloc: Global,
-    mut trial: BinaryTrial<Bounded<B>>,
-) -> Result<bool, AllocError> {
+fn is_too_much(alloc: Global, mut trial: BinaryTrial<Bounded>) -> Result<bool, AllocError> {
     Ok(refuses_many(alloc, &mut trial)? && trial.operator().full)
 }
 
@@ -194,7 +191,7 @@ fn a_join_without_a_key(rt: HostRuntime) -> Result<(), Fail> {
 #[test]
 fn an_outer_join_without_a_key(rt: HostRuntime) -> Result<(), Fail> {
     let alloc = rt.alloc();
-    let pairing = CompatibleWhere::new(Vec::new(alloc), Always {});
+    let pairing = bounded::compatible(alloc, &[])?;
     assert!(rt; is_too_much(alloc, bounded_left_join(alloc, pairing, MOST)?)?);
     Ok(())
 }

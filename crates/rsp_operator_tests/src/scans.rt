@@ -4,7 +4,7 @@ ghost use Rattle.std.specs.Prelude.{◌≡◌};
 use rsp_multiset::{Changes, Row};
 use rsp_simple_operators::{Graph, Part, Pattern, Scan};
 use rsp_terms::{Domain, Fact, Spot, Term, Triple};
-use rsp_trials::{Line, are_same, change, term};
+use rsp_trials::{Line, is_change, term};
 use std::alloc::{AllocError, Global};
 use std::test::Fail;
 
@@ -134,11 +134,6 @@ fn scanned_of(
     scan.apply(alloc, facts, domain)
 }
 
-fn are_rows(alloc: Global, net: &Changes<Row<Term>>, rows: &[Line]) -> Result<bool, AllocError> {
-    let wanted = change(alloc, rows)?;
-    are_same(alloc, net, &wanted)
-}
-
 // whether these rows are answered, and the domain takes in so many terms
 fn answers(
     alloc: Global,
@@ -148,7 +143,7 @@ fn answers(
 ) -> Result<bool, AllocError> {
     let mut domain = Noting { taken: 0 };
     let net = scanned(alloc, variables, &mut domain)?;
-    Ok(domain.taken == terms && are_rows(alloc, &net, rows)?)
+    Ok(domain.taken == terms && is_change(alloc, &net, rows)?)
 }
 
 const BOTH_BOUND: [Line; 2] = [(&["a:1", "a:2"], 1), (&["a:1", "a:1"], -1)];

@@ -16,6 +16,6 @@ mod unary;
 pub use binary::BinaryTrial;
 pub use numbers::Numbers;
 pub use refused::Refused;
-pub use rows::{Line, are_same, cell, change, count, numbered, row, term};
+pub use rows::{Line, are_same, cell, change, count, is_change, numbered, row, term};
 pub use side::Side;
 pub use unary::UnaryTrial;

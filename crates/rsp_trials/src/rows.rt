@@ -85,7 +85,7 @@ pub fn are_same(
 }
 
 /// Whether the changes are that of the lines.
-pub(crate) fn is_change(
+pub fn is_change(
     alloc: Global,
     net: &Changes<Row<Term>>,
     lines: &[Line],

@@ -247,6 +247,7 @@ impl Kind {
         self.place()
     }
 
+    // apart from `number`, so that its clause on all kinds isn't proved at each arm
     fn place(self) -> u8
         ensures { result ≡ numbers.number_of self }
     {
