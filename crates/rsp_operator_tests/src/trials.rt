@@ -71,6 +71,12 @@ fn outer_join<P: Pairing<Same> + Drop>(
     Ok(operator)
 }
 
+fn key_of<P: Pairing<Same>>(alloc: Global, pairing: &P) -> Result<Vec<usize>, AllocError>
+    ensures { IfOk result (λ key. key.items ≡ P.variables pairing.now) }
+{
+    Vec::from_slice(alloc, pairing.key())
+}
+
 /// A left join by this pairing.
 pub(crate) fn left_join<P: Pairing<Same> + Drop>(
     alloc: Global,
@@ -87,7 +93,7 @@ pub(crate) fn bounded_left_join(
     pairing: CompatibleWhere<ByExpression>,
     most: u64,
 ) -> Result<BinaryTrial<Bounded>, AllocError> {
-    let key = Vec::from_slice(alloc, pairing.key())?;
+    let key = key_of(alloc, &pairing)?;
     let operator = outer_join(alloc, pairing)?;
     let bounded = Bounded {
         operator: DoubleOp::LeftJoin(operator),
