@@ -1,13 +1,13 @@
 // Operators with a bound.
-ghost use Rattle.std.specs.Prelude.{◌≡◌};
+ghost use Rattle.std.specs.Prelude.{◌≡◌, Some, IfOk};
 
+use crate::conditions::Always;
 use crate::notation::{Told, answers, goes_on, turns_out};
 use crate::trials::{bounded_join, bounded_left_join};
-use rsp_expr::Expression;
-use rsp_kinds::{ByExpression, DoubleOp, KeepingBoth};
+use rsp_joins::{Compatible, JoinOp};
 use rsp_multiset::{Changes, Row};
-use rsp_operators::Binary;
-use rsp_outer::CompatibleWhere;
+use rsp_operators::{Binary, Pairing};
+use rsp_outer::{CompatibleWhere, LeftJoinOp};
 use rsp_steps::Steps;
 use rsp_terms::{Same, Term};
 use rsp_trials::{BinaryTrial, Refused};
@@ -17,24 +17,56 @@ use std::test::Fail;
 
 /// An operator that gives up where more rows come than may, and says so.
 #[derive(Drop)]
-pub(crate) struct Bounded {
-    pub(crate) operator: DoubleOp,
+pub(crate) struct Bounded<B> {
+    pub(crate) operator: B,
     pub(crate) most: u64,
     pub(crate) full: bool,
 }
 
-impl Binary<Same> for Bounded {
-    ghost width = { λ bounded. ⟦<DoubleOp as Binary<Same>>⟧.width bounded.operator };
+/// An operator that tells whether it gave up.
+pub(crate) trait GivesUp: Binary<Same> + Drop {
+    /// Whether more rows came than may.
+    fn has_given_up(&self) -> bool;
+}
 
-    ghost key = { λ bounded. ⟦<DoubleOp as Binary<Same>>⟧.key bounded.operator };
+impl GivesUp for Bounded<JoinOp<Same, Compatible>> {
+    fn has_given_up(&self) -> bool {
+        self.full
+    }
+}
 
-    ghost factor = { λ bounded. ⟦<DoubleOp as Binary<Same>>⟧.factor bounded.operator };
+impl<P: Pairing<Same> + Drop> GivesUp for Bounded<LeftJoinOp<Same, P>> {
+    fn has_given_up(&self) -> bool {
+        self.full
+    }
+}
 
-    ghost value = { λ bounded. ⟦<DoubleOp as Binary<Same>>⟧.value bounded.operator };
+// the answer, or that there is none
+fn told(
+    answer: Option<Changes<Row<Term>>>,
+    full: &mut bool,
+) -> Result<Changes<Row<Term>>, AllocError>
+    ensures { IfOk result (λ net. answer ≡ Some net) }
+{
+    if let Some(net) = answer {
+        return Ok(net);
+    }
+    *full = true;
+    Err(AllocError)
+}
 
-    ghost stands = { λ bounded. ⟦<DoubleOp as Binary<Same>>⟧.stands bounded.operator };
+impl Binary<Same> for Bounded<JoinOp<Same, Compatible>> {
+    ghost width = { λ bounded. ⟦<JoinOp<Same, Compatible> as Binary<Same>>⟧.width bounded.operator };
 
-    ghost kept = { λ bounded. ⟦<DoubleOp as Binary<Same>>⟧.kept bounded.operator };
+    ghost key = { λ bounded. ⟦<JoinOp<Same, Compatible> as Binary<Same>>⟧.key bounded.operator };
+
+    ghost factor = { λ bounded. ⟦<JoinOp<Same, Compatible> as Binary<Same>>⟧.factor bounded.operator };
+
+    ghost value = { λ bounded. ⟦<JoinOp<Same, Compatible> as Binary<Same>>⟧.value bounded.operator };
+
+    ghost stands = { λ bounded. ⟦<JoinOp<Same, Compatible> as Binary<Same>>⟧.stands bounded.operator };
+
+    ghost kept = { λ bounded. ⟦<JoinOp<Same, Compatible> as Binary<Same>>⟧.kept bounded.operator };
 
     ghost carried = { λ bounded before after lefts rights alike stands. stands };
 
@@ -48,28 +80,54 @@ impl Binary<Same> for Bounded {
     ) -> Result<Changes<Row<Term>>, AllocError> {
         let answer = self
             .operator
-            .answer_within(alloc, left, right, self.most, domain, steps)?;
-        if let Some(net) = answer {
-            return Ok(net);
-        }
-        self.full = true;
-        Err(AllocError)
+            .apply_within(alloc, left, right, domain, steps, self.most)?;
+        told(answer, &mut self.full)
+    }
+}
+
+impl<P: Pairing<Same>> Binary<Same> for Bounded<LeftJoinOp<Same, P>> {
+    ghost width = { λ bounded. ⟦<LeftJoinOp<Same, P> as Binary<Same>>⟧.width bounded.operator };
+
+    ghost key = { λ bounded. ⟦<LeftJoinOp<Same, P> as Binary<Same>>⟧.key bounded.operator };
+
+    ghost factor = { λ bounded. ⟦<LeftJoinOp<Same, P> as Binary<Same>>⟧.factor bounded.operator };
+
+    ghost value = { λ bounded. ⟦<LeftJoinOp<Same, P> as Binary<Same>>⟧.value bounded.operator };
+
+    ghost stands = { λ bounded. ⟦<LeftJoinOp<Same, P> as Binary<Same>>⟧.stands bounded.operator };
+
+    ghost kept = { λ bounded. ⟦<LeftJoinOp<Same, P> as Binary<Same>>⟧.kept bounded.operator };
+
+    ghost carried = { λ bounded before after lefts rights alike stands. stands };
+
+    fn apply<L: Ledger>(
+        &mut self,
+        alloc: Global,
+        left: &Changes<Row<Term>>,
+        right: &Changes<Row<Term>>,
+        domain: &mut Same,
+        steps: &mut Steps<L>,
+    ) -> Result<Changes<Row<Term>>, AllocError> {
+        let answer = self
+            .operator
+            .apply_within(alloc, left, right, domain, steps, self.most)?;
+        told(answer, &mut self.full)
     }
 }
 
 // whether it answers as the turns tell, and gives up at the last one, since more pairs came than may
-fn gives_up(
+fn gives_up<O: GivesUp>(
     alloc: Global,
-    mut trial: BinaryTrial<Bounded>,
+    mut trial: BinaryTrial<O>,
     turns: &str,
     last: &str,
 ) -> Result<bool, Refused> {
     gives_up_at(alloc, &mut trial, turns, last)
 }
 
-fn gives_up_at(
+fn gives_up_at<O: GivesUp>(
     alloc: Global,
-    trial: &mut BinaryTrial<Bounded>,
+    trial: &mut BinaryTrial<O>,
     turns: &str,
     last: &str,
 ) -> Result<bool, Refused> {
@@ -77,7 +135,7 @@ fn gives_up_at(
         return Ok(false);
     }
     let given_up = answers(alloc, trial, Told::Answered, last).is_err();
-    Ok(given_up && trial.operator().full)
+    Ok(given_up && trial.operator().has_given_up())
 }
 
 // two rows against two without a key make four pairs, of which two fall together
@@ -121,13 +179,8 @@ fn a_join_gives_up_where_more_pairs_come(rt: HostRuntime) -> Result<(), Fail> {
     Ok(())
 }
 
-/// Compatible rows with this key, and no other condition.
-pub(crate) fn compatible(
-    alloc: Global,
-    key: &[usize],
-) -> Result<CompatibleWhere<ByExpression>, AllocError> {
-    let always = ByExpression::new(alloc, Expression::And(Vec::new(alloc)));
-    Ok(CompatibleWhere::new(Vec::from_slice(alloc, key)?, always))
+fn compatible(alloc: Global, key: &[usize]) -> Result<CompatibleWhere<Always>, AllocError> {
+    Ok(CompatibleWhere::new(Vec::from_slice(alloc, key)?, Always {}))
 }
 
 fn left_join_goes_on(

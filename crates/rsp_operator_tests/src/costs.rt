@@ -1,6 +1,5 @@
 // Large inputs, and small changes of them: each of these is a matter of seconds.
-use crate::bounded;
-use crate::bounded::Bounded;
+use crate::bounded::GivesUp;
 use crate::conditions::Always;
 use crate::trials::{
     anti, bounded_join, bounded_left_join, joined, keyed_anti, keyed_semi, left_join, semi,
@@ -170,8 +169,8 @@ fn refuses_many<O: Binary<Same> + Drop>(
 }
 
 // whether that is too much
-fn is_too_much(alloc: Global, mut trial: BinaryTrial<Bounded>) -> Result<bool, AllocError> {
-    Ok(refuses_many(alloc, &mut trial)? && trial.operator().full)
+fn is_too_much<O: GivesUp>(alloc: Global, mut trial: BinaryTrial<O>) -> Result<bool, AllocError> {
+    Ok(refuses_many(alloc, &mut trial)? && trial.operator().has_given_up())
 }
 
 #[test]
@@ -191,7 +190,7 @@ fn a_join_without_a_key(rt: HostRuntime) -> Result<(), Fail> {
 #[test]
 fn an_outer_join_without_a_key(rt: HostRuntime) -> Result<(), Fail> {
     let alloc = rt.alloc();
-    let pairing = bounded::compatible(alloc, &[])?;
+    let pairing = CompatibleWhere::new(Vec::new(alloc), Always {});
     assert!(rt; is_too_much(alloc, bounded_left_join(alloc, pairing, MOST)?)?);
     Ok(())
 }

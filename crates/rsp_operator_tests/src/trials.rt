@@ -2,13 +2,11 @@
 ghost use Rattle.std.specs.Prelude.{◌≡◌, ⊤, [], IfOk};
 ghost use Rattle.rsp_terms.specs.Same.{term_eq};
 ghost use Rattle.rsp_joins.specs.Stands.{Stands};
-ghost use Rattle.rsp_outer.specs.Standing.{StandsWithNumbers};
 
 use crate::bounded::Bounded;
 use rsp_joins::{Compatible, JoinOp};
-use rsp_kinds::{ByExpression, DoubleOp};
 use rsp_operators::Pairing;
-use rsp_outer::{AntiOp, CompatibleWhere, KeyedAntiOp, KeyedSemiOp, LeftJoinOp, SemiOp};
+use rsp_outer::{AntiOp, KeyedAntiOp, KeyedSemiOp, LeftJoinOp, SemiOp};
 use rsp_simple_operators::Deduping;
 use rsp_terms::Same;
 use rsp_trials::{BinaryTrial, UnaryTrial};
@@ -48,33 +46,13 @@ pub(crate) fn bounded_join(
     alloc: Global,
     key: &[usize],
     most: u64,
-) -> Result<BinaryTrial<Bounded>, AllocError> {
+) -> Result<BinaryTrial<Bounded<JoinOp<Same, Compatible>>>, AllocError> {
     let operator = Bounded {
-        operator: DoubleOp::Join(compatible_join(alloc, key)?),
+        operator: compatible_join(alloc, key)?,
         most,
         full: false,
     };
     BinaryTrial::new(alloc, operator, WIDTH, Vec::from_slice(alloc, key)?)
-}
-
-fn outer_join<P: Pairing<Same> + Drop>(
-    alloc: Global,
-    pairing: P,
-) -> Result<LeftJoinOp<Same, P>, AllocError>
-    ensures width { IfOk result (λ made. made.sides.width ≡ 3) }
-    ensures pairing { IfOk result (λ made. made.pairing ≡ pairing) }
-    ensures nothing { IfOk result (λ made. (domain : Same) → StandsWithNumbers term_eq (λ v. ⊤) (λ v. v)
-        made.sides.width (P.variables made.pairing) (P.test made.pairing)
-        made.sides.left made.sides.right made.sides.numbers [] []) }
-{
-    let operator = LeftJoinOp::new(alloc, WIDTH, pairing)?;
-    Ok(operator)
-}
-
-fn key_of<P: Pairing<Same>>(alloc: Global, pairing: &P) -> Result<Vec<usize>, AllocError>
-    ensures { IfOk result (λ key. key.items ≡ P.variables pairing.now) }
-{
-    Vec::from_slice(alloc, pairing.key())
 }
 
 /// A left join by this pairing.
@@ -83,20 +61,20 @@ pub(crate) fn left_join<P: Pairing<Same> + Drop>(
     pairing: P,
 ) -> Result<BinaryTrial<LeftJoinOp<Same, P>>, AllocError> {
     let key = Vec::from_slice(alloc, pairing.key())?;
-    let operator = outer_join(alloc, pairing)?;
+    let operator = LeftJoinOp::new(alloc, WIDTH, pairing)?;
     BinaryTrial::new(alloc, operator, WIDTH, key)
 }
 
 /// The same, of which so many pairs may come in a call.
-pub(crate) fn bounded_left_join(
+pub(crate) fn bounded_left_join<P: Pairing<Same> + Drop>(
     alloc: Global,
-    pairing: CompatibleWhere<ByExpression>,
+    pairing: P,
     most: u64,
-) -> Result<BinaryTrial<Bounded>, AllocError> {
-    let key = key_of(alloc, &pairing)?;
-    let operator = outer_join(alloc, pairing)?;
+) -> Result<BinaryTrial<Bounded<LeftJoinOp<Same, P>>>, AllocError> {
+    let key = Vec::from_slice(alloc, pairing.key())?;
+    let operator = LeftJoinOp::new(alloc, WIDTH, pairing)?;
     let bounded = Bounded {
-        operator: DoubleOp::LeftJoin(operator),
+        operator,
         most,
         full: false,
     };
