@@ -3,7 +3,6 @@ pub mod ByKey
 pub mod Chosen
 pub mod Copied
 pub mod Keys
-pub mod Nothing
 pub mod Reading
 pub mod CellByCell
 pub mod Zipped

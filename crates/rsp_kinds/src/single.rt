@@ -151,7 +151,8 @@ impl Keeping<Same> for SingleOp {
           (λ a rows others same. folding_aggregates_alike a.fold
           (map (λ row. argument_value a.argument.expression row) rows)
           (map (λ row. argument_value a.argument.expression row) others)
-          (same-map (row_decides term_same) (option_eq term_eq) (λ row. argument_value a.argument.expression row) rows others same))
+          (same-map (row_decides term_same) (option_eq term_eq) (λ row. argument_value a.argument.expression row)
+          rows others same))
           operator.grouping.width operator.grouping.keys.items
           (by_variable (λ a. a.variable) operator.grouping.aggregates.items)
     ] };

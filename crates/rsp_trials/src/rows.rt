@@ -84,7 +84,7 @@ pub fn are_same(
     Ok(apart.is_empty())
 }
 
-/// Whether the changes are that of the lines.
+/// Whether the changes are that of the lines. Fails only where memory is refused.
 pub fn is_change(
     alloc: Global,
     net: &Changes<Row<Term>>,

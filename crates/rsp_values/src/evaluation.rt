@@ -161,7 +161,8 @@ fn member_truth<R: ReadRow>(
     list: &[Expression],
     row: &R,
 ) -> Result<Option<bool>, AllocError>
-    ensures { IfOk result (λ truth. truth ≡ comparing.member_truth (value_for item) (argument_values list.now (R.cells row.now))) }
+    ensures { IfOk result (λ truth. truth
+        ≡ comparing.member_truth (value_for item) (argument_values list.now (R.cells row.now))) }
 {
     match item {
         None => Ok(without_item(list)),
