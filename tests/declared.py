@@ -6,19 +6,20 @@ import re
 
 from documents import TOP, read
 
-# how a line begins that declares a word: a definition, a law, a record or data with its fields and cases
+# how a line begins that declares a word: a definition, a law, a record or data with its fields and cases; and what a file gives on
 DECLARES = re.compile(r"^\s*(?:abbrev |unfoldable )*(?:pub )?(?:record |data )?([^\s:(){}\[\],]+)", re.M)
+GIVES_ON = re.compile(r"^pub use [\w.]+\{(.*)\}$", re.M)
 CLAUSE = re.compile(r"\b(?:ensures|requires) (\w+) \{")
 GHOST = re.compile(r"\bghost (\w+)\b")
+FUNCTION = re.compile(r"\bfn (\w+)(.*?)(?=\bfn \w|\Z)", re.S)
 TYPE = re.compile(r"\b(?:struct|enum|trait|type) (\w+)|\bimpl\b[^{;]*?(\w+)(?:<[^{;]*)? \{")
 
 
 @functools.lru_cache(maxsize=None)
 def stands_on():
     """Each crate with the libraries that crates.txt has for it."""
-    lines = read(f"{TOP}/crates.txt").decode().splitlines()
-    parts = [line.partition(":") for line in lines if not line.startswith("#")]
-    return {name.split()[0]: set(uses.split()) for name, _, uses in parts}
+    lines = [line.partition(":") for line in read(f"{TOP}/crates.txt").decode().splitlines() if not line.startswith("#")]
+    return {name.split()[0]: set(uses.split()) for name, _, uses in lines}
 
 
 @functools.lru_cache(maxsize=None)
@@ -27,51 +28,51 @@ def reach(crate):
     return {crate}.union(*(reach(lower) for lower in stands_on()[crate] if lower in stands_on()))
 
 
-def code_of(path, comment):
-    """A file's text without the lines that are comments or imports."""
-    lines = read(path).decode().splitlines()
-    return "\n".join(line for line in lines if not line.lstrip().startswith((comment, "use ")))
+def without_lines(path, *heads):
+    """A file's text without the lines that begin with one of these."""
+    return "\n".join(line for line in read(path).decode().splitlines() if not line.lstrip().startswith(heads))
 
 
 @functools.lru_cache(maxsize=None)
 def words(crate, folder):
-    """Each file of a crate's `specs` or `proofs`, by its path there, with the words that it declares."""
-    top = f"{TOP}/crates/{crate}/{folder}"
-    paths = glob.glob(f"{top}/**/*.antt", recursive=True)
-    return {os.path.relpath(path, top)[:-len(".antt")]: set(DECLARES.findall(code_of(path, "--"))) for path in paths}
+    """Each file of a crate's `specs` or `proofs`, by its path there, with the words that it declares or gives on."""
+    top, found = f"{TOP}/crates/{crate}/{folder}", {}
+    for path in glob.glob(f"{top}/**/*.antt", recursive=True):
+        text = without_lines(path, "--", "use ")
+        given_on = {word.strip() for names in GIVES_ON.findall(text) for word in names.split(",")}
+        found[os.path.relpath(path, top)[:-len(".antt")]] = given_on.union(word.strip("◌") for word in DECLARES.findall(text))
+    return found
 
 
-def has_definition(crate, file, word):
-    """A file of the crate's specs, or of those of a crate below it, declares the word."""
-    return any(word in words(lower, "specs").get(file, ()) for lower in reach(crate))
+def has_definition(crates, file, word):
+    """A file of the specs of one of the crates, or of a crate below them, declares the word."""
+    return any(word in words(lower, "specs").get(file, ()) for crate in crates for lower in reach(crate))
 
 
 @functools.lru_cache(maxsize=None)
 def clauses(crate):
-    """Each function of a crate with the names of its clauses; each type with all clauses of the files that have it."""
+    """Each function of a crate with the names of its clauses; each type with all that the files declare in which it stands."""
     found = {}
     for path in glob.glob(f"{TOP}/crates/{crate}/src/**/*.rt", recursive=True):
-        code = code_of(path, "//")
-        for name, body in re.findall(r"\bfn (\w+)(.*?)(?=\bfn \w|\Z)", code, re.S):
-            found.setdefault(name, set()).update(CLAUSE.findall(body))
-        named = {name for pair in TYPE.findall(code) for name in pair if name}
-        told = {*CLAUSE.findall(code), *GHOST.findall(code), *re.findall(r"\bfn (\w+)", code)}
-        for name in named:
+        code = without_lines(path, "//", "use ")
+        functions = FUNCTION.findall(code)
+        for name, rest in functions:
+            found.setdefault(name, set()).update(CLAUSE.findall(rest))
+        told = {*CLAUSE.findall(code), *GHOST.findall(code), *(name for name, _ in functions)}
+        for name in filter(None, {name for names in TYPE.findall(code) for name in names}):
             found.setdefault(name, set()).update(told)
     return found
 
 
 @functools.lru_cache(maxsize=None)
 def declared(crate):
-    """All that a crate or one below it declares: calls and types with their clauses; and each other word, with those that stand
-    beside it in its file, as a record with its fields.
+    """All that a crate or one below it declares. Beside each call and type stand its clauses, beside each word of specs and laws
+    those of its file, as the fields of a record.
     """
     found = {}
     for lower in reach(crate):
-        for name, names in clauses(lower).items():
+        files = [names for folder in ("specs", "proofs") for names in words(lower, folder).values()]
+        beside = [*clauses(lower).items(), *((name, names) for names in files for name in names)]
+        for name, names in beside:
             found.setdefault(name, set()).update(names)
-        for folder in ("specs", "proofs"):
-            for names in words(lower, folder).values():
-                for name in names:
-                    found.setdefault(name, set()).update(names)
     return found
