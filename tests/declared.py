@@ -10,7 +10,9 @@ from documents import TOP, read
 DECLARES = re.compile(r"^\s*(?:abbrev |unfoldable )*(?:pub )?(?:record |data )?([^\s:(){}\[\],]+)", re.M)
 GIVES_ON = re.compile(r"^pub use [\w.]+\{(.*)\}$", re.M)
 CLAUSE = re.compile(r"\b(?:ensures|requires) (\w+) \{")
+# what a trait or an impl says of its type beside the calls; a trait declares it by a `:`
 GHOST = re.compile(r"\bghost (\w+)\b")
+GHOST_OF_TRAIT = re.compile(r"\bghost (\w+):")
 FUNCTION = re.compile(r"\bfn (\w+)(.*?)(?=\bfn \w|\Z)", re.S)
 TYPE = re.compile(r"\b(?:struct|enum|trait|type) (\w+)|\bimpl\b[^{;]*?(\w+)(?:<[^{;]*)? \{")
 
@@ -59,6 +61,7 @@ def clauses(crate):
         for name, rest in functions:
             found.setdefault(name, set()).update(CLAUSE.findall(rest))
         told = {*CLAUSE.findall(code), *GHOST.findall(code), *(name for name, _ in functions)}
+        found.update({name: set() for name in GHOST_OF_TRAIT.findall(code) if name not in found})
         for name in filter(None, {name for names in TYPE.findall(code) for name in names}):
             found.setdefault(name, set()).update(told)
     return found

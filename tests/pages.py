@@ -80,7 +80,7 @@ def named_in_rows(page, column):
     """Each row of a page's tables with such a column, as its crates, which a row without any takes from the one above, and its cell."""
     crates = []
     for first, cell in rows(page, column):
-        crates = [name for name in quoted(first) if name in stands_on()] or crates
+        crates = crates_of(first) or crates
         yield crates, cell
 
 
@@ -120,6 +120,20 @@ def fault_of_calls(page, column):
     return f"not declared there or below: {strange + wrong}" if strange or wrong else None
 
 
+def fault_of_names():
+    """What ARCHITECTURE's tables of operators and boundaries and the words of PROOFS name that no crate declares, or None."""
+    cells = [cell for _, cell in rows(ARCHITECTURE, "Operator")] + [first for first, _ in rows(ARCHITECTURE, "The contract")]
+    wrong = [name for cell in cells for name in undeclared(crates_of(cell) or stands_on(), cell)]
+    for first, where in rows(PROOFS, "Where"):
+        said = [name.split()[0] for name in quoted(first)]
+        wrong += [word for word in said for crate in crates_of(where) if word not in declared(crate)]
+    return f"no crate declares {wrong}" if wrong else None
+
+
+def crates_of(cell):
+    return [name for name in quoted(cell) if name in stands_on()]
+
+
 def fault_of_definitions():
     """The files of definitions that DEFINITIONS doesn't name, or None."""
     parts = re.split(r"^(?=#+ )", text(DEFINITIONS), flags=re.M)
@@ -144,7 +158,7 @@ def fault_of_words():
     """
     wrong, section = [], []
     for line in text(DEFINITIONS).splitlines():
-        crates = [name for name in quoted(line) if name in stands_on()]
+        crates = crates_of(line)
         section = crates if line.startswith("#") else section
         wrong += [name for name in words_named(line) if not has_definition(crates + section or stands_on(), *name.split(": "))]
     for crates, cell in named_in_rows(DEFINITIONS, "Files"):
@@ -197,6 +211,7 @@ def checks():
     yield f"{DEFINITIONS}: files of definitions", fault_of_definitions()
     yield f"{DEFINITIONS}: words", fault_of_words()
     yield f"{PROOFS}: crates", fault_of_proofs()
+    yield f"{ARCHITECTURE}, {PROOFS}: operators, boundaries, words", fault_of_names()
     for page, column in CALLS:
         yield f"{page}: calls and clauses", fault_of_calls(page, column)
     yield f"{CHANGING}: files and words", fault_of_places(CHANGING)
