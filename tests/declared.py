@@ -6,8 +6,8 @@ import re
 
 from documents import TOP, read
 
-# how a line begins that declares a word: a definition, a law, a record or data with its fields and cases; and what a file gives on
-DECLARES = re.compile(r"^\s*(?:abbrev |unfoldable )*(?:pub )?(?:record |data )?([^\s:(){}\[\],]+)", re.M)
+# how a line begins that declares a word: a definition, a law, a record or data with its fields and cases; what a file gives on
+DECLARES = re.compile(r"^\s*(?:abbrev |unfoldable )*(?:pub )?(?:(?:record|data) |(?=\S+\s+:\s))([^\s:(){}\[\],]+)", re.M)
 GIVES_ON = re.compile(r"^pub use [\w.]+\{(.*)\}$", re.M)
 CLAUSE = re.compile(r"\b(?:ensures|requires) (\w+) \{")
 # what a trait or an impl says of its type beside the calls; a trait declares it by a `:`
