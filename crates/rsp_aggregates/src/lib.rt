@@ -1,9 +1,8 @@
 //! The aggregates of queries as folds (SPARQL 1.1 Query, section 18.5.1): COUNT, SUM, AVG, MIN and MAX, each of all values or of
 //! each once, and COUNT(*).
 //!
-//! Each is the aggregate that `rsp_expr` defines, of the values that are in; nothing is cut on the way, and what spoils an
-//! aggregate is counted, so that it can go. Below: folds, the order of terms, and the literals of counts and sums. Above:
-//! nothing yet.
+//! Each is the aggregate that `rsp_expr` defines, of the values that are in; nothing is cut on the way, and what spoils
+//! an aggregate is counted, so that it can go.
 #![tactic(auto)]
 
 mod copies;

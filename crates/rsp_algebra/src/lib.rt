@@ -4,7 +4,6 @@
 //! `eval` of the specs gives the rows of a [`Tree`] over facts, one case per node; `overfull` says when a subtree has
 //! more than a million rows. An [`Answer`] stands for a tree and a set of facts and takes changes of the facts: it
 //! answers how the solutions change, or exactly where the definition says so that the tree is overfull.
-//! Below: rows and changes, terms, steps. Above: the evaluators, and the engine over any of them.
 #![tactic(auto)]
 
 mod answer;

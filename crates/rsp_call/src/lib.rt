@@ -1,8 +1,7 @@
 //! The call `rsp`: all that the program does, over a source, a shelf and a sink that are handed in.
 //!
-//! Its contract is the headline: what it writes for a log is exactly the defined output of the log's bytes, so it is with a
-//! query that is checked and with the generator's events, and every other answer has its cause. Above: the program, which makes
-//! the real objects and calls it. Below: the modes, one call each, and the words that ask for them.
+//! Its contract is the headline: what it writes for a log is exactly the defined output of the log's bytes, so it is
+//! with a query that is checked and with the generator's events, and every other answer has its cause.
 #![tactic(auto)]
 
 mod top;

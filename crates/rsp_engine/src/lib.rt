@@ -1,11 +1,10 @@
 //! The engine: events in, reports out.
 //!
-//! An [`Engine`] *stands for* a world, in which every accepted event is kept, and for the moments of the last event that
-//! aren't worked off. `offer` accepts an event exactly where the definition accepts it, and refuses it by name else;
-//! `next_report` gives exactly the reports of the moments, one at a time, for every kind of answer. The engine goes from due
-//! instant to due instant, keeps the items that some window still needs, and hands each answer what came and went. `text_fault`
-//! says without an engine why a text can't be registered, if it can't.
-//! Above: the program. Below: events, query texts and their trees, answers, windows, terms and the order of rows.
+//! An [`Engine`] *stands for* a world, in which every accepted event is kept, and for the moments of the last event
+//! that aren't worked off. `offer` accepts an event exactly where the definition accepts it, and refuses it by name
+//! else; `next_report` gives exactly the reports of the moments, one at a time, for every kind of answer. The engine
+//! goes from due instant to due instant, keeps the items that some window still needs, and hands each answer what came
+//! and went. `text_fault` says without an engine why a text can't be registered, if it can't.
 #![tactic(auto)]
 
 mod arrivals;

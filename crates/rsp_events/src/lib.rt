@@ -1,9 +1,9 @@
 //! The event log: the blocks of a text of directives, and the events that they are.
 //!
-//! [`Blocks`] reads the text in pieces. Its contract is over the whole text: the blocks that `feed` has given so far are
-//! exactly the whole blocks of the bytes so far, and with `finish` they are the blocks of the text, for every cutting.
-//! A block is an event, or has its first fault: too many bytes, no directive, or a bad line of its body by its number.
-//! Above: the engine takes the events, the program the blocks. Below: statements, and numbers and instants as texts.
+//! [`Blocks`] reads the text in pieces. Its contract is over the whole text: the blocks that `feed` has given so far
+//! are exactly the whole blocks of the bytes so far, and with `finish` they are the blocks of the text, for every
+//! cutting. A block is an event, or has its first fault: too many bytes, no directive, or a bad line of its body by its
+//! number.
 #![tactic(auto)]
 
 mod begun;

@@ -2,8 +2,7 @@
 //! slots of triple patterns, and aggregates; and the definitions of what they mean.
 //!
 //! Contracts see an [`Expression`] by its formula, a plain tree of the specs. The calls that find values stand in
-//! crates of their own, so that the grammar and the algebra, which stand on this one, don't wait for them. Below: terms,
-//! rows, numbers and texts.
+//! crates of their own, so that the grammar and the algebra, which stand on this one, don't wait for them.
 #![tactic(auto)]
 
 mod aggregate;

@@ -1,9 +1,9 @@
 //! Groups of rows and their aggregates, kept up while rows come and go (SPARQL 1.1 Query, section 18.5, Group and
 //! AggregateJoin).
 //!
-//! A group is its number of rows, a fold for each aggregate, and the row that it gave last, found by the rows' cells at the
-//! keys; of the rows that come and go none is kept. The value is the algebra's definition of groups, for every fold and every
-//! computed argument. Below: folds, and what an operator is. Above: nothing yet.
+//! A group is its number of rows, a fold for each aggregate, and the row that it gave last, found by the rows' cells at
+//! the keys; of the rows that come and go none is kept. The value is the algebra's definition of groups, for every fold
+//! and every computed argument.
 #![tactic(auto)]
 
 mod aggregated;

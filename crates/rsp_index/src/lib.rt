@@ -1,9 +1,8 @@
 //! Rows kept by a key, and facts kept as a set.
 //!
-//! Contracts see an [`Index`] as its key and how often it holds each row, and no map. A look-up hashes the cells of a lent
-//! row where they stand, so it makes no row and takes no memory; a bucket is changed in its place. Each entry that is handed
-//! out is one step.
-//! Below: rows, terms and the counter of steps. Above: the operators.
+//! Contracts see an [`Index`] as its key and how often it holds each row, and no map. A look-up hashes the cells of a
+//! lent row where they stand, so it makes no row and takes no memory; a bucket is changed in its place. Each entry that
+//! is handed out is one step.
 #![tactic(auto)]
 
 mod buckets;

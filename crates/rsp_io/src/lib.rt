@@ -4,8 +4,6 @@
 //! appended nothing, such a pick left the bytes as they were. Objects in memory tell their bytes, so whoever drives
 //! them can say what was written of what was read; steady ones never fail by themselves. The three over the
 //! runtime are the trusted edge: they tell only counts.
-//!
-//! Below stand the words on counts of `rsp_spec`; above stands the top call.
 #![tactic(auto)]
 
 mod calls;

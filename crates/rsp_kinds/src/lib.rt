@@ -1,11 +1,11 @@
 //! The kinds of nodes as operators: what a plan asks of an operator besides the law of its changes, and who keeps it.
 //!
-//! A [`Keeping`] operator stands for the same rows when the domain has learnt terms, and says what its value over no rows is;
-//! a [`KeepingBoth`] one on two children has no rows over none, and answers within a bound. [`SingleOp`] and [`DoubleOp`] are
-//! operators of any kind, one type each. `of_root` of [`SingleNode`] and [`DoubleNode`] makes the operator of a tree's root: it
-//! has the node's value and no more steps than the node's part of the work, and stands for no rows. Where the key of two
-//! children decides alone which rows are compatible, partners are counted by key. Nodes without children are given rows
-//! ([`given_rows`]) or scans ([`scan_of`]). Below: the operators and the algebra. Above: the plan.
+//! A [`Keeping`] operator stands for the same rows when the domain has learnt terms, and says what its value over no
+//! rows is; a [`KeepingBoth`] one on two children has no rows over none, and answers within a bound. [`SingleOp`] and
+//! [`DoubleOp`] are operators of any kind, one type each. `of_root` of [`SingleNode`] and [`DoubleNode`] makes the
+//! operator of a tree's root: it has the node's value and no more steps than the node's part of the work, and stands
+//! for no rows. Where the key of two children decides alone which rows are compatible, partners are counted by key.
+//! Nodes without children are given rows ([`given_rows`]) or scans ([`scan_of`]).
 #![tactic(auto)]
 
 mod double;

@@ -1,10 +1,9 @@
 //! Literals as values: which datatype an IRI names, what a literal of a numeric type reads as, its number and the
 //! literal of a number, booleans and the boolean value of a term (XML Schema 1.1 Part 2; SPARQL 1.1, section 17.2).
 //!
-//! Each call is exact: what it gives is the definition of `rsp_expr`. The range of each type of whole numbers belongs to
-//! its form, so a number is Beyond exactly where its type has it and no exact number holds it. What makes a term takes
-//! memory, and nothing else does. Below: `rsp_expr`, which has the definitions. Above: what
-//! the nodes of expressions make of their parts' values.
+//! Each call is exact: what it gives is the definition of `rsp_expr`. The range of each type of whole numbers belongs
+//! to its form, so a number is Beyond exactly where its type has it and no exact number holds it. What makes a term
+//! takes memory, and nothing else does.
 #![tactic(auto)]
 
 mod booleans;

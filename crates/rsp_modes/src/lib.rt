@@ -1,8 +1,7 @@
 //! What the program does in each of its modes, over a source, a shelf and a sink that are handed in.
 //!
-//! [`events`] works off a log, [`replay`] plays recorded streams, [`check`] reads a query, [`generate`] works off events that it
-//! makes itself; each writes what it says and answers a [`Status`]. Above: the call that chooses by the program's words. Below: the
-//! engine, the event log, the readers of queries, reports and io.
+//! [`events`] works off a log, [`replay`] plays recorded streams, [`check`] reads a query, [`generate`] works off
+//! events that it makes itself; each writes what it says and answers a [`Status`].
 #![tactic(auto)]
 
 mod blocks;

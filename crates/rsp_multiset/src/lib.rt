@@ -2,7 +2,6 @@
 //!
 //! Contracts see a [`Row`] as the list of its cells, and a bag or a change as a list of entries with counts. What an
 //! operation does is said by weights: how often each value is held before and after. Everything is for any [`Cell`].
-//! Below: `indexmap`. Above: terms, the index, operators and the engine.
 #![tactic(auto)]
 
 mod bag;

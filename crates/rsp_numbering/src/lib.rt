@@ -1,10 +1,10 @@
 //! From the query as it is written to the query as the algebra takes it: names become numbers, rows of signs become nodes,
 //! and limits are counted.
 //!
-//! [`query_of`] gives the query that a tree as written is, or the first limit that it passes. What is limited is counted on the
-//! tree as it is written, so nothing is built of a text that is past a limit; a law says that these counts are those of the
-//! query. On the way [`Before`] keeps the variables by their numbers, and a [`Scope`] says which SELECT a name belongs to.
-//! Above: the reader of query texts. Below: both trees.
+//! [`query_of`] gives the query that a tree as written is, or the first limit that it passes. What is limited is
+//! counted on the tree as it is written, so nothing is built of a text that is past a limit; a law says that these
+//! counts are those of the query. On the way [`Before`] keeps the variables by their numbers, and a [`Scope`] says
+//! which SELECT a name belongs to.
 #![tactic(auto)]
 
 mod before;

@@ -1,9 +1,9 @@
 //! What a node of an expression makes of the values of its parts (SPARQL 1.1 Query, section 17): operators that compare
 //! or calculate, and functions; and the order of terms.
 //!
-//! A value between two steps is an [`Operand`], which stands for a term and makes none where only a number, a truth or a
-//! text is asked for. Each call is exact: what it gives is the definition of `rsp_expr` for the terms that its operands
-//! stand for. Below: what literals read as. Above: the values of expressions.
+//! A value between two steps is an [`Operand`], which stands for a term and makes none where only a number, a truth or
+//! a text is asked for. Each call is exact: what it gives is the definition of `rsp_expr` for the terms that its
+//! operands stand for.
 #![tactic(auto)]
 
 mod comparing;

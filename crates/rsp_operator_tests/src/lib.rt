@@ -1,8 +1,7 @@
 //! The tests of the index, of the set of facts, and of operators over terms that show themselves, groups among them: small cases
 //! whose answers come from outside, random changes against values made anew, and large inputs.
 //!
-//! They stand here and in no layer, since a crate that has tests is proved twice. Below: the operators, and operators on trial.
-//! Nothing stands above.
+//! They stand here and in no layer, since a crate that has tests is proved twice.
 #![tactic(auto)]
 
 #[cfg(test)]

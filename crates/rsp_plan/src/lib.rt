@@ -1,9 +1,8 @@
 //! Maintained operators as the steps of a plan.
 //!
-//! An [`Operator`] is a node of a tree laid flat: given rows, a scan, or an operator on the rows of one child or of two. It takes
-//! the changes of its children from the stack, and answers as the operator does; at the start an operator on one child answers
-//! with what is there over no row too.
-//! Below: the turns of a plan and the kinds of operators.
+//! An [`Operator`] is a node of a tree laid flat: given rows, a scan, or an operator on the rows of one child or of
+//! two. It takes the changes of its children from the stack, and answers as the operator does; at the start an operator
+//! on one child answers with what is there over no row too.
 #![tactic(auto)]
 
 mod leaves;

@@ -2,8 +2,7 @@
 //! place of names.
 //!
 //! Contracts see an [`Element`], a [`Select`] and a [`Path`] by what they say, plain trees of the specs without the
-//! code's vectors and boxes. Above: the reader of query texts, which gives queries, and the algebra. Below: expressions,
-//! terms, windows, policies and stream operators.
+//! code's vectors and boxes.
 #![tactic(auto)]
 
 mod path;

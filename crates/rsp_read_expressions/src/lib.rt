@@ -1,9 +1,8 @@
 //! Reading expressions: exactly what the grammar's rules of expressions read.
 //!
 //! Each call takes the tokens from an expression's first one on and gives the expression as written with the tokens
-//! behind it, or how many tokens are left from the first one that can't stand. Rows of signs are lists, and only brackets
-//! are read by recursion, at most as deep as there are tokens. Below: `rsp_written`, which has the grammar. Above: the
-//! reader of groups and selects.
+//! behind it, or how many tokens are left from the first one that can't stand. Rows of signs are lists, and only
+//! brackets are read by recursion, at most as deep as there are tokens.
 #![tactic(auto)]
 
 mod aggregates;

@@ -1,10 +1,8 @@
 //! Reading queries: exactly what the grammar reads.
 //!
-//! Groups and selects are read here, by the readers of expressions and of triples below. Each call takes the tokens from
-//! its first one on and gives what is written with the tokens behind it, or how many tokens are left from the first one
-//! that can't stand. Only braces and brackets are read by recursion, at most as deep as there are tokens. Below:
-//! `rsp_read_triples`, `rsp_read_values`, `rsp_read_expressions`, `rsp_read_registrations`, and `rsp_written`, which has the
-//! grammar.
+//! Groups and selects are read here, by the readers of expressions and of triples below. Each call takes the tokens
+//! from its first one on and gives what is written with the tokens behind it, or how many tokens are left from the
+//! first one that can't stand. Only braces and brackets are read by recursion, at most as deep as there are tokens.
 #![tactic(auto)]
 
 mod elements;

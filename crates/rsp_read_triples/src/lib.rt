@@ -1,8 +1,8 @@
 //! Reading paths and triples: exactly what the grammar's rules for them read.
 //!
-//! Each call takes the tokens from its first one on and gives what is written with the tokens behind it, or how many tokens
-//! are left from the first one that can't stand. Only brackets are read by recursion, at most as deep as there are tokens;
-//! `.`, `;`, `,`, `/` and `|` are read by loops. Below: `rsp_written`, which has the grammar. Above: the reader of groups.
+//! Each call takes the tokens from its first one on and gives what is written with the tokens behind it, or how many
+//! tokens are left from the first one that can't stand. Only brackets are read by recursion, at most as deep as there
+//! are tokens; `.`, `;`, `,`, `/` and `|` are read by loops.
 #![tactic(auto)]
 
 mod nodes;

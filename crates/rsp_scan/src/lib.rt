@@ -3,8 +3,7 @@
 //!
 //! Each call gives the value of the part that stands there and the text behind it, and None exactly where none stands.
 //! They are those of N-Quads; SPARQL's strings and labels are more, and have their own tokens. What goes character by
-//! character has the steps of an escape. Above: the readers of statements and of queries.
-//! Below: texts and their characters.
+//! character has the steps of an escape.
 #![tactic(auto)]
 
 mod enclosed;

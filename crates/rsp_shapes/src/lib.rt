@@ -1,7 +1,6 @@
 //! What a query owes before it can be translated: the places of windows, graphs and EXISTS, and the scopes of its variables.
 //!
-//! Each call finds the first fault of its kind in the text. Above: the translation. Below: the types of queries, and the
-//! algebra's words for variables.
+//! Each call finds the first fault of its kind in the text.
 #![tactic(auto)]
 
 mod exists;

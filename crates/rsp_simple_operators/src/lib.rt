@@ -2,8 +2,8 @@
 //! section 18.5); and the scan, whose rows are the solutions of a triple pattern over facts (section 18.3.1).
 //!
 //! Each takes the changes of its inputs and answers exactly how its value changes; its `value` is the definition of the
-//! algebra, over rows of terms. All but one keep nothing, so each stands for every input; `Deduping` keeps how often each row
-//! is there. Below: `rsp_operators`. Above: nothing yet.
+//! algebra, over rows of terms. All but one keep nothing, so each stands for every input; `Deduping` keeps how often
+//! each row is there.
 #![tactic(auto)]
 
 mod deduping;

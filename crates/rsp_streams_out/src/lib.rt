@@ -1,12 +1,11 @@
 //! What a report gives, and its text (SPARQL 1.1 Query Results TSV Format, SPARQL 1.1 Query Results JSON Format).
 //!
-//! `turn` gives the rows that a stream operator reports, from the solutions of now or from their change since the preceding
-//! report, in the byte order of the rows' texts, and rows of one text by their cells; so the list depends on the rows as a
-//! multiset alone. `turn_owned` gives the same of what it is given by value, and moves the rows. `read_by` says which of
-//! the two the operator reads, or neither. `report_text`, `report_json` and `overfull_text` append exactly the defined text of
-//! a report. `rows_of` and `ordered` are the parts of `turn`: a bag's rows, each as often as it is there, and rows in order.
-//! Above: the engine orders rows, the program writes reports. Below: terms, their printing, rows, and the names of the
-//! operators.
+//! `turn` gives the rows that a stream operator reports, from the solutions of now or from their change since the
+//! preceding report, in the byte order of the rows' texts, and rows of one text by their cells; so the list depends on
+//! the rows as a multiset alone. `turn_owned` gives the same of what it is given by value, and moves the rows.
+//! `read_by` says which of the two the operator reads, or neither. `report_text`, `report_json` and `overfull_text`
+//! append exactly the defined text of a report. `rows_of` and `ordered` are the parts of `turn`: a bag's rows, each as
+//! often as it is there, and rows in order.
 #![tactic(auto)]
 
 mod cells;

@@ -2,7 +2,7 @@
 //! places, where one text stands in another, which language range matches a tag, and the order by code points.
 //!
 //! Each call is exact: what it gives is the definition in specs/. Parts are slices of the argument, and no call takes
-//! memory. Below stands `rsp_number`, whose integers are the arguments of SUBSTR; above, the functions of expressions.
+//! memory.
 #![tactic(auto)]
 
 mod code_points;

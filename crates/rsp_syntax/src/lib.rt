@@ -1,10 +1,8 @@
 //! What a query's text is: the query that the algebra takes, or the named reason why it is none.
 //!
-//! [`parse`] is exactly the defined function on the text alone: its tokens, what they say, the tree that the grammar has of
-//! them, and that tree with numbers in place of names, within the limits. Each variable of such a query is one that it has,
-//! which its translation needs, and its EVERY asks at least 1 ms, which its reports need. Above: the engine. Below:
-//! `rsp_lex`, `rsp_said`, `rsp_read_queries`, `rsp_numbering`, of `rsp_shapes` the word for the variables, and of `rsp_report`
-//! what a policy asks.
+//! [`parse`] is exactly the defined function on the text alone: its tokens, what they say, the tree that the grammar
+//! has of them, and that tree with numbers in place of names, within the limits. Each variable of such a query is one
+//! that it has, which its translation needs, and its EVERY asks at least 1 ms, which its reports need.
 #![tactic(auto)]
 
 mod fault;

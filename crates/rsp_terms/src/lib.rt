@@ -1,9 +1,8 @@
 //! RDF terms (RDF 1.1 Concepts, section 3): shared texts, terms, triples, quads, facts, and how a term is printed.
 //!
-//! Contracts see a [`Text`] as its bytes and a [`Listed`] as the list of its items; terms and what is said with them are
-//! plain data over these. `print` appends exactly the defined text of a term, and different terms have different
+//! Contracts see a [`Text`] as its bytes and a [`Listed`] as the list of its items; terms and what is said with them
+//! are plain data over these. `print` appends exactly the defined text of a term, and different terms have different
 //! texts. `is_iri`, `is_label` and `is_tag` test a text exactly. Terms and facts are cells of rows and changes.
-//! Above: statements, reports, events, the algebra and the engine. Below: `rsp_multiset`.
 #![tactic(auto)]
 
 mod cells;

@@ -4,7 +4,7 @@
 //! decide.
 //!
 //! They stand here and in no layer, since a crate that has tests is proved twice. Whole runs of the program are rows of
-//! `tests/rows`. Nothing stands above.
+//! `tests/rows`.
 #![tactic(auto)]
 
 #[cfg(test)]

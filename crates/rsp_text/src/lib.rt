@@ -1,8 +1,8 @@
 //! Numbers, instants and spans as they are written, from bytes.
 //!
 //! Each call answers None exactly where the text hasn't the written form or its value is out of range, and else the
-//! value that the definitions in specs/ give: days are counted by jiff's calendar, all times are in milliseconds.
-//! No call takes memory. Above: the readers of statements, of the event log and of queries. Below: jiff.
+//! value that the definitions in specs/ give: days are counted by jiff's calendar, all times are in milliseconds. No
+//! call takes memory.
 #![tactic(auto)]
 
 mod cursor;

@@ -1,6 +1,4 @@
 //! From a query to its algebra tree (SPARQL 1.1 Query, section 18.2).
-//!
-//! Above: the engine. Below: the types of queries, their shapes and scopes, and the algebra.
 #![tactic(auto)]
 
 mod begun;

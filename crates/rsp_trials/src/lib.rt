@@ -2,8 +2,7 @@
 //! nothing. What a change must be is looked at when it comes; the law of the operator then says that its state stands for the
 //! rows held.
 //!
-//! Beside that: rows and changes from short texts, and numbers that look random and are the same in each run. Below: operators,
-//! rows and terms. Above: crates of tests alone.
+//! Beside that: rows and changes from short texts, and numbers that look random and are the same in each run.
 #![tactic(auto)]
 
 mod binary;

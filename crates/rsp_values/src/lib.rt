@@ -2,9 +2,9 @@
 //! the values of aggregates in a group of rows (section 18.5.1).
 //!
 //! All are exactly what `rsp_expr` defines. Parts that can't matter aren't valued, and where only the truth is asked
-//! tests make no term (no clause says so: it is time). A row is whatever tells its cells ([`ReadRow`]): a row of terms, one
-//! with the domain that shows its cells ([`ShownRow`]), or two such as their merge ([`MergedRows`]). They are read where they
-//! stand, and no row is made. Below: what a node makes of its parts' values, and totals of numbers.
+//! tests make no term (no clause says so: it is time). A row is whatever tells its cells ([`ReadRow`]): a row of terms,
+//! one with the domain that shows its cells ([`ShownRow`]), or two such as their merge ([`MergedRows`]). They are read
+//! where they stand, and no row is made.
 #![tactic(auto)]
 
 mod aggregates;

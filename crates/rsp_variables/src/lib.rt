@@ -1,8 +1,8 @@
 //! Which variables the rows of a tree bind, whatever the facts: those that each row binds, and those outside of which no row
 //! binds any.
 //!
-//! Of the first are made the keys by which partners are looked up. Of both it is told where a key decides alone which rows are
-//! compatible. Below: the algebra. Above: nothing yet.
+//! Of the first are made the keys by which partners are looked up. Of both it is told where a key decides alone which
+//! rows are compatible.
 #![tactic(auto)]
 
 mod nodes;

@@ -2,8 +2,7 @@
 //! closes. A window is (opening, closing], in milliseconds: its opening isn't in it, its closing is.
 //!
 //! Each call is exact: what it gives is the definition in `rsp_spec`'s `Windows`, which walks over the windows one by
-//! one, while the code divides. No call takes memory. Below stands `rsp_spec`; above stand the syntax of queries,
-//! which makes windows, and the engine, which asks for contents and closings.
+//! one, while the code divides. No call takes memory.
 #![tactic(auto)]
 
 mod congruence;

@@ -3,8 +3,7 @@
 //!
 //! The specs have the grammar in one file, a definition for each rule, and for each rule the function on rows of tokens
 //! that reads it; the proofs have each rule's law, that this function gives the one value of an expansion or stops at
-//! exactly the first token that can't stand. The code reads single tokens, names and literals so. Above: the readers of
-//! expressions, of triples and of groups. Below: terms, and `rsp_phrases`.
+//! exactly the first token that can't stand. The code reads single tokens, names and literals so.
 #![tactic(auto)]
 
 mod expression;
