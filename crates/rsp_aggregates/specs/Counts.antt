@@ -1,8 +1,9 @@
 -- Words of the way: counts of values.
-use Rattle.std.specs.Prelude.{◌≡◌, ℕ, ◌≤◌, ◌^◌, Bool, true, false, List, length, Option, is_some, pos}
+use Rattle.std.specs.Prelude.{◌≡◌, ℕ, ◌≤◌, Bool, true, false, List, length, Option, is_some, pos}
 use Rattle.std.specs.List.{count_by}
 use Rattle.std.specs.Option.{option_eq}
 use Rattle.std.proofs.Common.{ap, subst, ◌∙◌}
+use Rattle.rsp_spec.specs.Limits.{most_counted}
 use Rattle.rsp_expr.specs.Aggregates.{aggregate_of}
 use Rattle.rsp_expr.specs.Functions.{numeral_result}
 use Rattle.rsp_expr.proofs.Reordered.{count_by-reordered, reordered}
@@ -26,7 +27,7 @@ counted_aggregate false values = aggregate_of Count values
 
 pub record Stands (rows : Bool) (count : ℕ) (values : List (Option Term)) : Type 0 where
   pub counts : count ≡ counted rows values
-  pub short : length values ≤ 2 ^ 32
+  pub short : length values ≤ most_counted
 
 counted_alike : (rows : Bool) (values others : List (Option Term)) → IsSameMultiset (option_eq term_eq) values others
     → counted rows values ≡ counted rows others
@@ -39,7 +40,7 @@ pub stands_alike : (rows : Bool) (count : ℕ) (values others : List (Option Ter
     → Stands rows count values → Stands rows count others
 stands_alike rows count values others same stands = record {
   counts = stands.counts ∙ counted_alike rows values others same;
-  short = subst (λ n. n ≤ 4294967296) (length-same (cell_decides term_same) values others same) stands.short;
+  short = subst (λ n. n ≤ most_counted) (length-same (cell_decides term_same) values others same) stands.short;
 }
 
 pub aggregates_alike : (rows : Bool) (values others : List (Option Term)) → IsSameMultiset (option_eq term_eq) values others

@@ -1,8 +1,9 @@
 -- Words of the way: the sum of the values that have a number, and how many have none.
-use Rattle.std.specs.Prelude.{◌≡◌, ℕ, ◌+◌, ◌≤◌, ◌^◌, ◌==◌, pos, cond, Bool, true, false, List, [], ◌∷◌, length, refl}
+use Rattle.std.specs.Prelude.{◌≡◌, ℕ, ◌+◌, ◌≤◌, ◌==◌, pos, cond, Bool, true, false, List, [], ◌∷◌, length, refl}
 use Rattle.std.specs.Prelude.{Option, None, Some}
 use Rattle.std.specs.Option.{option_and_then, option_eq}
 use Rattle.std.proofs.Common.{◌∙◌, ap}
+use Rattle.rsp_spec.specs.Limits.{most_counted}
 use Rattle.rsp_expr.specs.Aggregates.{aggregate_of}
 use Rattle.rsp_expr.specs.Forms.{number_of}
 use Rattle.rsp_expr.proofs.Reordered.{IsReordered, nothing, behind, exchanged, onward, reordered, added_in_turn}
@@ -55,7 +56,7 @@ pub record SumStands (tally : Tally) (numbers others : ℕ) (values : List (Opti
   pub sum : tally ≡ tally_in values
   pub counted : numbers ≡ tally.integers + tally.decimals
   pub failed : others ≡ others_in values
-  pub short : length values ≤ 2 ^ 32
+  pub short : length values ≤ most_counted
 
 with_in_turn : (tally : Tally) (first second : Option Number)
     → tally_with (tally_with tally first 1) second 1 ≡ tally_with (tally_with tally second 1) first 1

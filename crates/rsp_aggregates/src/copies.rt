@@ -1,5 +1,6 @@
 // How often each value is in.
-ghost use Rattle.std.specs.Prelude.{◌≡◌, ◌≤◌, ◌^◌, ◌+◌, ◌++◌, List, [], Option, length, IfOk, OnOk};
+ghost use Rattle.std.specs.Prelude.{◌≡◌, ◌≤◌, ◌+◌, ◌++◌, List, [], Option, length, IfOk, OnOk};
+ghost use Rattle.rsp_spec.specs.Limits.{most_counted};
 ghost use Rattle.rsp_folds.specs.Copies.{copies};
 ghost use Rattle.rsp_terms.specs.declared.term.Term.{Term};
 ghost use Rattle.rsp_aggregates.specs.Held.{HoldsValues, is_in, differ};
@@ -16,7 +17,7 @@ pub(crate) struct Copies {
 }
 
 impl Copies {
-    ghost use Rattle.std.specs.Prelude.{◌≡◌, ◌≤◌, ◌^◌, ◌+◌, ◌++◌, List, [], Option, length, IfOk, OnOk};
+    ghost use Rattle.std.specs.Prelude.{◌≡◌, ◌≤◌, ◌+◌, ◌++◌, List, [], Option, length, IfOk, OnOk};
     ghost use Rattle.rsp_folds.specs.Copies.{copies};
     ghost use Rattle.rsp_terms.specs.declared.term.Term.{Term};
     ghost use Rattle.rsp_aggregates.specs.Held.{HoldsValues, is_in, differ};
@@ -53,9 +54,9 @@ impl Copies {
     // puts copies in
     fn put(&mut self, value: &Option<Term>, times: u64) -> Result<(), AllocError>
         requires { (values : List (Option Term)) × (HoldsValues self.old.errors self.old.terms values
-            × (length values + times ≤ 2 ^ 32)) }
+            × (length values + times ≤ most_counted)) }
         ensures { OnOk result ((values : List (Option Term)) → HoldsValues self.old.errors self.old.terms values
-            → length values + times ≤ 2 ^ 32 → HoldsValues self.new.errors self.new.terms (copies times value.now ++ values)) }
+            → length values + times ≤ most_counted → HoldsValues self.new.errors self.new.terms (copies times value.now ++ values)) }
     {
         match value {
             None => {
@@ -88,11 +89,11 @@ impl Copies {
     /// Takes the value in, so many times; says whether its first copy came. Fails only where memory is refused.
     pub(crate) fn take(&mut self, value: &Option<Term>, times: u64) -> Result<bool, AllocError>
         requires { (values : List (Option Term)) × (HoldsValues self.old.errors self.old.terms values
-            × (length values + times ≤ 2 ^ 32)) }
+            × (length values + times ≤ most_counted)) }
         ensures values { OnOk result ((values : List (Option Term)) → HoldsValues self.old.errors self.old.terms values
-            → length values + times ≤ 2 ^ 32 → HoldsValues self.new.errors self.new.terms (copies times value.now ++ values)) }
+            → length values + times ≤ most_counted → HoldsValues self.new.errors self.new.terms (copies times value.now ++ values)) }
         ensures first { IfOk result (λ first. (values : List (Option Term)) → HoldsValues self.old.errors self.old.terms values
-            → length values + times ≤ 2 ^ 32
+            → length values + times ≤ most_counted
             → differ (is_in value.now values) (is_in value.now (copies times value.now ++ values)) ≡ first) }
     {
         let before = self.has(value);

@@ -5,8 +5,9 @@ use std::alloc::{AllocError, Global};
 /// An aggregate of values, each a term or an error, that come and go. Each call costs the same whatever is in, or grows
 /// with the logarithm of the different values.
 pub trait Fold: Sized + Drop {
-    ghost use Rattle.std.specs.Prelude.{◌≡◌, ◌+◌, ◌≤◌, ◌^◌, ◌++◌, List, [], length, Option, IfOk, OnOk};
+    ghost use Rattle.std.specs.Prelude.{◌≡◌, ◌+◌, ◌≤◌, ◌++◌, List, [], length, Option, IfOk, OnOk};
     ghost use Rattle.std.specs.Option.{option_eq};
+    ghost use Rattle.rsp_spec.specs.Limits.{most_counted};
     ghost use Rattle.rsp_multiset.specs.Weights.{IsSameMultiset};
     ghost use Rattle.rsp_terms.specs.declared.term.Term.{Term};
     ghost use Rattle.rsp_terms.specs.Same.{term_eq};
@@ -25,9 +26,9 @@ pub trait Fold: Sized + Drop {
     /// Takes the value in, so many times at once; at most 2^32 values are then in. Fails only where memory is refused, and
     /// is then only to be dropped.
     fn take(&mut self, alloc: Global, value: &Option<Term>, times: u64) -> Result<(), AllocError>
-        requires { (values : List (Option Term)) × (stands self.old values × (length values + times ≤ 2 ^ 32)) }
+        requires { (values : List (Option Term)) × (stands self.old values × (length values + times ≤ most_counted)) }
         ensures aggregate { aggregate self.new ≡ aggregate self.old }
-        ensures law { OnOk result ((values : List (Option Term)) → stands self.old values → length values + times ≤ 2 ^ 32
+        ensures law { OnOk result ((values : List (Option Term)) → stands self.old values → length values + times ≤ most_counted
             → stands self.new (copies times value.now ++ values)) };
 
     /// Gives the value back, so many times at once; so many are in. Fails only where memory is refused, and is then only to

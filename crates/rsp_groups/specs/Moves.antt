@@ -1,7 +1,8 @@
 -- Words of the way: copies of values that come into lists, or go out of them.
-use Rattle.std.specs.Prelude.{◌≡◌, ℕ, suc, ◌+◌, ◌≤◌, ◌^◌, Bool, true, false, List, [], ◌∷◌, ◌++◌, length}
+use Rattle.std.specs.Prelude.{◌≡◌, ℕ, suc, ◌+◌, ◌≤◌, Bool, true, false, List, [], ◌∷◌, ◌++◌, length}
 use Rattle.std.specs.Prelude.{map, ⊤, ℤ, pos, negsuc, Option}
 use Rattle.std.specs.List.{AllByRecursion}
+use Rattle.rsp_spec.specs.Limits.{most_counted}
 use Rattle.rsp_folds.specs.Copies.{copies}
 use Rattle.rsp_multiset.specs.Rows.{Cells}
 use Rattle.rsp_terms.specs.declared.term.Term.{Term}
@@ -24,7 +25,7 @@ MovedCount true n before after = before ≡ after + n
 
 -- at most 2^32 values
 abbrev pub IsShort : {E : Type 0} → List E → Type 0
-IsShort xs = length xs ≤ 2 ^ 32
+IsShort xs = length xs ≤ most_counted
 
 abbrev pub AreShort : {E : Type 0} → List (List E) → Type 0
 AreShort {E} lists = AllByRecursion (λ (xs : List E). IsShort xs) lists

@@ -1,5 +1,6 @@
 // A group of rows.
-ghost use Rattle.std.specs.Prelude.{◌≡◌, ◌≤◌, ◌^◌, ◌||◌, nat_lt, [], List, Option, None, length, map, IfOk, OnOk};
+ghost use Rattle.std.specs.Prelude.{◌≡◌, ◌≤◌, ◌||◌, nat_lt, [], List, Option, None, length, map, IfOk, OnOk};
+ghost use Rattle.rsp_spec.specs.Limits.{most_counted};
 ghost use Rattle.rsp_multiset.specs.Rows.{Cells};
 ghost use Rattle.rsp_terms.specs.declared.term.Term.{Term};
 ghost use Rattle.rsp_groups.specs.Moves.{Moved, MovedCount, values_in};
@@ -8,6 +9,7 @@ ghost use Rattle.rsp_groups.specs.Standing.{GroupStands};
 use crate::folds::move_values;
 use rsp_folds::Fold;
 use rsp_multiset::{Cell, Row};
+use rsp_spec::limits::MOST_COUNTED;
 use rsp_terms::Term;
 use std::alloc::{AllocError, Global};
 
@@ -19,9 +21,6 @@ pub struct Group<V: Cell, F: Drop> {
     pub(crate) given: Option<Row<V>>,
 }
 
-// so many rows a group can have
-const MOST_ROWS: u64 = 4_294_967_296;
-
 /// Whether a group of so many rows is one of the groups, and has a row in the value.
 pub(crate) fn has_row(rows: u64, keyless: bool) -> bool
     ensures { result ≡ (keyless || nat_lt 0 rows) }
@@ -31,7 +30,7 @@ pub(crate) fn has_row(rows: u64, keyless: bool) -> bool
 
 // so many more, or less, where that is at most 2^32
 fn moved_count(rows: u64, times: u64, out: bool) -> Result<u64, AllocError>
-    ensures { IfOk result (λ count. MovedCount out times rows count × (count ≤ 2 ^ 32)) }
+    ensures { IfOk result (λ count. MovedCount out times rows count × (count ≤ most_counted)) }
 {
     let moved = if out {
         rows.checked_sub(times)
@@ -39,7 +38,7 @@ fn moved_count(rows: u64, times: u64, out: bool) -> Result<u64, AllocError>
         rows.checked_add(times)
     };
     match moved {
-        Some(count) if count <= MOST_ROWS => Ok(count),
+        Some(count) if count <= MOST_COUNTED => Ok(count),
         _ => Err(AllocError),
     }
 }

@@ -1,5 +1,6 @@
 -- Words of the way: which tallies a total can hold. It holds one at first, and what is taken in and given back keeps it so.
 use Rattle.std.specs.Prelude.{ℕ, ◌+◌, ◌*◌, ◌%◌, ◌^◌, ◌≤◌, ℤ, unsigned_abs, ◌≡◌}
+use Rattle.rsp_spec.specs.Limits.{most_counted}
 use Rattle.rsp_number.specs.Decimals.{largest}
 use Rattle.rsp_number.specs.Tallies.{Tally}
 use Rattle.rsp_number.specs.Totals.{units}
@@ -15,7 +16,7 @@ IsWithin sum count = unsigned_abs sum ≤ largest * 10 ^ 18 * count
 
 -- the tallies that a total can hold
 pub record IsTally (tally : Tally) : Type 0 where
-  pub few : tally.integers + tally.decimals ≤ 2 ^ 32
+  pub few : tally.integers + tally.decimals ≤ most_counted
   pub within : IsWithin tally.sum (tally.integers + tally.decimals)
   pub whole : tally.decimals ≡ 0 → IsWhole tally.sum
 

@@ -1,6 +1,7 @@
 // Sums in units of 10^-18 that are wider than 128 bits: the whole part and the fraction are kept apart.
 
 ghost use Rattle.std.specs.Prelude.{◌≡◌, ◌≤◌, ◌<◌, ◌*◌, ◌^◌, ◌+ℤ◌, ◌*ℤ◌, ℤ, neg_ℤ, pos, int_div, unsigned_abs};
+ghost use Rattle.rsp_spec.specs.Limits.{most_counted};
 ghost use Rattle.rsp_number.specs.Decimals.{largest, integer_in_range, fit};
 ghost use Rattle.rsp_number.specs.TallyBounds.{IsWhole};
 
@@ -65,7 +66,7 @@ impl Sum {
     /// The product with a count.
     pub(crate) fn times(&self, count: u64) -> Sum
         requires size { unsigned_abs self.now ≤ largest * 10 ^ 18 }
-        requires count { count ≤ 2 ^ 32 }
+        requires count { count ≤ most_counted }
         ensures { result ≡ self.now *ℤ pos count }
     {
         let fraction = self.fraction as u128 * count as u128;

@@ -1,6 +1,7 @@
 // Sums of many numbers, exact whatever is taken in and given back.
 
 ghost use Rattle.std.specs.Prelude.{◌≡◌, ◌≤◌, ◌+◌, ◌*◌, ◌^◌, unsigned_abs};
+ghost use Rattle.rsp_spec.specs.Limits.{most_counted};
 ghost use Rattle.rsp_number.specs.Decimals.{largest};
 ghost use Rattle.rsp_number.specs.TallyBounds.{IsTally, IsWhole, IsWithin};
 ghost use Rattle.rsp_number.specs.Totals.{units, integers_of, decimals_of, empty_tally, after_taking, after_giving};
@@ -43,7 +44,7 @@ impl Total {
 
     /// Takes the number in, `times` times; at most 2^32 numbers are then in the total.
     pub fn take(&mut self, number: &Number, times: u64)
-        requires { self.old.integers + self.old.decimals + times ≤ 2 ^ 32 }
+        requires { self.old.integers + self.old.decimals + times ≤ most_counted }
         ensures total { self.new ≡ after_taking self.old number.now times }
         ensures range { unsigned_abs (units number.now) ≤ largest * 10 ^ 18 }
     {
