@@ -1,4 +1,4 @@
--- Words of the way: of the times that a query watches those alone that decide whether it is due at an instant.
+-- Definitions: of the times that a query watches those alone that decide whether it is due at an instant.
 use Rattle.std.specs.Prelude.{ℕ, ◌-◌, ◌||◌}
 use Rattle.std.specs.List.{filter}
 use Rattle.rsp_spec.specs.Windows.{in_content}

@@ -1,9 +1,11 @@
 // Whether a query is due: at an instant, or on an item.
-ghost use Rattle.std.specs.Prelude.{◌≡◌, ◌^◌, ◌≤◌, ◌<◌, true, false, None};
+ghost use Rattle.std.specs.Prelude.{◌≡◌, ◌^◌, ◌≤◌, ◌<◌, List, map, true, false, None};
 ghost use Rattle.std.specs.List.{All};
 ghost use Rattle.std.specs.Option.{ForSome};
 ghost use Rattle.rsp_report.specs.Due.{IsWatched, changes, has_content, is_due, is_due_on_item, IsFreshAt, shows_new};
 ghost use Rattle.rsp_report.specs.Leaps.{closes, divides, some_window};
+ghost use Rattle.rsp_report.specs.Seen.{seen_at};
+ghost use Rattle.rsp_report.specs.declared.contents.Watched.{Watched};
 
 use crate::chosen::Chosen;
 use crate::contents;
@@ -18,6 +20,8 @@ pub fn due(policy: &Chosen, watched: &[Watched], t: u64) -> bool
     requires within { t ≤ 2 ^ 48 }
     requires watched { All IsWatched watched.now }
     ensures value { result ≡ is_due policy.now watched.now t }
+    ensures unseen { (other : List Watched) → map (seen_at t) other ≡ map (seen_at t) watched.now
+        → result ≡ is_due policy.now other t }
 {
     if policy.close && !some_closes(watched, t) {
         return false;
@@ -42,6 +46,8 @@ pub fn due_on_item(policy: &Chosen, watched: &[Watched], t: u64) -> bool
     requires watched { All IsWatched watched.now }
     requires fresh { All (IsFreshAt t) watched.now }
     ensures value { result ≡ is_due_on_item policy.now watched.now t }
+    ensures unseen { (other : List Watched) → map (seen_at t) other ≡ map (seen_at t) watched.now
+        → result ≡ is_due_on_item policy.now other t }
 {
     if policy.change && !some_shows_new(watched, t) {
         return false;

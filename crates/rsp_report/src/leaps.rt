@@ -1,5 +1,5 @@
 // From due instant to due instant: each strategy gives the next instant at which it holds, until all agree.
-ghost use Rattle.std.specs.Prelude.{◌≡◌, ◌^◌, ◌≤◌, ◌<◌, ◌%◌, ◌==◌, ◌&&◌, ℕ, true, false};
+ghost use Rattle.std.specs.Prelude.{◌≡◌, ◌^◌, ◌≤◌, ◌<◌, ◌%◌, ◌==◌, ◌&&◌, ℕ, List, map, true, false};
 ghost use Rattle.std.specs.List.{All};
 ghost use Rattle.std.specs.Option.{ForSome};
 ghost use Rattle.rsp_spec.specs.Instants.{IsLeastIn};
@@ -7,6 +7,8 @@ ghost use Rattle.rsp_spec.specs.Windows.{closes_at};
 ghost use Rattle.rsp_report.specs.Due.{IsWatched, is_due};
 ghost use Rattle.rsp_report.specs.Leaps.{AllHold, HasPeriod, HoldsByChange, HoldsByContent, HoldsByTime, asks, divides};
 ghost use Rattle.rsp_report.specs.Leaps.{some_window};
+ghost use Rattle.rsp_report.specs.Seen.{seen_at};
+ghost use Rattle.rsp_report.specs.declared.contents.Watched.{Watched};
 
 use crate::chosen::Chosen;
 use crate::contents::Watched;
@@ -23,14 +25,18 @@ enum Question {
 }
 
 /// The least instant from `from` to `to` ms at which a query with these windows is due; None exactly where there is
-/// none. The policy looks at instants, a period is at least 1 ms, `to` and all times are at most 2^48. Takes no memory.
-/// It goes from item to item and from closing to closing, never through the instants between.
+/// none. Times that are in no content at these instants, nor at those just before, change nothing. The policy looks at
+/// instants, a period is at least 1 ms, `to` and all times are at most 2^48. Takes no memory. It goes from item to item
+/// and from closing to closing, never through the instants between.
 pub fn next_due(policy: &Chosen, watched: &[Watched], from: u64, to: u64) -> Option<u64>
     requires tick { policy.now.tuple ≡ false }
     requires period { ForSome policy.now.period (λ period. 0 < period) }
     requires within { to ≤ 2 ^ 48 }
     requires watched { All IsWatched watched.now }
-    ensures { IsLeastIn (λ t. is_due policy.now watched.now t ≡ true) from to result }
+    ensures least { IsLeastIn (λ t. is_due policy.now watched.now t ≡ true) from to result }
+    ensures unseen { (other : List Watched)
+        → ((t : ℕ) → from ≤ t → t ≤ to → map (seen_at t) other ≡ map (seen_at t) watched.now)
+        → IsLeastIn (λ t. is_due policy.now other t ≡ true) from to result }
 {
     next_of_all(policy, watched, from, to)
 }
