@@ -13,6 +13,7 @@ mod printing;
 mod statement;
 mod term;
 mod text;
+mod texts;
 
 pub use characters::{is_iri, is_label, is_tag};
 pub use domain::{Domain, Same};
@@ -21,3 +22,4 @@ pub use printing::{XSD_STRING, print};
 pub use statement::{Fact, Quad, Spot, Triple};
 pub use term::Term;
 pub use text::{Text, ascii_text};
+pub use texts::Texts;
