@@ -93,6 +93,18 @@ module _ {E : Type 0} (eq : E → E → Bool) where
   pub weight-ge : (es : List (E × ℤ)) → AreCounts eq es → (q : E) → pos 0 ≤ℤ weight eq es q
   weight-ge es c = counts-ge es (recursion_from_All (λ (e : E × ℤ). pos 0 <ℤ e.1) es c.counted)
 
+  only-le_all : (b : Bool) (n : ℤ) → pos 0 <ℤ n → only b n ≤ℤ n
+  only-le_all true n h = omega (arith, ints)
+  only-le_all false n h = omega (arith, ints)
+
+  counts-le : (es : List (E × ℤ)) → AllByRecursion (λ (e : E × ℤ). pos 0 <ℤ e.1) es → (q : E) → weight eq es q ≤ℤ cardinality es
+  counts-le [] h q = omega (arith, ints)
+  counts-le (e ∷ es) h q = let k = counts-le es h.1 q in let l = only-le_all (eq q e.0) e.1 h.0 in omega (arith, ints)
+
+  -- a bag holds no value oftener than it has rows
+  pub weight-le_cardinality : (es : List (E × ℤ)) → AreCounts eq es → (q : E) → weight eq es q ≤ℤ cardinality es
+  weight-le_cardinality es c = counts-le es (recursion_from_All (λ (e : E × ℤ). pos 0 <ℤ e.1) es c.counted)
+
 module _ {E : Type 0} {eq : E → E → Bool} (laws : IsEquivalence eq) where
   pub weight-part : (f : ℤ → ℤ) → f (pos 0) ≡ pos 0 → (es : List (E × ℤ)) → IsDistinct eq (keys_of es) → (q : E) → weight eq (part f es) q ≡ f (weight eq es q)
   unfolding IsDistinct

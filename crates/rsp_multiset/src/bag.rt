@@ -1,5 +1,5 @@
 // Bags of rows.
-ghost use Rattle.std.specs.Prelude.{◌≡◌, pos, ◌+ℤ◌, IfOk};
+ghost use Rattle.std.specs.Prelude.{◌≡◌, ◌+◌, IfOk};
 
 use crate::{Cell, Changes, Count, Row, incoming_rows};
 use std::alloc::{AllocError, Global};
@@ -26,7 +26,7 @@ impl<V: Cell> Model for Bag<V> {
 }
 
 impl<V: Cell> Bag<V> {
-    ghost use Rattle.std.specs.Prelude.{◌≡◌, ◌<◌, ◌+◌, pos, ◌+ℤ◌, ◌≤ℤ◌, ◌<ℤ◌, ℤ, List, Option, [], ◌∷◌, drop, length, slice_get, Some, OnOk, OnErr, IfOk};
+    ghost use Rattle.std.specs.Prelude.{◌≡◌, ◌<◌, ◌+◌, pos, ◌+ℤ◌, ◌≤ℤ◌, ◌<ℤ◌, neg_ℤ, ℤ, List, Option, [], ◌∷◌, drop, length, slice_get, Some, IsOk, OnOk, OnErr, IfOk};
     ghost use Rattle.rsp_multiset.specs.Rows.{row_eq};
     ghost use Rattle.rsp_multiset.specs.Weights.{only, weight, times, cardinality, AreCounts};
 
@@ -50,15 +50,41 @@ impl<V: Cell> Bag<V> {
         self.alter(row, Count::of_many(times)?)
     }
 
-    /// Puts the row in, or, below 0, takes it out, so many times; no oftener than it is there. Fails as [`Bag::add`] does.
+    /// Puts the row in, or, below 0, takes it out, so many times; no oftener than it is there. Where it puts in, it fails as
+    /// [`Bag::add`] does; to take out takes no memory.
     pub fn alter(&mut self, row: Row<V>, by: Count) -> Result<(), AllocError>
         requires { by <ℤ pos 0 → pos 0 ≤ℤ (weight (row_eq V.eq) self.old row +ℤ by) }
         ensures ok { OnOk result ((q : List (Option V)) → weight (row_eq V.eq) self.new q
             ≡ weight (row_eq V.eq) self.old q +ℤ only (row_eq V.eq q row) by) }
         ensures err { OnErr result (self.new ≡ self.old) }
+        ensures taken { by <ℤ pos 0 → IsOk result }
     {
-        let rows = rows_after(self.rows, by)?;
-        self.counts.add(row, by)?;
+        if by.is_negative() {
+            self.take_out(&row, by.size());
+            return Ok(());
+        }
+        self.put(row, by)
+    }
+
+    /// Takes the row out so many times; it is there as often. Takes no memory.
+    pub fn take_out(&mut self, row: &Row<V>, times: u64)
+        requires { pos times ≤ℤ weight (row_eq V.eq) self.old row.now }
+        ensures { (q : List (Option V)) → weight (row_eq V.eq) self.new q
+            ≡ weight (row_eq V.eq) self.old q +ℤ only (row_eq V.eq q row.now) (neg_ℤ (pos times)) }
+    {
+        self.rows -= times;
+        self.counts.take_out(row, times);
+    }
+
+    // puts the row in so many times more
+    fn put(&mut self, row: Row<V>, times: Count) -> Result<(), AllocError>
+        requires { pos 0 ≤ℤ times }
+        ensures ok { OnOk result ((q : List (Option V)) → weight (row_eq V.eq) self.new q
+            ≡ weight (row_eq V.eq) self.old q +ℤ only (row_eq V.eq q row) times) }
+        ensures err { OnErr result (self.new ≡ self.old) }
+    {
+        let rows = rows_after(self.rows, times.size())?;
+        self.counts.add(row, times)?;
         self.rows = rows;
         Ok(())
     }
@@ -107,13 +133,8 @@ impl<V: Cell> Bag<V> {
     }
 }
 
-fn rows_after(rows: u64, by: Count) -> Result<u64, AllocError>
-    ensures { IfOk result (λ sum. pos sum ≡ pos rows +ℤ by) }
+fn rows_after(rows: u64, more: u64) -> Result<u64, AllocError>
+    ensures { IfOk result (λ sum. sum ≡ rows + more) }
 {
-    let sum = if by.is_negative() {
-        rows.checked_sub(by.size())
-    } else {
-        rows.checked_add(by.size())
-    };
-    sum.ok_or(AllocError)
+    rows.checked_add(more).ok_or(AllocError)
 }

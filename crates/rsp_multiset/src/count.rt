@@ -1,5 +1,5 @@
 // Counts with a sign.
-ghost use Rattle.std.specs.Prelude.{◌≡◌, ◌<◌, ◌^◌, ℤ, pos, ◌+ℤ◌, ◌*ℤ◌, neg_ℤ, unsigned_abs, ◌<ℤ◌, ◌↔◌, IsTrue, OkIff};
+ghost use Rattle.std.specs.Prelude.{◌≡◌, ◌<◌, ◌^◌, ℤ, pos, ◌+ℤ◌, ◌*ℤ◌, neg_ℤ, unsigned_abs, ◌<ℤ◌, ◌≤ℤ◌, ◌↔◌, IsTrue, OkIff};
 
 use std::alloc::AllocError;
 use std::marker::Model;
@@ -24,7 +24,7 @@ impl Model for Count {
 }
 
 impl Count {
-    ghost use Rattle.std.specs.Prelude.{◌≡◌, ◌<◌, ◌^◌, ℤ, pos, ◌+ℤ◌, ◌*ℤ◌, neg_ℤ, unsigned_abs, ◌<ℤ◌, ◌↔◌, IsTrue, OkIff};
+    ghost use Rattle.std.specs.Prelude.{◌≡◌, ◌<◌, ◌^◌, ℤ, pos, ◌+ℤ◌, ◌*ℤ◌, neg_ℤ, unsigned_abs, ◌<ℤ◌, ◌≤ℤ◌, ◌↔◌, IsTrue, OkIff};
 
     /// The count of this value. Refuses -2^63 alone.
     pub fn new(value: i64) -> Result<Count, AllocError>
@@ -91,6 +91,16 @@ impl Count {
         ensures { result ≡ neg_ℤ self }
     {
         Count { value: -self.value }
+    }
+
+    /// So many less, of a count that is at least as many.
+    pub(crate) fn less(self, times: u64) -> Count
+        requires { pos times ≤ℤ self }
+        ensures { result ≡ self +ℤ neg_ℤ (pos times) }
+    {
+        Count {
+            value: self.value - times as i64,
+        }
     }
 
     /// The sum, refused where it is out of range.

@@ -14,7 +14,7 @@ pub fn apply<V: Cell>(bag: &mut Bag<V>, changes: &Changes<Row<V>>) -> Result<(),
         ≡ weight (row_eq V.eq) bag.old q +ℤ weight (row_eq V.eq) changes.now q) }
 {
     // in this order the number of rows isn't past its type on the way
-    take_rows(bag, changes)?;
+    take_rows(bag, changes);
     add_rows(bag, changes)
 }
 
@@ -39,16 +39,15 @@ pub fn negative<V: Cell>(alloc: Global, changes: &Changes<Row<V>>) -> Result<Bag
 }
 
 // takes out what the change takes out
-fn take_rows<V: Cell>(bag: &mut Bag<V>, changes: &Changes<Row<V>>) -> Result<(), AllocError>
+fn take_rows<V: Cell>(bag: &mut Bag<V>, changes: &Changes<Row<V>>)
     requires { (q : List (Option V)) → pos 0 ≤ℤ (weight (row_eq V.eq) bag.old q +ℤ weight (row_eq V.eq) changes.now q) }
-    ensures { OnOk result ((q : List (Option V)) → weight (row_eq V.eq) bag.new q
-        ≡ weight (row_eq V.eq) bag.old q +ℤ below (weight (row_eq V.eq) changes.now q)) }
+    ensures { (q : List (Option V)) → weight (row_eq V.eq) bag.new q
+        ≡ weight (row_eq V.eq) bag.old q +ℤ below (weight (row_eq V.eq) changes.now q) }
 {
     for index in 0..changes.distinct() {
         let (row, count) = changes.counted_at(index);
-        take_row(bag, row, count)?;
+        take_row(bag, row, count);
     }
-    Ok(())
 }
 
 // puts in what the change brings in
@@ -75,15 +74,14 @@ fn add_taken_rows<V: Cell>(bag: &mut Bag<V>, changes: &Changes<Row<V>>) -> Resul
     Ok(())
 }
 
-fn take_row<V: Cell>(bag: &mut Bag<V>, row: &Row<V>, count: Count) -> Result<(), AllocError>
+fn take_row<V: Cell>(bag: &mut Bag<V>, row: &Row<V>, count: Count)
     requires { count <ℤ pos 0 → pos 0 ≤ℤ (weight (row_eq V.eq) bag.old row.now +ℤ count) }
-    ensures { OnOk result ((q : List (Option V)) → weight (row_eq V.eq) bag.new q
-        ≡ weight (row_eq V.eq) bag.old q +ℤ only (row_eq V.eq q row.now) (below count)) }
+    ensures { (q : List (Option V)) → weight (row_eq V.eq) bag.new q
+        ≡ weight (row_eq V.eq) bag.old q +ℤ only (row_eq V.eq q row.now) (below count) }
 {
     if count.is_negative() {
-        return bag.alter(row.share()?, count);
+        bag.take_out(row, count.size());
     }
-    Ok(())
 }
 
 fn add_row<V: Cell>(bag: &mut Bag<V>, row: &Row<V>, count: Count) -> Result<(), AllocError>

@@ -12,7 +12,7 @@ returns g c =
     c.add_rows.result
     (λ h q.
     let sum = h q in
-    let taken = c.in_ok-take_rows.ensures q in
+    let taken = c.take_rows.ensures q in
     let both = above_or_below (weight (row_eq g.V.PartialEq.eq) c.args.changes.now q) in
     omega (arith, ints))
     c.add_rows.ensures

@@ -41,7 +41,7 @@ loop-index-preserved g c =
     let here = drop c.loop-index.index c.args.changes.now in
     let after = drop (c.loop-index.index + 1) c.args.changes.now in (
       λ q.
-          let step = c.in_ok-take_row.ensures q in
+          let step = c.take_row.ensures q in
           let rest = part-rest eq below here after row count c.counted_at-count.ensures.rest q in
           let before = c.loop-index.invariant.0 q in
           omega (arith, ints),
@@ -54,7 +54,7 @@ loop-index-preserved g c =
           (weight eq c.loop-index.bag q)
           (weight eq c.take_row.new.bag q)
           (part-rest eq below here after row count c.counted_at-count.ensures.rest q)
-          (c.in_ok-take_row.ensures q)
+          (c.take_row.ensures q)
           (c.loop-index.invariant.1 q),
     )
 

@@ -1,23 +1,12 @@
-use Rattle.std.proofs.Common.{◌+ℤ◌, ap, subst, ◌∙◌, arith}
-use Rattle.std.specs.Cmp.Lexicographic.{lists_equiv, options_equiv}
+use Rattle.std.proofs.Common.{◌≡◌, ◌+ℤ◌, neg_ℤ, pos, ap, ◌∙◌, arith}
 use Rattle.std.proofs.lemmas.Int.{ints}
 use Rattle.rsp_multiset.specs.Rows.{row_eq}
-use Rattle.rsp_multiset.specs.RowSame.{row_decides}
-use Rattle.rsp_multiset.specs.Weights.{weight, only, cardinality, AreCounts}
-use Rattle.rsp_multiset.proofs.Signs.{counts-from_weights, altered-ge, cardinality-altered}
+use Rattle.rsp_multiset.specs.Weights.{weight, only}
 use Rattle.rsp_multiset.proofs.bag.Bag.alter.Goals as goal
 
-pub returns-clause-ok : goal.returns-clause-ok
-returns-clause-ok g c = λ q. c.in_ok-add.ensures.ok q ∙ (λ i. weight (row_eq g.V.PartialEq.eq) (c.self.view_is i) q +ℤ only (row_eq g.V.PartialEq.eq q c.args.row) c.args.by)
-
-pub invariant_of-self-2 : goal.invariant_of-self-2
-invariant_of-self-2 g c =
-    let same = row_decides g.met.V.Cell.identical in
-    let counts = subst (AreCounts (row_eq g.V.PartialEq.eq)) c.self.view_is c.self.invariant.0 in
-    let sums = returns-clause-ok g c in (
-      counts-from_weights (lists_equiv (options_equiv g.met.V.Eq.laws)) c.add.new.self c.add.ensures.changes (altered-ge same c.args.self.now c.add.new.self c.args.row c.args.by counts c.requires sums),
-      (let rows = c.in_ok-rows.ensures in
-          let held = c.self.invariant.1 ∙ ap cardinality c.self.view_is in
-          let after = cardinality-altered same c.args.self.now c.add.new.self c.args.row c.args.by sums in
-          omega (arith, ints)),
-    )
+pub returns-then-is_negative-clause-ok : goal.returns-then-is_negative-clause-ok
+returns-then-is_negative-clause-ok g c =
+    let negative = c.is_negative.ensures.0 c.if-is_negative.true in
+    let size = c.size.ensures in
+    let turned : neg_ℤ (pos c.size.result) ≡ c.args.by = omega (arith, ints) in
+    λ q. c.take_out.ensures q ∙ ap (λ n. weight (row_eq g.V.PartialEq.eq) c.args.self.now q +ℤ only (row_eq g.V.PartialEq.eq q c.args.row) n) turned
