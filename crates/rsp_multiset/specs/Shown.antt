@@ -1,6 +1,6 @@
 -- Definitions: values that show others, as the cells of a row show terms. What entries hold of a value that is shown is added up
 -- over those that show it, so that no two of them need to be kept apart.
-use Rattle.std.specs.Prelude.{◌≡◌, Bool, Option, List, map, ℤ, pos, ◌+ℤ◌, IfSome}
+use Rattle.std.specs.Prelude.{◌≡◌, Bool, Option, List, map, ℤ, pos, ◌+ℤ◌, IfSome, IsTrue}
 use Rattle.std.specs.List.{AllByRecursion}
 use Rattle.std.specs.Option.{option_map}
 use Rattle.rsp_multiset.specs.Rows.{Cells}
@@ -13,6 +13,10 @@ shown_row shown row = map (option_map shown) row
 -- the row's cells are known
 abbrev pub IsKnown : {V : Type 0} → (V → Type 0) → Cells V → Type 0
 IsKnown {V} knows row = AllByRecursion (λ (value : Option V). IfSome value knows) row
+
+-- what passes a test, as what is known
+abbrev pub Passes : {V : Type 0} → (V → Bool) → V → Type 0
+Passes test value = IsTrue (test value)
 
 -- known values that show the same are the same
 abbrev pub AreToldApart : {V W : Type 0} → (V → Type 0) → (V → W) → Type 0

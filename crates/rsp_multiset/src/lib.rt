@@ -10,6 +10,7 @@ mod changes;
 mod count;
 mod moving;
 mod parts;
+mod renaming;
 mod row;
 mod variables;
 
@@ -19,4 +20,5 @@ pub use changes::Changes;
 pub use count::Count;
 pub use moving::{changes_at, incoming_rows, outgoing_rows};
 pub use parts::{apply, negative, positive};
+pub use renaming::transport;
 pub use row::Row;
