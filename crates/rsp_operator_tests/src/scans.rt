@@ -101,10 +101,6 @@ impl Domain for Noting {
 
     ghost told_apart = { λ domain x y _ _ same. same };
 
-    fn empty(_alloc: Global) -> Noting {
-        Noting { taken: 0 }
-    }
-
     fn show<'a>(&'a self, value: &'a Term) -> &'a Term {
         value
     }

@@ -4,8 +4,8 @@ ghost use Rattle.std.specs.Prelude.{◌≡◌, ◌+◌, ◌<◌};
 use std::marker::Model;
 use std::sync::ledger::{Blank, Book, Ledger, Share};
 
-/// How many steps were taken since it was made. Contracts see it as that number, and only `tick` and
-/// `tick_many` change it.
+/// How many steps were taken since it was made. Contracts see it as that number, and only `tick`
+/// changes it.
 #[derive(Drop)]
 pub struct Steps<L: Ledger> {
     book: Book<L>,
@@ -41,12 +41,5 @@ impl<L: Ledger> Steps<L> {
         ensures { self.new ≡ self.old + 1 }
     {
         self.book.add(&mut self.share, 1);
-    }
-
-    /// Counts so many steps.
-    pub fn tick_many(&mut self, steps: u64)
-        ensures { self.new ≡ self.old + steps }
-    {
-        self.book.add(&mut self.share, steps);
     }
 }

@@ -5,7 +5,7 @@ ghost use Rattle.rsp_terms.specs.declared.term.Term.{Term};
 
 use crate::Term;
 use rsp_multiset::Cell;
-use std::alloc::{AllocError, Global};
+use std::alloc::AllocError;
 
 /// What the cells of rows stand for: each value that is known shows a term, and known values that show one term are one.
 pub trait Domain: Sized + Drop {
@@ -18,9 +18,6 @@ pub trait Domain: Sized + Drop {
     ghost knows: { Self → Self.Value → Type 0 };
 
     ghost shown: { Self → Self.Value → Term };
-
-    /// A domain for a start; it may know values that nobody kept. Takes no memory.
-    fn empty(alloc: Global) -> Self;
 
     /// The term that the value shows. Takes no memory.
     fn show<'a>(&'a self, value: &'a Self::Value) -> &'a Term
@@ -58,10 +55,6 @@ impl Domain for Same {
     ghost shown = { λ domain value. value };
 
     ghost told_apart = { λ domain x y _ _ same. same };
-
-    fn empty(_alloc: Global) -> Same {
-        Same::new()
-    }
 
     fn show<'a>(&'a self, value: &'a Term) -> &'a Term {
         value

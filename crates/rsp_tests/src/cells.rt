@@ -166,7 +166,7 @@ fn an_empty_change_takes_the_other(rt: HostRuntime) -> Result<(), Fail> {
 #[test]
 fn terms_show_themselves(rt: HostRuntime) -> Result<(), Fail> {
     let term = Term::Iri(Text::new(rt.alloc(), "a:b")?);
-    let mut domain = Same::empty(rt.alloc());
+    let mut domain = Same::new();
     assert!(rt; what_is_kept_is_shown(&mut domain, term.share()?, &term)?);
     Ok(())
 }
