@@ -4,8 +4,8 @@ ghost use Rattle.rsp_nquads.specs.Grammar.{IsAbsoluteIri};
 ghost use Rattle.rsp_nquads.specs.Fields.{absolute_iri};
 
 use rsp_scan::{follow_rules, iri};
-use rsp_terms::Text;
 use rsp_terms::characters::is_absolute;
+use rsp_terms::{Text, Texts};
 use std::alloc::{AllocError, Global};
 
 /// The IRI of a field that is an IRIREF (RDF 1.1 N-Quads, section 4) and nothing else, with its escapes replaced; None
@@ -17,15 +17,24 @@ pub fn absolute_iri(alloc: Global, field: &[u8]) -> Result<Option<Text>, AllocEr
     ensures value { IfOk result (λ name. name ≡ absolute_iri field.now) }
     ensures grammar { (name : List ℕ) → (absolute_iri field.now ≡ Some name) ↔ IsAbsoluteIri field.now name }
 {
+    let mut texts = Texts::unkept(alloc);
+    absolute_iri_among(&mut texts, field)
+}
+
+/// What [`absolute_iri`] gives, as a text that is shared with one of the table.
+pub fn absolute_iri_among(texts: &mut Texts, field: &[u8]) -> Result<Option<Text>, AllocError>
+    ensures value { IfOk result (λ name. name ≡ absolute_iri field.now) }
+    ensures grammar { (name : List ℕ) → (absolute_iri field.now ≡ Some name) ↔ IsAbsoluteIri field.now name }
+{
     follow_rules();
-    whole_iri(alloc, field)
+    whole_iri(texts, field)
 }
 
 #[tactic(auto, unfolding(crate::specs::Fields::absolute_iri))]
-fn whole_iri(alloc: Global, field: &[u8]) -> Result<Option<Text>, AllocError>
+fn whole_iri(texts: &mut Texts, field: &[u8]) -> Result<Option<Text>, AllocError>
     ensures { IfOk result (λ name. name ≡ absolute_iri field.now) }
 {
-    let Some((name, behind)) = iri(alloc, field)? else {
+    let Some((name, behind)) = iri(texts, field)? else {
         return Ok(None);
     };
     if !behind.is_empty() {

@@ -12,6 +12,6 @@ mod terms;
 mod writing;
 
 pub use fault::LineFault;
-pub use fields::absolute_iri;
-pub use statements::statement;
+pub use fields::{absolute_iri, absolute_iri_among};
+pub use statements::{statement, statement_among};
 pub use writing::write;

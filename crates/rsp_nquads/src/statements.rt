@@ -11,7 +11,7 @@ use crate::LineFault;
 use crate::terms::{iri_term, node, object};
 use rsp_scan::{follow_rules, sign};
 use rsp_terms::characters::is_absolute;
-use rsp_terms::{Quad, Term, Triple};
+use rsp_terms::{Quad, Term, Texts, Triple};
 use rsp_text::behind_blanks;
 use std::alloc::{AllocError, Global};
 use std::str;
@@ -77,18 +77,32 @@ pub fn statement(alloc: Global, document: u32, line: &[u8]) -> Result<Option<Qua
     // the grammar says the same of every line, read or not
     ensures every_line { (number : ℕ) (text : List ℕ) → IsTied number text (lines.statement_of number text) }
 {
+    let mut texts = Texts::unkept(alloc);
+    statement_among(&mut texts, document, line)
+}
+
+/// What [`statement`] gives, with texts that are shared with those of the table.
+pub fn statement_among(
+    texts: &mut Texts,
+    document: u32,
+    line: &[u8],
+) -> Result<Option<Quad>, LineFault>
+    ensures answer { IsAnswer result (lines.statement_of document line.now) }
+    ensures grammar { IsByGrammar document line.now result }
+    ensures every_line { (number : ℕ) (text : List ℕ) → IsTied number text (lines.statement_of number text) }
+{
     follow_rules();
-    said(alloc, document, line)
+    said(texts, document, line)
 }
 
 #[tactic(auto, unfolding(crate::specs::Statements::statement_of))]
-fn said(alloc: Global, document: u32, line: &[u8]) -> Result<Option<Quad>, LineFault>
+fn said(texts: &mut Texts, document: u32, line: &[u8]) -> Result<Option<Quad>, LineFault>
     ensures { IsAnswer result (lines.statement_of document line.now) }
 {
     if is_end(behind_blanks(line)) {
         return Ok(None);
     }
-    match parts_of(alloc, document, line) {
+    match parts_of(texts, document, line) {
         Ok(parts) => judged(line, parts),
         Err(Halt::At(left)) => Err(LineFault::BadStatement {
             column: column(line, left),
@@ -194,12 +208,12 @@ fn is_relative(term: &Term) -> bool
 }
 
 #[tactic(auto, using(crate::proofs::Parting::parted))]
-fn parts_of(alloc: Global, document: u32, line: &[u8]) -> Result<Parts, Halt>
+fn parts_of(texts: &mut Texts, document: u32, line: &[u8]) -> Result<Parts, Halt>
     ensures { MatchResult result (λ parts. lines.parts_of document line.now ≡ Ok parts)
         (λ halt. Halts halt (lines.parts_of document line.now)) }
 {
-    let (three, rest) = three_of(alloc, document, line)?;
-    let graph = graph_to_end(alloc, document, rest)?;
+    let (three, rest) = three_of(texts, document, line)?;
+    let graph = graph_to_end(texts, document, rest)?;
     let Three {
         subject,
         predicate,
@@ -214,13 +228,13 @@ fn parts_of(alloc: Global, document: u32, line: &[u8]) -> Result<Parts, Halt>
 }
 
 // what every statement has, apart from its graph, so that few parts are owned where one is missing
-fn three_of<'a>(alloc: Global, document: u32, line: &'a [u8]) -> Result<(Three, &'a [u8]), Halt>
+fn three_of<'a>(texts: &mut Texts, document: u32, line: &'a [u8]) -> Result<(Three, &'a [u8]), Halt>
     ensures { MatchResult result (λ x. three_of document line.now ≡ Ok (x.0, x.1.now))
         (λ halt. Halts halt (three_of document line.now)) }
 {
-    let (subject, rest) = read_part(alloc, Wanted::Node, document, line)?;
-    let (predicate, rest) = read_part(alloc, Wanted::Iri, document, rest)?;
-    let (object, rest) = read_part(alloc, Wanted::Object, document, rest)?;
+    let (subject, rest) = read_part(texts, Wanted::Node, document, line)?;
+    let (predicate, rest) = read_part(texts, Wanted::Iri, document, rest)?;
+    let (object, rest) = read_part(texts, Wanted::Object, document, rest)?;
     Ok((
         Three {
             subject,
@@ -232,11 +246,11 @@ fn three_of<'a>(alloc: Global, document: u32, line: &'a [u8]) -> Result<(Three, 
 }
 
 // the graph where one is named, and nothing behind it but the end
-fn graph_to_end(alloc: Global, document: u32, text: &[u8]) -> Result<Option<Part>, Halt>
+fn graph_to_end(texts: &mut Texts, document: u32, text: &[u8]) -> Result<Option<Part>, Halt>
     ensures { MatchResult result (λ graph. graph_to_end document text.now ≡ Ok graph)
         (λ halt. Halts halt (graph_to_end document text.now)) }
 {
-    let (graph, rest) = read_graph(alloc, document, text)?;
+    let (graph, rest) = read_graph(texts, document, text)?;
     match fault_at_end(rest) {
         Some(left) => Err(Halt::At(left)),
         None => Ok(graph),
@@ -245,7 +259,7 @@ fn graph_to_end(alloc: Global, document: u32, text: &[u8]) -> Result<Option<Part
 
 // the wanted part behind blanks
 fn read_part<'a>(
-    alloc: Global,
+    texts: &mut Texts,
     wanted: Wanted,
     document: u32,
     text: &'a [u8],
@@ -254,7 +268,7 @@ fn read_part<'a>(
         (λ halt. Halts halt (lines.part_of (reader wanted document) text.now)) }
 {
     let here = behind_blanks(text);
-    match read(alloc, wanted, document, here)? {
+    match read(texts, wanted, document, here)? {
         None => Err(Halt::At(here.len())),
         Some((term, rest)) => Ok((
             Part {
@@ -267,7 +281,7 @@ fn read_part<'a>(
 }
 
 fn read<'a>(
-    alloc: Global,
+    texts: &mut Texts,
     wanted: Wanted,
     document: u32,
     text: &'a [u8],
@@ -276,22 +290,22 @@ fn read<'a>(
         (λ x. reader wanted document text.now ≡ Some (x.0, x.1.now))) }
 {
     match wanted {
-        Wanted::Node => node(alloc, document, text),
-        Wanted::Iri => iri_term(alloc, text),
-        Wanted::Object => object(alloc, document, text),
+        Wanted::Node => node(texts, document, text),
+        Wanted::Iri => iri_term(texts, text),
+        Wanted::Object => object(texts, document, text),
     }
 }
 
 // the graph behind blanks, where one is named
 fn read_graph<'a>(
-    alloc: Global,
+    texts: &mut Texts,
     document: u32,
     text: &'a [u8],
 ) -> Result<(Option<Part>, &'a [u8]), AllocError>
     ensures { IfOk result (λ x. lines.optional_part (part.node document) text.now ≡ (x.0, x.1.now)) }
 {
     let here = behind_blanks(text);
-    match node(alloc, document, here)? {
+    match node(texts, document, here)? {
         None => Ok((None, text)),
         Some((term, rest)) => Ok((
             Some(Part {

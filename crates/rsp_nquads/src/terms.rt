@@ -3,19 +3,19 @@ ghost use Rattle.std.specs.Prelude.{◌≡◌, MatchOption, Some, None, IfOk};
 ghost use Rattle.rsp_nquads.specs.Parts as part;
 
 use rsp_scan::{iri, label, sign, string, tag};
-use rsp_terms::{Term, Text, XSD_STRING};
+use rsp_terms::{Term, Text, Texts};
 use rsp_text::behind_blanks;
-use std::alloc::{AllocError, Global};
+use std::alloc::AllocError;
 
 /// An IRI.
 pub(crate) fn iri_term<'a>(
-    alloc: Global,
+    texts: &mut Texts,
     text: &'a [u8],
 ) -> Result<Option<(Term, &'a [u8])>, AllocError>
     ensures { IfOk result (λ r. MatchOption r (part.iri_term text.now ≡ None)
         (λ x. part.iri_term text.now ≡ Some (x.0, x.1.now))) }
 {
-    match iri(alloc, text)? {
+    match iri(texts, text)? {
         None => Ok(None),
         Some((name, rest)) => Ok(Some((Term::Iri(name), rest))),
     }
@@ -24,28 +24,28 @@ pub(crate) fn iri_term<'a>(
 /// An IRI or a blank node of this document.
 #[tactic(auto, unfolding(crate::specs::Parts::node))]
 pub(crate) fn node<'a>(
-    alloc: Global,
+    texts: &mut Texts,
     document: u32,
     text: &'a [u8],
 ) -> Result<Option<(Term, &'a [u8])>, AllocError>
     ensures { IfOk result (λ r. MatchOption r (part.node document text.now ≡ None)
         (λ x. part.node document text.now ≡ Some (x.0, x.1.now))) }
 {
-    match iri_term(alloc, text)? {
+    match iri_term(texts, text)? {
         Some(read) => Ok(Some(read)),
-        None => blank(alloc, document, text),
+        None => blank(texts, document, text),
     }
 }
 
 fn blank<'a>(
-    alloc: Global,
+    texts: &mut Texts,
     document: u32,
     text: &'a [u8],
 ) -> Result<Option<(Term, &'a [u8])>, AllocError>
     ensures { IfOk result (λ r. MatchOption r (part.blank document text.now ≡ None)
         (λ x. part.blank document text.now ≡ Some (x.0, x.1.now))) }
 {
-    match label(alloc, text)? {
+    match label(texts, text)? {
         None => Ok(None),
         Some((label, rest)) => Ok(Some((Term::Blank { document, label }, rest))),
     }
@@ -54,51 +54,51 @@ fn blank<'a>(
 /// An IRI, a blank node or a literal.
 #[tactic(auto, unfolding(crate::specs::Parts::object))]
 pub(crate) fn object<'a>(
-    alloc: Global,
+    texts: &mut Texts,
     document: u32,
     text: &'a [u8],
 ) -> Result<Option<(Term, &'a [u8])>, AllocError>
     ensures { IfOk result (λ r. MatchOption r (part.object document text.now ≡ None)
         (λ x. part.object document text.now ≡ Some (x.0, x.1.now))) }
 {
-    match node(alloc, document, text)? {
+    match node(texts, document, text)? {
         Some(read) => Ok(Some(read)),
-        None => literal(alloc, text),
+        None => literal(texts, text),
     }
 }
 
 #[tactic(auto, unfolding(crate::specs::Parts::literal))]
-fn literal<'a>(alloc: Global, text: &'a [u8]) -> Result<Option<(Term, &'a [u8])>, AllocError>
+fn literal<'a>(texts: &mut Texts, text: &'a [u8]) -> Result<Option<(Term, &'a [u8])>, AllocError>
     ensures { IfOk result (λ r. MatchOption r (part.literal text.now ≡ None)
         (λ x. part.literal text.now ≡ Some (x.0, x.1.now))) }
 {
-    match string(alloc, text)? {
+    match string(texts, text)? {
         None => Ok(None),
-        Some((lexical, rest)) => Ok(Some(literal_of(alloc, lexical, rest)?)),
+        Some((lexical, rest)) => Ok(Some(literal_of(texts, lexical, rest)?)),
     }
 }
 
 #[tactic(auto, unfolding(crate::specs::Parts::literal_of))]
 fn literal_of<'a>(
-    alloc: Global,
+    texts: &mut Texts,
     lexical: Text,
     text: &'a [u8],
 ) -> Result<(Term, &'a [u8]), AllocError>
     ensures { IfOk result (λ x. part.literal_of lexical text.now ≡ Some (x.0, x.1.now)) }
 {
     let behind = behind_blanks(text);
-    if let Some((datatype, rest)) = datatype(alloc, behind)? {
+    if let Some((datatype, rest)) = datatype(texts, behind)? {
         return Ok((Term::Literal { lexical, datatype }, rest));
     }
-    if let Some((language, rest)) = tag(alloc, behind)? {
+    if let Some((language, rest)) = tag(texts, behind)? {
         return Ok((Term::Tagged { lexical, language }, rest));
     }
-    let datatype = Text::new(alloc, XSD_STRING)?;
+    let datatype = texts.xsd_string()?;
     Ok((Term::Literal { lexical, datatype }, text))
 }
 
 #[tactic(auto, unfolding(crate::specs::Parts::datatype))]
-fn datatype<'a>(alloc: Global, text: &'a [u8]) -> Result<Option<(Text, &'a [u8])>, AllocError>
+fn datatype<'a>(texts: &mut Texts, text: &'a [u8]) -> Result<Option<(Text, &'a [u8])>, AllocError>
     ensures { IfOk result (λ r. MatchOption r (part.datatype text.now ≡ None)
         (λ x. part.datatype text.now ≡ Some (x.0, x.1.now))) }
 {
@@ -108,5 +108,5 @@ fn datatype<'a>(alloc: Global, text: &'a [u8]) -> Result<Option<(Text, &'a [u8])
     let Some(inner) = sign(b'^', behind) else {
         return Ok(None);
     };
-    iri(alloc, behind_blanks(inner))
+    iri(texts, behind_blanks(inner))
 }

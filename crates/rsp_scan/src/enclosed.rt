@@ -9,8 +9,8 @@ ghost use Rattle.rsp_scan.specs.Readers as part;
 
 use crate::escapes::{iri_escape, string_escape};
 use crate::signs::sign;
-use rsp_terms::Text;
-use std::alloc::{AllocError, Global};
+use rsp_terms::{Text, Texts};
+use std::alloc::AllocError;
 use std::str;
 
 /// What is enclosed.
@@ -71,24 +71,27 @@ fn is_string_character(c: u8) -> bool
 
 /// The IRI in brackets at the front of a text (RDF 1.1 N-Quads, section 4: IRIREF), with escapes replaced, and the text
 /// behind it; None exactly where none stands there. Fails only where memory is refused.
-pub fn iri<'a>(alloc: Global, text: &'a [u8]) -> Result<Option<(Text, &'a [u8])>, AllocError>
+pub fn iri<'a>(texts: &mut Texts, text: &'a [u8]) -> Result<Option<(Text, &'a [u8])>, AllocError>
     ensures value { IfOk result (λ r. MatchOption r (part.iri text.now ≡ None)
         (λ x. part.iri text.now ≡ Some (x.0, x.1.now))) }
     ensures grammar { IfOk result (λ r. MatchOption r (HasNoFront IsIri text.now)
         (λ x. HasFront IsIri text.now x.0 x.1.now)) }
 {
-    enclosed_iri(alloc, text)
+    enclosed_iri(texts, text)
 }
 
 #[tactic(auto, unfolding(crate::specs::Readers::iri, crate::specs::Readers::enclosed))]
-fn enclosed_iri<'a>(alloc: Global, text: &'a [u8]) -> Result<Option<(Text, &'a [u8])>, AllocError>
+fn enclosed_iri<'a>(
+    texts: &mut Texts,
+    text: &'a [u8],
+) -> Result<Option<(Text, &'a [u8])>, AllocError>
     ensures { IfOk result (λ r. MatchOption r (part.iri text.now ≡ None)
         (λ x. part.iri text.now ≡ Some (x.0, x.1.now))) }
 {
     let Some(inner) = sign(b'<', text) else {
         return Ok(None);
     };
-    match spelled(alloc, Kind::Iri, inner)? {
+    match spelled(texts, Kind::Iri, inner)? {
         None => Ok(None),
         Some((value, rest)) => match sign(b'>', rest) {
             None => Ok(None),
@@ -99,18 +102,18 @@ fn enclosed_iri<'a>(alloc: Global, text: &'a [u8]) -> Result<Option<(Text, &'a [
 
 /// The string between two `"` at the front of a text (RDF 1.1 N-Quads, section 4: STRING_LITERAL_QUOTE), with escapes
 /// replaced, and the text behind it; None exactly where none stands there. Fails only where memory is refused.
-pub fn string<'a>(alloc: Global, text: &'a [u8]) -> Result<Option<(Text, &'a [u8])>, AllocError>
+pub fn string<'a>(texts: &mut Texts, text: &'a [u8]) -> Result<Option<(Text, &'a [u8])>, AllocError>
     ensures value { IfOk result (λ r. MatchOption r (part.string text.now ≡ None)
         (λ x. part.string text.now ≡ Some (x.0, x.1.now))) }
     ensures grammar { IfOk result (λ r. MatchOption r (HasNoFront IsString text.now)
         (λ x. HasFront IsString text.now x.0 x.1.now)) }
 {
-    enclosed_string(alloc, text)
+    enclosed_string(texts, text)
 }
 
 #[tactic(auto, unfolding(crate::specs::Readers::string, crate::specs::Readers::enclosed))]
 fn enclosed_string<'a>(
-    alloc: Global,
+    texts: &mut Texts,
     text: &'a [u8],
 ) -> Result<Option<(Text, &'a [u8])>, AllocError>
     ensures { IfOk result (λ r. MatchOption r (part.string text.now ≡ None)
@@ -119,7 +122,7 @@ fn enclosed_string<'a>(
     let Some(inner) = sign(b'"', text) else {
         return Ok(None);
     };
-    match spelled(alloc, Kind::String, inner)? {
+    match spelled(texts, Kind::String, inner)? {
         None => Ok(None),
         Some((value, rest)) => match sign(b'"', rest) {
             None => Ok(None),
@@ -130,7 +133,7 @@ fn enclosed_string<'a>(
 
 // Plain characters and escapes as far as they go. A text without escapes is copied once.
 fn spelled<'a>(
-    alloc: Global,
+    texts: &mut Texts,
     kind: Kind,
     text: &'a [u8],
 ) -> Result<Option<(Text, &'a [u8])>, AllocError>
@@ -142,17 +145,17 @@ fn spelled<'a>(
         return Ok(None);
     };
     match kind.escape(behind) {
-        None => Ok(Some((Text::new(alloc, characters)?, behind))),
+        None => Ok(Some((texts.text(characters)?, behind))),
         Some((character, rest)) => {
-            let mut begun = String::from_str(alloc, characters)?;
+            let mut begun = String::from_str(texts.alloc(), characters)?;
             begun.push(character)?;
-            spelled_onto(alloc, kind, text.len(), begun, rest)
+            spelled_onto(texts, kind, text.len(), begun, rest)
         }
     }
 }
 
 fn spelled_onto<'a>(
-    alloc: Global,
+    texts: &mut Texts,
     kind: Kind,
     most: usize,
     begun: String,
@@ -171,7 +174,7 @@ fn spelled_onto<'a>(
         };
         spelled.push_str(characters)?;
         let Some((character, next)) = kind.escape(behind) else {
-            return Ok(Some((Text::new(alloc, spelled.as_str())?, behind)));
+            return Ok(Some((texts.text(spelled.as_str())?, behind)));
         };
         spelled.push(character)?;
         rest = next;

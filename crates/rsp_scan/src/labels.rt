@@ -10,24 +10,27 @@ ghost use Rattle.rsp_scan.specs.Readers as part;
 ghost use Rattle.rsp_scan.specs.Scans.{further_bytes, next_of_tag, scan, tag_machine};
 
 use crate::signs::{is_digit, is_letter, sign};
-use rsp_terms::Text;
 use rsp_terms::characters::{is_label_character, is_label_start};
-use std::alloc::{AllocError, Global};
+use rsp_terms::{Text, Texts};
+use std::alloc::AllocError;
 use std::str;
 
 /// The longest blank node label at the front of a text (RDF 1.1 N-Quads, section 4: BLANK_NODE_LABEL), without `_:`, and
 /// the text behind it; None exactly where none stands there. Fails only where memory is refused.
-pub fn label<'a>(alloc: Global, text: &'a [u8]) -> Result<Option<(Text, &'a [u8])>, AllocError>
+pub fn label<'a>(texts: &mut Texts, text: &'a [u8]) -> Result<Option<(Text, &'a [u8])>, AllocError>
     ensures value { IfOk result (λ r. MatchOption r (part.label text.now ≡ None)
         (λ x. part.label text.now ≡ Some (x.0, x.1.now))) }
     ensures grammar { IfOk result (λ r. MatchOption r (HasNoFront IsLabel text.now)
         (λ x. HasFront IsLabel text.now x.0 x.1.now)) }
 {
-    marked_label(alloc, text)
+    marked_label(texts, text)
 }
 
 #[tactic(auto, unfolding(crate::specs::Readers::label))]
-fn marked_label<'a>(alloc: Global, text: &'a [u8]) -> Result<Option<(Text, &'a [u8])>, AllocError>
+fn marked_label<'a>(
+    texts: &mut Texts,
+    text: &'a [u8],
+) -> Result<Option<(Text, &'a [u8])>, AllocError>
     ensures { IfOk result (λ r. MatchOption r (part.label text.now ≡ None)
         (λ x. part.label text.now ≡ Some (x.0, x.1.now))) }
 {
@@ -41,7 +44,7 @@ fn marked_label<'a>(alloc: Global, text: &'a [u8]) -> Result<Option<(Text, &'a [
     if label.is_empty() {
         return Ok(None);
     }
-    Ok(Some((Text::new(alloc, label)?, &inner[label.len()..])))
+    Ok(Some((texts.text(label)?, &inner[label.len()..])))
 }
 
 // the longest label at the front
@@ -108,17 +111,17 @@ fn further_len(text: &str) -> usize
 
 /// The longest language tag at the front of a text (RDF 1.1 N-Quads, section 4: LANGTAG), without `@`, and the text behind
 /// it; None exactly where none stands there. Fails only where memory is refused.
-pub fn tag<'a>(alloc: Global, text: &'a [u8]) -> Result<Option<(Text, &'a [u8])>, AllocError>
+pub fn tag<'a>(texts: &mut Texts, text: &'a [u8]) -> Result<Option<(Text, &'a [u8])>, AllocError>
     ensures value { IfOk result (λ r. MatchOption r (part.tag text.now ≡ None)
         (λ x. part.tag text.now ≡ Some (x.0, x.1.now))) }
     ensures grammar { IfOk result (λ r. MatchOption r (HasNoFront IsTag text.now)
         (λ x. HasFront IsTag text.now x.0 x.1.now)) }
 {
-    marked_tag(alloc, text)
+    marked_tag(texts, text)
 }
 
 #[tactic(auto, unfolding(crate::specs::Readers::tag))]
-fn marked_tag<'a>(alloc: Global, text: &'a [u8]) -> Result<Option<(Text, &'a [u8])>, AllocError>
+fn marked_tag<'a>(texts: &mut Texts, text: &'a [u8]) -> Result<Option<(Text, &'a [u8])>, AllocError>
     ensures { IfOk result (λ r. MatchOption r (part.tag text.now ≡ None)
         (λ x. part.tag text.now ≡ Some (x.0, x.1.now))) }
 {
@@ -131,7 +134,7 @@ fn marked_tag<'a>(alloc: Global, text: &'a [u8]) -> Result<Option<(Text, &'a [u8
     }
     let rest = &inner[tag.len()..];
     match str::from_utf8(tag) {
-        Ok(tag) => Ok(Some((Text::new(alloc, tag)?, rest))),
+        Ok(tag) => Ok(Some((texts.text(tag)?, rest))),
         Err(_) => unreachable!(),
     }
 }

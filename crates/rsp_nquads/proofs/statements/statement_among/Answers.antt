@@ -1,5 +1,5 @@
 use Rattle.rsp_nquads.proofs.TiedLaws.{by_grammar, tied}
-use Rattle.rsp_nquads.proofs.statements.statement.Goals as goal
+use Rattle.rsp_nquads.proofs.statements.statement_among.Goals as goal
 
 pub returns-clause-grammar : goal.returns-clause-grammar
 returns-clause-grammar c = by_grammar c.follow_rules.ensures c.args.document c.args.line.now c.said.result c.said.ensures

@@ -10,11 +10,11 @@ use Rattle.rsp_scan.proofs.enclosed.spelled.Goals as goal
 pub returns-in_default : goal.returns-in_default
 returns-in_default c = none_spelled (length c.args.text.now) (is_plain c.args.kind) (escape c.args.kind) c.args.text.now c.in_default.ensures
 
-pub returns-in_ok-new-in-None : goal.returns-in_ok-new-in-None
-returns-in_ok-new-in-None c =
+pub returns-in_ok-text-in-None : goal.returns-in_ok-text-in-None
+returns-in_ok-text-in-None c =
     let run = c.in-Some.ensures in
     let none : escape c.args.kind (behind (take_while (is_plain c.args.kind) c.args.text.now) c.args.text.now) ≡ None = rw run.2 at c.in-None.ensures in
-    rw (c.in_ok-new-in-None.ensures, run.1, run.2)
+    rw (c.in_ok-text-in-None.ensures, run.1, run.2)
     (last_spelled (length c.args.text.now) (is_plain c.args.kind) (escape c.args.kind) c.args.text.now run.0 none)
 
 pub returns-in_ok-push-in-Some-escape : goal.returns-in_ok-push-in-Some-escape

@@ -16,8 +16,8 @@ pub returns-in_default-escape : goal.returns-in_default-escape
 returns-in_default-escape c =
     let run = c.in-Some.ensures in
     let none : escape c.args.kind (behind (take_while (is_plain c.args.kind) c.loop.rest.now) c.loop.rest.now) ≡ None = rw run.2 at c.in_default-escape.ensures in
-    let bytes : c.in_ok-new.field-0 ≡ string_bytes c.loop.spelled ++ take_while (is_plain c.args.kind) c.loop.rest.now
-    = c.in_ok-new.ensures ∙ (c.as_str.ensures.value ∙ (c.in_ok-push_str.ensures.bytes ∙ ap (λ ys. string_bytes c.loop.spelled ++ ys) run.1)) in
+    let bytes : c.in_ok-text.field-0 ≡ string_bytes c.loop.spelled ++ take_while (is_plain c.args.kind) c.loop.rest.now
+    = c.in_ok-text.ensures ∙ (c.as_str.ensures.value ∙ (c.in_ok-push_str.ensures.bytes ∙ ap (λ ys. string_bytes c.loop.spelled ++ ys) run.1)) in
     rw (bytes, run.2)
     (loop_last (string_bytes c.loop.spelled) _ (c.args.most - c.loop.counter) (c.args.most - (c.loop.counter + 1)) (is_plain c.args.kind) (escape c.args.kind)
     c.loop.rest.now (omega (arith, c.loop-test.true)) run.0 none c.loop.invariant)
