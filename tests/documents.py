@@ -82,6 +82,10 @@ def started(command, room, given=subprocess.PIPE):
     )
 
 
+# what `tools/model` says each time on standard error
+OF_MODEL = re.compile(rb"^model: this is a plain model in Python, .*\n", re.M)
+
+
 def fault_at_end(process, given, wanted):
     """What is wrong with what a command prints, or None. It ends with 1 at most, as where a block is refused."""
     try:
@@ -89,6 +93,7 @@ def fault_at_end(process, given, wanted):
     except subprocess.TimeoutExpired:
         process.terminate()
         return f"it hadn't ended after {SECONDS} seconds"
+    said = OF_MODEL.sub(b"", said)
     if said or process.returncode not in (0, 1):
         return f"status {process.returncode}; it wrote to standard error: {said[:200]}"
     return None if output == wanted else f"it printed {output[:400]}"

@@ -9,6 +9,10 @@ class Unreadable(Exception):
     """A file can't be read, for the reason that is told."""
 
 
+class TooLong(Unreadable):
+    """A file has more bytes than the program reads."""
+
+
 def told(error):
     return (error.strerror or str(error)) if isinstance(error, OSError) else str(error)
 
@@ -21,7 +25,7 @@ def file_of(name):
     except (OSError, ValueError) as error:
         raise Unreadable(f"{name}: {told(error)}") from None
     if len(content) > MOST_FILE_BYTES:
-        raise Unreadable(f"{name}: it has more than {MOST_FILE_BYTES} bytes, and the program reads no such file")
+        raise TooLong(f"{name}: it has more than {MOST_FILE_BYTES} bytes, and the program reads no such file")
     return content
 
 
