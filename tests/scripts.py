@@ -4,6 +4,7 @@ the program over.
 """
 import contextlib
 import os
+import re
 import shutil
 import subprocess
 import tempfile
@@ -14,7 +15,7 @@ USAGE = read(f"{TOP}/tests/rows/no-words/stdout")
 EVENTS, RUN, CHECK, GEN = (f"  ./rsp {mode} " for mode in ("events", "run", "check", "gen"))
 # three crates of which the program is made, and one of tests
 CRATES = "rsp_tests: rsp_main\nrsp_main: rsp_steps rsp_spec\nrsp_steps: rsp_spec indexmap\nrsp_spec:\n"
-# what stands in the place of the toolchain; FAILS makes it fail
+# what stands in the place of the toolchain; FAILS makes it fail, in `try` as the real one says it
 RT = """#!/bin/sh
 case $1 in
 version) echo "a kit of tests" ;;
@@ -31,13 +32,26 @@ try)
     while [ "$1" != -- ]; do
         mkdir -p "$folder/$(dirname "${2%%=*}")" && cp "${2#*=}" "$folder/${2%%=*}" && shift 2
     done
-    shift && cd "$folder" && "$PROGRAM" "$@"
+    shift && cd "$folder" || exit 2
+    case $FAILS in
+    minute | output | build) ;;
+    *) "$PROGRAM" "$@" ;;
+    esac
     ended=$?
     rm -rf "$folder"
-    exit $ended
+    case $FAILS in
+    minute) echo "checked: no-answer: the program did not end within the time limit" >&2 ;;
+    output) echo "checked: no-answer: the program wrote more than 1048576 bytes to standard output" >&2 ;;
+    build) echo "error: a name is unknown" >&2 ;;
+    *) echo "checked: ended status=$ended" >&2 && echo "run=ended status=$ended runners=1 proved=no" >&2 && exit $ended ;;
+    esac
+    echo "run=no-answer proved=no" >&2
+    exit 6
     ;;
 esac
 """
+# what the scripts name where there is no toolchain
+WITHOUT_RT = "there is no rt on the path: README says what is needed; tools/model takes the same words, and needs Python alone"
 
 
 class Room:
@@ -137,8 +151,7 @@ def hints(room):
 
 def version():
     """The number of the newest version in the change log."""
-    heads = [line.split()[1] for line in read(f"{TOP}/CHANGELOG.md").decode().splitlines() if line.startswith("## ")]
-    return heads[0].rstrip(",")
+    return re.search(r"^## (\d[\d.]*)", read(f"{TOP}/CHANGELOG.md").decode(), re.M)[1]
 
 
 def builds(room):
@@ -150,7 +163,7 @@ def builds(room):
     yield "a crate that can't be proved", fault(room.run("rsp", ["events"], log, FAILS="all"), b"", 125, told)
     yield "a program that can't be linked", fault(room.run("rsp", ["events"], log, FAILS="run"), b"", 125, told)
     lacks = room.run("rsp", ["events"], log, PATH=room.without_rt())
-    yield "a build without a toolchain", fault(lacks, b"", 125, ["rsp: there is no rt on the path"])
+    yield "a build without a toolchain", fault(lacks, b"", 125, [f"rsp: {WITHOUT_RT}"])
     yield "help builds nothing", fault(room.run("rsp", ["--help"]), USAGE, 2, [EVENTS, RUN, CHECK, GEN])
     yield "stale where nothing was built", fault(room.run("rsp", ["events"], log, RSP_STALE="1"), wanted, 0, told)
     yield "a program that is newer than its sources", fault(room.run("rsp", ["events"], log), wanted, 0, [])
@@ -175,7 +188,19 @@ def tries(room):
         room.run("try", beside, folder=example), read(f"{example}/stdout"), 0, says)
     yield "an unproved run on a file that isn't there", fault(room.run("try", ["check", "p.rq"]), b"", 3, says)
     lacks = room.run("try", ["events"], log, PATH=room.without_rt())
-    yield "a try without a toolchain", fault(lacks, b"", 125, ["try: there is no rt on the path"])
+    yield "a try without a toolchain", fault(lacks, b"", 125, [f"try: {WITHOUT_RT}"])
+    for fails, hints in tries_that_end().items():
+        yield f"a try: {fails}", fault(room.run("try", ["events"], log, FAILS=fails), b"", 125, says + hints)
+
+
+def tries_that_end():
+    """By what the kit gives no output, and what `./try` says of it beside its first line."""
+    instead = "give it fewer items, or take tools/model or ./rsp"
+    return {
+        "minute": [f"try: the run hadn't ended after a minute, so none of its output is here: {instead}"],
+        "output": [f"try: the output is more than 1 MiB, so none of it is here: {instead}"],
+        "build": ["error: a name is unknown", "run=no-answer proved=no", "try: the kit has built no program, or stopped it"],
+    }
 
 
 def checks(program, rows):
