@@ -3,7 +3,10 @@ import base64
 import hashlib
 
 STYLE = """
-:root { color-scheme: light dark; --ink: #1d2327; --back: #f4f5f6; --box: #fff; --line: #c9ced2; --soft: #5c666e; --warn: #8a4b00 }
+:root {
+  color-scheme: light dark;
+  --ink: #1d2327; --back: #f4f5f6; --box: #fff; --line: #c9ced2; --soft: #5c666e; --warn: #8a4b00
+}
 @media (prefers-color-scheme: dark) {
   :root { --ink: #e3e6e8; --back: #15191c; --box: #1e2428; --line: #3d474e; --soft: #9aa5ad; --warn: #ffb454 }
 }
@@ -132,13 +135,15 @@ function legend(lines, column) {
 }
 
 function chartOf(times, {column, lines}) {
-  const x = scale(times, WIDTH - 8), y = scale(lines.flatMap(line => line.values), HEIGHT - 16), [most, least] = extremes(lines);
+  const x = scale(times, WIDTH - 8), y = scale(lines.flatMap(line => line.values), HEIGHT - 16);
+  const [most, least] = extremes(lines), range = most === undefined ? "" : most === least ? most : `${least} to ${most}`;
   const paths = lines.map((line, index) => draw("path",
     {class: `drawn c${index}`, d: pathOf(times, line.values, time => 4 + x(time), y)}, draw("title", {}, line.whole || column)));
   const picture = draw("svg", {viewBox: `0 0 ${WIDTH} ${HEIGHT}`, preserveAspectRatio: "none", role: "img", "aria-label": column},
     draw("path", {class: "axis", d: `M0 0V${HEIGHT}H${WIDTH}`}), ...paths);
   const range = most === undefined ? "" : most === least ? most : `${least} to ${most}`;
-  const span = make("p", {class: "span"}, make("span", {}, instant(times[0])), make("span", {}, instant(times[times.length - 1])));
+  const ends = [times[0], times[times.length - 1]].map(at => make("span", {}, instant(at)));
+  const span = make("p", {class: "span"}, ...ends);
   return make("figure", {"data-column": column}, make("figcaption", {}, make("b", {}, column), ` ${range}`), picture, span,
     legend(lines, column));
 }
@@ -162,14 +167,18 @@ function sizeOf(query) {
 }
 
 function panelOf(query) {
-  const isLast = query.kind === "last", word = query.kind === "alarm" ? " (alarm)" : query.kind === "news" ? " (news)" : "";
-  const facts = query.at === null ? [] : [make("span", {class: "at", title: `${query.at} ms`}, instant(query.at)),
-    " · ", make("span", {class: "size"}, sizeOf(query)), " · ", make("span", {class: "reports"}, count(query.reports, "report", "reports"))];
-  const over = query.overfull === null ? [] : [make("p", {class: "warn"}, `overfull at ${instant(query.overfull)}: this query is over`)];
+  const isLast = query.kind === "last", word = isLast ? "" : ` (${query.kind})`;
+  const charts = query.charts.map(chart => chartOf(query.times, chart));
+  const facts = query.at === null ? [] : [
+    make("span", {class: "at", title: `${query.at} ms`}, instant(query.at)), " · ",
+    make("span", {class: "size"}, sizeOf(query)), " · ",
+    make("span", {class: "reports"}, count(query.reports, "report", "reports"))];
+  const overfull = query.overfull === null ? null : `overfull at ${instant(query.overfull)}: this query is over`;
+  const over = overfull === null ? [] : [make("p", {class: "warn"}, overfull)];
   return make("section", {class: query.kind, "data-query": query.name},
     make("h2", {}, query.name + word), make("p", {class: "soft"}, ...facts), ...over,
     make("div", {class: "both"}, make("div", {class: "table"}, isLast ? lastReport(query) : newsOf(query)),
-      ...(query.charts.length ? [make("div", {class: "charts"}, ...query.charts.map(chart => chartOf(query.times, chart)))] : [])),
+      ...(charts.length ? [make("div", {class: "charts"}, ...charts)] : [])),
     ...cuts(query).map(text => make("p", {class: "cut soft"}, text)));
 }
 
@@ -187,8 +196,8 @@ function show(query) {
 
 // alarms stand above all else, and each kind in the order in which the queries came
 function place(panel, query) {
-  const rank = other => (other.kind === "alarm" ? 0 : 1000) + other.place;
-  const behind = [...panels.values()].filter(other => rank(other.query) > rank(query)).sort((a, b) => rank(a.query) - rank(b.query));
+  const rank = ({query}) => (query.kind === "alarm" ? 0 : 1000) + query.place;
+  const behind = [...panels.values()].filter(other => rank(other) > rank({query})).sort((a, b) => rank(a) - rank(b));
   byId("queries").insertBefore(panel, behind.length ? behind[0].panel : null);
 }
 
@@ -223,8 +232,8 @@ function fact(name, value, id) {
 }
 
 function refusals({refused, lacking}) {
-  const each = refused.map(([kind, number]) => `${kind}: ${number}${kind === "15 Late" ? ` (at most ${lacking} ms lacking)` : ""}`);
-  return each.join(", ") || "none";
+  const most = kind => kind === "15 Late" ? ` (at most ${lacking} ms lacking)` : "";
+  return refused.map(([kind, number]) => `${kind}: ${number}${most(kind)}`).join(", ") || "none";
 }
 
 function showTop(top) {
@@ -242,12 +251,12 @@ function showTop(top) {
 }
 
 function notes(top) {
-  const bad = top.badLine;
+  const bad = top.badLine, others = count(top.others, "report", "reports");
   return [
-    top.others ? `${top.queries} queries are shown, which is the most: ${count(top.others, "report", "reports")} of others aren't` : null,
+    top.others ? `${top.queries} queries are shown, which is the most: ${others} of others aren't` : null,
     top.waiting.length ? `no report yet of ${top.waiting.join(", ")}` : null,
     top.graphs ? `${count(top.graphs, "graph", "graphs")} passed by` : null,
-    bad ? `${count(top.bad, "line", "lines")} can't be shown; the last one is line ${bad.number}, since ${bad.why}: ${bad.text}` : null,
+    bad ? `${count(top.bad, "line", "lines")} can't be shown. The last one is line ${bad.number}: ${bad.why}: ${bad.text}` : null,
   ].filter(text => text !== null);
 }
 
@@ -266,7 +275,11 @@ function lost(text) {
 function connect() {
   const source = new EventSource("/events");
   isFull = false;
-  const on = (name, take) => source.addEventListener(name, message => { heard = Date.now(); lost(""); take(JSON.parse(message.data)); });
+  const on = (name, take) => source.addEventListener(name, message => {
+    heard = Date.now();
+    lost("");
+    take(JSON.parse(message.data));
+  });
   on("top", showTop);
   on("query", show);
   source.addEventListener("full", () => {

@@ -110,8 +110,8 @@ class Handler(http.server.BaseHTTPRequestHandler):
         return bool(select.select([self.connection], [], [], 0)[0])
 
     def send_error(self, code, message=None, explain=None):
-        """In place of a page of its own, the reason as a text."""
-        self.close_connection = True
+        """The reason as a text. A request that can't be read gets a status too."""
+        self.close_connection, self.request_version = True, "HTTP/1.0"
         self.answer(code, "text/plain; charset=utf-8", f"{message or 'the request cannot be read'}\n".encode("utf-8", "replace"))
 
     def version_string(self):

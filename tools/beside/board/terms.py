@@ -24,7 +24,7 @@ class Cell(NamedTuple):
 
 def cell(term):
     """The cell of a term; None for an unbound variable."""
-    return term and Cell(cut(short(term)), cut(whole(term)), is_number(term))
+    return None if term is None else Cell(cut(short(term)), cut(whole(term)), is_number(term))
 
 
 def cut(text):
@@ -33,17 +33,21 @@ def cut(text):
 
 def short(term):
     """The last part of an IRI, a blank node's label, and a literal's text as it is."""
+    value = term["value"]
     if term["type"] == "uri":
-        return next(filter(None, reversed(re.split("[/#:]", term["value"]))), term["value"])
-    return f"_:{term['value']}" if term["type"] == "bnode" else term["value"]
+        front = value.rstrip("/#:")
+        return front[max(map(front.rfind, "/#:")) + 1:] or value
+    return f"_:{value}" if term["type"] == "bnode" else value
 
 
 def whole(term):
     """An IRI as it is; a literal in quotation marks, with its tag or datatype."""
-    if term["type"] != "literal":
-        return term["value"] if term["type"] == "uri" else f"_:{term['value']}"
-    tag, datatype = term.get("xml:lang"), term.get("datatype")
-    return f'"{term["value"]}"' + (f"@{tag}" if tag is not None else f"^^<{datatype}>" if datatype is not None else "")
+    kind, value = term["type"], term["value"]
+    if kind != "literal":
+        return value if kind == "uri" else f"_:{value}"
+    if "xml:lang" in term:
+        return f'"{value}"@{term["xml:lang"]}'
+    return f'"{value}"^^<{term["datatype"]}>' if "datatype" in term else f'"{value}"'
 
 
 def is_number(term):

@@ -34,7 +34,7 @@ class WrongWord(WrongWords):
 
 
 def parsed(words):
-    """What the words ask for; WrongWord for all others. Each option stands at most once, but for those that take a query's name."""
+    """What the words ask for; WrongWord for all others. An option that takes no query's name stands at most once."""
     given, names = {}, {option: set() for option in NAMES}
     rest = iter(words)
     for word in rest:
