@@ -44,12 +44,12 @@ def of_fault(its, text):
     return Finding(text.place(its.at), kind_of(its.why), said, "write as `tools/explain` says", page_of(TOOLS, "explain"))
 
 
-def looked_at(content, text):
+def looked_at(content, text, tool="lint"):
     """What the models say of a text; None where they say nothing in time, which is told on standard error."""
     its = within_limits(looked, content)
     if its is None:
         file, line, _ = text.place(0)
-        complain("lint", f"{file}:{line}: the model hasn't read this text in {SECONDS} seconds, so nothing is said of it")
+        complain(tool, f"{file}:{line}: the model hasn't read this text in {SECONDS} seconds, so nothing is said of it")
     return its
 
 

@@ -4,7 +4,7 @@ import re
 
 from . import TOP
 
-QUERIES, REPORTS, EVENTS, TOOLS = (f"docs/{name}.md" for name in ("QUERIES", "REPORTS", "EVENTS", "TOOLS"))
+QUERIES, REPORTS, EVENTS, TOOLS, PARTS = (f"docs/{name}.md" for name in ("QUERIES", "REPORTS", "EVENTS", "TOOLS", "PARTS"))
 
 
 @functools.lru_cache(maxsize=None)
