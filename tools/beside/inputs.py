@@ -13,6 +13,10 @@ class TooLong(Unreadable):
     """A file has more bytes than the program reads."""
 
 
+class Unwritable(Unreadable):
+    """A file can't be written, for the reason that is told."""
+
+
 def told(error):
     return (error.strerror or str(error)) if isinstance(error, OSError) else str(error)
 
