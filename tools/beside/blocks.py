@@ -19,6 +19,18 @@ def blocks_of(log, file):
             yield Block(file, number, lines, None, str(why))
 
 
+DIRECTIVES = (b"@register", b"@cancel", b"@item", b"@tick", b"@insert", b"@delete")
+
+
+def head_of(block):
+    """The directive of a block and the stream that it names, as far as its first line can be read; else None."""
+    head, *fields = block.lines[0].text.split() or [b""]
+    if head not in DIRECTIVES:
+        return None, None
+    stream = model.iri(fields[0], 0) if head == b"@item" and fields else None
+    return head, stream[0] if stream and stream[1] == len(fields[0]) else None
+
+
 def place_of(block):
     return Place(block.file, block.lines[0].number, 1)
 

@@ -11,6 +11,7 @@ DOUBLES = {XSD + name: f"xsd:{name}" for name in ("double", "float")}
 DATES = {XSD + name: f"xsd:{name}" for name in (
     "dateTime date time dateTimeStamp gYear gYearMonth gMonth gMonthDay gDay duration dayTimeDuration yearMonthDuration"
 ).split()}
+SORTS_OF_DOUBLES, SORTS = frozenset(DOUBLES.values()), frozenset([*DOUBLES.values(), *DATES.values()])
 
 
 def sort_of(datatype, how):
@@ -67,8 +68,8 @@ def of_values(use, variable, expressions, text, values):
     """The first pattern at which the files or the log have such values for the variable."""
     for pattern, spot, way in expressions.patterns:
         for predicate in predicates_into(way) if pattern == variable else []:
-            found = values.of(spot, predicate, use.how in OF_DOUBLES)
-            if found and found.inexact:
+            found = values.of(spot, predicate, SORTS_OF_DOUBLES if use.how in OF_DOUBLES else SORTS)
+            if found:
                 start = getattr(use.operand[1], "start", None) or variable.start
                 return told_of_values(use, text.place(start), found, predicate)
     return None
@@ -79,7 +80,7 @@ def told_of_values(use, place, found, predicate):
     file, line, _ = found.first
     is_date = found.sort in DATES.values()
     said = (
-        f"{found.inexact} of {found.total} values {where} {'have no order' if is_date else 'are not exact'}, "
+        f"{found.many} of {found.total} values {where} {'have no order' if is_date else 'are not exact'}, "
         f"as the {found.sort} of {file}:{line}: {WHY[use.how]}"
     )
     write = f"write {NUMBERS}" if is_date else "write xsd:decimal where they come from, or `STRDT(STR(..), xsd:decimal)` here"

@@ -107,7 +107,7 @@ def of_run(words, entries):
         elif isinstance(entry, OfBlock) and entry.block == first:
             yield or_differs(of_query, words, entry)
         elif isinstance(entry, OfBlock):
-            items = recordings.merged(words.streams) if items is None else items
+            items = recordings.merged(recordings.recordings_of(words.streams)) if items is None else items
             yield or_differs(of_step, words, entry, entry.block - first - 1, items)
 
 

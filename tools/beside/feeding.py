@@ -50,7 +50,7 @@ def unfed(watched, course, mode):
     read, fed = streams_read(course), [stream.decode() for stream in course.streams]
     lonely = [stream for stream in fed if stream.encode() not in read]
     for clause, window in zip(watched.query["windows"], watched.windows):
-        if window.stream in watched.fed:
+        if window.stream in watched.fed or course.refused.feeds(window.stream):
             continue
         said = f"no {SOURCES[mode][0]} feeds the stream {iri(clause['stream'])} of this window"
         other = similar(clause["stream"], lonely, fed)
@@ -68,6 +68,8 @@ def unread(course, places):
 
     `places` has where each is named first.
     """
+    if course.refused.reads:
+        return
     read = sorted(stream.decode() for stream in streams_read(course))
     lonely = [stream for stream in read if stream.encode() not in course.streams]
     for stream, place in places.items():
@@ -116,6 +118,8 @@ def unstored(watched, course, mode):
     """Triples outside WINDOW and GRAPHs where nothing is stored: each graph once, at its first place."""
     graphs = {graph for graph in course.graphs if graph[0] == "named"}
     told = set()
+    if course.refused.stores:
+        return
     for spot, start in places_of_triples(watched.query["select"]["body"]):
         is_stored = {
             "window": True, "default": ("default",) in course.graphs, "any": bool(graphs),

@@ -9,7 +9,7 @@ Finding = namedtuple("Finding", "place kind said write page line_shown", default
 def as_line(finding):
     """`FILE:LINE:COLUMN: NAME: what is so, and what to write`."""
     file, line, column = finding.place
-    return f"{file}:{line}:{column}: {finding.kind}: {finding.said}; {finding.write}\n"
+    return f"{file}:{line}:{column}: {finding.kind}: {'; '.join(filter(None, [finding.said, *finding.write.splitlines()]))}\n"
 
 
 def as_paragraph(finding):

@@ -9,14 +9,18 @@ from .bindings import unbound
 from .course import Course
 from .exactness import inexact
 from .feeding import unfed, unlooked, unread, unstored
-from .findings import Finding
 from .inputs import complain, file_of, name_of_input, opened
 from .limits import SECONDS, within_limits
-from .pages import TOOLS, page_of
+from .merged_triples import merged
+from .of_blocks import of_form
+from .of_lines import of_line
+from .of_texts import of_text as of_refused_text
 from .places import Place, Text
-from .refusals import kind_of
+from .telling import restless
 from .texts import looked
-from .timing import late, seconds, unclosed
+from .timing import gap, late, seconds, unclosed
+from .unlike import unlike
+from .unseen import unseen
 from .words import parsed
 
 USAGE = (
@@ -36,12 +40,7 @@ def lint(words):
 
 def of_text(query, text, values=None):
     """What a query's text says alone, or with the values that it meets."""
-    return [*unbound(query, text), *inexact(query, text, values), *unlooked(query, text)]
-
-
-def of_fault(its, text):
-    said = f"the program refuses this text, as `{its.why}`"
-    return Finding(text.place(its.at), kind_of(its.why), said, "write as `tools/explain` says", page_of(TOOLS, "explain"))
+    return [*unbound(query, text), *inexact(query, text, values), *unlooked(query, text), *restless(query, text)]
 
 
 def looked_at(content, text, tool="lint"):
@@ -58,30 +57,44 @@ def of_check(words):
     its = looked_at(text.content, text)
     if its is None:
         return []
-    return [of_fault(its, text)] if its.why else in_order(of_text(its.query, text))
+    return [of_refused_text(text, text.content, its.why)] if its.why else in_order(of_text(its.query, text))
 
 
 # ---- a run, whose events are the store, the query, the items and a last tick
 
 
 def of_run(words):
-    text, course = Text(words.query, file_of(words.query)), Course()
-    # as the program, it reads all files before it looks at the text
-    quads, items = recordings.quads_of(words.store) if words.store else [], recordings.merged(words.streams)
+    """As the program, it reads all files before it looks at the text."""
+    text = Text(words.query, file_of(words.query))
+    stores = [recordings.Store(words.store)] if words.store else []
+    streams = recordings.recordings_of(words.streams)
+    faults = [of_line(refused.told, refused.line) for file in [*stores, *streams] for refused in file.refused]
     its = looked_at(text.content, text)
     if its is None or its.why:
-        return [of_fault(its, text)] if its else []
-    course.insert([quad.fact for quad in quads], [Place(words.store, quad.line, 1) for quad in quads])
-    course.register(b"query", its.query, text)
+        return in_order([*faults, *([of_refused_text(text, text.content, its.why)] if its else [])])
+    named = {stream.name: Place(stream.file, 1, 1) for stream in reversed(words.streams)}
+    course = course_of_run(its.query, text, stores, streams)
+    # a file that is named feeds its stream, whatever it holds
+    course.live[b"query"].fed.update(named)
+    return in_order([*faults, *findings_of(course, words.mode, named)])
+
+
+def course_of_run(query, text, stores, streams):
+    course = Course()
+    for store in stores:
+        course.insert([quad.fact for quad in store.quads], [Place(store.file, quad.line, 1) for quad in store.quads])
+    course.refused.stores = any(store.refused for store in stores)
+    course.register(b"query", query, text)
+    for stream in streams:
+        if stream.refused:
+            course.refused.note_stream(stream.stream)
+    items = recordings.merged(streams)
     for item in items:
         places = [Place(item.file, line, 1) for line in item.lines]
         course.item(item.stream, item.time, item.graph, item.is_number, Place(item.file, item.line, 1), places)
     if items:
         course.tick(items[-1].time)
-    named = {stream.name: Place(stream.file, 1, 1) for stream in reversed(words.streams)}
-    # a file that is named feeds its stream, whatever it holds
-    course.live[b"query"].fed.update(named)
-    return in_order(findings_of(course, words.mode, named))
+    return course
 
 
 # ---- a log
@@ -91,7 +104,10 @@ def of_log(log, name, slack=0):
     """The findings of a log, an open file, under the name."""
     course, faults, named = Course(slack), [], {}
     for block in blocks.blocks_of(log, name):
-        if block.event is not None:
+        if block.event is None:
+            faults.append(of_form(block, block.why))
+            course.refused.note(block)
+        else:
             take(block, course, faults, named)
     return in_order([*faults, *findings_of(course, "events", named)])
 
@@ -100,8 +116,7 @@ def take(block, course, faults, named):
     """Goes on behind a block that has the form of an event."""
     head, *fields = block.event
     if head == b"@register":
-        if fields[0] not in course.live:
-            register(block, course, faults)
+        register(block, course, faults)
     elif head == b"@cancel":
         course.cancel(fields[0])
     elif head == b"@tick":
@@ -114,23 +129,26 @@ def take(block, course, faults, named):
         course.item(stream, time, graph, line.text.split()[-1].isdigit(), place, places_of_body(block))
     elif head == b"@insert":
         course.insert(fields[0], places_of_body(block))
+    elif head == b"@delete":
+        course.delete(fields[0])
 
 
 def places_of_body(block):
     """The places of the statements of a body."""
     said = (line for line in block.lines[1:-1] if line.text.strip(b" \t") and not line.text.lstrip(b" \t").startswith(b"#"))
-    return (Place(block.file, line.number, 1) for line in said)
+    return [Place(block.file, line.number, 1) for line in said]
 
 
 def register(block, course, faults):
-    text, content = blocks.text_of(block), blocks.query_text(block)
-    its = looked_at(content, text)
-    if its is None:
+    """Registers a query that the program takes; of one that it doesn't take the streams are known to nobody."""
+    name, text, content = block.event[1], blocks.text_of(block), blocks.query_text(block)
+    its = None if name in course.live else looked_at(content, text)
+    if its and its.query:
+        course.register(name, its.query, text)
         return
-    if its.why:
-        faults.append(of_fault(its, text))
-    else:
-        course.register(block.event[1], its.query, text)
+    course.refused.reads = True
+    if its:
+        faults.append(of_refused_text(text, content, its.why))
 
 
 # ---- both
@@ -142,7 +160,9 @@ def findings_of(course, mode, named):
     found = [*unread(course, named), *seconds(course), *late(course)]
     for watched in course.watched:
         found += of_text(watched.query, watched.text, course.values)
-        found += [*unfed(watched, course, mode), *unstored(watched, course, mode), *unclosed(watched, mode)]
+        found += [*unlike(watched.query, watched.text, course.values), *merged(watched), *gap(watched)]
+        found += [*unfed(watched, course, mode), *unseen(watched, course)]
+        found += [*unstored(watched, course, mode), *unclosed(watched, course, mode)]
     return found
 
 

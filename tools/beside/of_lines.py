@@ -6,16 +6,13 @@ from .findings import Finding
 from .inputs import file_of
 from .pages import paragraph
 from .places import Place, with_caret
-from .refusals import details_of, kind_of
+from .refusals import NUMBERS, details_of, kind_of
 
 # what could stand at a place of a statement, by what makes it one that is whole
 PARTS = [
     (b"", "the end of the line"), (b".", "a graph or a dot"), (b"<a:a> .", "an object: an IRI, a blank node or a literal"),
     (b"<a:a> <a:a> .", "a predicate: an IRI"), (b"<a:a> <a:a> <a:a> .", "a subject: an IRI or a blank node"),
 ]
-
-
-NUMBERS = {"BadStatement": 1, "RelativeIri": 2}
 
 
 def is_statement(line):
@@ -60,6 +57,12 @@ def of_file_line(words, entry, lines):
     refusal = refusal_of(line)
     if refusal != entry.text:
         raise differing.from_model(place, entry.text, refusal)
+    return of_line(entry, line)
+
+
+def of_line(entry, line):
+    """The finding of a line that is refused."""
+    place, kind = Place(entry.file, entry.line, details_of(entry.text).get("column", 1)), kind_of(entry.text)
     page, sentence = paragraph(kind)
     said = sentence if kind == "6 NoTimeLine" else said_of_line(line, kind.split(" ")[1], place.column)
     return Finding(place, kind, said, "" if said == sentence else sentence, page, with_caret(line, place.column))

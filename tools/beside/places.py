@@ -37,8 +37,13 @@ def printable(text):
 
 def quoted(piece):
     """A piece of a text in backquotes, cut where it is long."""
+    return cut(piece, MOST_QUOTED)
+
+
+def cut(piece, most):
+    """A piece of a text in backquotes, so many characters of it at most."""
     text = printable(piece.decode("utf-8", "replace") if isinstance(piece, bytes) else piece).replace("\t", " ").strip("\ufffd")
-    return f"`{text if len(text) <= MOST_QUOTED else text[:MOST_QUOTED] + '..'}`"
+    return f"`{text if len(text) <= most else text[:most] + '..'}`"
 
 
 def width(text):

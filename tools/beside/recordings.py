@@ -5,22 +5,36 @@ import model
 from term_model import Literal, XSD
 
 from .inputs import file_of
+from .refusals import NUMBERS, OfLine
 
 TIME = b"http://www.w3.org/ns/prov#generatedAtTime"
 # the stream, its time, the triples and their lines, and of the time line the file, the line, and whether its time is a number
 Item = namedtuple("Item", "stream time graph lines file line is_number")
 Quad = namedtuple("Quad", "fact line")
+# a line that is refused, and how the program tells it
+RefusedLine = namedtuple("RefusedLine", "told line")
 
 
-def statements(content):
-    """The number and the terms of each line that is a statement."""
-    for number, raw in enumerate(content.split(b"\n"), 1):
-        try:
-            terms = model.statement(raw[:-1] if raw.endswith(b"\r") else raw)
-        except model.BadLine:
-            continue
-        if terms:
-            yield number, terms
+class Lines:
+    """The statements of a file, and its lines that are none, in order. It is read once."""
+
+    def __init__(self, file):
+        self.file, self.refused = file, []
+
+    def statements(self):
+        """The number, the line and the terms of each line that is a statement."""
+        for number, raw in enumerate(file_of(self.file).split(b"\n"), 1):
+            line = raw[:-1] if raw.endswith(b"\r") else raw
+            try:
+                terms = model.statement(line)
+            except model.BadLine as wrong:
+                self.refuse(number, line, f"{NUMBERS[wrong.name]} {wrong.name} column={wrong.column}")
+                continue
+            if terms:
+                yield number, line, terms
+
+    def refuse(self, number, line, why):
+        self.refused.append(RefusedLine(OfLine(self.file, number, why), line))
 
 
 def time_in(terms):
@@ -34,25 +48,36 @@ def time_in(terms):
     return None
 
 
-def items_of(stream, file):
-    """The items of a recorded stream: each is a time line, and behind it the quads of the graph that this names."""
-    items, name = [], None
-    for number, terms in statements(file_of(file)):
-        time = time_in(terms)
-        if time is not None:
-            items.append(Item(stream, time, [], [], file, number, terms[2].datatype == XSD + b"integer"))
-            name = terms[0]
-        elif name is not None and terms[3:] == (name,):
-            items[-1].graph.append(terms[:3])
-            items[-1].lines.append(number)
-    return items
+class Recording(Lines):
+    """A recorded stream: each of its items is a time line, and behind it the quads of the graph that this names."""
+
+    def __init__(self, stream, file):
+        super().__init__(file)
+        self.stream, self.items, name = stream, [], None
+        for number, line, terms in self.statements():
+            time = time_in(terms)
+            if time is not None:
+                self.items.append(Item(stream, time, [], [], file, number, terms[2].datatype == XSD + b"integer"))
+                name = terms[0]
+            elif name is not None and terms[3:] == (name,):
+                self.items[-1].graph.append(terms[:3])
+                self.items[-1].lines.append(number)
+            else:
+                self.refuse(number, line, "6 NoTimeLine")
 
 
-def merged(streams):
-    """The items of all streams, by time, then in the order of the words and of the lines."""
-    return sorted((item for stream in streams for item in items_of(*stream)), key=lambda item: item.time)
+class Store(Lines):
+    """What is stored before: the quads of a file."""
+
+    def __init__(self, file):
+        super().__init__(file)
+        self.quads = [Quad(model.stored_fact(terms[:3], *terms[3:]), number) for number, _, terms in self.statements()]
 
 
-def quads_of(file):
-    """What a store's file says."""
-    return [Quad(model.stored_fact(terms[:3], *terms[3:]), line) for line, terms in statements(file_of(file))]
+def merged(recordings):
+    """The items of all recordings, by time, then in the order of the words and of the lines."""
+    return sorted((item for recording in recordings for item in recording.items), key=lambda item: item.time)
+
+
+def recordings_of(streams):
+    return [Recording(*stream) for stream in streams]

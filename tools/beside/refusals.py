@@ -23,6 +23,8 @@ DETAILS = {
     "17 NoQuery": "", "18 QueriesFull": "", "19 HeldFull": "held=#", "20 StoreFull": "quads=#", "21 ItemTooLarge": "triples=#",
     "23 SlackTuple": "", "25 StartOverfull": "",
 }
+# the refusals of a line that is no statement
+NUMBERS = {"BadStatement": 1, "RelativeIri": 2}
 NUMBER = "[0-9]{1,18}"
 FORMS = "|".join(f"{kind} {details}".rstrip() for kind, details in DETAILS.items()).replace("#", NUMBER)
 # no line that matters is longer; a name of a file may have some thousand bytes

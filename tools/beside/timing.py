@@ -1,7 +1,7 @@
 """Time: reports that can't come, since time ends before; times that look like seconds; items that come too late."""
 import datetime
 
-from policy_model import first_closing
+from policy_model import first_closing, last_closing
 from query_model import LAST_INSTANT
 
 from .findings import Finding
@@ -22,10 +22,10 @@ def told(time):
     return f"{time} ({date.isoformat(timespec='milliseconds')}Z)"
 
 
-def unclosed(watched, mode):
+def unclosed(watched, course, mode):
     """A query of which no report can come, since time ends before the first instant at which it is asked."""
     place, policy = watched.text.place(watched.query["windows"][0]["at"]), dict(watched.policy.strategies)
-    if watched.policy.is_by_tuple:
+    if watched.policy.is_by_tuple or course.refused.moves_time:
         return
     end = {"events": "a `@tick` behind the last item", "run": "a time line without quads at the end of a file"}[mode]
     if watched.start is None:
@@ -82,3 +82,28 @@ def late(course):
         slack = f", or run it under `--slack {course.slack + most}`," if course.slack + most <= MOST_SLACK else ""
         write = f"write them in the order of their times{slack} and let ticks lag by {most} ms more"
         yield Finding(first.place, "late", said, write, page_of(TOOLS, "late"))
+
+
+class Gaps:
+    """The items of a window clause's stream, and those of them that lie in none of its windows."""
+
+    def __init__(self, window):
+        self.window, self.total, self.lost, self.first = window, 0, 0, None
+
+    def add(self, time):
+        self.total += 1
+        if last_closing(self.window, time) is None:
+            self.lost += 1
+            self.first = time if self.first is None else self.first
+
+
+def gap(watched):
+    """Each window whose STEP is longer than its RANGE, where an item lies in none of them."""
+    for clause, gaps in zip(watched.query["windows"], watched.gaps):
+        if gaps.window.slide > gaps.window.width and gaps.lost:
+            said = (
+                f"STEP is longer than RANGE, so there are gaps between the windows: {gaps.lost} of {gaps.total} items of this "
+                f"stream {'lies' if gaps.lost == 1 else 'lie'} in none, the first at {told(gaps.first)}"
+            )
+            write = f"write a STEP of {clause['range']} at most, which is the RANGE"
+            yield Finding(watched.text.place(clause["step"].start), "gap", said, write, page_of(TOOLS, "gap"))

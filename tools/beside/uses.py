@@ -6,7 +6,10 @@ from query_model import groups_in
 # what is done with a value, in words; the last two are wrong of doubles alone
 ORDERED, CALCULATED, SUMMED, EQUATED, RANKED = "compared", "calculated with", "summed up", "compared by =", "ranked by its text"
 OF_DOUBLES = (EQUATED, RANKED)
-Use = namedtuple("Use", "how operand")
+# the functions whose value is a number where that of their argument is one
+OF_NUMBERS = ("ABS", "CEIL", "FLOOR", "ROUND")
+# `partners` are the expressions with which a value is compared; what is calculated with or summed up has none
+Use = namedtuple("Use", "how operand partners")
 
 
 def operands(e):
@@ -19,32 +22,39 @@ def operands(e):
 
 
 def parts_of(e):
-    """The expressions within one, and what is done with their values, or None."""
+    """The expressions within one, what is done with their values, or None, and with what they are compared."""
     kind = e[0]
     if kind == "compare":
-        return [(part, ORDERED if e[1] in ("<", ">", "<=", ">=") else EQUATED) for part in e[2:4]]
+        how = ORDERED if e[1] in ("<", ">", "<=", ">=") else EQUATED
+        return [(e[2], how, [e[3]]), (e[3], how, [e[2]])]
     if kind == "member":
-        return [(part, EQUATED) for part in (e[2], *e[3])]
+        return [(e[2], EQUATED, e[3]), *((part, EQUATED, [e[2]]) for part in e[3])]
     if kind == "arithmetic":
-        return [(part, CALCULATED) for part in e[2:4]]
+        return [(part, CALCULATED, []) for part in e[2:4]]
     if kind == "signed":
-        return [(e[2], None if e[1] == "!" else CALCULATED)]
+        return [(e[2], None if e[1] == "!" else CALCULATED, [])]
     if kind == "call":
-        return [(part, CALCULATED if e[1] in ("ABS", "CEIL", "FLOOR", "ROUND") else None) for part in e[2]]
-    return [(part, None) for part in e[1]] if kind in ("or", "and") else []
+        return [(part, CALCULATED if e[1] in OF_NUMBERS else None, []) for part in e[2]]
+    return [(part, None, []) for part in e[1]] if kind in ("or", "and") else []
 
 
 def uses_in(e):
-    for part, how in parts_of(e):
-        yield from (Use(how, found) for found in operands(part) if how)
+    for part, how, partners in parts_of(e):
+        yield from (Use(how, found, partners) for found in operands(part) if how)
         yield from uses_in(part)
 
 
 def uses_of_aggregate(kind, argument):
     how = {"SUM": SUMMED, "AVG": SUMMED, "MIN": RANKED, "MAX": RANKED}.get(kind)
     if argument is not None:
-        yield from (Use(how, found) for found in operands(argument) if how)
+        yield from (Use(how, found, []) for found in operands(argument) if how)
         yield from uses_in(argument)
+
+
+def tested_as_number(e):
+    """The variables of which an expression asks whether they are numbers."""
+    own = [found[1] for found in operands(e[2][0]) if found[0] == "variable"] if e[:2] == ("call", "ISNUMERIC") else []
+    return own + [variable for part, *_ in parts_of(e) for variable in tested_as_number(part)]
 
 
 class Expressions:
@@ -52,12 +62,16 @@ class Expressions:
 
     def __init__(self, query):
         self.uses, self.made, self.given, self.patterns = [], {}, {}, []
+        # those that are counts, sums or means, and those that are asked whether they are numbers
+        self.numbers, self.tested = set(), set()
         self.of_select(query["select"], ("default",), {clause["name"]: clause["stream"] for clause in query["windows"]})
 
     def of_select(self, select, spot, streams):
         self.of_group(select["body"], spot, streams)
         for place, kind, _, argument in select["aggregates"]:
             self.uses += uses_of_aggregate(kind, argument)
+            if kind in ("COUNT", "SUM", "AVG"):
+                self.numbers.add(place)
             if kind in ("MIN", "MAX"):
                 self.made.setdefault(place, []).extend(operands(argument))
         for variable, e in [*select["keys"], *select["items"]]:
@@ -75,6 +89,7 @@ class Expressions:
                 self.patterns.append((part[3][1], spot, part[2]))
             elif part[0] == "filter":
                 self.uses += uses_in(part[1])
+                self.tested.update(tested_as_number(part[1]))
             elif part[0] == "bind":
                 self.of_made(part[1], part[2])
             elif part[0] == "values":
@@ -106,13 +121,21 @@ def spot_in(part, spot, streams):
     return spot
 
 
-def predicates_into(way, is_forward=True):
-    """The predicates of whose triples the end of a path is the object; a variable as predicate is None."""
+def ends_of(way, is_forward=True):
+    """The predicates at an end of a path, its last one or its first one, and whether that end is the object of their triples.
+
+    A variable as predicate is None.
+    """
     kind, inner = way
     if kind == "step":
-        return [None if isinstance(inner, tuple) else inner] if is_forward else []
+        return [(None if isinstance(inner, tuple) else inner, is_forward)]
     if kind == "inverse":
-        return predicates_into(inner, not is_forward)
+        return ends_of(inner, not is_forward)
     if kind == "choice":
-        return [found for one in inner for found in predicates_into(one, is_forward)]
-    return predicates_into(inner[-1 if is_forward else 0], is_forward)
+        return [found for one in inner for found in ends_of(one, is_forward)]
+    return ends_of(inner[-1 if is_forward else 0], is_forward)
+
+
+def predicates_into(way):
+    """The predicates of whose triples the end of a path is the object."""
+    return [predicate for predicate, is_object in ends_of(way) if is_object]

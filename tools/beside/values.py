@@ -1,27 +1,36 @@
-"""What values the files or the log have, by where they stand and by their predicate: how many, and how many aren't exact."""
+"""What values the files or the log have, by where they stand and by their predicate: how many, and how many are no exact numbers."""
 from collections import namedtuple
 
-from term_model import Iri, Literal
+from number_model import number_of
+from term_model import XSD_STRING, Blank, Iri, Literal, Tagged
 
 from .exactness import DATES, DOUBLES
 
-Found = namedtuple("Found", "inexact total sort first")
+# so many of the values are of the wanted sorts; of these the most frequent sort, and the place of its first
+Found = namedtuple("Found", "many total sort first")
 SORTS = {name.encode(): sort for name, sort in {**DOUBLES, **DATES}.items()}
-DOUBLE_SORTS = frozenset(DOUBLES.values())
+# the sorts of values that are no numbers at all
+UNLIKE = ("string", "IRI", "text with a tag", "blank node", "literal without a number")
+
+
+def sort_of(term):
+    """What a value is that is no exact number; None of one that is."""
+    if isinstance(term, Literal) and term.datatype != XSD_STRING:
+        return SORTS.get(term.datatype) or (None if number_of(term) else "literal without a number")
+    return {Literal: "string", Iri: "IRI", Tagged: "text with a tag", Blank: "blank node"}[type(term)]
 
 
 class Count:
-    """How many values there are, and of each sort that isn't exact how many, with the place of the first."""
+    """How many values there are, and of each sort how many, with the place of the first. That of exact numbers is None."""
 
     def __init__(self):
         self.total, self.sorts = 0, {}
 
     def add(self, term, place):
         self.total += 1
-        sort = SORTS.get(term.datatype) if isinstance(term, Literal) else None
-        if sort:
-            many, first = self.sorts.get(sort, (0, place))
-            self.sorts[sort] = (many + 1, first)
+        sort = sort_of(term)
+        many, first = self.sorts.get(sort, (0, place))
+        self.sorts[sort] = (many + 1, first)
 
 
 class Values:
@@ -33,16 +42,18 @@ class Values:
     def add(self, spot, predicate, term, place):
         self.counts.setdefault((spot, predicate), Count()).add(term, place)
 
-    def of(self, spot, predicate, only_doubles):
-        """What stands at a place of a query; without a predicate at any, and in `any` in each graph of a name."""
+    def of(self, spot, predicate, sorts_wanted):
+        """What of these sorts stands at a place of a query, or None.
+
+        That is at the predicate, without one at any, and in `any` in each graph of a name.
+        """
         wanted, wanted_name = key_of(spot), predicate and Iri(predicate.encode())
         found = [
             count for (there, name), count in self.counts.items()
             if wanted in (there, (there[0].replace("named", "any"),)) and wanted_name in (None, name)
         ]
         sorts = [
-            (many, sort, first) for count in found for sort, (many, first) in count.sorts.items()
-            if not only_doubles or sort in DOUBLE_SORTS
+            (many, sort, first) for count in found for sort, (many, first) in count.sorts.items() if sort in sorts_wanted
         ]
         if not sorts:
             return None
