@@ -14,7 +14,8 @@ from shape_model import projected
 from .calls import Answer
 from .findings import Finding
 from .inputs import file_of
-from .linting import looked_at, of_fault
+from .linting import looked_at
+from .of_texts import of_text
 from .pages import PARTS, page_of
 from .places import Text
 from .words import WrongWords, named, split
@@ -43,7 +44,7 @@ def splitting(words):
     its = looked_at(text.content, text, "split")
     if its is None:
         return []
-    return [of_fault(its, text) if its.why else answer(its.query, text, by)]
+    return [of_text(text, text.content, its.why) if its.why else answer(its.query, text, by)]
 
 
 def variable_named(options):
