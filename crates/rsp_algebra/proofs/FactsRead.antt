@@ -1,7 +1,7 @@
 -- A tree's rows over facts are those over the facts that it reads.
-use Rattle.std.proofs.Common.{◌≡◌, ℕ, Bool, true, false, true≢false, ◌&&◌, ◌||◌, nat_eq, nat_lt, Option, None, Some, List, [], ◌∷◌, ◌++◌, cond, filter, length, refl, sym, ap, ◌∙◌, ◌+◌}
+use Rattle.std.proofs.Common.{◌≡◌, ℕ, Bool, true, false, true≢false, ◌&&◌, ◌||◌, None, Some, List, [], ◌∷◌, cond, filter, refl, sym, ap, ◌∙◌, ◌+◌}
 use Rattle.std.specs.Bool.{then_some}
-use Rattle.std.specs.List.{filter_map, cons_option, list_any}
+use Rattle.std.specs.List.{filter_map, cons_option}
 use Rattle.std.specs.Option.{option_eq}
 use Rattle.rsp_spec.proofs.Truths.{both_are}
 use Rattle.rsp_multiset.specs.Rows.{Cells}
@@ -17,7 +17,7 @@ use Rattle.rsp_algebra.specs.declared.tree.Place.TheVariants as place
 use Rattle.rsp_algebra.specs.declared.tree.TriplePattern.{TriplePattern}
 use Rattle.rsp_algebra.specs.Nodes as node
 use Rattle.rsp_algebra.specs.Nodes.{Node, Double}
-use Rattle.rsp_algebra.specs.Overfull.{most_rows, too_many, subtrees, overfull}
+use Rattle.rsp_algebra.specs.Overfull.{too_many, subtrees, overfull}
 use Rattle.rsp_algebra.specs.Patterns.{row_by, binding, instance, is_at, is_instance, solution}
 use Rattle.rsp_algebra.specs.Reading.{stands_for, has_graph, pattern_reads, reads, Passes}
 use Rattle.rsp_algebra.specs.Solutions.{eval, rows_over, rows_of}

@@ -1,8 +1,14 @@
 // Which facts a tree reads.
-ghost use Rattle.std.specs.Prelude.{◌≡◌, ◌||◌, None, IfSome};
+ghost use Rattle.std.specs.Prelude.{◌≡◌, ◌||◌, ℕ, Bool, List, filter, None, IfSome};
+ghost use Rattle.rsp_multiset.specs.Weights.{IsSameMultiset};
+ghost use Rattle.rsp_terms.specs.declared.statement.Fact.{Fact};
+ghost use Rattle.rsp_terms.specs.Same.{fact_eq};
 ghost use Rattle.rsp_algebra.specs.Meanings.{node_of};
-ghost use Rattle.rsp_algebra.specs.Reading.{stands_for, has_graph, reads as is_read};
+ghost use Rattle.rsp_algebra.specs.Overfull.{overfull};
+ghost use Rattle.rsp_algebra.specs.Reading.{stands_for, has_graph, reads as is_read, Passes};
+ghost use Rattle.rsp_algebra.specs.Solutions.{eval};
 ghost use Rattle.rsp_algebra.specs.Spines.{first_of};
+ghost use Rattle.rsp_algebra.specs.Work.{work};
 
 use crate::descent::{first_child, second_child};
 use crate::{Place, Tree};
@@ -51,11 +57,21 @@ fn leaf_reads(leaf: &Tree, fact: &Fact) -> bool
 }
 
 impl Tree {
-    /// Whether some pattern of the tree has the fact's graph and can stand for its triple: what no pattern reads makes no
-    /// difference to the solutions. Along first children it goes by a loop, since a union in a text has thousands of groups.
-    /// Takes no memory.
+    /// Whether some pattern of the tree has the fact's graph and can stand for its triple. What no pattern reads makes no
+    /// difference: not to the solutions, to whether the tree is overfull, nor to how many steps a change may take; nor does
+    /// the order of the facts to these steps. Along first children it goes by a loop, since a union in a text has thousands
+    /// of groups. Takes no memory.
     pub fn reads(&self, fact: &Fact) -> bool
-        ensures { result ≡ is_read (node_of self.now) fact.now }
+        ensures read { result ≡ is_read (node_of self.now) fact.now }
+        ensures value { (width : ℕ) (test : Fact → Bool) (facts : List Fact) → Passes (node_of self.now) test
+            → eval width (node_of self.now) (filter test facts) ≡ eval width (node_of self.now) facts }
+        ensures overfull { (width : ℕ) (test : Fact → Bool) (facts : List Fact) → Passes (node_of self.now) test
+            → overfull width (node_of self.now) (filter test facts) ≡ overfull width (node_of self.now) facts }
+        ensures work { (width : ℕ) (test : Fact → Bool) (before after : List Fact) → Passes (node_of self.now) test
+            → work width (node_of self.now) (filter test before) (filter test after) ≡ work width (node_of self.now) before after }
+        ensures facts { (width : ℕ) (before after before' after' : List Fact)
+            → IsSameMultiset fact_eq before before' → IsSameMultiset fact_eq after after'
+            → work width (node_of self.now) before after ≡ work width (node_of self.now) before' after' }
     {
         tree_reads(self, fact)
     }
