@@ -1,8 +1,9 @@
 """What people paste: the commands of documents as they stand, the logs and queries in them, and the recipes.
 
 In README, GUIDE, RECIPES, TOOLS and the pages of the examples each indented block is a command, the output of the command before
-it, or lines of a file of the examples. In COMING-FROM, EVENTS, QUERIES and REPORTS a block that begins as a report or a refusal
-is what the log before it gives, if there is one; by the words `rsp events --slack N`, where these stand in a block between them.
+it, or lines of a file of the examples. In COMING-FROM, EVENTS, QUERIES, REPORTS and TASKS a block that begins as a report or a
+refusal is what the log before it gives, if there is one; by the words `rsp events --slack N`, where these stand in a block between
+them.
 """
 import contextlib
 import os
@@ -17,7 +18,7 @@ TOP = os.path.dirname(os.path.dirname(os.path.realpath(__file__)))
 SECONDS = 60
 # documents with commands, beside the pages of the examples, and documents with logs
 WITH_COMMANDS = ("README.md", "docs/GUIDE.md", "docs/RECIPES.md", "docs/TOOLS.md")
-WITH_LOGS = ("docs/COMING-FROM.md", "docs/EVENTS.md", "docs/QUERIES.md", "docs/REPORTS.md")
+WITH_LOGS = ("docs/COMING-FROM.md", "docs/EVENTS.md", "docs/QUERIES.md", "docs/REPORTS.md", "docs/TASKS.md")
 RECIPES = f"{TOP}/examples/recipes"
 
 

@@ -14,7 +14,10 @@ from documents import TOP, blocks, read  # noqa: E402
 from page_texts import pages, quoted, rows, text  # noqa: E402
 
 ARCHITECTURE, CHANGING, COMING_FROM = "docs/ARCHITECTURE.md", "docs/CHANGING.md", "docs/COMING-FROM.md"
-DEFINITIONS, PROOFS = "docs/DEFINITIONS.md", "docs/PROOFS.md"
+DEFINITIONS, PROOFS, TASKS = "docs/DEFINITIONS.md", "docs/PROOFS.md", "docs/TASKS.md"
+# what each task of TASKS has, and how many items its log may have
+PARTS_OF_TASK = ("@register q", "# report q", "**Not seen:**", "**Elsewhere:**", "Esper", "Flink SQL", "C-SPARQL", "Materialize")
+MOST_ITEMS = 10
 
 
 def anchors(path):
@@ -109,6 +112,18 @@ def fault_of_fragments():
     return None
 
 
+def fault_of_tasks():
+    """The first task that lacks a part, or whose log has too many items, or None."""
+    for part in re.split(r"^(?=# )", text(TASKS), flags=re.M):
+        if part.count("\n    @item ") > MOST_ITEMS:
+            return f"more than {MOST_ITEMS} items: {part.splitlines()[0]}"
+        for task in re.split(r"^(?=## )", part, flags=re.M)[1:]:
+            missing = [words for words in PARTS_OF_TASK if words not in " ".join(task.split())]
+            if missing:
+                return f"{task.splitlines()[0]} lacks {missing}"
+    return None
+
+
 def checks():
     """Each check as its name and what it found wrong."""
     for page in pages():
@@ -120,6 +135,7 @@ def checks():
     yield from named.checks()
     yield f"{CHANGING}: files and words", fault_of_places(CHANGING)
     yield f"{COMING_FROM}: what is here", fault_of_fragments()
+    yield f"{TASKS}: parts of each task", fault_of_tasks()
 
 
 def main():
