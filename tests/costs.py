@@ -61,6 +61,16 @@ class Sizes:
 
         return self.log(registered("q", "DSTREAM", "?y ?z ?x", OPTIONAL)), self.output(("q", "?y\t?z\t?x", gone))
 
+    def distinct(self):
+        """Each stored quad's ?y once, beside its item where one names it: of as many rows as are stored a bare one goes, and the
+        one of the item before; the bare one of that comes back.
+        """
+        def gone(number):
+            before = [f"<a:{self.named(number - 1)}>\t<n:{number - 1}>"] if number > 1 else []
+            return [f"<a:{self.named(number)}>\t"] + before if number else []
+
+        return self.log(registered("q", "DSTREAM", "DISTINCT ?y ?x", OPTIONAL)), self.output(("q", "?y\t?x", gone))
+
     def partners(self):
         """The stored quads that an item names; of those that none names what goes, by MINUS and by NOT EXISTS."""
         queries = {
@@ -89,5 +99,5 @@ class Sizes:
 def logs(stored=STORED, items=ITEMS):
     """Each as its name, the log, and the output that is wanted."""
     sizes = Sizes(stored, items)
-    for name in ("join", "optional", "partners", "groups"):
+    for name in ("join", "optional", "distinct", "partners", "groups"):
         yield f"{items} reports over {stored} stored quads: {name}", *getattr(sizes, name)()
