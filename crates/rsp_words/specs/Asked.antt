@@ -1,6 +1,6 @@
 -- Words of the way: the mode that the words' reader answers, whose names are borrowed; its limits, and the one value of a mode.
 use Rattle.std.specs.Prelude.{ℕ, ◌≤◌, ⊤, Option, Some, None, List, [], ◌∷◌}
-use Rattle.rsp_spec.specs.Limits.{most_slack}
+use Rattle.rsp_spec.specs.Limits.{most_items, most_slack}
 use Rattle.rsp_words.specs.Words as words
 use Rattle.rsp_words.specs.declared.words.Mode.{Mode}
 use Rattle.rsp_words.specs.declared.words.Mode.TheVariants.{Events, Run, Check, Generate}
@@ -15,7 +15,7 @@ mode_for (Generate count) = words.generate count
 -- a log has a day of slack at most, and the generator makes a million items at most
 abbrev pub IsWithinLimits : Mode → Type 0
 IsWithinLimits (Events log) = log.slack ≤ most_slack
-IsWithinLimits (Generate count) = count ≤ 1000000
+IsWithinLimits (Generate count) = count ≤ most_items
 IsWithinLimits _ = ⊤
 
 -- the value, where there is one alone

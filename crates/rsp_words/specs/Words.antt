@@ -6,7 +6,7 @@ use Rattle.std.specs.Map.{lookup}
 use Rattle.std.specs.Option.{is_some, option_and_then, option_map_or, option_or}
 use Rattle.std.specs.Path.{rsplit_once}
 use Rattle.std.specs.Str.{byte, chars}
-use Rattle.rsp_spec.specs.Limits.{most_slack}
+use Rattle.rsp_spec.specs.Limits.{most_items, most_slack, most_streams}
 use Rattle.rsp_terms.specs.Characters.{is_iri_text}
 use Rattle.rsp_text.specs.Digits.{read_u64}
 use Rattle.rsp_words.specs.declared.form.Form.{Form}
@@ -116,7 +116,7 @@ is_file (first ∷ rest) = not (first == byte "-")
 
 -- a number of items, in digits
 abbrev pub is_count : ℕ → Bool
-is_count count = nat_le 1 count && nat_le count 1000000
+is_count count = nat_le 1 count && nat_le count most_items
 
 -- ---- the rows of the table, each by its options and its values
 
@@ -154,7 +154,7 @@ streams_of (word ∷ words) =
 abbrev pub replay_of : Form → Option (List ℕ) → List (List ℕ) → Option Replay
 replay_of form store [] = None
 replay_of form store (query ∷ words) =
-    if is_file query && (option_map_or is_file store true && (nat_le 1 (length words) && nat_le (length words) 16))
+    if is_file query && (option_map_or is_file store true && (nat_le 1 (length words) && nat_le (length words) most_streams))
     then
     option_map (λ streams. record { form = form; store = store; query = query; streams = streams }) (streams_of words)
     else None

@@ -8,11 +8,9 @@ ghost use Rattle.rsp_words.specs.Words.{is_dashes, log_for, log_of, slack_read};
 use crate::form::Form;
 use crate::valued::value_of;
 use crate::words::{is_dashes, is_json};
+use rsp_spec::limits::MOST_SLACK;
 use rsp_terms::Text;
 use rsp_text::read_u64;
-
-// The most slack: a day in milliseconds.
-const MOST_SLACK: u64 = 86_400_000;
 
 /// How a log is worked off.
 #[derive(Clone, Copy)]

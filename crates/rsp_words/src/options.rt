@@ -1,5 +1,6 @@
 // The options and the values of `run`, word by word.
-ghost use Rattle.std.specs.Prelude.{◌≡◌, ◌∷◌, ◌++◌, ◌<◌, [], ℕ, IfSome, List, MatchOption, false, length, map};
+ghost use Rattle.std.specs.Prelude.{◌≡◌, ◌∷◌, ◌+◌, ◌++◌, ◌<◌, [], ℕ, IfSome, List, MatchOption, false, length, map};
+ghost use Rattle.rsp_spec.specs.Limits.{most_streams};
 ghost use Rattle.rsp_words.specs.Playing.{form_ahead, options, options_in, options_of, values_ahead, values_in};
 ghost use Rattle.rsp_words.specs.Words.{is_dashes};
 
@@ -7,10 +8,11 @@ use crate::form::Form;
 use crate::valued::value_of;
 use crate::words::{is_dashes, is_json};
 use arrayvec::ArrayVec;
+use rsp_spec::limits::MOST_STREAMS;
 use rsp_terms::Text;
 
-// The most values: a query's file and sixteen streams.
-const MOST_VALUES: usize = 17;
+// The most values: a query's file and the streams.
+const MOST_VALUES: usize = MOST_STREAMS + 1;
 
 /// The options and the values behind `run`.
 #[derive(Drop)]
@@ -23,7 +25,7 @@ pub(crate) struct Options<'a> {
 
 /// The options and the values among the words behind `run`; None where there are too many values. Takes no memory.
 pub(crate) fn read_options(words: &[Text]) -> Option<Options<'_>>
-    ensures { MatchOption result (17 < length (options_of words.now).values) (λ found. options_in found ≡ options_of words.now) }
+    ensures { MatchOption result (most_streams + 1 < length (options_of words.now).values) (λ found. options_in found ≡ options_of words.now) }
 {
     let mut so_far = Options {
         form: Form::Table,
@@ -55,7 +57,7 @@ fn with_word<'a>(
     behind: &'a [Text],
 ) -> Option<(Options<'a>, &'a [Text])>
     requires { is_dashes word.now ≡ false }
-    ensures options { MatchOption result (17 < length (options so_far.entry (word.now ∷ behind.now)).values)
+    ensures options { MatchOption result (most_streams + 1 < length (options so_far.entry (word.now ∷ behind.now)).values)
         (λ x. options x.0 x.1.now ≡ options so_far.entry (word.now ∷ behind.now)) }
     ensures shorter { IfSome result (λ x. length x.1.now < length (word.now ∷ behind.now)) }
 {
@@ -92,7 +94,7 @@ fn with_value<'a>(
 ) -> Option<Options<'a>>
     requires { is_dashes word.now ≡ false }
     ensures { (rest : List (List ℕ)) → MatchOption result
-        (17 < length (map (λ value. value.now) values.entry.items ++ values_ahead form (word.now ∷ rest)))
+        (most_streams + 1 < length (map (λ value. value.now) values.entry.items ++ values_ahead form (word.now ∷ rest)))
         (λ now. (now.store ≡ store.entry) × ((form_ahead now.form rest ≡ form_ahead form (word.now ∷ rest))
         × (values_in now ++ values_ahead now.form rest
         ≡ map (λ value. value.now) values.entry.items ++ values_ahead form (word.now ∷ rest)))) }
@@ -129,7 +131,7 @@ fn pushed<'a>(
     values: ArrayVec<&'a str, MOST_VALUES>,
     word: &'a Text,
 ) -> Option<ArrayVec<&'a str, MOST_VALUES>>
-    ensures { MatchOption result (length (map (λ value. value.now) values.entry.items) ≡ 17)
+    ensures { MatchOption result (length (map (λ value. value.now) values.entry.items) ≡ most_streams + 1)
         (λ now. map (λ value. value.now) now.items ≡ map (λ value. value.now) values.entry.items ++ (word.now ∷ [])) }
 {
     let mut values = values;
@@ -141,7 +143,7 @@ fn pushed<'a>(
 
 // with words that are all values
 fn with_values<'a>(so_far: Options<'a>, words: &'a [Text]) -> Option<Options<'a>>
-    ensures { MatchOption result (17 < length (values_in so_far.entry ++ words.now))
+    ensures { MatchOption result (most_streams + 1 < length (values_in so_far.entry ++ words.now))
         (λ now. options_in now ≡ record (options_in so_far.entry) { values = values_in so_far.entry ++ words.now }) }
 {
     let Options {

@@ -3,6 +3,7 @@ ghost use Rattle.std.specs.Prelude.{◌≡◌, ◌&&◌, ◌≤◌, Some, length
 ghost use Rattle.std.specs.Bool.{then_some};
 ghost use Rattle.std.specs.Option.{option_map_or};
 ghost use Rattle.std.specs.Str.{chars};
+ghost use Rattle.rsp_spec.specs.Limits.{most_streams};
 ghost use Rattle.rsp_terms.specs.Characters.{is_iri_text};
 ghost use Rattle.rsp_words.specs.Playing.{replay_for, stream_for, values_in};
 ghost use Rattle.rsp_words.specs.Words as words;
@@ -12,10 +13,8 @@ use crate::form::Form;
 use crate::options::Options;
 use crate::words::is_file;
 use arrayvec::ArrayVec;
+use rsp_spec::limits::MOST_STREAMS;
 use rsp_terms::characters::is_iri;
-
-// The most streams.
-const MOST_STREAMS: usize = 16;
 
 /// A recorded stream: its name, an absolute IRI, and the name of its file.
 #[derive(Clone, Copy, Default)]
@@ -65,7 +64,7 @@ pub(crate) fn replay_of(options: Options<'_>) -> Option<Replay<'_>>
 // whether the files of a query and of stored quads have names, and there are 1 to 16 words of streams
 fn may_replay(query: &str, store: Option<&str>, words: &[&str]) -> bool
     ensures { result ≡ (is_file query.now && (option_map_or is_file (option_map (λ file. file.now) store.entry) true
-        && (nat_le 1 (length words.now) && nat_le (length words.now) 16))) }
+        && (nat_le 1 (length words.now) && nat_le (length words.now) most_streams))) }
 {
     is_file(query.as_bytes()) && is_store(store) && 1 <= words.len() && words.len() <= MOST_STREAMS
 }
@@ -80,7 +79,7 @@ fn is_store(store: Option<&str>) -> bool
 }
 
 fn streams_of<'a>(words: &[&'a str]) -> Option<ArrayVec<Stream<'a>, MOST_STREAMS>>
-    requires { length words.now ≤ 16 }
+    requires { length words.now ≤ most_streams }
     ensures { option_map (λ streams. map stream_for streams.items) result ≡ streams_of (map (λ word. word.now) words.now) }
 {
     let mut streams = ArrayVec::new();

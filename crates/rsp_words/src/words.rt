@@ -9,13 +9,11 @@ ghost use Rattle.rsp_words.specs.Words.{check_of, events_of, generate_of, is_das
 use crate::log::{Log, log_of};
 use crate::options::read_options;
 use crate::replay::{Replay, replay_of};
+use rsp_spec::limits::MOST_ITEMS;
 use rsp_terms::{Listed, Text};
 use rsp_text::read_u64;
 use std::alloc::{AllocError, Global};
 use std::vec::IntoIter;
-
-// The most items of the generator.
-const MOST_ITEMS: u64 = 1_000_000;
 
 /// What the words ask for.
 #[derive(Drop)]
