@@ -1,5 +1,5 @@
 // Shared text.
-ghost use Rattle.std.specs.Prelude.{◌≡◌, IfOk, IsTrue};
+ghost use Rattle.std.specs.Prelude.{◌≡◌, IfOk};
 ghost use Rattle.std.specs.Str.{IsAscii};
 ghost use Rattle.rsp_terms.specs.TextNumbers.{text_number};
 
@@ -35,26 +35,9 @@ impl Text {
     pub fn new(alloc: Global, text: &str) -> Result<Text, AllocError>
         ensures { IfOk result (λ made. made ≡ text.now) }
     {
-        Text::numbered(alloc, text, number_of(text))
-    }
-
-    /// A text with these bytes, of which this is the number. Fails only where memory is refused.
-    pub(crate) fn numbered(alloc: Global, text: &str, number: u64) -> Result<Text, AllocError>
-        requires { number ≡ text_number text.now }
-        ensures { IfOk result (λ made. made ≡ text.now) }
-    {
         let shared = RcStr::from_str(alloc, text)?;
+        let number = number_of(text);
         Ok(Text { shared, number })
-    }
-
-    /// Whether the text has these bytes, of which this is the number.
-    pub(crate) fn is(&self, text: &str, number: u64) -> bool
-        ensures { IsTrue result → self.now ≡ text.now }
-    {
-        if self.number != number {
-            return false;
-        }
-        self.as_str() == text
     }
 
     /// The characters.
@@ -76,8 +59,8 @@ impl Text {
     }
 }
 
-/// What the hasher of std's maps gives for the bytes.
-pub(crate) fn number_of(text: &str) -> u64
+// what the hasher of std's maps gives for the bytes
+fn number_of(text: &str) -> u64
     ensures { result ≡ text_number text.now }
 {
     BuildHasherDefault::<FoldHasher>::new().hash_one(text)

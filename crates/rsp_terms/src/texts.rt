@@ -1,9 +1,7 @@
 // Texts that were made last, so that one that comes again is shared.
 ghost use Rattle.std.specs.Prelude.{◌≡◌, IfOk};
 ghost use Rattle.rsp_terms.specs.Terms.{xsd_string};
-ghost use Rattle.rsp_terms.specs.TextNumbers.{text_number};
 
-use crate::text::number_of;
 use crate::{Text, XSD_STRING};
 use std::alloc::{AllocError, Global};
 
@@ -11,9 +9,11 @@ const PLACES: usize = 1024;
 
 const LONGEST: usize = 128;
 
-/// Makes texts, and keeps of those that it made the last one of each of 1,024 places, which the bytes of a text tell. A text
-/// that stands there is shared and not made again. One of more than 128 bytes is never kept, so that the table holds at most
-/// 256 KiB whatever comes.
+const MULTIPLIER: u64 = 0x9E37_79B9_7F4A_7C15;
+
+/// Makes texts, and keeps of those that it made the last one of each of 1,024 places, which a few bytes of a text tell. A text
+/// that stands there is shared: it isn't made again, nor is its number. One of more than 128 bytes is never kept, so that the
+/// table holds at most 256 KiB whatever comes.
 #[derive(Drop)]
 pub struct Texts {
     places: Vec<Option<Text>>,
@@ -64,11 +64,9 @@ impl Texts {
     fn short_text(&mut self, text: &str) -> Result<Text, AllocError>
         ensures { IfOk result (λ made. made ≡ text.now) }
     {
-        let number = number_of(text);
-        let place = number % PLACES as u64;
-        match self.places.get_mut(place as usize) {
-            None => Text::numbered(self.alloc, text, number),
-            Some(held) => text_at(self.alloc, held, text, number),
+        match self.places.get_mut(place_of(text.as_bytes())) {
+            None => Text::new(self.alloc, text),
+            Some(held) => text_at(self.alloc, held, text),
         }
     }
 
@@ -97,22 +95,29 @@ fn empty_places(alloc: Global) -> Result<Vec<Option<Text>>, AllocError> {
     Ok(places)
 }
 
+// The place of a text: by its length, its last bytes and some in its middle. Names that begin alike mostly differ there, and it
+// costs less than the number of a text, which a text that is shared doesn't need again.
+fn place_of(text: &[u8]) -> usize {
+    let mut mixed = text.len() as u64;
+    for byte in text.iter().rev().take(8) {
+        mixed = mixed.wrapping_mul(MULTIPLIER) ^ u64::from(*byte);
+    }
+    for byte in text.iter().skip(text.len() / 2).take(4) {
+        mixed = mixed.wrapping_mul(MULTIPLIER) ^ u64::from(*byte);
+    }
+    (mixed.wrapping_mul(MULTIPLIER) >> 54) as usize
+}
+
 // the text that stands at a place if it has these bytes, else a new one that stands there from now on
-fn text_at(
-    alloc: Global,
-    held: &mut Option<Text>,
-    text: &str,
-    number: u64,
-) -> Result<Text, AllocError>
-    requires { number ≡ text_number text.now }
+fn text_at(alloc: Global, held: &mut Option<Text>, text: &str) -> Result<Text, AllocError>
     ensures { IfOk result (λ made. made ≡ text.now) }
 {
     if let Some(last) = held {
-        if last.is(text, number) {
+        if last.as_str() == text {
             return last.share();
         }
     }
-    let made = Text::numbered(alloc, text, number)?;
+    let made = Text::new(alloc, text)?;
     *held = Some(made.share()?);
     Ok(made)
 }
