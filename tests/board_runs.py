@@ -6,6 +6,7 @@ import socket
 import subprocess
 import time
 
+import browser
 from documents import TOP
 
 BOARD = f"{TOP}/tools/board"
@@ -178,6 +179,6 @@ def checked(*checks):
         try:
             check()
             yield f"tools/board: {name}", None
-        except (Failed, OSError, subprocess.SubprocessError, KeyError, IndexError, ValueError) as why:
+        except (Failed, browser.Failed, OSError, subprocess.SubprocessError, KeyError, IndexError, ValueError) as why:
             yield f"tools/board: {name}", f"{type(why).__name__}: {why}"[:1000]
 

@@ -40,7 +40,7 @@ def high_pipe():
 
 
 class Browser:
-    """A browser that runs; `call` asks it for something, and gives the answer."""
+    """A browser that runs; `call` asks it for something, and gives the answer. `events` are what it told beside."""
 
     def __init__(self, folder):
         reading, self.writing = high_pipe()
@@ -56,10 +56,10 @@ class Browser:
         )
         os.close(reading)
         os.close(writing)
-        self.asked, self.buffer = 0, bytearray()
+        self.asked, self.buffer, self.events = 0, bytearray(), []
 
     def call(self, method, session=None, **parameters):
-        """What the method gives; events that come before are passed over."""
+        """What the method gives."""
         self.asked += 1
         message = {"id": self.asked, "method": method, "params": parameters, **({"sessionId": session} if session else {})}
         os.write(self.writing, json.dumps(message).encode() + b"\0")
@@ -70,6 +70,8 @@ class Browser:
                 if "error" in answer:
                     raise Failed(f"{method}: {answer['error']}")
                 return answer["result"]
+            if "method" in answer:
+                self.events.append(answer)
 
     def next_message(self, until):
         while b"\0" not in self.buffer:

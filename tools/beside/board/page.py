@@ -141,7 +141,6 @@ function chartOf(times, {column, lines}) {
     {class: `drawn c${index}`, d: pathOf(times, line.values, time => 4 + x(time), y)}, draw("title", {}, line.whole || column)));
   const picture = draw("svg", {viewBox: `0 0 ${WIDTH} ${HEIGHT}`, preserveAspectRatio: "none", role: "img", "aria-label": column},
     draw("path", {class: "axis", d: `M0 0V${HEIGHT}H${WIDTH}`}), ...paths);
-  const range = most === undefined ? "" : most === least ? most : `${least} to ${most}`;
   const ends = [times[0], times[times.length - 1]].map(at => make("span", {}, instant(at)));
   const span = make("p", {class: "span"}, ...ends);
   return make("figure", {"data-column": column}, make("figcaption", {}, make("b", {}, column), ` ${range}`), picture, span,
@@ -294,7 +293,7 @@ function connect() {
   };
 }
 
-for (const name of ["pointermove", "pointerdown", "keydown", "wheel", "focus"]) addEventListener(name, look, {passive: true});
+for (const name of ["pointermove", "pointerdown", "keydown", "wheel"]) addEventListener(name, look, {passive: true});
 document.addEventListener("visibilitychange", look);
 addEventListener("storage", () => { if (top_ !== null) { looked = remembered(); retitle(); } });
 setInterval(() => { age(); since(); }, 1000);
