@@ -1,5 +1,5 @@
 // A group of rows.
-ghost use Rattle.std.specs.Prelude.{◌≡◌, ◌≤◌, ◌||◌, nat_lt, [], List, Option, None, length, map, IfOk, OnOk};
+ghost use Rattle.std.specs.Prelude.{◌≡◌, ◌≤◌, ◌<◌, ◌||◌, nat_lt, [], ℕ, List, Option, None, length, map, IfOk, OnOk, OnErr};
 ghost use Rattle.rsp_spec.specs.Limits.{most_counted};
 ghost use Rattle.rsp_multiset.specs.Rows.{Cells};
 ghost use Rattle.rsp_terms.specs.declared.term.Term.{Term};
@@ -28,9 +28,10 @@ pub(crate) fn has_row(rows: u64, keyless: bool) -> bool
     keyless || rows > 0
 }
 
-// so many more, or less, where that is at most 2^32
+// so many more, or less, where that is at most 2^32, and refused only where it isn't
 fn moved_count(rows: u64, times: u64, out: bool) -> Result<u64, AllocError>
-    ensures { IfOk result (λ count. MovedCount out times rows count × (count ≤ most_counted)) }
+    ensures moved { IfOk result (λ count. MovedCount out times rows count × (count ≤ most_counted)) }
+    ensures past { OnErr result ((count : ℕ) → MovedCount out times rows count → most_counted < count) }
 {
     let moved = if out {
         rows.checked_sub(times)
