@@ -1,5 +1,5 @@
 """What follows from a refusal: what a refused block would have read, fed, stored or moved is no mistake of its own."""
-from .blocks import head_of
+from .blocks import directive_of, is_directive
 
 
 class Aftermath:
@@ -13,8 +13,13 @@ class Aftermath:
         self.fed, self.unread = set(), set()
 
     def note(self, block):
-        """Takes a block of a log that has no form."""
-        head, stream = head_of(block)
+        """Takes a block of a log that has no form, or a text with a fault: where its `@end` is wanting it holds others."""
+        for line in block.lines:
+            if line is block.lines[0] or is_directive(line.text):
+                self.note_directive(line.text)
+
+    def note_directive(self, text):
+        head, stream = directive_of(text)
         self.reads |= head in (None, b"@register")
         self.stores |= head in (None, b"@insert")
         self.moves_time |= head in (None, b"@tick")
@@ -22,7 +27,7 @@ class Aftermath:
             self.note_stream(stream)
 
     def note_stream(self, stream):
-        """Takes an item of a stream that has no form, or a refused line of its file; None is one of which the stream isn't known."""
+        """Takes an item that has no form, or a refused line of a file; of None the stream isn't known."""
         self.moves_time, self.any_stream = True, self.any_stream or stream is None
         self.fed.add(stream)
         self.unread.add(stream)

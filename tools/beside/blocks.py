@@ -22,10 +22,15 @@ def blocks_of(log, file):
 DIRECTIVES = (b"@register", b"@cancel", b"@item", b"@tick", b"@insert", b"@delete")
 
 
-def head_of(block):
-    """The directive of a block and the stream that it names, as far as its first line can be read; else None."""
-    head, *fields = block.lines[0].text.split() or [b""]
-    if head not in DIRECTIVES:
+def is_directive(line):
+    """Whether a line has the word of a directive at its beginning, whatever stands behind it."""
+    return directive_of(line)[0] is not None
+
+
+def directive_of(line):
+    """The directive of a line and the stream that it names, as far as it can be read; else None."""
+    head, *fields = line.split() or [b""]
+    if head not in DIRECTIVES or not line.startswith(head):
         return None, None
     stream = model.iri(fields[0], 0) if head == b"@item" and fields else None
     return head, stream[0] if stream and stream[1] == len(fields[0]) else None

@@ -7,15 +7,17 @@
 from . import blocks, differing, recordings
 from .differing import or_differs
 from .findings import Finding
-from .history import MOST_HELD, MOST_QUADS, History
+from .history import MOST_HELD, MOST_QUADS, History, with_slack
 from .inputs import file_of, guarded, opened
 from .limits import within_limits
+from .marks import TornBody, TornGraph
 from .of_blocks import of_block
 from .of_lines import Lines, of_file_line
 from .of_texts import NUMBERS, of_text
 from .pages import paragraph
 from .places import Place, Text
 from .refusals import Good, OfBlock, OfLine, OfQuery, Overfull, details_of, kind_of, number_of, written
+from .runs import in_runs
 from .texts import looked
 from .words import parsed
 
@@ -30,26 +32,33 @@ def explain(words):
 def explained(words, output):
     """Each refusal of an output, as a finding; Differs in the place of one that the model doesn't see so."""
     ways = {"events": of_log, "run": of_run, "check": of_check}
-    return ways[words.mode](words, guarded(written(output), "standard input"))
+    return in_runs(ways[words.mode](words, guarded(written(output), "standard input")))
 
 
 # ---- a log
 
 
 def of_log(words, entries):
-    """Goes through the log and the output side by side: both are in the order of the blocks."""
+    """Each refusal of a log; what is said of a late item goes by all that are late."""
     entries = Entries(entries)
     history = History(entries.have("19 HeldFull"), words.slack)
-    with opened(words.log) as log:
-        for block in blocks.blocks_of(log, words.log):
+    found = list(refusals_of(words.log, entries, history))
+    return [with_slack(finding, history) for finding in found]
+
+
+def refusals_of(name, entries, history):
+    """Goes through the log and the output side by side: both are in the order of the blocks."""
+    torn = TornBody()
+    with opened(name) as log:
+        for block in blocks.blocks_of(log, name):
             if entries.are_over():
                 break
-            why = entries.refusal_of(block.number, history)
-            if why is not None:
+            why, follows = entries.refusal_of(block.number, history), torn.follows(block)
+            if why is not None and not follows:
                 yield or_differs(of_block, block, why, history)
             history.take(block, why is not None)
     for entry in entries.left():
-        yield differing.told(Place(words.log, 1, 1), entry.text, "this log has no such block")
+        yield differing.told(Place(name, 1, 1), entry.text, "this log has no such block")
 
 
 class Entries:
@@ -100,10 +109,11 @@ def of_check(words, entries):
 
 def of_run(words, entries):
     """A line of a file, the query, or a block of an item, which is known by the place of the item among all."""
-    first, items, lines = 2 if words.store else 1, None, Lines()
+    first, items, lines, torn = 2 if words.store else 1, None, Lines(), TornGraph()
     for entry in entries:
         if isinstance(entry, OfLine):
-            yield or_differs(of_file_line, words, entry, lines)
+            if not torn.follows(entry, lines.line_of(words, entry)):
+                yield or_differs(of_file_line, words, entry, lines)
         elif isinstance(entry, OfBlock) and entry.block == first:
             yield or_differs(of_query, words, entry)
         elif isinstance(entry, OfBlock):

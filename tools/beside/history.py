@@ -7,9 +7,11 @@ from collections import namedtuple
 import policy_model
 
 from .blocks import query_text
+from .differing import Differs
 from .limits import within_limits
 from .places import quoted
 from .texts import looked
+from .words import MOST_SLACK
 
 MOST_HELD, MOST_QUERIES, MOST_QUADS = 1_000_000, 256, 1_000_000
 
@@ -28,6 +30,8 @@ class History:
         self.live, self.ended, self.overfull = {}, {}, []
         self.next, self.next_line, self.items, self.keeps = 0, None, [], keeps
         self.inserts, self.slack = [], slack
+        # by how much each late item is too late, by its line, and whether there is a tick
+        self.late, self.has_tick = {}, False
 
     def take(self, block, is_refused):
         """Goes on behind a block."""
@@ -35,6 +39,7 @@ class History:
             return
         head, *fields = block.event
         line = block.lines[0].number
+        self.has_tick |= head == b"@tick"
         if is_refused:
             if head == b"@register" and fields[0] not in self.live:
                 self.ended[fields[0]] = Ended("is refused", line)
@@ -126,8 +131,22 @@ def of_late(history, block, details):
     least = time if kind == b"@item" else time + 1
     if history.next != details["next"] or time != details["time"] or least >= history.next:
         return None
+    if kind == b"@item":
+        history.late[block.lines[0].number] = details["next"] - time
     said = f"it is {details['next'] - least} ms too late: all before {details['next']} is complete since line {history.next_line}"
     return said, f"write a time of {details['next'] - least + time} or later, or the block before line {history.next_line}"
+
+
+def with_slack(finding, history):
+    """The finding of an item that is too late, with the slack that takes all such items of the log, where one may be so great."""
+    if isinstance(finding, Differs) or finding.kind != "15 Late" or finding.place.line not in history.late:
+        return finding
+    most = max(history.late.values())
+    if history.slack + most > MOST_SLACK:
+        return finding
+    whom = "this late item, the only one" if len(history.late) == 1 else f"all {len(history.late)} late items of this log"
+    ticks = f", with ticks that lag by {most} ms more" if history.has_tick else ""
+    return finding._replace(write=f"run it under `--slack {history.slack + most}`{ticks}, which takes {whom}\nor {finding.write}")
 
 
 def of_full_items(history, block, details):

@@ -11,11 +11,13 @@ from .exactness import inexact
 from .feeding import unfed, unlooked, unread, unstored
 from .inputs import complain, file_of, name_of_input, opened
 from .limits import SECONDS, within_limits
+from .marks import TornBody, TornGraph
 from .merged_triples import merged
-from .of_blocks import of_form
+from .of_blocks import of_form, of_registered
 from .of_lines import of_line
 from .of_texts import of_text as of_refused_text
 from .places import Place, Text
+from .runs import in_runs
 from .telling import restless
 from .texts import looked
 from .timing import gap, late, seconds, unclosed
@@ -68,7 +70,8 @@ def of_run(words):
     text = Text(words.query, file_of(words.query))
     stores = [recordings.Store(words.store)] if words.store else []
     streams = recordings.recordings_of(words.streams)
-    faults = [of_line(refused.told, refused.line) for file in [*stores, *streams] for refused in file.refused]
+    refused, torn = [refused for file in [*stores, *streams] for refused in file.refused], TornGraph()
+    faults = list(in_runs(of_line(*one) for one in refused if not torn.follows(*one)))
     its = looked_at(text.content, text)
     if its is None or its.why:
         return in_order([*faults, *([of_refused_text(text, text.content, its.why)] if its else [])])
@@ -102,14 +105,15 @@ def course_of_run(query, text, stores, streams):
 
 def of_log(log, name, slack=0):
     """The findings of a log, an open file, under the name."""
-    course, faults, named = Course(slack), [], {}
+    course, faults, named, torn = Course(slack), [], {}, TornBody()
     for block in blocks.blocks_of(log, name):
-        if block.event is None:
+        follows = torn.follows(block)
+        if block.event is not None:
+            take(block, course, faults, named)
+        elif not follows:
             faults.append(of_form(block, block.why))
             course.refused.note(block)
-        else:
-            take(block, course, faults, named)
-    return in_order([*faults, *findings_of(course, "events", named)])
+    return in_order([*in_runs(faults), *findings_of(course, "events", named)])
 
 
 def take(block, course, faults, named):
@@ -146,9 +150,9 @@ def register(block, course, faults):
     if its and its.query:
         course.register(name, its.query, text)
         return
-    course.refused.reads = True
+    course.refused.note(block)
     if its:
-        faults.append(of_refused_text(text, content, its.why))
+        faults.append(of_registered(block, its.why))
 
 
 # ---- both

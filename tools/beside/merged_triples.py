@@ -1,4 +1,4 @@
-"""Triples that two items bring to one window: a window holds each once, so what is counted or added up there is less than came."""
+"""Triples that two items bring to one window: it holds each once, so what is counted or added up there is less than came."""
 from collections import namedtuple
 
 from policy_model import last_closing

@@ -1,12 +1,13 @@
 """What is told of a refused block of a log: its own faults, the faults of its text, and why its event can't be taken."""
 import model
 
-from . import blocks, differing
+from . import blocks, differing, forms
 from .findings import Finding
 from .history import REASONS
+from .marks import MARK, of_mark
 from .of_lines import said_of_line
 from .of_texts import NUMBERS, of_text
-from .pages import paragraph
+from .pages import EVENTS, page_of, paragraph
 from .places import Place, with_caret
 from .refusals import details_of, kind_of, number_of
 
@@ -25,7 +26,7 @@ def of_block(block, why, history):
     if block.event is None or block.event[0] not in EVENTS_OF.get(number, ()):
         raise differing.from_model(blocks.place_of(block), why, block.why)
     if number in NUMBERS:
-        return of_text(blocks.text_of(block), blocks.query_text(block), why)
+        return of_registered(block, why)
     return of_event(block, why, history)
 
 
@@ -49,23 +50,61 @@ def column_of(block, kind):
 
 def of_form(block, why):
     """A fault of the block itself; for a line of its body that line, at the column at which it is no statement."""
-    page, sentence = paragraph(kind_of(why))
-    number, column, said = details_of(why).get("line", block.lines[0].number), 1, sentence
-    line = next((line for line in block.lines if line.number == number), None)
+    kind, number = kind_of(why), details_of(why).get("line", block.lines[0].number)
+    line = next((line.text for line in block.lines if line.number == number), None)
     if line is None:
-        said = "the log ends here, and `@end` is wanting"
-    elif number_of(why) == 4:
-        column, said = fault_of_line(block, line.text)
-    shown = with_caret(line.text, column) if line else []
-    return Finding(Place(block.file, number, column), kind_of(why), said, "" if said == sentence else sentence, page, shown)
+        return without_end(block, Place(block.file, number, 1), kind, None)
+    if number_of(why) == 4:
+        return of_body(block, Place(block.file, number, 1), kind, line)
+    if line.startswith(MARK):
+        return of_mark(Place(block.file, number, 1), kind, line)
+    page, sentence = paragraph(kind)
+    meant = forms.as_directive(line) or forms.as_turtle(line, 1) if number_of(why) == 3 else None
+    return Finding(Place(block.file, number, 1), kind, *(meant or (sentence, "", page)), with_caret(line, 1))
 
 
-def fault_of_line(block, text):
-    """Where a line of a body is wrong, and how."""
+def of_body(block, place, kind, line):
+    """A line of a body that is none, at the column where it is wrong."""
+    if blocks.is_directive(line):
+        return without_end(block, place, kind, line)
+    page, sentence = paragraph(kind)
     if block.lines[0].text.startswith(b"@register"):
-        return model.valid_front(text) + 1, "these bytes aren't UTF-8"
+        column, meant = model.valid_front(line) + 1, ("these bytes aren't UTF-8", sentence, page)
+    else:
+        column, meant = fault_of_line(line, kind)
+    there = place._replace(column=column)
+    return of_mark(there, kind, line) if line.startswith(MARK, column - 1) else Finding(there, kind, *meant, with_caret(line, column))
+
+
+def fault_of_line(line, kind):
+    """Where a line that is no statement of this body is wrong, and how: what is so, what to write, and the page."""
+    page, sentence = paragraph(kind)
     try:
-        model.statement(text)
+        model.statement(line)
     except model.BadLine as why:
-        return why.column, said_of_line(text, why.name, why.column)
-    return 1, "this statement has a graph, and in an `@item` none may stand"
+        meant = forms.as_turtle(line, why.column) if why.name == "BadStatement" else None
+        return why.column, meant or (said_of_line(line, why.name, why.column), sentence, page)
+    said = "this statement has a graph, and in an `@item` none may stand"
+    return 1, (said, f"write {forms.written(forms.without_graph(line))}", page)
+
+
+def without_end(block, place, kind, line):
+    """A body that goes on up to a directive, or to the end of the log."""
+    head, *_ = block.lines[0].text.split()
+    where = "the log ends here" if line is None else f"here `{line.split()[0].decode()}` would begin another block"
+    said = f"{where}, and the body of the `{head.decode()}` at line {block.lines[0].number} isn't ended"
+    write = f"`@end` is missing before line {place.line}"
+    return Finding(place, kind, said, write, page_of(EVENTS, "Blocks"), with_caret(line, 1) if line else [])
+
+
+# ---- a query of a log
+
+
+def of_registered(block, why):
+    """A refused text of a query that a block registers. Where the text goes on past a directive, that is the fault."""
+    text, details = blocks.text_of(block), details_of(why)
+    line = next((line for line in block.lines[1:] if blocks.is_directive(line.text)), None)
+    start = sum(len(there.text) + 1 for there in block.lines[1:] if line and there.number < line.number)
+    if line and (details.get("at", -1) >= start or why == "10 Limit what=text"):
+        return without_end(block, Place(block.file, line.number, 1), kind_of(why), line.text)
+    return of_text(text, blocks.query_text(block), why)

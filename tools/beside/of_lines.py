@@ -1,9 +1,10 @@
 """What is told of a line that is no statement: the column, and which part should stand there."""
 import model
 
-from . import differing
+from . import differing, forms
 from .findings import Finding
 from .inputs import file_of
+from .marks import MARK, of_mark
 from .pages import paragraph
 from .places import Place, with_caret
 from .refusals import NUMBERS, details_of, kind_of
@@ -48,12 +49,22 @@ class Lines:
         return line[:-1] if line.endswith(b"\r") else line
 
 
+    def line_of(self, words, entry):
+        """The line of which the program tells a refusal; an empty one where the words name no such file."""
+        is_named = entry.file in files_of(words)
+        return self.line(entry.file, entry.line) if is_named else b""
+
+
+def files_of(words):
+    return [words.store, *(stream.file for stream in words.streams)]
+
+
 def of_file_line(words, entry, lines):
     """A refused line of a file of `run`."""
-    place, kind = Place(entry.file, entry.line, details_of(entry.text).get("column", 1)), kind_of(entry.text)
-    if entry.file not in [words.store, *(stream.file for stream in words.streams)]:
+    place = Place(entry.file, entry.line, details_of(entry.text).get("column", 1))
+    if entry.file not in files_of(words):
         raise differing.told(place, entry.text, "the words name no such file")
-    line = lines.line(entry.file, entry.line)
+    line = lines.line_of(words, entry)
     refusal = refusal_of(line)
     if refusal != entry.text:
         raise differing.from_model(place, entry.text, refusal)
@@ -63,9 +74,16 @@ def of_file_line(words, entry, lines):
 def of_line(entry, line):
     """The finding of a line that is refused."""
     place, kind = Place(entry.file, entry.line, details_of(entry.text).get("column", 1)), kind_of(entry.text)
+    if line.startswith(MARK, place.column - 1):
+        return of_mark(place, kind, line)
+    said, write, page = forms.as_time_line(line) if kind == "6 NoTimeLine" else of_statement(line, kind, place.column)
+    return Finding(place, kind, said, write, page, with_caret(line, place.column))
+
+
+def of_statement(line, kind, column):
+    """What is so of a line that is no statement at the column, what to write, and the page."""
     page, sentence = paragraph(kind)
-    said = sentence if kind == "6 NoTimeLine" else said_of_line(line, kind.split(" ")[1], place.column)
-    return Finding(place, kind, said, "" if said == sentence else sentence, page, with_caret(line, place.column))
+    return forms.as_turtle(line, column) or forms.Meant(said_of_line(line, kind.split(" ")[1], column), sentence, page)
 
 
 def refusal_of(line):

@@ -2,6 +2,7 @@
 from . import differing
 from .findings import Finding
 from .limits import SECONDS, within_limits
+from .marks import MARK, of_mark
 from .mistakes import TEXTS, advice
 from .pages import QUERIES, limit_of, page_of, paragraph
 from .refusals import details_of, kind_of
@@ -20,6 +21,8 @@ def of_text(text, content, why):
         return Finding(text.place(at), kind_of(why), UNREAD, sentence, page, text.shown(at))
     if its.why != why:
         raise differing.from_model(text.place(min(details.get("at", 0), len(content))), why, its.why)
+    if content.startswith(MARK, its.at):
+        return of_mark(text.place(its.at), kind_of(why), text.line(its.at))
     write, page = what_to_write(its, why)
     return Finding(text.place(its.at), kind_of(why), its.said, write, page, text.shown(its.at))
 

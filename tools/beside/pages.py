@@ -4,7 +4,9 @@ import re
 
 from . import TOP
 
-QUERIES, REPORTS, EVENTS, TOOLS, PARTS = (f"docs/{name}.md" for name in ("QUERIES", "REPORTS", "EVENTS", "TOOLS", "PARTS"))
+QUERIES, REPORTS, EVENTS, RECIPES, TOOLS, PARTS = (
+    f"docs/{name}.md" for name in ("QUERIES", "REPORTS", "EVENTS", "RECIPES", "TOOLS", "PARTS")
+)
 
 
 @functools.lru_cache(maxsize=None)

@@ -1,4 +1,4 @@
-"""What values the files or the log have, by where they stand and by their predicate: how many, and how many are no exact numbers."""
+"""What values the files or the log have, by where they stand and by their predicate: how many, and of which sorts."""
 from collections import namedtuple
 
 from number_model import number_of
