@@ -8,6 +8,8 @@ pub mod GrownBlocks
 pub mod Taking
 pub mod Parted
 pub mod Going
+pub mod BufferLaws
+pub mod FirstByte
 pub mod FileLines
 pub mod Recordings
 pub mod FileLaws

@@ -13,6 +13,7 @@ pub mod Sorting
 pub mod FileLines
 pub mod Openings
 pub mod Begun
+pub mod Buffers
 pub mod Reader
 pub mod Steps
 pub mod BodyLines

@@ -8,11 +8,12 @@ ghost use Rattle.rsp_events.specs.Lines.{Line};
 ghost use Rattle.rsp_events.specs.declared.begun.HeldLine.TheVariants as held;
 ghost use Rattle.rsp_events.specs.declared.begun.BegunBlock.TheVariants as begun;
 
+use crate::buffers::{LineBuffer, Spares};
 use crate::lines::{is_end, without_return};
 use rsp_spec::limits::MOST_BLOCK_BYTES;
 use rsp_terms::Listed;
 use rsp_text::is_blank;
-use std::alloc::{AllocError, Global};
+use std::alloc::AllocError;
 
 /// Whether bytes are an `@end`: as the last line of a text, and as a line that a line feed ends, which drops a carriage
 /// return before it.
@@ -42,7 +43,7 @@ pub(crate) enum HeldLine {
 #[derive(Drop)]
 pub(crate) enum BegunBlock {
     Between,
-    Within(u64, Listed<Listed<u8>>, bool, usize),
+    Within(u64, LineBuffer, bool, usize),
     TooLarge,
 }
 
@@ -155,7 +156,7 @@ fn ends(ending: Ending, ended: bool) -> bool
 /// The block with this line behind it, which has this number and ends the block's body or doesn't. Fails only where memory is
 /// refused.
 pub(crate) fn grown(
-    alloc: Global,
+    spares: &mut Spares,
     block: BegunBlock,
     line: HeldLine,
     number: u64,
@@ -169,12 +170,13 @@ pub(crate) fn grown(
     };
     match block {
         BegunBlock::Between => {
-            let texts = joined_text(Listed::new(alloc), text, false)?;
+            let texts = spares.block();
+            let texts = joined_text(spares, texts, text, false)?;
             Ok(within(number, texts, false, 0, size))
         }
         BegunBlock::Within(first, texts, ended, before) => {
             let ended = either(ended, ends);
-            let texts = joined_text(texts, text, ended)?;
+            let texts = joined_text(spares, texts, text, ended)?;
             Ok(within(first, texts, ended, before, size))
         }
         BegunBlock::TooLarge => Ok(BegunBlock::TooLarge),
@@ -183,26 +185,22 @@ pub(crate) fn grown(
 
 // the lines with this one behind them, unless their body has ended
 fn joined_text(
-    texts: Listed<Listed<u8>>,
+    spares: &mut Spares,
+    texts: LineBuffer,
     text: Listed<u8>,
     ended: bool,
-) -> Result<Listed<Listed<u8>>, AllocError>
+) -> Result<LineBuffer, AllocError>
     ensures { IfOk result (λ joined. joined ≡ (if ended then texts else texts ++ (text ∷ []))) }
 {
     let mut texts = texts;
     if !ended {
-        texts.push(text)?;
+        texts.push(text.as_slice())?;
     }
+    spares.keep_line(text);
     Ok(texts)
 }
 
-fn within(
-    first: u64,
-    texts: Listed<Listed<u8>>,
-    ended: bool,
-    before: usize,
-    size: usize,
-) -> BegunBlock
+fn within(first: u64, texts: LineBuffer, ended: bool, before: usize, size: usize) -> BegunBlock
     ensures { result ≡ (if nat_lt most_block_bytes (before + size)
         then begun.TooLarge else begun.Within first texts ended (before + size)) }
 {

@@ -13,10 +13,11 @@ ghost use Rattle.rsp_events.specs.Instants.{AllTimed, IsTimed};
 ghost use Rattle.rsp_events.specs.Steps.{Reads, TakesLine, begun_groups, place_of};
 
 use crate::begun::{BegunBlock, BegunLine, HeldLine, grown, held, lengthened};
+use crate::buffers::Spares;
 use crate::contents::content_of_lines;
 use crate::lines::{has_body, is_end, is_passed, line_end};
 use crate::{Block, BlockFault, Content};
-use rsp_terms::Listed;
+use rsp_terms::{Listed, Texts};
 use std::alloc::{AllocError, Global};
 use std::marker::Model;
 use std::mem;
@@ -32,6 +33,8 @@ pub struct Blocks {
     lines: u64,
     number: u64,
     spent: bool,
+    texts: Texts,
+    spares: Spares,
     alloc: Global,
 }
 
@@ -77,6 +80,8 @@ impl Blocks {
             lines: 0,
             number: 1,
             spent: false,
+            texts: Texts::new(alloc),
+            spares: Spares::new(alloc),
             alloc,
         }
     }
@@ -160,7 +165,8 @@ impl Blocks {
         ensures line { result ≡ self.old.line }
         ensures after { self.new ≡ record self.old { line = line.Kept [] } }
     {
-        mem::replace(&mut self.line, BegunLine::Kept(Listed::new(self.alloc)))
+        let spare = self.spares.line();
+        mem::replace(&mut self.line, BegunLine::Kept(spare))
     }
 
     // bytes of a line
@@ -178,7 +184,10 @@ impl Blocks {
     fn keep_line(&mut self, line: BegunLine)
         ensures { self.new ≡ record self.old { line = line } }
     {
-        self.line = line;
+        let before = mem::replace(&mut self.line, line);
+        if let BegunLine::Kept(bytes) = before {
+            self.spares.keep_line(bytes);
+        }
     }
 
     // the line that has begun ends
@@ -201,7 +210,10 @@ impl Blocks {
         let place = place_of(&self.block, &line, ends);
         self.lines = number;
         match place {
-            Place::Passed => Ok(None),
+            Place::Passed => {
+                self.let_go(line);
+                Ok(None)
+            }
             Place::Inside => {
                 self.grow(line, number, ends)?;
                 Ok(None)
@@ -213,6 +225,15 @@ impl Blocks {
         }
     }
 
+    // a line that is passed over
+    fn let_go(&mut self, line: HeldLine)
+        ensures { self.new ≡ self.old }
+    {
+        if let HeldLine::Kept(bytes, _) = line {
+            self.spares.keep_line(bytes);
+        }
+    }
+
     fn grow(&mut self, line: HeldLine, number: u64, ends: bool) -> Result<(), AllocError>
         ensures rest { self.new ≡ record self.old { block = self.new.block } }
         ensures block { OnOk result ((group : List Line) (l : Line) → begun_block_of group ≡ self.old.block
@@ -220,7 +241,7 @@ impl Blocks {
             → self.new.block ≡ begun_block_of (group ++ (l ∷ []))) }
     {
         let block = mem::replace(&mut self.block, BegunBlock::Between);
-        self.block = grown(self.alloc, block, line, number, ends)?;
+        self.block = grown(&mut self.spares, block, line, number, ends)?;
         Ok(())
     }
 
@@ -251,7 +272,7 @@ impl Blocks {
         };
         let number = mem::replace(&mut self.number, next);
         let block = mem::replace(&mut self.block, BegunBlock::Between);
-        let content = content_of(self.alloc, self.document, block)?;
+        let content = content_of(&mut self.texts, &mut self.spares, self.document, block)?;
         Ok(Block { number, content })
     }
 }
@@ -344,14 +365,22 @@ fn ends_body(line: &HeldLine) -> bool
     }
 }
 
-fn content_of(alloc: Global, document: u32, block: BegunBlock) -> Result<Content, AllocError>
+fn content_of(
+    texts: &mut Texts,
+    spares: &mut Spares,
+    document: u32,
+    block: BegunBlock,
+) -> Result<Content, AllocError>
     ensures timed { IfOk result IsTimed }
     ensures value { IfOk result (λ content. (group : List Line) → begun_block_of group ≡ block
         → content ≡ content_of document group) }
 {
     match block {
-        BegunBlock::Within(first, texts, ended, _) => {
-            content_of_lines(alloc, document, first, texts.as_slice(), ended)
+        BegunBlock::Within(first, lines, ended, _) => {
+            let all = lines.lines();
+            let content = content_of_lines(texts, document, first, &all, ended)?;
+            spares.keep_block(lines);
+            Ok(content)
         }
         _ => Ok(Content::Fault(BlockFault::BlockTooLarge)),
     }

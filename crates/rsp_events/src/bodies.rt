@@ -6,8 +6,9 @@ ghost use Rattle.std.specs.String.{string_bytes};
 ghost use Rattle.rsp_events.specs.Contents as form;
 ghost use Rattle.rsp_events.specs.BodyLines.{IsRead};
 
-use rsp_nquads::{LineFault, statement};
-use rsp_terms::{Listed, Quad, Text, Triple};
+use crate::buffers::Lines;
+use rsp_nquads::{LineFault, statement_among};
+use rsp_terms::{Listed, Quad, Text, Texts, Triple};
 use std::alloc::{AllocError, Global};
 use std::str;
 
@@ -15,16 +16,16 @@ use std::str;
 
 /// The quads that the lines say, in order, or the place of the first line that is refused.
 pub(crate) fn quads_of(
-    alloc: Global,
+    texts: &mut Texts,
     document: u32,
-    lines: &[Listed<u8>],
+    lines: &Lines,
 ) -> Result<Result<Listed<Quad>, usize>, AllocError>
     ensures { IfOk result (λ read.
         IsRead (form.is_bad_quad document) lines.now (flat_map (form.quad_on document) lines.now) read) }
 {
-    let mut quads = Listed::new(alloc);
-    for (place, line) in lines.iter().enumerate() {
-        if !take_quad(alloc, document, &mut quads, line.as_slice())? {
+    let mut quads = Listed::new(texts.alloc());
+    for place in 0..lines.len() {
+        if !take_quad(texts, document, &mut quads, lines.line(place))? {
             return Ok(Err(place));
         }
     }
@@ -33,7 +34,7 @@ pub(crate) fn quads_of(
 
 // puts what a line says behind the quads; whether the line isn't refused
 fn take_quad(
-    alloc: Global,
+    texts: &mut Texts,
     document: u32,
     quads: &mut Listed<Quad>,
     line: &[u8],
@@ -41,7 +42,7 @@ fn take_quad(
     ensures { IfOk result (λ taken. (form.is_bad_quad document line.now ≡ not taken)
         × (quads.new ≡ quads.old ++ form.quad_on document line.now)) }
 {
-    match statement(alloc, document, line) {
+    match statement_among(texts, document, line) {
         Ok(None) => Ok(true),
         Ok(Some(quad)) => {
             quads.push(quad)?;
@@ -54,16 +55,16 @@ fn take_quad(
 
 /// The triples of an item's lines, in order, or the place of the first line that is refused or has a graph.
 pub(crate) fn graph_of(
-    alloc: Global,
+    texts: &mut Texts,
     document: u32,
-    lines: &[Listed<u8>],
+    lines: &Lines,
 ) -> Result<Result<Listed<Triple>, usize>, AllocError>
     ensures { IfOk result (λ read.
         IsRead (form.is_bad_triple document) lines.now (flat_map (form.triple_on document) lines.now) read) }
 {
-    let mut graph = Listed::new(alloc);
-    for (place, line) in lines.iter().enumerate() {
-        if !take_triple(alloc, document, &mut graph, line.as_slice())? {
+    let mut graph = Listed::new(texts.alloc());
+    for place in 0..lines.len() {
+        if !take_triple(texts, document, &mut graph, lines.line(place))? {
             return Ok(Err(place));
         }
     }
@@ -72,7 +73,7 @@ pub(crate) fn graph_of(
 
 // puts what a line says behind the triples; whether the line isn't refused and has no graph
 fn take_triple(
-    alloc: Global,
+    texts: &mut Texts,
     document: u32,
     graph: &mut Listed<Triple>,
     line: &[u8],
@@ -80,7 +81,7 @@ fn take_triple(
     ensures { IfOk result (λ taken. (form.is_bad_triple document line.now ≡ not taken)
         × (graph.new ≡ graph.old ++ form.triple_on document line.now)) }
 {
-    match statement(alloc, document, line) {
+    match statement_among(texts, document, line) {
         Ok(None) => Ok(true),
         Ok(Some(quad)) => {
             let without_graph = quad.graph.is_none();
@@ -95,15 +96,12 @@ fn take_triple(
 // ---- query text
 
 /// The lines as one text, each with a line feed behind it, or the place of the first line that isn't UTF-8.
-pub(crate) fn text_of(
-    alloc: Global,
-    lines: &[Listed<u8>],
-) -> Result<Result<Text, usize>, AllocError>
+pub(crate) fn text_of(alloc: Global, lines: &Lines) -> Result<Result<Text, usize>, AllocError>
     ensures { IfOk result (λ read. IsRead form.is_bad_text lines.now (flat_map form.with_line_feed lines.now) read) }
 {
     let mut text = String::new(alloc);
-    for (place, line) in lines.iter().enumerate() {
-        if !take_text(&mut text, line.as_slice())? {
+    for place in 0..lines.len() {
+        if !take_text(&mut text, lines.line(place))? {
             return Ok(Err(place));
         }
     }

@@ -8,85 +8,86 @@ ghost use Rattle.rsp_events.specs.declared.event.Content.TheVariants as content;
 ghost use Rattle.rsp_events.specs.declared.event.Event.TheVariants as event;
 
 use crate::bodies::{graph_of, quads_of, text_of};
+use crate::buffers::Lines;
 use crate::directives::{Directive, directive_of};
 use crate::{BlockFault, Content, Event};
-use rsp_terms::{Listed, Text};
-use std::alloc::{AllocError, Global};
+use rsp_terms::{Text, Texts};
+use std::alloc::AllocError;
 
 /// The event of a block, or its first fault: by its lines before `@end`, of which the first has this number in the text, and
 /// by whether it has an `@end`. Fails only where memory is refused, or the 64-bit number of a line would pass its last value.
 #[tactic(auto, unfolding(crate::specs::Contents::content_of_lines))]
 pub(crate) fn content_of_lines(
-    alloc: Global,
+    texts: &mut Texts,
     document: u32,
     first: u64,
-    texts: &[Listed<u8>],
+    lines: &Lines,
     ended: bool,
 ) -> Result<Content, AllocError>
-    ensures value { IfOk result (λ content. content ≡ form.content_of_lines document first texts.now ended) }
+    ensures value { IfOk result (λ content. content ≡ form.content_of_lines document first lines.now ended) }
     ensures timed { IfOk result IsTimed }
 {
-    let Some((head, lines)) = texts.split_first() else {
+    let Some((head, body)) = lines.split_first() else {
         return Ok(Content::Fault(BlockFault::BadDirective));
     };
-    match directive_of(alloc, head.as_slice())? {
+    match directive_of(texts, head)? {
         None => Ok(Content::Fault(BlockFault::BadDirective)),
-        Some(directive) => content_of_directive(alloc, document, first, directive, lines, ended),
+        Some(directive) => content_of_directive(texts, document, first, directive, &body, ended),
     }
 }
 
 #[tactic(auto, unfolding(crate::specs::Contents::content_of_directive))]
 fn content_of_directive(
-    alloc: Global,
+    texts: &mut Texts,
     document: u32,
     first: u64,
     directive: Directive,
-    lines: &[Listed<u8>],
+    lines: &Lines,
     ended: bool,
 ) -> Result<Content, AllocError>
     ensures { IfOk result (λ content. content ≡ form.content_of_directive document first directive lines.now ended) }
 {
     match directive {
-        Directive::Register { name } => register(alloc, first, name, lines, ended),
+        Directive::Register { name } => register(texts, first, name, lines, ended),
         Directive::Cancel { name } => Ok(Content::Event(Event::Cancel { name })),
         Directive::Item { stream, time } => {
-            item(alloc, document, first, stream, time, lines, ended)
+            item(texts, document, first, stream, time, lines, ended)
         }
         Directive::Tick { time } => Ok(Content::Event(Event::Tick { time })),
-        Directive::Insert => insert(alloc, document, first, lines, ended),
-        Directive::Delete => delete(alloc, document, first, lines, ended),
+        Directive::Insert => insert(texts, document, first, lines, ended),
+        Directive::Delete => delete(texts, document, first, lines, ended),
     }
 }
 
 fn register(
-    alloc: Global,
+    texts: &mut Texts,
     first: u64,
     name: Text,
-    lines: &[Listed<u8>],
+    lines: &Lines,
     ended: bool,
 ) -> Result<Content, AllocError>
     ensures { IfOk result (λ content. content ≡ form.content_of_body first lines.now ended form.is_bad_text
         (λ lines. event.Register name (flat_map form.with_line_feed lines))) }
 {
-    match text_of(alloc, lines)? {
+    match text_of(texts.alloc(), lines)? {
         Ok(text) => ending(first, lines, ended, Event::Register { name, text }),
         Err(place) => bad_line(first, place),
     }
 }
 
 fn item(
-    alloc: Global,
+    texts: &mut Texts,
     document: u32,
     first: u64,
     stream: Text,
     time: u64,
-    lines: &[Listed<u8>],
+    lines: &Lines,
     ended: bool,
 ) -> Result<Content, AllocError>
     ensures { IfOk result (λ content. content ≡ form.content_of_body first lines.now ended (form.is_bad_triple document)
         (λ lines. event.Item stream time (flat_map (form.triple_on document) lines))) }
 {
-    match graph_of(alloc, document, lines)? {
+    match graph_of(texts, document, lines)? {
         Ok(graph) => ending(
             first,
             lines,
@@ -102,44 +103,39 @@ fn item(
 }
 
 fn insert(
-    alloc: Global,
+    texts: &mut Texts,
     document: u32,
     first: u64,
-    lines: &[Listed<u8>],
+    lines: &Lines,
     ended: bool,
 ) -> Result<Content, AllocError>
     ensures { IfOk result (λ content. content ≡ form.content_of_body first lines.now ended (form.is_bad_quad document)
         (λ lines. event.Insert (flat_map (form.quad_on document) lines))) }
 {
-    match quads_of(alloc, document, lines)? {
+    match quads_of(texts, document, lines)? {
         Ok(quads) => ending(first, lines, ended, Event::Insert { quads }),
         Err(place) => bad_line(first, place),
     }
 }
 
 fn delete(
-    alloc: Global,
+    texts: &mut Texts,
     document: u32,
     first: u64,
-    lines: &[Listed<u8>],
+    lines: &Lines,
     ended: bool,
 ) -> Result<Content, AllocError>
     ensures { IfOk result (λ content. content ≡ form.content_of_body first lines.now ended (form.is_bad_quad document)
         (λ lines. event.Delete (flat_map (form.quad_on document) lines))) }
 {
-    match quads_of(alloc, document, lines)? {
+    match quads_of(texts, document, lines)? {
         Ok(quads) => ending(first, lines, ended, Event::Delete { quads }),
         Err(place) => bad_line(first, place),
     }
 }
 
 // the event of a body without a bad line, where the body has its `@end`
-fn ending(
-    first: u64,
-    lines: &[Listed<u8>],
-    ended: bool,
-    event: Event,
-) -> Result<Content, AllocError>
+fn ending(first: u64, lines: &Lines, ended: bool, event: Event) -> Result<Content, AllocError>
     ensures { IfOk result (λ made. made ≡ (if ended
         then content.Event event else content.Fault (BadBody (first + 1 + length lines.now)))) }
 {

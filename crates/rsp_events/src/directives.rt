@@ -6,9 +6,9 @@ ghost use Rattle.rsp_events.specs.DirectiveSteps as steps;
 
 use crate::fields::{has_fields, name_of, only_field, time_of, two_fields};
 use crate::lines::{first_field, same};
-use rsp_nquads::absolute_iri;
-use rsp_terms::Text;
-use std::alloc::{AllocError, Global};
+use rsp_nquads::absolute_iri_among;
+use rsp_terms::{Text, Texts};
+use std::alloc::AllocError;
 
 /// What a block does, by its first line.
 #[derive(Drop)]
@@ -22,29 +22,29 @@ pub(crate) enum Directive {
 }
 
 /// The directive of a line, where it is one. Fails only where memory is refused.
-pub(crate) fn directive_of(alloc: Global, line: &[u8]) -> Result<Option<Directive>, AllocError>
+pub(crate) fn directive_of(texts: &mut Texts, line: &[u8]) -> Result<Option<Directive>, AllocError>
     ensures { IfOk result (λ directive. directive ≡ form.directive_of line.now) }
 {
     let word = first_field(line);
-    directive_read(alloc, word, &line[word.len()..])
+    directive_read(texts, word, &line[word.len()..])
 }
 
 #[tactic(auto, unfolding(crate::specs::DirectiveSteps::directive_read))]
 fn directive_read(
-    alloc: Global,
+    texts: &mut Texts,
     word: &[u8],
     behind: &[u8],
 ) -> Result<Option<Directive>, AllocError>
     ensures { IfOk result (λ directive. directive ≡ steps.directive_read word.now (form.fields behind.now)) }
 {
     if same(word, b"@register") {
-        return register(alloc, behind);
+        return register(texts, behind);
     }
     if same(word, b"@cancel") {
-        return cancel(alloc, behind);
+        return cancel(texts, behind);
     }
     if same(word, b"@item") {
-        return item_of(alloc, behind);
+        return item_of(texts, behind);
     }
     if same(word, b"@tick") {
         return Ok(tick(behind));
@@ -58,43 +58,43 @@ fn directive_read(
     Ok(None)
 }
 
-fn register(alloc: Global, behind: &[u8]) -> Result<Option<Directive>, AllocError>
+fn register(texts: &mut Texts, behind: &[u8]) -> Result<Option<Directive>, AllocError>
     ensures { IfOk result (λ directive. directive ≡ steps.directive_with_name (λ name. Register name) (form.fields behind.now)) }
 {
     let Some(field) = only_field(behind) else {
         return Ok(None);
     };
-    match name_of(alloc, field)? {
+    match name_of(texts.alloc(), field)? {
         None => Ok(None),
         Some(name) => Ok(Some(Directive::Register { name })),
     }
 }
 
-fn cancel(alloc: Global, behind: &[u8]) -> Result<Option<Directive>, AllocError>
+fn cancel(texts: &mut Texts, behind: &[u8]) -> Result<Option<Directive>, AllocError>
     ensures { IfOk result (λ directive. directive ≡ steps.directive_with_name (λ name. Cancel name) (form.fields behind.now)) }
 {
     let Some(field) = only_field(behind) else {
         return Ok(None);
     };
-    match name_of(alloc, field)? {
+    match name_of(texts.alloc(), field)? {
         None => Ok(None),
         Some(name) => Ok(Some(Directive::Cancel { name })),
     }
 }
 
-fn item_of(alloc: Global, behind: &[u8]) -> Result<Option<Directive>, AllocError>
+fn item_of(texts: &mut Texts, behind: &[u8]) -> Result<Option<Directive>, AllocError>
     ensures { IfOk result (λ directive. directive ≡ steps.item_of_fields (form.fields behind.now)) }
 {
     let Some((stream, time)) = two_fields(behind) else {
         return Ok(None);
     };
-    item(alloc, stream, time)
+    item(texts, stream, time)
 }
 
-fn item(alloc: Global, stream: &[u8], time: &[u8]) -> Result<Option<Directive>, AllocError>
+fn item(texts: &mut Texts, stream: &[u8], time: &[u8]) -> Result<Option<Directive>, AllocError>
     ensures { IfOk result (λ directive. directive ≡ steps.item_directive stream.now time.now) }
 {
-    let Some(stream) = absolute_iri(alloc, stream)? else {
+    let Some(stream) = absolute_iri_among(texts, stream)? else {
         return Ok(None);
     };
     match time_of(time) {

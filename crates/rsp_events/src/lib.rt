@@ -9,6 +9,7 @@
 mod begun;
 mod blocks;
 mod bodies;
+mod buffers;
 mod contents;
 mod directives;
 mod event;

@@ -5,6 +5,7 @@ ghost use Rattle.std.specs.Str.Lines.{strip_carriage_return};
 ghost use Rattle.rsp_text.specs.Fronts.{is_blank};
 ghost use Rattle.rsp_events.specs.Lines as text;
 
+use memchr::memchr;
 use rsp_text::is_blank;
 
 /// Where the first line feed stands, or the number of bytes.
@@ -12,7 +13,10 @@ pub(crate) fn line_end(bytes: &[u8]) -> usize
     ensures place { result ≡ position_or_len (λ b. b == 10) bytes.now }
     ensures bound { result ≤ length bytes.now }
 {
-    bytes.iter().take_while(|b| **b != b'\n').count()
+    match memchr(b'\n', bytes) {
+        Some(place) => place,
+        None => bytes.len(),
+    }
 }
 
 /// The bytes without the one carriage return at their end.

@@ -6,8 +6,8 @@ ghost use Rattle.rsp_events.specs.FileLines.{loaded_by, quads_in, no_statement, 
 
 use crate::files::{next_line, next_number, refuse};
 use crate::{LineRefused, RefusedAs};
-use rsp_nquads::{LineFault, statement};
-use rsp_terms::{Listed, Quad};
+use rsp_nquads::{LineFault, statement_among};
+use rsp_terms::{Listed, Quad, Texts};
 use std::alloc::{AllocError, Global};
 
 /// The quads of a file, and its lines that are no statement, both in the file's order.
@@ -33,20 +33,21 @@ fn lines_loaded(alloc: Global, document: u32, bytes: &[u8]) -> Result<LoadedQuad
         quads: Listed::new(alloc),
         refused: Listed::new(alloc),
     };
+    let mut texts = Texts::new(alloc);
     let mut rest = bytes;
     let mut number = 1;
     'lines: loop {
         let Some((text, behind)) = next_line(rest) else {
             return Ok(read);
         };
-        take_line(alloc, document, &mut read, number, text)?;
+        take_line(&mut texts, document, &mut read, number, text)?;
         number = next_number(number)?;
         rest = behind;
     }
 }
 
 fn take_line(
-    alloc: Global,
+    texts: &mut Texts,
     document: u32,
     read: &mut LoadedQuads,
     number: u64,
@@ -56,7 +57,7 @@ fn take_line(
     ensures refused { OnOk result (read.new.refused ≡ read.old.refused
         ++ refused_line (record { number = number; text = text.now }) (no_statement (statement_of document text.now))) }
 {
-    match statement(alloc, document, text) {
+    match statement_among(texts, document, text) {
         Ok(None) => Ok(()),
         Ok(Some(quad)) => Ok(read.quads.push(quad)?),
         Err(LineFault::BadStatement { column }) => {

@@ -11,8 +11,8 @@ ghost use Rattle.rsp_events.specs.Recording as way;
 use crate::fields::number_of;
 use crate::files::{next_line, next_number, refuse};
 use crate::{Event, LineRefused, RefusedAs};
-use rsp_nquads::{LineFault, statement};
-use rsp_terms::{Listed, Quad, Term, Text, Triple};
+use rsp_nquads::{LineFault, statement_among};
+use rsp_terms::{Listed, Quad, Term, Text, Texts, Triple};
 use rsp_text::instant;
 use std::alloc::{AllocError, Global};
 use std::mem;
@@ -77,13 +77,14 @@ fn lines_recorded(
         opened: None,
         refused: Listed::new(alloc),
     };
+    let mut texts = Texts::new(alloc);
     let mut rest = bytes;
     let mut number = 1;
     'lines: loop {
         let Some((text, behind)) = next_line(rest) else {
             return finished(stream, reading);
         };
-        take_line(alloc, stream, document, &mut reading, number, text)?;
+        take_line(&mut texts, stream, document, &mut reading, number, text)?;
         number = next_number(number)?;
         rest = behind;
     }
@@ -106,7 +107,7 @@ fn finished(stream: &Text, reading: Recording) -> Result<RecordedItems, AllocErr
 }
 
 fn take_line(
-    alloc: Global,
+    texts: &mut Texts,
     stream: &Text,
     document: u32,
     reading: &mut Recording,
@@ -115,9 +116,9 @@ fn take_line(
 ) -> Result<(), AllocError>
     ensures { OnOk result (reading.new ≡ way.behind_line stream.now number (statement_of document text.now) reading.old) }
 {
-    match statement(alloc, document, text) {
+    match statement_among(texts, document, text) {
         Ok(None) => Ok(()),
-        Ok(Some(quad)) => take_statement(alloc, stream, reading, number, quad),
+        Ok(Some(quad)) => take_statement(texts.alloc(), stream, reading, number, quad),
         Err(LineFault::BadStatement { column }) => {
             refuse(
                 &mut reading.refused,
