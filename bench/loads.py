@@ -39,6 +39,33 @@ def items(size):
     return b"".join(block(f"@item <s:a> {at}", [f'<a:{at}> <p:v> "{at}" .\n']) for at in range(1, size + 1))
 
 
+def unread_short(size):
+    """Items of a triple of short IRIs of which few are new, on a stream that no query reads."""
+    return b"".join(block(f"@item <s:a> {at}", [f"<a:{at % 50}> <p:v> <b:{at % 7}> .\n"]) for at in range(1, size + 1))
+
+
+def unread_long(size):
+    """Items of two triples of long IRIs and a decimal, each of a new subject, on a stream that no query reads."""
+    front = "http://example.org/sensors/building-7/floor-3"
+
+    def triples(at):
+        observation = f"<{front}/observation/{at}>"
+        return [
+            f"{observation} <{SOSA}madeBySensor> <{front}/sensor/{at % 20}> .\n",
+            f'{observation} <{SOSA}hasSimpleResult> "{at % 100}.{at % 10}"^^<{XSD}decimal> .\n',
+        ]
+
+    return b"".join(
+        block(f"@item <http://example.org/streams/observations> {1_700_000_000_000 + at}", triples(at))
+        for at in range(1, size + 1)
+    )
+
+
+def unread_new(size):
+    """Items of a triple whose texts are all new, each on a new stream that no query reads."""
+    return b"".join(block(f"@item <s:a{at}> {at}", [f"<a:{at}> <p:{at}> <b:{at}> .\n"]) for at in range(1, size + 1))
+
+
 def long_line(size):
     """An item of one triple, whose string has about so many bytes, with an escape in each six of them."""
     string = "xxxx\\n" * (size // 6)
