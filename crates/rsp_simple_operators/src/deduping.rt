@@ -18,11 +18,13 @@ pub struct Deduping<D: Domain> {
 
 impl<D: Domain> Deduping<D> {
     ghost use Rattle.std.specs.Prelude.{◌≡◌, [], IfOk};
+    ghost use Rattle.rsp_simple_operators.specs.Carried.{StandsFor};
 
-    /// The operator over rows of this width.
+    /// The operator over rows of this width. It stands for no rows, under every domain.
     pub fn new(alloc: Global, width: usize) -> Result<Deduping<D>, AllocError>
         ensures width { IfOk result (λ made. made.width ≡ width) }
         ensures rows { IfOk result (λ made. made.rows ≡ []) }
+        ensures nothing { IfOk result (λ made. (domain : D) → StandsFor (D.knows domain) (D.shown domain) made.rows []) }
     {
         Ok(Deduping {
             width,
