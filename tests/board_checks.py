@@ -1,11 +1,11 @@
 """What `tools/board` does without a browser: its words, statuses and limits, its server, and each kind of input."""
+import contextlib
 import os
 import re
 import signal
 import socket
 import subprocess
 import sys
-import threading
 import time
 
 sys.dont_write_bytecode = True
@@ -15,7 +15,7 @@ import documents  # noqa: E402
 from beside.board import charts, lines, page, panels, publishing, serving, state, terms, words  # noqa: E402
 from beside.board.words import USAGE  # noqa: E402
 from board_runs import BOARD, XSD, Events, a_board, checked, decimal, ended, iri, need, report, request, string  # noqa: E402
-from documents import next_bytes, read  # noqa: E402
+from documents import next_bytes, read, skipped  # noqa: E402
 
 # the wait of each page of the tests is long enough for a machine that is busy; this is what is to be seen while it isn't
 SOON = 10
@@ -600,6 +600,43 @@ def in_pieces():
         need([line.content for line in got] == text.split(b"\n")[:-1] and not list(splitter.end()), f"in pieces of {size} they are {got}")
 
 
+def behind_mosquitto():
+    """the recipe of mosquitto shows what comes on a topic"""
+    with broker() as port:
+        publish = ["mosquitto_pub", "-p", str(port), "-t", "reports", "-q", "1", "-r", "-m", report("q", 1, ["x"], [iri("a:1")])]
+        subprocess.run(publish, check=True, timeout=documents.SECONDS)
+        script = [f"{documents.RECIPES}/mosquitto/board", "-p", str(port)]
+        shown_by = subprocess.Popen(script, env={**os.environ, "BOARD": "--port 0 --news q"}, stderr=subprocess.PIPE, start_new_session=True)
+        try:
+            address = shown_by.stderr.readline().decode().split()[-1]
+            there = Events(int(address.split(":")[2].strip("/"))).wait_lines(1)
+            need(there.queries["q"]["kind"] == "news" and there.queries["q"]["at"] == 1, f"{there.queries}")
+        finally:
+            os.killpg(shown_by.pid, signal.SIGTERM)
+            shown_by.wait()
+
+
+@contextlib.contextmanager
+def broker():
+    """A broker of its own on this machine; its port."""
+    with socket.socket() as free:
+        free.bind(("127.0.0.1", 0))
+        port = free.getsockname()[1]
+    path = f"{os.environ['PATH']}:/usr/sbin"
+    process = subprocess.Popen(
+        ["mosquitto", "-p", str(port)], env={"PATH": path}, stdout=subprocess.DEVNULL, stderr=subprocess.DEVNULL)
+    try:
+        for _ in range(SOON * 10):
+            with contextlib.suppress(ConnectionRefusedError):
+                socket.create_connection(("127.0.0.1", port)).close()
+                break
+            time.sleep(0.1)
+        yield port
+    finally:
+        process.terminate()
+        process.wait()
+
+
 def every_word_is_told():
     """docs/TOOLS.md has a section, which tells each word and each limit, and the usage each word"""
     section = read(f"{TOP}/docs/TOOLS.md").decode().split("\n## board\n")[1].split("\n## ")[0]
@@ -616,3 +653,4 @@ def checks():
         pages_that_are_never_read, memory_stays, counts, names_that_wait, overfull_queries, queries_at_most, rows_at_most,
         points_at_most, lines_at_most, charts_at_most, news_at_most, texts_at_most, cells, groups, columns_that_change, bad_input,
         long_and_cut, odd_texts, in_pieces, every_word_is_told)
+    yield from checked(behind_mosquitto) if skipped("mosquitto") is None else [("tools/board behind mosquitto", skipped("mosquitto"))]

@@ -12,7 +12,7 @@ from pictures import Picture
 
 PICTURE = f"{TOP}/docs/board.png"
 # within so many seconds a report is to stand on the page; of several the middle one, since the machine may be busy
-AT_ONCE, SOON = 1, 20
+AT_ONCE, SOON = 1, 60
 ALARM = (179, 38, 30)
 
 # the texts of a query's table, a list a row, its head in front
@@ -317,13 +317,48 @@ def checks():
 # ---- the picture of README
 
 
+WIDTH = 860
+PREFIX = "PREFIX : <http://example.org/>\n"
+WINDOW = "FROM NAMED WINDOW :w ON :readings [RANGE PT1M]\nWHERE { WINDOW :w { ?r :room ?room ; :celsius ?t }"
+QUERIES = f"""@register warm
+{PREFIX}REGISTER ISTREAM :warm AS SELECT DISTINCT ?room {WINDOW} FILTER (?t > 30) }}
+@end
+@register means
+{PREFIX}REGISTER RSTREAM :means AS SELECT ?room (AVG(?t) AS ?mean) {WINDOW} }} GROUP BY ?room
+@end
+"""
+ITEM = """@item <http://example.org/readings> {at}
+_:{node} <http://example.org/room> <http://example.org/{room}> .
+_:{node} <http://example.org/celsius> "{celsius}"^^<http://www.w3.org/2001/XMLSchema#decimal> .
+@end
+"""
+
+
 def draw():
     """Draws the picture of README anew: three rooms of half an hour, by the model of the program."""
     if not browser.installed():
         print("tests/board: there is no browser")
         return 1
+    model = [sys.executable, f"{TOP}/tests/model.py", "events", "--json"]
+    given = subprocess.run(model, input=log_of_picture().encode(), stdout=subprocess.PIPE).stdout
+    with a_board("--title", "Three rooms", "--alarm", "warm") as board, browser.a_browser() as there:
+        page = Pages(there).open(board)
+        board.give(given.rstrip(b"\n"))
+        page.call("Emulation.setDeviceMetricsOverride", width=WIDTH, height=100, deviceScaleFactor=1, mobile=False)
+        page.wait("document.querySelectorAll('tr.fresh').length", 1)
+        height = page.evaluate("Math.ceil(document.querySelector('main').getBoundingClientRect().bottom)") + 16
+        page.call("Emulation.setDeviceMetricsOverride", width=WIDTH, height=height, deviceScaleFactor=1, mobile=False)
+        with open(PICTURE, "wb") as file:
+            file.write(page.picture())
     return 0
 
 
-if __name__ == "__main__":
-    sys.exit(subprocess.call([f"{TOP}/tests/board"]))
+def log_of_picture():
+    """Readings of three rooms, one a half-minute each, for twenty minutes; one comes late."""
+    items = []
+    for number in range(1, 41):
+        at = 1704096000000 + 30_000 * number
+        for room, celsius in (("cellar", 12 + number % 3 / 10), ("hall", 20 + number / 16), ("kitchen", 18 + number * number / 118)):
+            items.append(ITEM.format(at=at, node=f"{room}{number}", room=room, celsius=round(celsius, 1)))
+    late = ITEM.format(at=at - 13_000, node="late", room="hall", celsius=20)
+    return "".join([QUERIES, *items, late, f"@tick {at}\n"])
