@@ -95,17 +95,25 @@ fn empty_places(alloc: Global) -> Result<Vec<Option<Text>>, AllocError> {
     Ok(places)
 }
 
-// The place of a text: by its length, its last bytes and some in its middle. Names that begin alike mostly differ there, and it
-// costs less than the number of a text, which a text that is shared doesn't need again.
+// The place of a text: by its length and its last bytes. Names that begin alike mostly differ there, and it costs less than the
+// number of a text, which a text that is shared doesn't need again.
 fn place_of(text: &[u8]) -> usize {
-    let mut mixed = text.len() as u64;
-    for byte in text.iter().rev().take(8) {
-        mixed = mixed.wrapping_mul(MULTIPLIER) ^ u64::from(*byte);
-    }
-    for byte in text.iter().skip(text.len() / 2).take(4) {
-        mixed = mixed.wrapping_mul(MULTIPLIER) ^ u64::from(*byte);
-    }
+    let mixed = last_bytes(text) ^ text.len() as u64;
     (mixed.wrapping_mul(MULTIPLIER) >> 54) as usize
+}
+
+// the last eight bytes as one number, or all of a shorter text
+fn last_bytes(text: &[u8]) -> u64 {
+    if let [.., a, b, c, d, e, f, g, h] = text {
+        let high = u32::from(*a) << 24 | u32::from(*b) << 16 | u32::from(*c) << 8 | u32::from(*d);
+        let low = u32::from(*e) << 24 | u32::from(*f) << 16 | u32::from(*g) << 8 | u32::from(*h);
+        return u64::from(high) << 32 | u64::from(low);
+    }
+    let mut all: u64 = 0;
+    for byte in text {
+        all = all << 8 | u64::from(*byte);
+    }
+    all
 }
 
 // the text that stands at a place if it has these bytes, else a new one that stands there from now on
