@@ -8,7 +8,7 @@ use Rattle.rsp_spec.specs.Limits.{most_held, most_quads, most_queries}
 use Rattle.rsp_engine.specs.Kept.{held}
 
 -- live queries have distinct names and are no more than can be live, nor is more stored or kept than can be; no item lies further
--- behind `next` than the slack; without a slack items' times don't fall, and under one no live query looks at items
+-- after `next` than the slack; without a slack items' times don't fall, and under one no live query looks at items
 pub record IsWorld (world : World) : Type 0 where
   pub names : IsDistinct bytes_eq (map (λ (query : Query). query.registration.name) world.queries)
   pub live : length world.queries ≤ most_queries
