@@ -174,7 +174,9 @@ def fault_of_mistake(mistake):
         (found,) = explaining.explained(words.parsed(["check", name]), io.BytesIO(output))
     if isinstance(found, Exception):
         return found.finding.said
-    return None if found.write.endswith(f"write instead: {mistake.write}") else f"it says {found.write}"
+    # of several ways one may be told, and of several names which
+    _, _, write = found.write.partition("write instead: ")
+    return None if write and (write.startswith(mistake.write) or mistake.write.startswith(write)) else f"it says {found.write}"
 
 
 # ---- the examples and GUIDE: each finding stands in a list, with a reason

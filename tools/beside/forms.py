@@ -9,7 +9,7 @@ from .pages import EVENTS, RECIPES, page_of
 from .places import cut
 from .recordings import TIME
 
-# what is so, what to write in its place, and where a page says more
+# what is so, what to write in its place, and the page that says more
 Meant = namedtuple("Meant", "said write page")
 MOST_WRITTEN = 400
 
@@ -32,7 +32,8 @@ def as_turtle(line, column):
     if address:
         said = f"{written(address[0])} stands without brackets"
         return Meant(said, f"write {written(b'<%s>' % address[0])}", page_of(EVENTS, "Statements"))
-    sign = re.match(rb"(?i)(@?prefix|@?base)(?=[ \t])", front) or re.match(rb"[;,\[(]|a(?=[ \t<])", piece) or PREFIXED.match(piece)
+    sign = re.match(rb"(?i)(@?prefix|@?base)(?=[ \t])", front)
+    sign = sign or re.match(rb"[;,\[(]|a(?=[ \t<])", piece) or PREFIXED.match(piece)
     if not sign:
         return None
     said = f"{written(sign[0])} is Turtle, and here each line is to be a whole statement, with IRIs in `< >`"

@@ -1,4 +1,4 @@
-"""The byte order mark, which some editors write before a text: it is no part of it, and what is refused after it follows from it."""
+"""The byte order mark, which some editors write before a text: it is no part of it, and what is refused behind it follows."""
 import model
 
 from . import blocks

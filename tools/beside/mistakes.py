@@ -7,8 +7,11 @@ import functools
 import re
 from collections import namedtuple
 
+from .left_out import instead_of
 from .limits import within_limits
+from .meant_spans import meant_at
 from .pages import QUERIES, first_block, page_of, spans, table_rows
+from .renaming import in_its_names
 from .texts import looked
 
 TEXTS, SHAPES, LEFT_OUT = "When a text is refused", "When a query's shape is refused", "Not in the grammar"
@@ -63,16 +66,44 @@ def left_out():
     return [(cell, write) for cell, write in table_rows(QUERIES, LEFT_OUT) if write]
 
 
-def advice(sign):
-    """What the tables say of a fault that is known by this, as what to write and the page; None where they say nothing."""
-    number = sign.number
-    rows = [(row, within_limits(looked, row.text.encode())) for row in mistakes() if row.line.startswith(f"`{number} ")]
-    read = [(row, its.sign) for row, its in rows if its and its.sign]
-    found = [(score, row) for row, its in read for score in [likeness(row, its, sign, read)] if score]
-    if found:
-        row = max(found, key=lambda pair: pair[0])[1]
-        return row.write, page_of(QUERIES, row.heading)
-    return advice_of_left_out(sign)
+def advice(its, rest):
+    """What to write in place of a fault, and the page; None where neither the text nor the tables say it.
+
+    `rest` is the text from the fault on.
+    """
+    if its.could == frozenset(["Span"]):
+        meant = meant_at(rest)
+        if meant:
+            return meant, page_of(QUERIES, "Windows")
+    instead = instead_of(its.sign.what, rest) if its.sign.number == "9" else None
+    if instead:
+        return instead, page_of(QUERIES, LEFT_OUT)
+    return advice_of_tables(its, rest)
+
+
+def advice_of_tables(its, rest):
+    """What the tables say of a fault that is known by this, in the text's own names."""
+    sign = its.sign
+    rows = [(row, within_limits(looked, row.text.encode())) for row in mistakes() if row.line.startswith(f"`{sign.number} ")]
+    read = [(row, of_row) for row, of_row in rows if of_row and of_row.sign]
+    signs = [(row, of_row.sign) for row, of_row in read]
+    found = [(score, row, of_row) for row, of_row in read for score in [likeness(row, of_row.sign, sign, signs)] if score]
+    if not found:
+        return advice_of_left_out(sign)
+    _, row, of_row = max(found, key=lambda one: one[0])
+    return in_text(row, of_row, its, rest), page_of(QUERIES, row.heading)
+
+
+def in_text(row, of_row, its, rest):
+    """What a row says to write, as it is in this text."""
+    address = re.match(r"[a-z]+://[^\s<>]*", rest)
+    string = re.match("[\u201c\u201d\u201e]([^\u201c\u201d\"]*)[\u201c\u201d]", rest)
+    if row.mistake.startswith("`PREFIX ") and address:
+        return f"`<{address[0]}>`"
+    if string:
+        return f'`"{string[1]}"`'
+    write = in_its_names(row.write, of_row.near, its.near) if of_row.near and its.near else row.write
+    return write + (": " + ", or ".join(f"`{name}`" for name in its.names) if its.names else "")
 
 
 def likeness(row, its, sign, rows):

@@ -73,7 +73,9 @@ def of_body(block, place, kind, line):
     else:
         column, meant = fault_of_line(line, kind)
     there = place._replace(column=column)
-    return of_mark(there, kind, line) if line.startswith(MARK, column - 1) else Finding(there, kind, *meant, with_caret(line, column))
+    if line.startswith(MARK, column - 1):
+        return of_mark(there, kind, line)
+    return Finding(there, kind, *meant, with_caret(line, column))
 
 
 def fault_of_line(line, kind):

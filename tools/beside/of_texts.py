@@ -23,14 +23,14 @@ def of_text(text, content, why):
         raise differing.from_model(text.place(min(details.get("at", 0), len(content))), why, its.why)
     if content.startswith(MARK, its.at):
         return of_mark(text.place(its.at), kind_of(why), text.line(its.at))
-    write, page = what_to_write(its, why)
+    write, page = what_to_write(its, why, content[its.at:].decode("utf-8", "replace"))
     return Finding(text.place(its.at), kind_of(why), its.said, write, page, text.shown(its.at))
 
 
-def what_to_write(its, why):
-    """What could stand there and what the tables say; where neither is known, what REPORTS says; and the page for it."""
+def what_to_write(its, why, rest):
+    """What could stand there and what is meant; where neither is known, what REPORTS says; and the page for it."""
     could = None if its.could is None else in_words(its.could)
-    found = its.sign and advice(its.sign)
+    found = its.sign and advice(its, rest)
     if found:
         return "\n".join(filter(None, [could, f"write instead: {found[0]}"])), found[1]
     if could:

@@ -1,4 +1,6 @@
 """Faults of a text's shape and of its policy, 11 to 14: where they are, and by what they came so."""
+import difflib
+
 import model
 import query_model
 import shape_model
@@ -22,9 +24,17 @@ def of_shape(text, query):
     if name == "ExistsShape":
         sort = sort_of_exists(query["select"]["body"], detail)
         return Looked(refusal, detail, EXISTS[sort], Sign("12", sort))
-    behind = [sort_of(said(token)) for token in tokens_of(text) if token.start > detail]
-    what = sort_of(said(next(token for token in tokens_of(text) if token.start == detail)))
-    return Looked(refusal, detail, SHAPES[what], Sign("11", what, (), behind))
+    there, *others = [token for token in tokens_of(text) if token.start >= detail]
+    what, behind = sort_of(said(there)), [sort_of(said(token)) for token in others]
+    names = names_of_windows(text, query, others[0].text) if what == "WINDOW" else ()
+    return Looked(refusal, detail, SHAPES[what], Sign("11", what, (), behind), names=names)
+
+
+def names_of_windows(text, query, wrong):
+    """The names of the windows as their clauses write them, the nearest to the wrong one first."""
+    starts = [clause["name"].start for clause in query["windows"]]
+    names = dict.fromkeys(token.text for token in tokens_of(text) if token.start in starts)
+    return sorted(names, key=lambda name: -difflib.SequenceMatcher(None, wrong, name).ratio())
 
 
 SCOPES = {
