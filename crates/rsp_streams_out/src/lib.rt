@@ -4,8 +4,7 @@
 //! preceding report, in the byte order of the rows' texts, and rows of one text by their cells; so the list depends on
 //! the rows as a multiset alone. `turn_owned` gives the same of what it is given by value, and moves the rows.
 //! `read_by` says which of the two the operator reads, or neither. `report_text`, `report_json` and `overfull_text`
-//! append exactly the defined text of a report. `rows_of` and `ordered` are the parts of `turn`: a bag's rows, each as
-//! often as it is there, and rows in order.
+//! append exactly the defined text of a report. `ordered` gives rows in the order of `turn`.
 #![tactic(auto)]
 
 mod cells;
@@ -19,7 +18,6 @@ mod text;
 mod turning;
 
 pub use json_text::report_json;
-pub use listing::rows_of;
 pub use order::{ordered, printed};
 pub use printing::PrintedRows;
 pub use reading::{Reading, read_by};

@@ -10,7 +10,7 @@ use rsp_terms::{Listed, Term};
 use std::alloc::{AllocError, Global};
 
 /// The rows of the bag, each as often as it is there. Fails only where memory is refused.
-pub fn rows_of(alloc: Global, bag: &Bag<Term>) -> Result<Listed<Row<Term>>, AllocError>
+pub(crate) fn rows_of(alloc: Global, bag: &Bag<Term>) -> Result<Listed<Row<Term>>, AllocError>
     ensures { IfOk result (λ rows. (q : List (Option Term)) → times (row_eq term_eq) rows q ≡ weight (row_eq term_eq) bag.now q) }
 {
     let mut rows = Vec::new(alloc);

@@ -8,7 +8,8 @@ ghost use Rattle.rsp_streams_out.specs.Rows.{in_order};
 ghost use Rattle.rsp_streams_out.specs.Streams.{reported};
 ghost use Rattle.rsp_streams_out.specs.Turning.{times_reported, StandsFor};
 
-use crate::{PrintedRows, printed, rows_of};
+use crate::listing::rows_of;
+use crate::{PrintedRows, printed};
 use rsp_multiset::{Bag, Changes, Row, incoming_rows, negative, outgoing_rows, positive};
 use rsp_report::Operator;
 use rsp_terms::{Listed, Term};

@@ -1,7 +1,7 @@
 // Rows in order, what stream operators report, and the texts of reports.
 use rsp_multiset::{Bag, Changes, Row};
 use rsp_streams_out::{
-    Operator, ordered, overfull_text, report_json, report_text, row_text, rows_of, turn,
+    Operator, ordered, overfull_text, report_json, report_text, row_text, turn,
 };
 use rsp_terms::{Listed, Term, Text, XSD_STRING};
 use std::alloc::{AllocError, Global};
@@ -102,23 +102,6 @@ fn are_ordered(alloc: Global) -> Result<bool, AllocError> {
 #[test]
 fn rows_of_one_text_stand_together(rt: HostRuntime) -> Result<(), Fail> {
     assert!(rt; are_ordered(rt.alloc())?);
-    Ok(())
-}
-
-fn listed_in_order(alloc: Global, bag: &Bag<Term>) -> Result<Listed<Row<Term>>, AllocError> {
-    ordered(alloc, rows_of(alloc, bag)?)
-}
-
-fn is_bag_listed(alloc: Global) -> Result<bool, AllocError> {
-    let bag = bag_of(alloc, &[("b:1", 2), ("a:1", 1)])?;
-    let rows = listed_in_order(alloc, &bag)?;
-    let wanted = listed(alloc, &["a:1", "b:1", "b:1"])?;
-    Ok(rows == wanted)
-}
-
-#[test]
-fn a_row_is_listed_as_often_as_it_is_there(rt: HostRuntime) -> Result<(), Fail> {
-    assert!(rt; is_bag_listed(rt.alloc())?);
     Ok(())
 }
 
