@@ -122,9 +122,39 @@ def fault_of_row(room, row):
         ran = room.run("rsp", row.words, row.input, folder, RSP_STALE="1")
     if ran.stdout != row.output or ran.returncode != row.status:
         return f"status {ran.returncode}, and {row.status} is wanted; it printed {ran.stdout[:200]}"
-    hints = {2: b"  ./rsp ", 3: b"rsp: no file that can be read: "}
-    good = ran.stderr.startswith(hints[row.status]) if row.status in hints else not ran.stderr
+    # at 2 the word that is wrong may be told before the row
+    hints = {2: rb"(?s)(rsp: .*\n)?  ./rsp ", 3: b"rsp: no file that can be read: "}
+    good = re.match(hints[row.status], ran.stderr) if row.status in hints else not ran.stderr
     return None if good else f"it said {ran.stderr[:200]} to standard error"
+
+
+# words that are none, the rows that are said of them, and before them which word is wrong and why
+IRI, FILE = "is no absolute IRI, as http://example.org/in is one", "so it names no file"
+WRONG_WORDS = [
+    (["frob"], [EVENTS, RUN, CHECK, GEN], "`frob` is no mode"),
+    (["chek", "q.rq"], [CHECK], "`chek` is no mode"),
+    (["events", "--csv"], [EVENTS], "`--csv` is no option of `events`"),
+    (["events", "log"], [EVENTS], "`log` is a word too many: a log comes on standard input, as `events < log`"),
+    (["events", "--", "--json"], [EVENTS], "`--json` is a word too many: `--` ends the options"),
+    (["events", "--json", "--json"], [EVENTS], "`--json` is an option that stands twice"),
+    (["events", "--slack", "5s"], [EVENTS], "`5s` is no slack: 0 to 86400000 milliseconds are wanted"),
+    (["events", "--slack=86400001"], [EVENTS], "`86400001` is no slack"),
+    (["events", "--slack"], [EVENTS], "`` is no slack"),
+    (["run"], [RUN], "the file of the query is wanting"),
+    (["run", "q.rq"], [RUN], "no stream is named"),
+    (["run", "q.rq", "r.nq"], [RUN], "`r.nq` has no `=`: a stream's IRI and its file are wanted"),
+    (["run", "q.rq", "r=r.nq"], [RUN], f"`r` in `r=r.nq` {IRI}"),
+    (["run", "q.rq", "h:a=a.nq", "h:b c=r.nq"], [RUN], f"`h:b c` in `h:b c=r.nq` {IRI}"),
+    (["run", "q.rq", "<h:a>=a.nq"], [RUN], "`<h:a>` in `<h:a>=a.nq` stands in brackets"),
+    (["run", "q.rq", "h:a=-"], [RUN], f"`-` begins with `-`, {FILE}, in `h:a=-`"),
+    (["run", "--store", "-s", "q.rq", "h:a=a.nq"], [RUN], f"`-s` begins with `-`, {FILE}, behind `--store`"),
+    (["run", "--json", "q.rq", "--json", "h:a=a.nq"], [RUN], "`--json` is an option that stands twice"),
+    (["run", "q.rq", *(f"h:{n}=a.nq" for n in range(17))], [RUN], "`h:16=a.nq` is a stream too many: 16 may be"),
+    (["check"], [CHECK], "the file of the query is wanting"),
+    (["check", "q.rq", "r.rq"], [CHECK], "`r.rq` is a word too many"),
+    (["check", "--json"], [CHECK], f"`--json` begins with `-`, {FILE}"),
+    (["gen", "many"], [GEN], "`many` is no count: one number from 1 to 1000000 is wanted"),
+]
 
 
 def hints(room):
@@ -135,11 +165,8 @@ def hints(room):
     yield "help by a letter", ["-h"], USAGE, 2, [EVENTS, RUN, CHECK, GEN]
     yield "the version", ["--version"], USAGE, 2, [f"rsp: version {version()}, commit unknown, a kit of tests"]
     yield "no words", [], USAGE, 2, [EVENTS, RUN, CHECK, GEN]
-    yield "a word that is like no mode", ["frob"], USAGE, 2, [EVENTS, RUN, CHECK, GEN]
-    yield "an option that there isn't", ["events", "--csv"], USAGE, 2, [EVENTS]
-    yield "a mode with a letter left out", ["chek", "q.rq"], USAGE, 2, [CHECK]
-    yield "a run without streams", ["run", "q.rq"], USAGE, 2, [RUN]
-    yield "a count that is none", ["gen", "many"], USAGE, 2, [GEN]
+    for words, rows, why in WRONG_WORDS:
+        yield f"wrong words {words}", words, USAGE, 2, [f"rsp: {why}", *rows]
     yield "a query that isn't there", ["check", "p.rq"], b"", 3, ["rsp: no file that can be read: p.rq"]
     yield "a stream that isn't there", ["run", "q.rq", "s:a=a=b.nq"], b"", 3, ["rsp: no file that can be read: s:a=a=b.nq"]
     store = ["run", "--json", "--store=p.nq", "q.rq", "s:a=q.rq"]
