@@ -46,24 +46,26 @@ class Meant:
         return e[0] == "arithmetic" or (e[0] == "signed" and e[1] != "!") or (e[0] == "call" and e[1] in (*OF_NUMBERS, "STRLEN"))
 
     def found(self, variable, are_numbers):
-        """The predicates from which the variable has its values, with what is found there that is a number, or is none."""
+        """Where the variable has its values from, a variable and a predicate, with what is there that is a number, or is none."""
         for source in self.expressions.sources(variable):
             for pattern, spot, way in self.expressions.patterns:
                 for predicate in predicates_into(way) if source == ("variable", pattern) else []:
                     found = predicate and self.values.of(spot, predicate, [None] if are_numbers else UNLIKE)
                     if found:
-                        yield predicate, found
+                        yield source[1], predicate, found
 
 
 def of_use(use, meant, text):
     """The finding at the first predicate at which values are no numbers, or None."""
-    predicate, found = next(meant.found(use.operand[1], False), (None, None))
+    source, predicate, found = next(meant.found(use.operand[1], False), (None, None, None))
     if not found:
         return None
+    # an aggregate has no place of its own
+    start = getattr(use.operand[1], "start", None) or source.start
     file, line, _ = found.first
     said = (
         f"{found.many} of {found.total} values at {quoted(f'<{predicate}>')} are no numbers, "
         f"as the {found.sort} of {file}:{line}: {WHY[use.how]}"
     )
     write = "write a number where they come from, or `STRDT(STR(..), xsd:decimal)` here"
-    return Finding(text.place(use.operand[1].start), "unlike", said, write, page_of(TOOLS, "unlike"))
+    return Finding(text.place(start), "unlike", said, write, page_of(TOOLS, "unlike"))
