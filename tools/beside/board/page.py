@@ -212,6 +212,13 @@ function alarms() {
   return [...panels.values()].filter(({query}) => query.kind === "alarm").map(({query}) => query);
 }
 
+// what pages of boards before this one have left
+function forget() {
+  try {
+    for (const key of Object.keys(localStorage)) if (key.startsWith("board ") && key !== store()) localStorage.removeItem(key);
+  } catch { /* nothing was kept */ }
+}
+
 function look() {
   if (top_ === null || document.hidden) return;
   for (const query of alarms()) looked[query.name] = query.all;
@@ -237,6 +244,10 @@ function refusals({refused, lacking}) {
 
 function showTop(top) {
   if (top_ !== null && top_.run !== top.run) return location.reload();
+  if (top_ === null) {
+    top_ = top;
+    forget();
+  }
   top_ = top;
   looked = remembered();
   byId("title").textContent = top.title;
@@ -325,7 +336,7 @@ PAGE = f"""<!doctype html>
 <dl id="facts"></dl>
 <div id="notes"></div>
 </header>
-<main id="queries" aria-live="polite"></main>
+<main id="queries"></main>
 <script>{SCRIPT}</script>
 </body>
 </html>
