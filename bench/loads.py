@@ -522,3 +522,29 @@ def hostile(name):
         return block("@register q", [f"{front}{repeated(piece, left)}{end}\n"])
 
     return load
+
+
+# a query with groups and a join, over the readings of ten thousand places of which each has a district
+ROUNDS_QUERY = """@register q
+PREFIX : <h:>
+REGISTER RSTREAM :out REPORT CLOSE TICK TIME AS
+SELECT ?place ?district (COUNT(*) AS ?n) (MAX(?t) AS ?most) (AVG(?h) AS ?mean)
+FROM NAMED WINDOW :w ON :readings [RANGE PT5S]
+WHERE { WINDOW :w { ?place :celsius ?t ; :humidity ?h } ?place :in ?district }
+GROUP BY ?place ?district
+@end
+"""
+PLACES, READINGS_OF_ROUND = 10_000, 8
+
+
+def rounds(size):
+    """So many items a millisecond apart, in pieces: each has two triples of each of eight places. The query splits by the place."""
+    yield block("@insert", [f"<h:p{place}> <h:in> <h:d{place % 50}> .\n" for place in range(PLACES)])
+    yield ROUNDS_QUERY.encode()
+    for at in range(1, size + 1):
+        places = [(at * 7919 + k * 1249) % PLACES for k in range(READINGS_OF_ROUND)]
+        yield block(f"@item <h:readings> {at}", (text for place in places for text in (
+            f'<h:p{place}> <h:celsius> "{(at + place) % 400 / 10}"^^<{XSD}decimal> .\n',
+            f'<h:p{place}> <h:humidity> "{(at * 3 + place) % 100}"^^<{XSD}integer> .\n',
+        )))
+    yield f"@tick {-(-size // 5_000) * 5_000}\n".encode()
