@@ -2,6 +2,7 @@
 use Rattle.std.specs.Prelude.{ℕ, ◌+◌, [], Option, None, length}
 use Rattle.rsp_query.specs.Groups.{Part}
 use Rattle.rsp_query.specs.Walks.{own_slashes}
+use Rattle.rsp_spec.specs.Limits.{most_variables, most_patterns, most_operators, most_elements, most_value_rows}
 use Rattle.rsp_written.specs.Trees as written
 use Rattle.rsp_written.specs.Trees.{Verb, named, along, Node, described, Nodes, no_node, node_then, Properties, no_property}
 use Rattle.rsp_written.specs.Trees.{property_then, Element, Elements, no_element, element_then, Selected, selected}
@@ -112,8 +113,8 @@ variables_of select = length (behind_selected [] nothing select).variables
 -- the first limit that a SELECT with so many variables and operators passes
 abbrev pub passed_as_written : ℕ → Selected → ℕ → Option LimitName
 passed_as_written variables select signs =
-    over 64 (variables + select_count count.Slashes select) limit.Variables
-    (over 64 (select_count count.Steps select) limit.Patterns
-    (over 512 signs limit.Operators
-    (over 256 (select_count count.Elements select) limit.Elements
-    (over 4096 (select_count count.Rows select) limit.Rows None))))
+    over most_variables (variables + select_count count.Slashes select) limit.Variables
+    (over most_patterns (select_count count.Steps select) limit.Patterns
+    (over most_operators signs limit.Operators
+    (over most_elements (select_count count.Elements select) limit.Elements
+    (over most_value_rows (select_count count.Rows select) limit.Rows None))))

@@ -1,7 +1,8 @@
 -- Definitions: what is counted of a query as it is written, and the first limit that it passes.
 use Rattle.std.specs.Prelude.{ℕ, ◌+◌, Bool, true, ◌&&◌, cond, nat_lt, nat_le, List, Option, None, Some, length, unwrap_or}
 use Rattle.std.specs.List.{list_all}
-use Rattle.rsp_spec.specs.Limits.{last_instant}
+use Rattle.rsp_spec.specs.Limits.{last_instant, most_windows, most_variables, most_patterns, most_operators, most_elements}
+use Rattle.rsp_spec.specs.Limits.{most_value_rows}
 use Rattle.rsp_query.specs.Paths.{Way, Ways}
 use Rattle.rsp_query.specs.Paths as path
 use Rattle.rsp_query.specs.Groups as query
@@ -74,15 +75,15 @@ body_of (query.selection distinct star items body grouped keys having aggregates
 
 abbrev pub passed_by_counts : ℕ → Parts → ℕ → Option LimitName
 passed_by_counts variables body signs =
-    over 64 (variables + slashes_in body) limit.Variables
-    (over 64 (counted own_steps body) limit.Patterns
-    (over 512 signs limit.Operators
-    (over 256 (counted own_element body) limit.Elements
-    (over 4096 (counted own_rows body) limit.Rows None))))
+    over most_variables (variables + slashes_in body) limit.Variables
+    (over most_patterns (counted own_steps body) limit.Patterns
+    (over most_operators signs limit.Operators
+    (over most_elements (counted own_element body) limit.Elements
+    (over most_value_rows (counted own_rows body) limit.Rows None))))
 
 abbrev pub limit_of : Written → Option LimitName
 limit_of w =
-    over 16 (length w.windows) limit.Windows
+    over most_windows (length w.windows) limit.Windows
     (cond (has_spans w)
     (passed_by_counts (length (made_of w).1.before.variables) (body_of (made_of w).0) (made_of w).1.operators)
     (Some limit.Span))

@@ -1,6 +1,7 @@
 -- Words of the way: the answer to a text that the grammar has read, `limit_of` and `query_of` as one answer; and the same
 -- in the words by which the code makes it.
 use Rattle.std.specs.Prelude.{◌≡◌, cond, List, [], Option, None, Some, Result, Ok, Err, length, map}
+use Rattle.rsp_spec.specs.Limits.{most_windows}
 use Rattle.rsp_report.specs.declared.words.PolicyWords.{PolicyWords}
 use Rattle.rsp_query.specs.declared.query.Query.{Query}
 use Rattle.rsp_query.specs.declared.query.WindowClause.{WindowClause}
@@ -41,7 +42,7 @@ IsNumberedBehind w policy windows (Err name) = limit_behind w ≡ Some name
 
 -- and from the text on
 abbrev pub limit_by : Written → Option LimitName
-limit_by w = over 16 (length w.windows) limit.Windows (cond (has_spans w) (limit_behind w) (Some limit.Span))
+limit_by w = over most_windows (length w.windows) limit.Windows (cond (has_spans w) (limit_behind w) (Some limit.Span))
 
 abbrev pub query_by : Written → Registered
 query_by w = query_behind w (policy_of w.policy) (map (clause_of (policy_of w.policy)) w.windows)

@@ -14,6 +14,9 @@ use crate::names::variables_of;
 use crate::operators::{of_select, plus};
 use crate::{Before, LimitName};
 use rsp_query::{PolicyWords, Query, WindowClause};
+use rsp_spec::limits::{
+    MOST_ELEMENTS, MOST_OPERATORS, MOST_PATTERNS, MOST_VALUE_ROWS, MOST_VARIABLES, MOST_WINDOWS,
+};
 use rsp_terms::Text;
 use rsp_written::{Registration, Select};
 use std::alloc::{AllocError, Global};
@@ -31,7 +34,7 @@ fn query_or_limit(
 ) -> Result<Result<Query, LimitName>, AllocError>
     ensures { IfOk result (IsNumberedBy (written.written_of text.now)) }
 {
-    if 16 < text.windows.len() {
+    if MOST_WINDOWS < text.windows.len() {
         return Ok(Err(LimitName::Windows));
     }
     if !has_periods(&text.policy) {
@@ -115,19 +118,19 @@ fn passed_by_counts(
     ensures { IfOk result (λ name. name ≡ counting.passed_as_written variables (written.select_of select.now) signs) }
 {
     let slashes = in_select(Count::Slashes, select)?;
-    if 64 < plus(variables, slashes)? {
+    if MOST_VARIABLES < plus(variables, slashes)? {
         return Ok(Some(LimitName::Variables));
     }
-    if 64 < in_select(Count::Steps, select)? {
+    if MOST_PATTERNS < in_select(Count::Steps, select)? {
         return Ok(Some(LimitName::Patterns));
     }
-    if 512 < signs {
+    if MOST_OPERATORS < signs {
         return Ok(Some(LimitName::Operators));
     }
-    if 256 < in_select(Count::Elements, select)? {
+    if MOST_ELEMENTS < in_select(Count::Elements, select)? {
         return Ok(Some(LimitName::Elements));
     }
-    if 4_096 < in_select(Count::Rows, select)? {
+    if MOST_VALUE_ROWS < in_select(Count::Rows, select)? {
         return Ok(Some(LimitName::Rows));
     }
     Ok(None)
