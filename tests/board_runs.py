@@ -6,7 +6,6 @@ import socket
 import subprocess
 import time
 
-import browser
 from documents import TOP
 
 BOARD = f"{TOP}/tools/board"
@@ -173,12 +172,12 @@ def ended(*words, given=b"", **streams):
 
 
 def checked(*checks):
-    """Each check, a function, by the first line of what it says of itself, and what it found wrong."""
+    """Each check, a function, by the first line of what it says of itself, and what it found wrong; so is whatever ends it."""
     for check in checks:
         name = check.__doc__.split("\n")[0].rstrip(".")
         try:
             check()
             yield f"tools/board: {name}", None
-        except (Failed, browser.Failed, OSError, subprocess.SubprocessError, KeyError, IndexError, ValueError) as why:
+        except Exception as why:
             yield f"tools/board: {name}", f"{type(why).__name__}: {why}"[:1000]
 
