@@ -538,7 +538,7 @@ PLACES, READINGS_OF_ROUND = 10_000, 8
 
 
 def rounds(size):
-    """So many items a millisecond apart, in pieces: each has two triples of each of eight places. The query splits by the place."""
+    """So many items a millisecond apart, in pieces: each has two triples of each of eight places. The query splits by place."""
     yield block("@insert", [f"<h:p{place}> <h:in> <h:d{place % 50}> .\n" for place in range(PLACES)])
     yield ROUNDS_QUERY.encode()
     for at in range(1, size + 1):

@@ -137,7 +137,8 @@ def by_pipes(program, folder):
         f"{TOP}/tools/part 3 --to in <&3 & {TOP}/tools/merge out/0 out/1 out/2; wait"
     )
     given, (wanted, _) = ran(command, folder, log), runs(program)(log)
-    return None if (given.stdout, given.stderr) == (wanted, b"") else f"it gave {given.stdout[:200]} and said {given.stderr[:200]}"
+    is_good = (given.stdout, given.stderr) == (wanted, b"")
+    return None if is_good else f"it gave {given.stdout[:200]} and said {given.stderr[:200]}"
 
 
 def fault_of_complaint(given, status, said):
@@ -170,7 +171,7 @@ def merged_to_a_full_device(folder):
 
 def fault_of_words(folder):
     """Words that are none, each with a status of 2."""
-    wrong = ["", "2", "0 --to .", "257 --to .", "x --to .", "2 3 --to .", "2 --to", "2 --to . --slack x", "2 --to . --slack 86400001"]
+    wrong = ["", "2", "0 --to .", "257 --to .", "x --to .", "2 3 --to .", "2 --to", "2 --to . --slack x", "2 --to . --slack -1"]
     given = [words for words in wrong if ran(f"{TOP}/tools/part {words}", folder).returncode != 2]
     return f"these are taken: {given}" if given else None
 

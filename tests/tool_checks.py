@@ -230,7 +230,8 @@ def checks_of_pages():
     """Each name of a finding has its section, and each refusal its sentence."""
     headings = [pages.anchor(line.lstrip("# ")) for line in pages.lines_of(pages.TOOLS) if line.startswith("#")]
     names = "unbound having inexact unfed unread unlooked unstored unseen unlike merged restless gap unclosed seconds late"
-    for name in [*names.split(), "explain", "where-model-and-program-differ"]:
+    names += " explain split part merge where-model-and-program-differ"
+    for name in names.split():
         yield f"docs/TOOLS.md has a section {name}", None if name in headings else "there is none"
     for kind in refusals.DETAILS:
         yield f"REPORTS has a sentence of {kind}", None if pages.paragraph(kind)[1] != pages.UNKNOWN else "there is none"

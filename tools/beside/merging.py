@@ -144,8 +144,8 @@ def fault_of_part(part, first):
         return f"part {part.number} ended before {wanted}"
     if part.head[:2] != first.head[:2]:
         return f"part {part.number} has {told_report(*part.head[:2])} where part {first.number} has {wanted}"
-    heads = [report.head for report in (part.head, first.head) if isinstance(report, Report)]
-    return f"part {part.number} has other columns in {wanted} than part {first.number}" if heads[1:] not in ([], heads[:1]) else None
+    columns = {said.head for said in (part.head, first.head) if isinstance(said, Report)}
+    return f"part {part.number} has other columns in {wanted} than part {first.number}" if len(columns) > 1 else None
 
 
 def as_bytes(reports):

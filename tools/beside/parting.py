@@ -32,7 +32,7 @@ PLAIN = re.compile(rb"[ \t]*(%s)[ \t]+%s[ \t]+(?:%s|%s)[ \t]*\.[ \t]*\r?\n" % (N
 
 @functools.lru_cache(maxsize=100_000)
 def part_of(subject, count):
-    """The part of a subject as it is printed, `<..>` or `_:..`: the first eight bytes of its SHA-256, modulo how many there are."""
+    """The part of a subject as it is printed, `<..>` or `_:..`: the first eight bytes of its SHA-256, modulo the count."""
     return int.from_bytes(hashlib.sha256(subject).digest()[:8], "big") % count
 
 

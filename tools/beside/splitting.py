@@ -219,7 +219,7 @@ class Rule:
         return OWN if kind == MIXED or tested else kind
 
     def of_optional(self, part, before, is_in_window):
-        """OPTIONAL and MINUS ask for each row before them whether it has a partner, so a WINDOW in them wants rows of one part."""
+        """OPTIONAL and MINUS ask for each row before them whether it has a partner: with a WINDOW, in one part."""
         if self.of_group(part[1], is_in_window) == STORED:
             return before
         if before != OWN:
