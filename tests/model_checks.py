@@ -5,10 +5,11 @@ On all logs of the rows the model is compared by `tests/model.py --rows`, which 
 import contextlib
 import os
 import shutil
+import subprocess
 import sys
 import tempfile
 
-from documents import TOP
+from documents import SECONDS, TOP
 
 sys.path.insert(0, f"{TOP}/tools")
 from beside import modelling  # noqa: E402
@@ -50,7 +51,26 @@ def fault(row):
     return f"status {found.status}, and {row.status} is wanted; it gives {found.output[:400]}"
 
 
+def fault_of_process(status, **streams):
+    """What is wrong with a log's run as a process of its own, between such streams, or None. It says no more than two lines."""
+    ran = subprocess.run([f"{TOP}/tools/model", "events"], stderr=subprocess.PIPE, timeout=SECONDS, **streams)
+    said = ran.stderr.decode().splitlines()
+    is_good = ran.returncode == status and len(said) == 2 and all(line.startswith("model: ") for line in said)
+    return None if is_good else f"status {ran.returncode}, and {status} is wanted; it said {said}"
+
+
+def faults_of_streams():
+    """Input and output that fail, each as its name and what is wrong with the run."""
+    folder = os.open(TOP, os.O_RDONLY | os.O_DIRECTORY)
+    yield "from a folder", fault_of_process(3, stdin=folder, stdout=subprocess.DEVNULL)
+    os.close(folder)
+    with open(f"{TOP}/examples/first/log", "rb") as log, open("/dev/full", "wb") as full:
+        yield "to a full device", fault_of_process(4, stdin=log, stdout=full)
+
+
 def checks(rows):
     """Each check as its name and what it found wrong."""
     for row in filter(is_tried, rows):
         yield f"{row.name}, by tools/model", fault(row)
+    for name, wrong in faults_of_streams():
+        yield f"tools/model {name}", wrong
