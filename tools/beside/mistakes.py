@@ -7,7 +7,7 @@ import functools
 import re
 from collections import namedtuple
 
-from .left_out import instead_of
+from .left_out import of_regex
 from .limits import within_limits
 from .meant_spans import meant_at
 from .pages import QUERIES, first_block, page_of, spans, table_rows
@@ -75,7 +75,7 @@ def advice(its, rest):
         meant = meant_at(rest)
         if meant:
             return meant, page_of(QUERIES, "Windows")
-    instead = instead_of(its.sign.what, rest) if its.sign.number == "9" else None
+    instead = of_regex(rest) if its.sign.what == "REGEX" else None
     if instead:
         return instead, page_of(QUERIES, LEFT_OUT)
     return advice_of_tables(its, rest)
@@ -147,7 +147,7 @@ def advice_of_left_out(sign):
 
 def is_left_out(piece, sign):
     """Whether a form of the table of what is left out is the one at which this fault lies."""
-    words = re.findall(r"[A-Za-z_]+|[^\sA-Za-z_]", piece)
+    words = re.findall(r"[A-Za-z_][A-Za-z_0-9]*|[^\sA-Za-z_]", piece)
     if sign.number == "9" and sign.what in words:
         return is_before(words[:words.index(sign.what)], sign) and (words[0] != "!" or "^" in sign.could)
     if sign.number == "8" and words[0] == "FROM":
