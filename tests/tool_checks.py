@@ -18,7 +18,7 @@ import documents  # noqa: E402
 import model  # noqa: E402
 import query_model  # noqa: E402
 import tool_cases  # noqa: E402
-from beside import counted, explaining, limits, mistakes, of_texts, pages, refusals, texts, words  # noqa: E402
+from beside import counted, explaining, limits, marks, mistakes, of_texts, pages, refusals, texts, words  # noqa: E402
 from documents import read  # noqa: E402
 
 EXPECTED = f"{TOP}/tests/tools.expected"
@@ -51,8 +51,11 @@ def fault_of_row(said, folder, output):
     """Whether each refusal has a finding, at the byte that its details say."""
     with within(folder):
         asked = words.parsed(said, has_log=True)
-        found = list(explaining.explained(asked, io.BytesIO(output)))
+        found = list(explaining.each_explained(asked, io.BytesIO(output)))
         entries = [entry for entry in refusals.written(io.BytesIO(output)) if not isinstance(entry, refusals.Overfull)]
+        if any(finding.kind == "3 BadDirective" and finding.said == marks.SAID for finding in told_of(found)):
+            # what is refused for a mark before its directive isn't told
+            entries = entries[:len(found)]
         if len(found) != len(entries):
             return f"{len(entries)} refusals have {len(found)} findings"
         differing = [one for one in found if isinstance(one, Exception)]
@@ -61,6 +64,10 @@ def fault_of_row(said, folder, output):
         groups = list(model.groups(model.lines_of(io.BytesIO(read(asked.log))))) if asked.log else None
         pairs = zip(entries, found)
         return next(filter(None, (fault_of_place(entry, finding, asked, groups) for entry, finding in pairs)), None)
+
+
+def told_of(found):
+    return [one for one in found if not isinstance(one, Exception)]
 
 
 def fault_of_place(entry, finding, asked, groups):

@@ -30,9 +30,14 @@ def explain(words):
 
 
 def explained(words, output):
+    """The refusals of an output; many of one cause are one finding."""
+    return in_runs(each_explained(words, output))
+
+
+def each_explained(words, output):
     """Each refusal of an output, as a finding; Differs in the place of one that the model doesn't see so."""
     ways = {"events": of_log, "run": of_run, "check": of_check}
-    return in_runs(ways[words.mode](words, guarded(written(output), "standard input")))
+    return ways[words.mode](words, guarded(written(output), "standard input"))
 
 
 # ---- a log

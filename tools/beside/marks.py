@@ -4,7 +4,7 @@ import model
 from . import blocks
 from .findings import Finding
 from .pages import EVENTS, page_of
-from .places import Place, with_caret
+from .places import with_caret
 from .recordings import time_in
 
 MARK = b"\xef\xbb\xbf"

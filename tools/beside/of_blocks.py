@@ -104,9 +104,8 @@ def without_end(block, place, kind, line):
 
 def of_registered(block, why):
     """A refused text of a query that a block registers. Where the text goes on past a directive, that is the fault."""
-    text, details = blocks.text_of(block), details_of(why)
+    found = of_text(blocks.text_of(block), blocks.query_text(block), why)
     line = next((line for line in block.lines[1:] if blocks.is_directive(line.text)), None)
-    start = sum(len(there.text) + 1 for there in block.lines[1:] if line and there.number < line.number)
-    if line and (details.get("at", -1) >= start or why == "10 Limit what=text"):
-        return without_end(block, Place(block.file, line.number, 1), kind_of(why), line.text)
-    return of_text(text, blocks.query_text(block), why)
+    if line and found.place.line >= line.number:
+        return without_end(block, Place(block.file, line.number, 1), found.kind, line.text)
+    return found
