@@ -5,21 +5,29 @@ ghost use Rattle.rsp_terms.specs.Terms.{xsd_string};
 use crate::{Text, XSD_STRING};
 use std::alloc::{AllocError, Global};
 
-const PLACES: usize = 1024;
+const PLACES: usize = 512;
 
 const LONGEST: usize = 128;
 
 const MULTIPLIER: u64 = 0x9E37_79B9_7F4A_7C15;
 
-/// Makes texts, and keeps of those that it made the last one of each of 1,024 places, which a few bytes of a text tell. A text
-/// that stands there is shared: it isn't made again, nor is its number. One of more than 128 bytes is never kept, so that the
+/// Makes texts, and keeps in each of 512 places, which a few bytes of a text tell, the last one that came twice in a row there. A
+/// text that stands there is shared: it isn't made again, nor is its number. One of more than 128 bytes is never kept, so that the
 /// table holds at most 256 KiB whatever comes.
 #[derive(Drop)]
 pub struct Texts {
-    places: Vec<Option<Text>>,
+    places: Vec<Place>,
     string: Option<Text>,
     keeps: bool,
     alloc: Global,
+}
+
+// What stands in a place: the text that was kept last, and what the last new one was told by. A text is kept as it comes again, so
+// that those that come once take no place and are let go at once.
+#[derive(Drop)]
+struct Place {
+    held: Option<Text>,
+    last: u64,
 }
 
 impl Texts {
@@ -64,9 +72,10 @@ impl Texts {
     fn short_text(&mut self, text: &str) -> Result<Text, AllocError>
         ensures { IfOk result (λ made. made ≡ text.now) }
     {
-        match self.places.get_mut(place_of(text.as_bytes())) {
+        let mixed = mixed_bytes(text.as_bytes());
+        match self.places.get_mut((mixed >> 55) as usize) {
             None => Text::new(self.alloc, text),
-            Some(held) => text_at(self.alloc, held, text),
+            Some(place) => text_at(self.alloc, place, text, mixed),
         }
     }
 
@@ -87,19 +96,22 @@ impl Texts {
     }
 }
 
-fn empty_places(alloc: Global) -> Result<Vec<Option<Text>>, AllocError> {
+fn empty_places(alloc: Global) -> Result<Vec<Place>, AllocError> {
     let mut places = Vec::with_capacity(alloc, PLACES)?;
     for _ in 0..PLACES {
-        places.push(None)?;
+        places.push(Place {
+            held: None,
+            last: 0,
+        })?;
     }
     Ok(places)
 }
 
-// The place of a text: by its length and its last bytes. Names that begin alike mostly differ there, and it costs less than the
-// number of a text, which a text that is shared doesn't need again.
-fn place_of(text: &[u8]) -> usize {
+// What tells the place of a text: its length and its last bytes. Names that begin alike mostly differ there, and it costs less than
+// the number of a text, which a text that is shared doesn't need again.
+fn mixed_bytes(text: &[u8]) -> u64 {
     let mixed = last_bytes(text) ^ text.len() as u64;
-    (mixed.wrapping_mul(MULTIPLIER) >> 54) as usize
+    mixed.wrapping_mul(MULTIPLIER)
 }
 
 // the last eight bytes as one number, or all of a shorter text
@@ -116,16 +128,19 @@ fn last_bytes(text: &[u8]) -> u64 {
     all
 }
 
-// the text that stands at a place if it has these bytes, else a new one that stands there from now on
-fn text_at(alloc: Global, held: &mut Option<Text>, text: &str) -> Result<Text, AllocError>
+// the text that stands at a place if it has these bytes, else a new one, which stands there from now on if it came before
+fn text_at(alloc: Global, place: &mut Place, text: &str, mixed: u64) -> Result<Text, AllocError>
     ensures { IfOk result (λ made. made ≡ text.now) }
 {
-    if let Some(last) = held {
-        if last.as_str() == text {
-            return last.share();
+    if let Some(held) = &place.held {
+        if held.as_str() == text {
+            return held.share();
         }
     }
     let made = Text::new(alloc, text)?;
-    *held = Some(made.share()?);
+    if place.last == mixed {
+        place.held = Some(made.share()?);
+    }
+    place.last = mixed;
     Ok(made)
 }
