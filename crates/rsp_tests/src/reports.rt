@@ -1,8 +1,6 @@
 // Rows in order, what stream operators report, and the texts of reports.
 use rsp_multiset::{Bag, Changes, Row};
-use rsp_streams_out::{
-    Operator, ordered, overfull_text, report_json, report_text, row_text, turn,
-};
+use rsp_streams_out::{Operator, ordered, overfull_text, report_json, report_text, row_text, turn};
 use rsp_terms::{Listed, Term, Text, XSD_STRING};
 use std::alloc::{AllocError, Global};
 use std::test::Fail;
