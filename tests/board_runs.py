@@ -114,7 +114,9 @@ class Running:
             [BOARD, "--port", str(port), *words], **{"stdin": subprocess.PIPE, "stderr": subprocess.PIPE, **streams}
         )
         self.said = self.process.stderr.readline().decode()
-        need(self.said.startswith("tools/board: http://127.0.0.1:"), f"it said {self.said}")
+        if not self.said.startswith("tools/board: http://127.0.0.1:"):
+            self.process.kill()
+            raise Failed(f"it said {self.said}")
         self.address = self.said.split(" ")[1].strip()
         self.port = int(self.address.split(":")[2].strip("/"))
 

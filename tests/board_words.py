@@ -124,7 +124,7 @@ def passes_to_nobody():
         need(b"standard output" in board.process.stderr.readline(), "nothing is said")
         try:
             for _ in range(SOON * 10):
-                board.give("x" * 1000)
+                board.give("x")
                 time.sleep(0.1)
             need(False, "who writes isn't told")
         except BrokenPipeError:
