@@ -76,14 +76,14 @@ def of_run(words):
     if its is None or its.why:
         return in_order([*faults, *([of_refused_text(text, text.content, its.why)] if its else [])])
     named = {stream.name: Place(stream.file, 1, 1) for stream in reversed(words.streams)}
-    course = course_of_run(its.query, text, stores, streams)
+    course = course_of_run(Course(), its.query, text, stores, streams)
     # a file that is named feeds its stream, whatever it holds
     course.live[b"query"].fed.update(named)
     return in_order([*faults, *findings_of(course, words.mode, named)])
 
 
-def course_of_run(query, text, stores, streams):
-    course = Course()
+def course_of_run(course, query, text, stores, streams):
+    """The course, behind all events of a run."""
     for store in stores:
         course.insert([quad.fact for quad in store.quads], [Place(store.file, quad.line, 1) for quad in store.quads])
     course.refused.stores = any(store.refused for store in stores)
@@ -105,7 +105,14 @@ def course_of_run(query, text, stores, streams):
 
 def of_log(log, name, slack=0):
     """The findings of a log, an open file, under the name."""
-    course, faults, named, torn = Course(slack), [], {}, TornBody()
+    course = Course(slack)
+    faults, named = course_of_log(course, log, name)
+    return in_order([*in_runs(faults), *findings_of(course, "events", named)])
+
+
+def course_of_log(course, log, name):
+    """Leads the course through a log; its faults, and the first place of each stream."""
+    faults, named, torn = [], {}, TornBody()
     for block in blocks.blocks_of(log, name):
         follows = torn.follows(block)
         if block.event is not None:
@@ -113,7 +120,7 @@ def of_log(log, name, slack=0):
         elif not follows:
             faults.append(of_form(block, block.why))
             course.refused.note(block)
-    return in_order([*in_runs(faults), *findings_of(course, "events", named)])
+    return faults, named
 
 
 def take(block, course, faults, named):

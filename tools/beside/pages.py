@@ -4,8 +4,8 @@ import re
 
 from . import TOP
 
-QUERIES, REPORTS, EVENTS, RECIPES, TOOLS, PARTS = (
-    f"docs/{name}.md" for name in ("QUERIES", "REPORTS", "EVENTS", "RECIPES", "TOOLS", "PARTS")
+QUERIES, REPORTS, EVENTS, RECIPES, TOOLS, PARTS, COSTS = (
+    f"docs/{name}.md" for name in ("QUERIES", "REPORTS", "EVENTS", "RECIPES", "TOOLS", "PARTS", "COSTS")
 )
 
 

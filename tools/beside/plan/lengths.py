@@ -1,0 +1,38 @@
+"""Spans of time and numbers in words."""
+import math
+from fractions import Fraction
+
+UNITS = (("d", 86_400_000), ("h", 3_600_000), ("min", 60_000))
+
+
+def lasting(milliseconds):
+    """A span, exactly: in the largest unit of which it is a multiple, else in seconds."""
+    for unit, size in UNITS:
+        if milliseconds % size == 0 and milliseconds >= size:
+            return f"{milliseconds // size} {unit}"
+    return f"{decimal(Fraction(milliseconds, 1000))} s"
+
+
+def about(milliseconds):
+    """A span as two units say it, rounded down."""
+    for place, (unit, size) in enumerate(UNITS):
+        if milliseconds >= size:
+            whole, rest = divmod(int(milliseconds), size)
+            smaller, of_smaller = (*UNITS, ("s", 1000))[place + 1]
+            return f"{whole} {unit} {rest // of_smaller} {smaller}" if rest >= of_smaller else f"{whole} {unit}"
+    return f"{decimal(Fraction(int(milliseconds), 1000))} s"
+
+
+def decimal(number):
+    """A number with at most three digits that count behind the dot, or more where it is small."""
+    if number == int(number):
+        return str(int(number))
+    digits = 3 if number >= 1 else min(12, 3 - math.floor(math.log10(number)))
+    return f"{float(number):.{digits}f}".rstrip("0").rstrip(".")
+
+
+def size(megabytes):
+    """So much memory, in words."""
+    if megabytes < 1:
+        return "less than 1 MB"
+    return f"some {round(megabytes)} MB" if megabytes < 1000 else f"some {decimal(Fraction(round(megabytes / 100), 10))} GB"
