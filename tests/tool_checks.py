@@ -237,7 +237,7 @@ def checks_of_pages():
     """Each name of a finding has its section, and each refusal its sentence."""
     headings = [pages.anchor(line.lstrip("# ")) for line in pages.lines_of(pages.TOOLS) if line.startswith("#")]
     names = "unbound having inexact unfed unread unlooked unstored unseen unlike merged restless gap unclosed seconds late"
-    names += " explain split part merge where-model-and-program-differ"
+    names += " explain plan look-out split part merge where-model-and-program-differ"
     for name in names.split():
         yield f"docs/TOOLS.md has a section {name}", None if name in headings else "there is none"
     for kind in refusals.DETAILS:

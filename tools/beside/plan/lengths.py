@@ -24,8 +24,8 @@ def about(milliseconds):
 
 
 def decimal(number):
-    """A number with at most three digits that count behind the dot, or more where it is small."""
-    if number == int(number):
+    """A number, of a large one its whole part, else three digits behind the dot, or more where it is small."""
+    if number == int(number) or number >= 1000:
         return str(int(number))
     digits = 3 if number >= 1 else min(12, 3 - math.floor(math.log10(number)))
     return f"{float(number):.{digits}f}".rstrip("0").rstrip(".")

@@ -19,7 +19,7 @@ def look_outs(query, text, tree, names, sizes, policy, windows):
 
 
 def told(text, at, kind, said, write):
-    return Finding(text.place(at), kind, said, f"write {write}", page_of(TOOLS, kind), text.shown(at))
+    return Finding(text.place(at), kind, said, f"write {write}", page_of(TOOLS, "Look out"), text.shown(at))
 
 
 def first_place(tree):

@@ -72,7 +72,7 @@ def of_log(wanted):
     course = Measured(wanted.words.slack)
     with opened(None) as log:
         faults, _ = course_of_log(course, log, name_of_input())
-    yield from in_order(in_runs(faults))
+    yield from in_order(list(in_runs(faults)))
     for watched in course.watched:
         task = Task(watched.name.decode(), watched.query, watched.text, watched.start)
         yield from of_task(task, wanted, course)

@@ -57,13 +57,14 @@ def kept_triples(rates, spans):
 
 
 def full_after(rates, spans):
-    """After how many milliseconds more triples are kept than may be; None where they never are."""
+    """After how many milliseconds more triples are kept than may be, where it is so once all windows are full."""
     growing = sorted((span, rates[stream].items * rates[stream].triples / 1000) for stream, span in spans.items())
     for end, _ in growing:
         total = sum(rate * min(span, end) for span, rate in growing)
         if total > MOST_HELD:
             return end - (total - MOST_HELD) / sum(rate for span, rate in growing if span >= end)
-    return None
+    # an item more than the rate says is too many
+    return max(spans.values())
 
 
 def most_times(kept):

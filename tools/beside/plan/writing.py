@@ -2,7 +2,6 @@
 import json
 import math
 from collections import namedtuple
-from fractions import Fraction
 
 from model import MOST_HELD, MOST_QUADS
 from query_model import LAST_INSTANT
@@ -29,7 +28,7 @@ def loaded(plan):
     kept = kept_triples(load.rates, spans) if all(stream in load.rates for stream in spans) else None
     rows, stored = plan.sizes.on_sides(plan.nodes[0].tree), load.stored
     takes = None if None in (kept, rows) else memory(kept, stored or 0, rows)
-    full = None if kept is None else full_after(load.rates, spans)
+    full = None if kept is None or kept <= MOST_HELD else full_after(load.rates, spans)
     return Told(kept, full, most_times(kept) if kept else None, stored, rows, takes)
 
 
@@ -114,7 +113,7 @@ def of_rate(stream, plan):
 
 
 def of_kept_triples(plan, told):
-    kept = f"of items {told.kept} of at most {MOST_HELD} triples are kept"
+    kept = f"{told.kept} of at most {MOST_HELD} triples are kept"
     if not told.kept:
         return [kept]
     rates = [plan.load.rates[stream] for stream in spans_of(plan.windows, plan.slack)]
@@ -161,7 +160,7 @@ def json_of_node(node, plan):
 
 
 def number(value):
-    """A number of JSON, rounded up where it counts something."""
-    if value is None or isinstance(value, int):
-        return value
-    return math.ceil(value) if isinstance(value, Fraction) and value >= 100 else round(float(value), 6)
+    """A number of JSON."""
+    if value is None or value == int(value):
+        return value if value is None else int(value)
+    return round(float(value), 6)
