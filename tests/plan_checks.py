@@ -1,6 +1,6 @@
-"""What `tools/plan` says, against the models: instants, keys, kept triples; and the plans of all examples, in tests/plans.expected.
+"""What `tools/plan` says, against the models: instants, keys, kept triples; the plans of all examples, in tests/plans.expected.
 
-`python3 tests/plan_checks.py` runs these, `python3 tests/plan_checks.py --write` writes the plans of the examples anew. Its cases,
+`python3 tests/plan_checks.py` runs these, and with `--write` it writes the plans of the examples anew. The cases of the tool,
 with what to look out for, stand in tests/tools/plan.
 """
 import io
@@ -43,9 +43,11 @@ MOST_FACTS = 60
 def plan_of(name):
     """What the tool says of an example."""
     folder = f"{TOP}/examples/{name}"
-    said = documents.read(f"{folder}/words").decode().split()
-    given = documents.read(f"{folder}/log") if os.path.exists(f"{folder}/log") else b""
-    ran = subprocess.run([f"{TOP}/tools/plan", *said], cwd=folder, input=given, capture_output=True, timeout=documents.SECONDS)
+    said, log = documents.read(f"{folder}/words").decode().split(), f"{folder}/log"
+    with open(log if os.path.exists(log) else os.devnull, "rb") as given:
+        ran = subprocess.run(
+            [f"{TOP}/tools/plan", *said], cwd=folder, stdin=given, capture_output=True, timeout=documents.SECONDS
+        )
     return f"= {name} {ran.returncode}\n{ran.stdout.decode()}{ran.stderr.decode()}"
 
 
@@ -208,8 +210,11 @@ def fault_of_keys(lives, world):
 
 def facts_of(query, world):
     """What is stored, and what all items have brought to the query's windows, as far as it is soon looked at."""
-    held = ((place, graph) for place, window in enumerate(query.windows) for there, _, graph in world.items if there == window.stream)
-    return list(dict.fromkeys([*world.stored, *((("window", place), *triple) for place, graph in held for triple in graph)]))[:MOST_FACTS]
+    facts = dict.fromkeys(world.stored)
+    for place, window in enumerate(query.windows):
+        for stream, _, graph in world.items:
+            facts.update(((("window", place), *triple), None) for triple in graph if stream == window.stream)
+    return list(facts)[:MOST_FACTS]
 
 
 def matched_in(tree):

@@ -1,1 +1,5 @@
-"""What a query does, before it runs: when it reports, what its windows and its nodes keep, what a load takes, what to look out for."""
+"""The plan of a query: what it does, before it runs.
+
+`asked` are its words; `dues` says when it reports, `windows` and `nodes` what is kept, `loads` what comes, `sizes` how many rows
+and how much memory that is, `outlook` what to look out for; `writing` writes it, and `planning` brings them together.
+"""

@@ -16,13 +16,14 @@ Due = namedtuple("Due", "at item tick")
 Reports = namedtuple("Reports", "said dues lets")
 
 TOLD = {
-    "RSTREAM": "all rows", "ISTREAM": "the rows that weren't in the report before", "DSTREAM": "the rows that were in the report before"
-    " and are gone",
+    "RSTREAM": "all rows", "ISTREAM": "the rows that weren't in the report before",
+    "DSTREAM": "the rows that were in the report before and are gone",
 }
 HOLDS = {
     "CLOSE": "one of its windows closes", "CHANGE": "what a window holds isn't what it held the instant before",
     "NONEMPTY": "a window holds an item",
 }
+LETS = {"CHANGE": "has got or lost an item then", "NONEMPTY": "holds an item then"}
 MOST_DUES = 3
 
 
@@ -72,15 +73,15 @@ def what_lets(policy, windows):
     if policy.is_by_tuple:
         return f"an item of {streams} lets one come, at once, without a tick"
     if {"CLOSE", "EVERY"}.intersection(names):
-        wanted = [{"CHANGE": "has got or lost an item at it", "NONEMPTY": "holds an item then"}.get(name) for name in sorted(names)]
-        return f"it comes only if a window {' and '.join(filter(None, wanted))}" if any(wanted) else None
+        wanted = [lets for name, lets in LETS.items() if name in names]
+        return f"it comes only if a window {' and one '.join(wanted)}" if wanted else None
     if "CHANGE" in names:
-        lets = f"an item of {streams} lets one come, at its time, and one that goes out of a window, an instant behind the closing"
-        return lets + (", if a window still holds an item" if "NONEMPTY" in names else "")
+        still = ", if a window still holds an item" if "NONEMPTY" in names else ""
+        return f"an item of {streams} lets one come, at its time, and one that leaves a window, behind a closing{still}"
     return f"an item of {streams} lets one come, at its time, and another each millisecond as long as a window holds it"
 
 
 def in_words(due, mode):
     """A line of an instant, and what has to come for it."""
-    tick = f"the last item of all files at {due.tick}" if mode == "run" else f"a tick at {due.tick}"
-    return f"at {told(due.at)}, once an item of {due.item} comes, or {tick}, or later ones"
+    tick = f"the last item of all files, of {due.tick}" if mode == "run" else f"a tick of {due.tick} or later"
+    return f"at {told(due.at)}: with an item of {due.item} or later, or {tick}"

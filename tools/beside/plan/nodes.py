@@ -6,10 +6,9 @@ from algebra_model import OF_ONE, decides, key
 # `key` is None of a node without two sides that are matched, and `kept` is one of the words below
 Node = namedtuple("Node", "depth kind said key kept tree")
 
-NOTHING, LAST_REPORT, LEFT, SIDES, PARTNERS = (
-    "nothing", "the rows of the last report", "the left rows, and how many right rows each key has", "the rows of both sides by key",
-    "the rows of both sides by key, and how many partners each left row has",
-)
+NOTHING, LAST_REPORT = "nothing", "the rows of the last report"
+LEFT, SIDES = "the left rows, and how many right rows each key has", "the rows of both sides by key"
+PARTNERS = f"{SIDES}, and how many partners each left row has"
 MATCHED = ("join", "left_join", "minus", "exists", "not_exists")
 CONDITIONAL = ("left_join", "exists", "not_exists")
 WORDS = {

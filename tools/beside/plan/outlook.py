@@ -112,11 +112,13 @@ class Pairs:
             named, at = set(variables_in(e)), place_of(e)
             if is_of_both(e, left, right):
                 said = f"{shown(self.names, e)} is tested on all pairs of rows that agree on {self.names.row(key(*tree[1:3]))}"
-                yield told(self.text, at, "pairs", said, "an aggregate by the key, as MAX, in a select within, or a narrower key")
+                write = "an aggregate by the key, as MAX, in a select within, or a narrower key"
+                yield told(self.text, at, "pairs", said, write)
                 return
             if tree[0] == "left_join" and named and named <= right - left:
                 said = f"{shown(self.names, e)} looks at the optional side alone, and is tested on each pair of rows"
-                yield told(self.text, at, "pairs", said, "braces of its own around the triples and this filter, in those of OPTIONAL")
+                write = "braces of its own around the triples and this filter, within those of OPTIONAL"
+                yield told(self.text, at, "pairs", said, write)
                 return
 
 
@@ -163,4 +165,6 @@ def busy(query, text, policy, windows):
 def write_of(periods):
     if "EVERY" in periods:
         return "EVERY with the span in which a report is wanted, as PT1S"
-    return "a STEP of the span in which a report is wanted" if "CLOSE" in periods else "`CLOSE AND NONEMPTY`, or an EVERY beside it"
+    if "CLOSE" in periods:
+        return "a STEP of the span in which a report is wanted"
+    return "`CLOSE AND NONEMPTY`, or an EVERY beside it"

@@ -23,10 +23,10 @@ def said_of(clause, window, names, slack):
     many = str(kept.most) if kept.least == kept.most else f"{kept.least} or {kept.most}"
     step = "end to end" if window.slide == window.width else f"one each {lasting(window.slide)}"
     begin = f", from {told(window.origin)} on" if window.origin else ""
+    name, stream = (quoted(names.iri(clause[what])) for what in ("name", "stream"))
     return (
-        f"{quoted(names.iri(clause['name']))} over {quoted(names.iri(clause['stream']))}: {lasting(window.width)} wide, {step}{begin}; "
-        f"an item is in {many} {'window' if kept.most == 1 and kept.least == 1 else 'windows'}, "
-        f"and is kept for {lasting(kept.span)} at most"
+        f"{name} over {stream}: {lasting(window.width)} wide, {step}{begin}; an item is in {many} "
+        f"{'window' if kept.most == kept.least == 1 else 'windows'}, and is kept for {lasting(kept.span)} at most"
     )
 
 
@@ -53,7 +53,8 @@ def spans_of(windows, slack):
 
 def kept_triples(rates, spans):
     """How many triples are kept at most where the streams come steadily at their rates."""
-    return sum(math.ceil(math.ceil(rates[stream].items * span / 1000) * rates[stream].triples) for stream, span in spans.items())
+    kept = ((math.ceil(rates[stream].items * span / 1000), rates[stream].triples) for stream, span in spans.items())
+    return sum(math.ceil(items * triples) for items, triples in kept)
 
 
 def full_after(rates, spans):

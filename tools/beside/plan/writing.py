@@ -64,7 +64,11 @@ def of_windows(plan):
 
 
 def of_nodes(plan):
-    return [f"{'  ' * node.depth}{node.said}{of_key(node, plan.names)}{of_rows(node, plan.sizes)}{of_kept(node)}" for node in plan.nodes]
+    return [f"{'  ' * node.depth}{of_node(node, plan)}" for node in plan.nodes]
+
+
+def of_node(node, plan):
+    return f"{node.said}{of_key(node, plan.names)}{of_rows(node, plan.sizes)}{of_kept(node)}"
 
 
 def of_key(node, names):
@@ -122,7 +126,8 @@ def of_kept_triples(plan, told):
         limit += f", which is {decimal(rates[0].items * told.times)} items a second"
     if told.full is None:
         return [f"{kept}: refusal 19 comes beyond {limit}"]
-    return [f"refusal 19 comes after {about(told.full)}: {told.kept} triples would be kept, and {MOST_HELD} may be; none at {limit}"]
+    would = f"{told.kept} triples would be kept, and {MOST_HELD} may be"
+    return [f"refusal 19 comes after {about(told.full)}: {would}; none at {limit}"]
 
 
 # ---- as JSON
@@ -144,10 +149,9 @@ def json_of_reports(reports):
 
 
 def json_of_window(clause, window, plan):
-    kept = kept_of(window, plan.slack)
+    kept, (name, stream) = kept_of(window, plan.slack), (str(clause[what]) for what in ("name", "stream"))
     return {
-        "name": str(clause["name"]), "stream": str(clause["stream"]), "range": window.width, "step": window.slide, "start": window.origin,
-        "least": kept.least, "most": kept.most, "kept": kept.span,
+        "name": name, "stream": stream, "range": window.width, "step": window.slide, "start": window.origin, "least": kept.least, "most": kept.most, "kept": kept.span,
     }
 
 
