@@ -9,6 +9,7 @@ from ..places import printable
 
 # of a text so many signs are shown
 MOST_SHOWN = 60
+PLAIN_PARTS = ("variable", "constant", "bound", "call")
 PLAIN = re.compile(r"[A-Za-z_][A-Za-z0-9_-]*|")
 BARE = {XSD + b"integer": rb"-?[0-9]+", XSD + b"decimal": rb"-?[0-9]*[.][0-9]+", XSD + b"boolean": b"true|false"}
 
@@ -98,5 +99,5 @@ class Names:
 
     def inner(self, e):
         """A part of an expression, in parentheses where it has signs of its own."""
-        is_plain = e[0] in ("variable", "constant", "bound", "call")
+        is_plain = e[0] in PLAIN_PARTS or (e[0] == "signed" and e[2][0] in PLAIN_PARTS)
         return self.whole(e) if is_plain else f"({self.whole(e)})"

@@ -136,7 +136,8 @@ def of_kept_triples(plan, told):
 def in_json(plan, told):
     file, line, column = plan.place
     return {
-        "file": file, "line": line, "column": column, "kind": "plan", "query": plan.name, "reports": json_of_reports(plan.reports),
+        "file": file, "line": line, "column": column, "kind": "plan", "query": plan.name,
+        "reports": json_of_reports(plan.reports),
         "windows": [json_of_window(*both, plan) for both in zip(plan.query["windows"], plan.windows)],
         "nodes": [json_of_node(node, plan) for node in plan.nodes],
         "load": {name: number(value) for name, value in told._asdict().items()},
@@ -151,7 +152,8 @@ def json_of_reports(reports):
 def json_of_window(clause, window, plan):
     kept, (name, stream) = kept_of(window, plan.slack), (str(clause[what]) for what in ("name", "stream"))
     return {
-        "name": name, "stream": stream, "range": window.width, "step": window.slide, "start": window.origin, "least": kept.least, "most": kept.most, "kept": kept.span,
+        "name": name, "stream": stream, "range": window.width, "step": window.slide, "start": window.origin,
+        "least": kept.least, "most": kept.most, "kept": kept.span,
     }
 
 
