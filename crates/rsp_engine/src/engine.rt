@@ -520,7 +520,7 @@ impl<A: Answer> Engine<A> {
     /// The next report of the last event, in order; None exactly where none is left. An overfull report ends its query.
     ///
     /// Fails as `Broken` exactly where memory was refused before, and as `OutOfMemory` where memory is refused, which
-    /// breaks the engine. Takes no memory where no report is left, and at most as many steps as the report's work.
+    /// breaks the engine. Takes no memory and no step where no report is left, and at most as many steps as the report's work.
     pub fn next_report<L: Ledger>(
         &mut self,
         steps: &mut Steps<L>,
@@ -528,6 +528,7 @@ impl<A: Answer> Engine<A> {
         ensures report { NextReport self.old result self.new }
         ensures cost { (world : World) (left : List Moment) → Stands self.old world left
             → steps.new ≤ steps.old + next_work world left }
+        ensures idle { IsTrue (is_idle self.old) → steps.new ≡ steps.old }
     {
         if self.broken {
             return Err(EngineFault::Broken);

@@ -1,5 +1,5 @@
-use Rattle.std.proofs.Common.{◌≡◌, ◌∙◌, false, refl}
-use Rattle.rsp_engine.specs.Stands.{IsState}
+use Rattle.std.proofs.Common.{◌≡◌, ◌∙◌, Some, false, true≢false, refl, sym}
+use Rattle.rsp_engine.specs.Stands.{IsState, is_idle}
 use Rattle.rsp_engine.proofs.Costing.{costs_next}
 use Rattle.rsp_engine.proofs.FirstReport.{first_given, first_nearer}
 use Rattle.rsp_engine.proofs.engine.Engine.next_report.Goals as goal
@@ -34,3 +34,19 @@ returns-in-Err-clause-cost g c =
     let state : IsState old = rw (← c.self.view_is) sound.state in
     λ world left stands.
     costs_next old c.in-Some.place _ _ state (rw (← c.self.view_is) c.in-Some.is) c.report_first.ensures.cost world left stands
+
+pub returns-in-Ok-clause-idle : goal.returns-in-Ok-clause-idle
+returns-in-Ok-clause-idle g c =
+    let old = c.args.self.now in
+    let ready : old.broken ≡ false = rw (← c.self.view_is) c.if-self.false in
+    let first : old.first ≡ Some c.in-Some.place = rw (← c.self.view_is) c.in-Some.is in
+    let busy : is_idle old ≡ false = rw (ready, first) refl in
+    λ idle. absurd (true≢false (sym idle ∙ busy))
+
+pub returns-in-Err-clause-idle : goal.returns-in-Err-clause-idle
+returns-in-Err-clause-idle g c =
+    let old = c.args.self.now in
+    let ready : old.broken ≡ false = rw (← c.self.view_is) c.if-self.false in
+    let first : old.first ≡ Some c.in-Some.place = rw (← c.self.view_is) c.in-Some.is in
+    let busy : is_idle old ≡ false = rw (ready, first) refl in
+    λ idle. absurd (true≢false (sym idle ∙ busy))
