@@ -57,18 +57,18 @@ took_same before mid now x took left given =
     record { left = rw left took.left; given = λ below. rw given (took.given (rw given at below)) }
 
 -- where the source tells its bytes and is at its end, all were taken
-all_taken : (before now : Option (List ℕ)) (bytes : List ℕ) → Consumes before now bytes → IsAtEnd now → IfSome before (λ log. log ≡ bytes)
+pub all_taken : (before now : Option (List ℕ)) (bytes : List ℕ) → Consumes before now bytes → IsAtEnd now → IfSome before (λ log. log ≡ bytes)
 all_taken None now bytes consumed at_end = tt
 all_taken (Some log) None bytes consumed at_end = absurd consumed
 all_taken (Some log) (Some rest) bytes consumed at_end = consumed ∙ (ap (λ rest. bytes ++ rest) at_end ∙ append-nil bytes)
 
 -- what holds of the log's text, where the source tells its bytes, if it holds however the log goes on
-of_log : (P : List ℕ → Type 0) (before now : Option (List ℕ)) (bytes : List ℕ) → Consumes before now bytes → ((more : List ℕ) → P (bytes ++ more)) → IfSome before P
+pub of_log : (P : List ℕ → Type 0) (before now : Option (List ℕ)) (bytes : List ℕ) → Consumes before now bytes → ((more : List ℕ) → P (bytes ++ more)) → IfSome before P
 of_log P None now bytes consumed holds = tt
 of_log P (Some log) None bytes consumed holds = absurd consumed
 of_log P (Some log) (Some rest) bytes consumed holds = rw consumed (holds rest)
 
-of_all : (P : List ℕ → Type 0) (left : Option (List ℕ)) (bytes : List ℕ) → IfSome left (λ log. log ≡ bytes) → P bytes → IfSome left P
+pub of_all : (P : List ℕ → Type 0) (left : Option (List ℕ)) (bytes : List ℕ) → IfSome left (λ log. log ≡ bytes) → P bytes → IfSome left P
 of_all P None bytes all holds = tt
 of_all P (Some log) bytes all holds = rw all holds
 

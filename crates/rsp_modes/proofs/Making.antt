@@ -2,6 +2,7 @@
 use Rattle.std.proofs.Common.{◌≡◌, ℕ, zero, suc, ◌+◌, ◌*◌, ◌<◌, ◌≤◌, Bool, Result, Ok, Err, Option, Some, None, List, [], ◌∷◌, ◌++◌, drop, map, refl, subst, sym, ◌∙◌, ap, append-nil, codes, arith}
 use Rattle.std.specs.List.{range_with_len, slice_get}
 use Rattle.std.specs.Prelude.{OnOk, count_by, sum_by}
+use Rattle.rsp_spec.specs.Limits.{most_items}
 use Rattle.rsp_events.specs.declared.event.Event as events
 use Rattle.rsp_events.specs.declared.event.Event.TheVariants.{Register, Tick}
 use Rattle.rsp_engine.specs.Stands.{State, Stands}
@@ -30,7 +31,7 @@ random_more : (given : ℕ) → random (given + 1) ≡ next_random (random given
 unfolding random
 random_more given = let e : given + 1 ≡ suc given = omega arith in rw e refl
 
-pub making_none : (count : ℕ) → count ≤ 1000000 → IsMaking count 0 1
+pub making_none : (count : ℕ) → count ≤ most_items → IsMaking count 0 1
 unfolding random
 making_none count few = record { few = few; within = omega arith; random = refl }
 

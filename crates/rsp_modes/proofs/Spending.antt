@@ -1,6 +1,7 @@
 -- The steps that reports, blocks and batches may take, one behind another.
 use Rattle.std.proofs.Common.{◌≡◌, ℕ, ◌+◌, ◌≤◌, Bool, true, false, Option, Some, None, Result, Ok, Err, List, [], ◌∷◌, ◌++◌, map, length, refl, sym, ◌∙◌, ap, subst, append_assoc, arith}
 use Rattle.std.proofs.lemmas.List.{append-nil, map-append}
+use Rattle.std.specs.Io.KnownBytes.{IsAtEnd}
 use Rattle.std.specs.Prelude.{OnOk}
 use Rattle.rsp_io.specs.Seen.{SourceSeen}
 use Rattle.rsp_events.specs.declared.event.Block.{Block}
@@ -22,13 +23,14 @@ use Rattle.rsp_modes.specs.declared.drive.Halt.{Halt}
 use Rattle.rsp_modes.specs.declared.drive.Halt.TheVariants as halt
 use Rattle.rsp_modes.specs.declared.refusals.Place.{Place}
 use Rattle.rsp_modes.specs.declared.stop.Stop.{Stop}
-use Rattle.rsp_modes.specs.Costs.{CostsLog}
+use Rattle.rsp_modes.specs.Costs.{CostsLog, work_of}
 use Rattle.rsp_modes.specs.Feeds.{Came, Spends, Takes, given_in}
 use Rattle.rsp_modes.specs.Logs.{Begins, LogEnded, LogGave}
 use Rattle.rsp_modes.specs.Output.{Given, Step, a_block, content_step, run, step}
 use Rattle.rsp_modes.specs.Sources.{Took}
 use Rattle.rsp_modes.proofs.Driving.{takes_more, takes_nothing}
 use Rattle.rsp_modes.proofs.Folding.{run-append}
+use Rattle.rsp_modes.proofs.Logging.{all_taken, of_all, of_log}
 use Rattle.rsp_modes.proofs.Reporting.{Taken}
 
 -- ---- reports
@@ -208,26 +210,44 @@ whole_within document bytes more law world =
     ∙ ap (λ (s : Step). s.work) (run-append world whole (map a_block rest.0))) in
     omega (arith, is)
 
+-- however the log goes on behind the blocks that have ended
+whole_costs : (world : World) (document : ℕ) (bytes : List ℕ) (given : List Given) (a b : ℕ) → Begins document → given ≡ map a_block (whole_blocks document bytes) → b ≤ a + (run world given).work → (more : List ℕ) → b ≤ a + work_of world (map a_block (blocks document (bytes ++ more)))
+whole_costs world document bytes given a b law is within more =
+    let low = whole_within document bytes more law world in
+    let same : (run world given).work ≡ (run world (map a_block (whole_blocks document bytes))).work = ap (λ g. (run world g).work) is in
+    omega (arith, low, same, within)
+
 -- by the blocks that have ended in the bytes that were taken, or by all
 by_whole : (world : World) (document : ℕ) (before now : SourceSeen) (bytes more : List ℕ) (given : List Given) (a b : ℕ) → Took before now (bytes ++ more) → Begins document → given ≡ map a_block (whole_blocks document bytes) → b ≤ a + (run world given).work → CostsLog world document before now a b
 by_whole world document before now bytes more given a b took law is within =
-    let low = whole_within document bytes more law world in
-    let same : (run world given).work ≡ (run world (map a_block (whole_blocks document bytes))).work = ap (λ g. (run world g).work) is in
-    record { bytes = bytes ++ more; took = took; within = omega (arith, low, same, within) }
+    let costs = whole_costs world document bytes given a b law is within in
+    let Costs = λ (log : List ℕ). b ≤ a + work_of world (map a_block (blocks document log)) in
+    record {
+      bytes = bytes ++ more;
+      took = took;
+      within = costs more;
+      log = of_log Costs before.left now.left (bytes ++ more) took.left (λ rest. subst Costs (sym (append_assoc bytes more rest)) (costs (more ++ rest)));
+    }
 
 by_read : (world : World) (document : ℕ) (before now : SourceSeen) (bytes : List ℕ) (given : List Given) (a b : ℕ) → Took before now bytes → Begins document → given ≡ map a_block (whole_blocks document bytes) → b ≤ a + (run world given).work → CostsLog world document before now a b
 by_read world document before now bytes given a b took law is within =
     by_whole world document before now bytes [] given a b (subst (λ bs. Took before now bs) (sym (append-nil bytes)) took) law is within
 
-by_all : (world : World) (document : ℕ) (before now : SourceSeen) (bytes : List ℕ) (given : List Given) (a b : ℕ) → Took before now bytes → given ≡ map a_block (blocks document bytes) → b ≤ a + (run world given).work → CostsLog world document before now a b
-by_all world document before now bytes given a b took is within =
+by_all : (world : World) (document : ℕ) (before now : SourceSeen) (bytes : List ℕ) (given : List Given) (a b : ℕ) → Took before now bytes → IsAtEnd now.left → given ≡ map a_block (blocks document bytes) → b ≤ a + (run world given).work → CostsLog world document before now a b
+by_all world document before now bytes given a b took at_end is within =
     let same : (run world given).work ≡ (run world (map a_block (blocks document bytes))).work = ap (λ g. (run world g).work) is in
-    record { bytes = bytes; took = took; within = omega (arith, same, within) }
+    let all : b ≤ a + work_of world (map a_block (blocks document bytes)) = omega (arith, same, within) in
+    record {
+      bytes = bytes;
+      took = took;
+      within = all;
+      log = of_all (λ log. b ≤ a + work_of world (map a_block (blocks document log))) before.left bytes (all_taken before.left now.left bytes took.left at_end) all;
+    }
 
 came_costs : (world : World) (before now : SourceSeen) (at_end : Bool) (most taken : ℕ) (reader : Reader) (given : List Given) (a b : ℕ) (result : Result Bool Halt) → Came (LogGave at_end most taken reader before now) (LogEnded most reader.document before now) given result → b ≤ a + (run world given).work → CostsLog world reader.document before now a b
-came_costs world before now at_end most taken reader given a b (Ok refused) came within = by_all world reader.document before now came.bytes given a b came.took came.blocks within
+came_costs world before now at_end most taken reader given a b (Ok refused) came within = by_all world reader.document before now came.bytes given a b came.took came.at_end came.blocks within
 came_costs world before now false most taken reader given a b (Err (halt.Stop why)) came within = by_read world reader.document before now came.bytes given a b came.took (subst (λ d. Begins d) refl came.begins) came.blocks within
-came_costs world before now true most taken reader given a b (Err (halt.Stop why)) came within = by_all world reader.document before now came.bytes given a b came.took came.blocks within
+came_costs world before now true most taken reader given a b (Err (halt.Stop why)) came within = by_all world reader.document before now came.bytes given a b came.took came.at_end came.blocks within
 came_costs world before now at_end most taken reader given a b (Err (halt.Cut cut.Failed)) came within = by_read world reader.document before now came.bytes given a b came.took came.begins came.blocks within
 came_costs world before now at_end most taken reader given a b (Err (halt.Cut cut.TooLong)) came within = by_whole world reader.document before now came.bytes came.last given a b came.took came.begins came.blocks within
 came_costs world before now at_end most taken reader given a b (Err (halt.Cut cut.Memory)) came within = by_whole world reader.document before now came.bytes came.last given a b came.took came.begins came.blocks within

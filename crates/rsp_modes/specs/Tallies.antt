@@ -1,5 +1,6 @@
 -- Words of the way: counts of reports and of their rows; and the events of the generator that are left.
 use Rattle.std.specs.Prelude.{◌≡◌, ℕ, ◌+◌, ◌≤◌, List, count_by, drop, map, sum_by}
+use Rattle.rsp_spec.specs.Limits.{most_items}
 use Rattle.rsp_modes.specs.declared.voice.Tally.{Tally}
 use Rattle.rsp_modes.specs.Generator.{generated, random}
 use Rattle.rsp_modes.specs.Output.{Given, Saying, a_block}
@@ -16,6 +17,6 @@ gen_left count given = drop given (map a_block (numbered 1 (generated count)))
 
 -- so many events were given, and x is the pseudo-random number of this place
 pub record IsMaking (count given x : ℕ) : Type 0 where
-  pub few : count ≤ 1000000
+  pub few : count ≤ most_items
   pub within : given ≤ count + 2
   pub random : x ≡ random given

@@ -4,7 +4,7 @@ ghost use Rattle.std.specs.List.{slice_get};
 ghost use Rattle.rsp_events.specs.Instants.{IsInstant};
 ghost use Rattle.rsp_engine.specs.World.{empty_world};
 ghost use Rattle.rsp_engine.specs.Stands.{Stands, is_idle};
-ghost use Rattle.rsp_spec.specs.Limits.{most_file_bytes};
+ghost use Rattle.rsp_spec.specs.Limits.{most_file_bytes, most_items};
 ghost use Rattle.rsp_modes.specs.Costs.{work_of};
 ghost use Rattle.rsp_modes.specs.FileAnswers.{AnswersFiles};
 ghost use Rattle.rsp_words.specs.declared.form.Form.TheVariants.{Table};
@@ -45,7 +45,7 @@ struct GenFeed {
 
 impl GenFeed {
     fn new(alloc: Global, count: u64) -> GenFeed
-        requires { count ≤ 1000000 }
+        requires { count ≤ most_items }
         ensures fits { IsMaking result.count result.given result.x }
         ensures left { gen_left result.count result.given ≡ map a_block (numbered 1 (generated count)) }
     {
@@ -119,7 +119,7 @@ pub(crate) fn generate_on<A: Answer, K: Sink, L: Ledger>(
 ) -> Status
     requires idle { IsTrue (is_idle engine.old) }
     requires new { Stands engine.old (empty_world 0) [] }
-    requires count { count ≤ 1000000 }
+    requires count { count ≤ most_items }
     ensures text { (shelf : ShelfSeen) → AnswersFiles most_file_bytes Table [] (counted count) shelf shelf
         (K.seen out.old) (K.seen out.new) result }
     ensures cost { steps.new ≤ steps.old + work_of (empty_world 0) (map a_block (numbered 1 (generated count))) }
@@ -137,7 +137,7 @@ fn tell_summary<A: Answer, K: Sink, L: Ledger>(
 ) -> Result<bool, Stop>
     requires idle { IsTrue (is_idle engine.old) }
     requires new { Stands engine.old (empty_world 0) [] }
-    requires count { count ≤ 1000000 }
+    requires count { count ≤ most_items }
     ensures says { Says Table (K.seen out.old) (K.seen out.new) (counted count []) result }
     ensures cost { steps.new ≤ steps.old + work_of (empty_world 0) (map a_block (numbered 1 (generated count))) }
 {
@@ -218,7 +218,7 @@ pub(crate) fn next_random(x: u64) -> u64
 
 /// The item of this number, 1 to 1,000,000, and of a pseudo-random one.
 pub(crate) fn item(alloc: Global, number: u64, x: u64) -> Result<Event, AllocError>
-    requires { number ≤ 1000000 }
+    requires { number ≤ most_items }
     ensures item { IfOk result (λ made. made ≡ generator.item_of number x) }
     ensures instant { IfOk result IsInstant }
 {

@@ -1,7 +1,7 @@
 // What the program does in each mode, on an engine over the operators that are kept.
 ghost use Rattle.std.specs.Prelude.{◌≡◌, ◌+◌, ◌≤◌, IsTrue, [], map};
 ghost use Rattle.rsp_engine.specs.Stands.{Stands, is_idle};
-ghost use Rattle.rsp_spec.specs.Limits.{most_file_bytes, most_slack};
+ghost use Rattle.rsp_spec.specs.Limits.{most_file_bytes, most_items, most_slack};
 ghost use Rattle.rsp_engine.specs.World.{empty_world};
 ghost use Rattle.rsp_modes.specs.Costs.{CostsFiles, CostsLog, work_of};
 ghost use Rattle.rsp_modes.specs.FileAnswers.{AnswersFiles};
@@ -91,7 +91,7 @@ pub fn generate<K: Sink, L: Ledger>(
     out: &mut K,
     steps: &mut Steps<L>,
 ) -> Status
-    requires count { count ≤ 1000000 }
+    requires count { count ≤ most_items }
     ensures text { (shelf : ShelfSeen) → AnswersFiles most_file_bytes Table [] (counted count) shelf shelf
         (K.seen out.old) (K.seen out.new) result }
     ensures cost { steps.new ≤ steps.old + work_of (empty_world 0) (map a_block (numbered 1 (generated count))) }
