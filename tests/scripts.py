@@ -6,6 +6,7 @@ import contextlib
 import os
 import re
 import shutil
+import signal
 import subprocess
 import tempfile
 
@@ -15,16 +16,19 @@ USAGE = read(f"{TOP}/tests/rows/no-words/stdout")
 EVENTS, RUN, CHECK, GEN = (f"  ./rsp {mode} " for mode in ("events", "run", "check", "gen"))
 # three crates of which the program is made, and one of tests
 CRATES = "rsp_tests: rsp_main\nrsp_main: rsp_steps rsp_spec\nrsp_steps: rsp_spec indexmap\nrsp_spec:\n"
-# what stands in the place of the toolchain; FAILS makes it fail, in `try` as the real one says it
+# what stands in the place of the toolchain; FAILS makes it fail, in `try` as the real one says it; SLOW makes a library take so long
 RT = """#!/bin/sh
+crate=${PWD##*/}
 case $1 in
-version) echo "a kit of tests" ;;
-all)
-    printf '== rsp_spec\\nproved\\n== rsp_steps\\nproved\\n== summary\\n2 of 2 crates ok\\n'
-    [ "$FAILS" != all ]
+version) echo "${KIT:-a kit of tests logic dac8208d650f15bf}" ;;
+lib)
+    [ -e out/rlib/stamp ] && echo "found $crate" >> "$SEEN" && exit
+    [ "$FAILS$crate" = librsp_steps ] && echo "fn rsp_steps::tick: proved" && echo "fn rsp_steps::next: no proof" && exit 1
+    sleep "${SLOW:-0}"
+    mkdir -p out/rlib && echo built > out/rlib/stamp && echo "proved $crate" >> "$SEEN"
     ;;
 run)
-    [ "$FAILS" != run ] && cp "$PROGRAM" out/rsp_main
+    [ "$FAILS" != run ] && mkdir -p out && cp "$PROGRAM" out/rsp_main && echo "proved $crate" >> "$SEEN"
     ;;
 try)
     shift
@@ -50,6 +54,7 @@ try)
     ;;
 esac
 """
+SOURCES = [f"crates/{name}.rt" for name in ("rsp_tests/src/main", "rsp_main/src/main", "rsp_steps/src/lib", "rsp_spec/src/lib")]
 # what the scripts name where there is no toolchain
 WITHOUT_RT = "there is no rt on the path: README says what is needed; tools/model takes the same words, and needs Python alone"
 
@@ -58,19 +63,23 @@ class Room:
     """A repository with the scripts and without crates, and a folder from which they are called."""
 
     def __init__(self, folder, program):
-        self.top, self.caller = f"{folder}/top", f"{folder}/caller"
+        self.top, self.caller, self.seen = f"{folder}/top", f"{folder}/caller", f"{folder}/seen"
         self.program = f"{self.top}/crates/rsp_main/out/rsp_main"
-        for path in (f"{self.top}/tools", f"{self.top}/crates/rsp_main/src", os.path.dirname(self.program), self.caller):
+        sources = [os.path.dirname(f"{self.top}/{path}") for path in SOURCES]
+        for path in (f"{self.top}/tools", *sources, os.path.dirname(self.program), self.caller):
             os.makedirs(path)
+        shutil.copytree(f"{TOP}/tools/beside", f"{self.top}/tools/beside", ignore=shutil.ignore_patterns("__pycache__"))
         for name in ("rsp", "try", "CHANGELOG.md"):
             shutil.copy(f"{TOP}/{name}", self.top)
-        for name, text in (("crates.txt", CRATES), ("tools/rt", RT)):
+        for name, text in (("crates.txt", CRATES), ("tools/rt", RT), *((path, "") for path in SOURCES)):
             with open(f"{self.top}/{name}", "w") as file:
                 file.write(text)
         os.chmod(f"{self.top}/tools/rt", 0o755)
         shutil.copy(program, self.program)
         path = f"{self.top}/tools:{os.environ['PATH']}"
-        self.env = {"PATH": path, "PROGRAM": program, "GIT_CEILING_DIRECTORIES": folder}
+        self.env = {
+            "PATH": path, "PROGRAM": program, "SEEN": self.seen, "XDG_CACHE_HOME": f"{folder}/cache", "GIT_CEILING_DIRECTORIES": folder
+        }
 
     def without_rt(self):
         """A path with all that the scripts call but `rt`."""
@@ -80,13 +89,26 @@ class Room:
                 os.symlink(shutil.which(name), f"{self.top}/bare/{name}")
         return f"{self.top}/bare"
 
+    def built(self):
+        """What the kit has been asked for since the last time, a crate a line: whether it was proved or found."""
+        said = read(self.seen).decode().splitlines() if os.path.exists(self.seen) else []
+        open(self.seen, "w").close()
+        return said
+
+    def begun(self, words, **env):
+        """A run that goes on beside others, in a session of its own."""
+        return subprocess.Popen(
+            [f"{self.top}/rsp", *words], cwd=self.caller, env={**self.env, **env}, stdin=subprocess.DEVNULL, stdout=subprocess.PIPE,
+            stderr=subprocess.PIPE, start_new_session=True
+        )
+
     def make_stale(self):
-        """Makes a source that is newer than the program."""
+        """Makes the program older than a source."""
         path = f"{self.top}/crates/rsp_main/src/main.rt"
         with open(path, "w"):
             pass
-        later = os.stat(self.program).st_mtime + 1
-        os.utime(path, (later, later))
+        earlier = os.stat(path).st_mtime - 1
+        os.utime(self.program, (earlier, earlier))
 
     def run(self, script, words, given=b"", folder=None, **env):
         command = [f"{self.top}/{script}", *words]
@@ -163,7 +185,7 @@ def hints(room):
     shutil.copy(f"{TOP}/examples/sensors/averages.rq", query)
     yield "help", ["--help"], USAGE, 2, [EVENTS, RUN, CHECK, GEN]
     yield "help by a letter", ["-h"], USAGE, 2, [EVENTS, RUN, CHECK, GEN]
-    yield "the version", ["--version"], USAGE, 2, [f"rsp: version {version()}, commit unknown, a kit of tests"]
+    yield "the version", ["--version"], USAGE, 2, [f"rsp: version {version()}, commit unknown, a kit of tests logic dac8208d650f15bf"]
     yield "no words", [], USAGE, 2, [EVENTS, RUN, CHECK, GEN]
     for words, rows, why in WRONG_WORDS:
         yield f"wrong words {words}", words, USAGE, 2, [f"rsp: {why}", *rows]
@@ -184,26 +206,66 @@ def version():
 def builds(room):
     """`./rsp` where the program isn't there or is older than a source, each as its name and what is wrong with it."""
     log, wanted = read(f"{TOP}/examples/first/log"), read(f"{TOP}/examples/first/stdout")
-    done = [f"rsp: {at} of 3 crates: {name}, after " for at, name in ((1, "rsp_spec"), (2, "rsp_steps"))]
-    told = ["rsp: proves and builds the program, ", done[0], "proved", done[1], "proved", "== summary", "2 of 2 crates ok"]
+    begins, ends = "rsp: proves and builds 3 crates, up to ", "rsp: 3 crates in "
+    done = [f"rsp: {at} of 3 crates, " for at in (1, 2, 3)]
+    failed = ["rsp: rsp_steps failed", "rsp: rsp_steps isn't proved", "fn rsp_steps::next: no proof", "/said/rsp_steps"]
+    unlinked = ["rsp: rsp_main failed", "rsp: rsp_main isn't proved", "/said/rsp_main"]
     os.remove(room.program)
-    yield "a crate that can't be proved", fault(room.run("rsp", ["events"], log, FAILS="all"), b"", 125, told)
-    yield "a program that can't be linked", fault(room.run("rsp", ["events"], log, FAILS="run"), b"", 125, told)
+    yield "a crate that can't be proved", fault(room.run("rsp", ["events"], log, FAILS="lib"), b"", 125, [begins, done[0], *failed])
+    unlinks = room.run("rsp", ["events"], log, FAILS="run")
+    yield "a program that can't be linked", fault(unlinks, b"", 125, [begins, *done[:2], *unlinked])
+    yield "what was proved stays", unlike(room.built(), ["proved rsp_spec", "found rsp_spec", "proved rsp_steps"])
     lacks = room.run("rsp", ["events"], log, PATH=room.without_rt())
     yield "a build without a toolchain", fault(lacks, b"", 125, [f"rsp: {WITHOUT_RT}"])
     yield "help builds nothing", fault(room.run("rsp", ["--help"]), USAGE, 2, [EVENTS, RUN, CHECK, GEN])
+    told = [begins, *done, ends]
     yield "stale where nothing was built", fault(room.run("rsp", ["events"], log, RSP_STALE="1"), wanted, 0, told)
     yield "a program that is newer than its sources", fault(room.run("rsp", ["events"], log), wanted, 0, [])
     room.make_stale()
     stale = ["rsp: sources are newer than the program"]
     yield "a stale program", fault(room.run("rsp", ["events"], log, RSP_STALE="1"), wanted, 0, stale)
-    yield "a program that is older than a source", fault(room.run("rsp", ["events"], log), wanted, 0, told)
+    other = ["rsp: rt is `rattle-kit-1 logic 0`, and these sources were proved with `", *told]
+    yield "another logic", fault(room.run("rsp", ["events"], log, KIT="rattle-kit-1 logic 0"), wanted, 0, other)
+    yield from builds_beside(room)
+
+
+def builds_beside(room):
+    """Builds that are broken off, and two at once, in a cache of their own."""
+    env = {"XDG_CACHE_HOME": f"{room.caller}/cache", "SLOW": "0.5"}
+    room.make_stale()
+    room.built()
+    first = room.begun(["events"], **env)
+    until_said(first, b"1 of 3 crates")
+    os.killpg(first.pid, signal.SIGINT)
+    said = first.communicate(timeout=SECONDS)[1]
+    yield "a build that is broken off says so", None if b"broken off; what was proved stays" in said else f"it said {said}"
+    yield "a build that is broken off leaves what was proved", unlike(room.built(), ["proved rsp_spec"])
+    runs = [room.begun(["events"], **env), room.begun(["events"], **env)]
+    said = [run.communicate(timeout=SECONDS)[1] for run in runs]
+    waited = sum(b"another ./rsp builds these sources" in it for it in said)
+    yield "two builds at once", unlike([run.returncode for run in runs] + [waited], [0, 0, 1])
+    yield "two builds at once go on, and prove each crate once", unlike(
+        room.built(), ["found rsp_spec", "proved rsp_steps", "proved rsp_main"])
+
+
+def until_said(process, what):
+    """Reads the standard error of a process up to a line that has this."""
+    for line in process.stderr:
+        if what in line:
+            return
+
+
+def unlike(got, wanted):
+    return None if got == wanted else f"it is {got}, and {wanted} is wanted"
 
 
 def tries(room):
     """`./try`: the program's output and status, and each time what it doesn't do."""
     log, wanted = read(f"{TOP}/examples/first/log"), read(f"{TOP}/examples/first/stdout")
     says = ["try: builds the program in about a minute, without its proofs: this run proves nothing"]
+    stands = [*says, "try: a proved program stands here: ./rsp with the same words starts at once"]
+    yield "an unproved run where a proved one could be", fault(room.run("try", ["events"], log), wanted, 0, stands)
+    room.make_stale()
     yield "an unproved run", fault(room.run("try", ["events"], log), wanted, 0, says)
     yield "an unproved run with wrong words", fault(room.run("try", ["frob"]), USAGE, 2, says)
     example = f"{TOP}/examples/sensors"
