@@ -217,7 +217,8 @@ def builds(room):
     yield "what was proved stays", unlike(room.built(), ["proved rsp_spec", "found rsp_spec", "proved rsp_steps"])
     lacks = room.run("rsp", ["events"], log, PATH=room.without_rt())
     yield "a build without a toolchain", fault(lacks, b"", 125, [f"rsp: {WITHOUT_RT}"])
-    yield "help builds nothing", fault(room.run("rsp", ["--help"]), USAGE, 2, [EVENTS, RUN, CHECK, GEN])
+    first = "rsp: the first run proves and builds the program, and goes on where that was broken off; ./try "
+    yield "help builds nothing", fault(room.run("rsp", ["--help"]), USAGE, 2, [EVENTS, RUN, CHECK, GEN, first])
     told = [begins, *done, ends]
     yield "stale where nothing was built", fault(room.run("rsp", ["events"], log, RSP_STALE="1"), wanted, 0, told)
     yield "a program that is newer than its sources", fault(room.run("rsp", ["events"], log), wanted, 0, [])

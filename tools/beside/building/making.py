@@ -23,7 +23,7 @@ from .machine import share_of_machine
 from .progress import Progress, Running, Taken, figures, told_time
 from .schedule import Schedule, Start
 from .seconds import note_seconds, seconds_known
-from .sources import PROGRAM, Sources, is_current, sources_of
+from .sources import PROGRAM, PROVED_BY, Sources, bytes_of, is_current, sources_of
 
 # the kit's line by which these sources were proved
 KIT = "rattle-kit-13f logic dac8208d650f15bf"
@@ -145,7 +145,7 @@ class Maker:
         return "\n".join([f"{crate} isn't proved, so there is no program; what was proved stays", *first,
                           f"  all of it: {self.said_of(crate)}"])
 
-    def install(self, sources: Sources) -> None:
+    def install(self, sources: Sources, kit: str) -> None:
         """Puts the program where ./rsp runs it, as old as the reading of its sources: what was edited since is newer."""
         if self.program_at is None:
             raise Failure("no program was built")
@@ -154,6 +154,8 @@ class Maker:
         for end in ("", ".stamp"):
             if os.path.exists(f"{made}{end}"):
                 put(f"{made}{end}", f"{self.top}/{PROGRAM}{end}", sources.read_at)
+        with open(f"{self.top}/{PROVED_BY}", "w", encoding="utf-8") as mark:
+            mark.write(f"{hashlib.sha256(bytes_of(made)).hexdigest()} {kit}\n")
 
     def processor(self) -> Dict[str, float]:
         """The processor seconds that each crate took in this build."""
@@ -171,10 +173,14 @@ def put(source: str, target: str, time_ns: int) -> None:
         os.replace(new, target)
 
 
+def cache_home() -> str:
+    """The folder in the user's cache below which all builds are."""
+    return f"{os.environ.get('XDG_CACHE_HOME') or os.path.expanduser('~/.cache')}/rsp-build"
+
+
 def cache_of(top: str) -> str:
     """The folder in which these sources are built: one for each place where such sources lie."""
-    home = os.environ.get("XDG_CACHE_HOME") or os.path.expanduser("~/.cache")
-    return f"{home}/rsp-build/{hashlib.sha256(os.fsencode(top)).hexdigest()[:12]}"
+    return f"{cache_home()}/{hashlib.sha256(os.fsencode(top)).hexdigest()[:12]}"
 
 
 @contextlib.contextmanager
@@ -192,12 +198,13 @@ def in_turn(cache: str) -> Iterator[bool]:
         yield has_waited
 
 
-def warn_of_kit() -> None:
-    """Says where the kit's logic is another than the one by which the sources were proved."""
+def kit_of_path() -> str:
+    """The line of the kit; says where its logic is another than the one by which the sources were proved."""
     said = subprocess.run(["rt", "version"], stdout=subprocess.PIPE, stderr=subprocess.DEVNULL, check=False).stdout
     line = said.decode(errors="replace").strip()
     if line.partition(" logic ")[2] != KIT.partition(" logic ")[2]:
         say(f"rt is `{line}`, and these sources were proved with `{KIT}`: under another logic proofs may fail")
+    return line
 
 
 def build(top: str, goal: str = PROGRAM_CRATE) -> Optional[Maker]:
@@ -206,13 +213,13 @@ def build(top: str, goal: str = PROGRAM_CRATE) -> Optional[Maker]:
     with in_turn(cache) as has_waited:
         if has_waited and goal == PROGRAM_CRATE and is_current(top):
             return None
-        warn_of_kit()
+        kit = kit_of_path()
         sources = sources_of(top, time.time_ns())
         crates = sources.files.get("crates.txt", b"").decode(errors="replace")
         maker = Maker(top, cache, graph_of(crates, goal))
         maker.make(sources)
         if goal == PROGRAM_CRATE:
-            maker.install(sources)
+            maker.install(sources, kit)
         return maker
 
 

@@ -72,6 +72,12 @@ def figures(graph: Graph, processor: Mapping[str, float], clock: float) -> str:
     return f"{len(graph.below)} crates in {told_time(clock)}: {ratio}; {sum(processor.values()) / 60:.1f} processor minutes"
 
 
+def longest_first(processor: Mapping[str, float]) -> List[str]:
+    """The crates and what they took, a crate a line, the dearest first."""
+    return [f"{'crate':<24}{'proof':>9}  seconds of a processor", *(
+        f"{crate:<24}{seconds:>9.1f}" for crate, seconds in sorted(processor.items(), key=lambda it: -it[1]))]
+
+
 def chain_rows(graph: Graph, processor: Mapping[str, float]) -> List[str]:
     """The longest chain, a crate a line, with those marked that take more than a tenth of it, and its sum."""
     chain = graph.longest_chain(processor)

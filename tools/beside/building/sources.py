@@ -3,6 +3,8 @@ import os
 from typing import Dict, Iterator, NamedTuple
 
 PROGRAM = "crates/rsp_main/out/rsp_main"
+# beside the program: its sum and the line of the kit by which it was proved
+PROVED_BY = f"{PROGRAM}.kit"
 # what a kit makes beside the sources
 MADE = "out"
 # what stands at the top and says how the crates are built
