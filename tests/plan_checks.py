@@ -23,15 +23,16 @@ from beside.limits import within_limits  # noqa: E402
 from beside.linting import course_of_log  # noqa: E402
 from beside.plan.asked import Rate  # noqa: E402
 from beside.plan.dues import instants_from  # noqa: E402
+from beside.plan.lengths import at_most  # noqa: E402
 from beside.plan.loads import Measured  # noqa: E402
 from beside.plan.nodes import MATCHED, children, nodes_of, noted  # noqa: E402
 from beside.plan.names import Names  # noqa: E402
-from beside.plan.windows import kept_triples, spans_of  # noqa: E402
+from beside.plan.windows import is_kept, kept_triples, most_times, spans_of  # noqa: E402
 from parted_logs import writer_of_logs  # noqa: E402
 from random_queries import QueryWriter  # noqa: E402
 
 EXPECTED = f"{TOP}/tests/plans.expected"
-LOGS, STREAMS = 16, 60
+LOGS, STREAMS, LOADS, BEYOND = 16, 60, 300, Fraction(1, 10**12)
 OF_TIME = {"CLOSE", "EVERY"}
 # with more facts all rows of a random query are too many
 MOST_FACTS = 60
@@ -294,6 +295,28 @@ def fault_of_steady(clauses, between, triples, slack):
     return f"the model keeps {most}, and the plan says {planned}: {clauses}, {between} ms, {triples} triples, a slack of {slack}"
 
 
+# ---- the rates up to which all is kept
+
+
+def loads(dice):
+    """Rates of streams, from one item in days to many each millisecond, and for how long their items are kept together."""
+    streams = [b"s:%d" % place for place in range(dice.choice([1, 1, 2, 3]))]
+    rates = {stream: Rate(tenths(dice, 12) / 10**6, tenths(dice, 6)) for stream in streams}
+    return rates, {stream: dice.choice([1, 10, 999, 10_000, 86_400_000]) for stream in streams}
+
+
+def tenths(dice, most_digits):
+    return Fraction(dice.randrange(1, 10 ** dice.randrange(1, most_digits)), 10)
+
+
+def fault_of_limit(rates, spans):
+    """All is kept at the limit as it is told, and a millionth of a millionth beyond the exact one it isn't."""
+    times = most_times(rates, spans)
+    if not is_kept(rates, spans, Fraction(at_most(times))):
+        return f"not all is kept at {at_most(times)} times {rates} over {spans}"
+    return f"all is kept beyond {times} times {rates} over {spans}" if is_kept(rates, spans, times * (1 + BEYOND)) else None
+
+
 # ---- all
 
 
@@ -312,6 +335,8 @@ def checks():
     dice = random.Random(1)
     for number in range(STREAMS):
         yield f"kept triples of a steady stream, {number}", fault_of_steady(*steady(dice))
+    wrong = filter(None, (fault_of_limit(*loads(dice)) for _ in range(LOADS)))
+    yield "the rates up to which all is kept", next(wrong, None)
     yield from checks_of_logs()
 
 

@@ -4,6 +4,8 @@
     tools/lint run [--json] [--store FILE] QUERY STREAM=FILE..
     tools/lint events [--json] [--slack N] < LOG
 """
+from policy_model import policy_of
+
 from . import blocks, recordings
 from .bindings import unbound
 from .course import Course
@@ -13,7 +15,7 @@ from .inputs import complain, file_of, name_of_input, opened
 from .limits import SECONDS, within_limits
 from .marks import TornBody, TornGraph
 from .merged_triples import merged
-from .of_blocks import of_form, of_registered
+from .of_blocks import of_block, of_form
 from .of_lines import of_line
 from .of_texts import of_text as of_refused_text
 from .places import Place, Text
@@ -70,8 +72,7 @@ def of_run(words):
     text = Text(words.query, file_of(words.query))
     stores = [recordings.Store(words.store)] if words.store else []
     streams = recordings.recordings_of(words.streams)
-    refused, torn = [refused for file in [*stores, *streams] for refused in file.refused], TornGraph()
-    faults = list(in_runs(of_line(*one) for one in refused if not torn.follows(*one)))
+    faults = faults_of_files([*stores, *streams])
     its = looked_at(text.content, text)
     if its is None or its.why:
         return in_order([*faults, *([of_refused_text(text, text.content, its.why)] if its else [])])
@@ -80,6 +81,12 @@ def of_run(words):
     # a file that is named feeds its stream, whatever it holds
     course.live[b"query"].fed.update(named)
     return in_order([*faults, *findings_of(course, words.mode, named)])
+
+
+def faults_of_files(files):
+    """What is told of the refused lines of files; what follows from the first line of a graph isn't."""
+    torn = TornGraph()
+    return list(in_runs(of_line(*one) for file in files for one in file.refused if not torn.follows(*one)))
 
 
 def course_of_run(course, query, text, stores, streams):
@@ -154,12 +161,18 @@ def register(block, course, faults):
     """Registers a query that the program takes; of one that it doesn't take the streams are known to nobody."""
     name, text, content = block.event[1], blocks.text_of(block), blocks.query_text(block)
     its = None if name in course.live else looked_at(content, text)
-    if its and its.query:
+    wrong = its and why_refused(its, course.slack)
+    if its and not wrong:
         course.register(name, its.query, text)
         return
     course.refused.note(block)
-    if its:
-        faults.append(of_registered(block, its.why))
+    if wrong:
+        faults.append(of_block(block, wrong, None))
+
+
+def why_refused(its, slack):
+    """Why the program refuses a query: for its text, or since it looks at items in the order in which they come."""
+    return its.why or ("23 SlackTuple" if slack and policy_of(its.query["policy"]).is_by_tuple else None)
 
 
 # ---- both

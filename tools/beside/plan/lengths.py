@@ -27,8 +27,20 @@ def decimal(number):
     """A number, of a large one its whole part, else three digits behind the dot, or more where it is small."""
     if number == int(number) or number >= 1000:
         return str(int(number))
-    digits = 3 if number >= 1 else min(12, 3 - math.floor(math.log10(number)))
-    return f"{float(number):.{digits}f}".rstrip("0").rstrip(".")
+    return f"{float(number):.{digits_of(number)}f}".rstrip("0").rstrip(".")
+
+
+def at_most(number):
+    """The same rounded down, so that a limit that is told is none that is passed."""
+    if number == int(number) or number >= 1000:
+        return str(int(number))
+    digits = digits_of(number)
+    whole, rest = divmod(math.floor(number * 10**digits), 10**digits)
+    return f"{whole}.{rest:0{digits}}".rstrip("0").rstrip(".")
+
+
+def digits_of(number):
+    return 3 if number >= 1 else 3 - math.floor(math.log10(number))
 
 
 def size(megabytes):

@@ -4,14 +4,15 @@
     tools/plan run [--json] [--store FILE] QUERY STREAM=FILE..
     tools/plan events [--json] [--slack N] < LOG
 """
+import itertools
+
 from algebra_model import translated
 from policy_model import policy_of, window_of
 
 from .. import recordings
 from ..inputs import complain, file_of, name_of_input, opened
 from ..limits import SECONDS, within_limits
-from ..linting import course_of_log, course_of_run, in_order, looked_at
-from ..of_lines import of_line
+from ..linting import course_of_log, course_of_run, faults_of_files, in_order, looked_at
 from ..of_texts import of_text
 from ..places import Text
 from ..runs import in_runs
@@ -40,8 +41,10 @@ class Task:
 def plans(words):
     """The plan of each query, with what to look out for in it, and each fault."""
     wanted = asked(words)
-    ways = {"events": of_log, "run": of_run, "check": of_check}
-    return ways[wanted.words.mode](wanted)
+    if wanted.words.mode == "events":
+        with opened(None) as log:
+            return of_log(log, name_of_input(), wanted)
+    return of_run(wanted) if wanted.words.mode == "run" else of_check(wanted)
 
 
 def of_check(wanted):
@@ -59,7 +62,7 @@ def of_run(wanted):
     words, text = wanted.words, Text(wanted.words.query, file_of(wanted.words.query))
     stores = [recordings.Store(words.store)] if words.store else []
     streams = recordings.recordings_of(words.streams)
-    faults = list(in_runs(of_line(*one) for file in [*stores, *streams] for one in file.refused))
+    faults = faults_of_files([*stores, *streams])
     its = looked_at(text.content, text, "plan")
     if its is None or its.why:
         return [*faults, *([of_text(text, text.content, its.why)] if its else [])]
@@ -68,14 +71,17 @@ def of_run(wanted):
     return [*faults, *of_task(Task("the query", its.query, text, watched.start), wanted, course)]
 
 
-def of_log(wanted):
+def of_log(log, name, wanted):
+    """The plans of a log, an open file, under the name."""
     course = Measured(wanted.words.slack)
-    with opened(None) as log:
-        faults, _ = course_of_log(course, log, name_of_input())
-    yield from in_order(list(in_runs(faults)))
+    faults, _ = course_of_log(course, log, name)
+    return itertools.chain(in_order(list(in_runs(faults))), of_tasks(wanted, course))
+
+
+def of_tasks(wanted, course):
+    """The plan of each query of a log, as soon as it is made."""
     for watched in course.watched:
-        task = Task(watched.name.decode(), watched.query, watched.text, watched.start)
-        yield from of_task(task, wanted, course)
+        yield from of_task(Task(watched.name.decode(), watched.query, watched.text, watched.start), wanted, course)
 
 
 def of_task(task, wanted, course):
@@ -100,7 +106,8 @@ class Work:
         task, words = self.task, self.wanted.words
         policy = policy_of(task.query["policy"])
         windows = [window_of(clause, task.query["policy"]) for clause in task.query["windows"]]
-        start = next((at for at in (self.wanted.begin, task.start) if at is not None), 0)
+        # before it begins it doesn't report
+        start = max(self.wanted.begin or 0, task.start or 0)
         names, tree = Names(task.query, task.text.content), translated(task.query).tree
         noted(tree, names)
         sizes = Sizes(tree, windows, self.load)

@@ -9,6 +9,8 @@ from ..places import quoted
 from ..timing import told
 from .lengths import lasting
 
+# so often the space in which the most rates lie is halved
+BISECTIONS = 64
 # in how many windows an item is, at least and at most, and for how many milliseconds it is kept at most, with the slack
 Kept = namedtuple("Kept", "least most span")
 
@@ -53,8 +55,13 @@ def spans_of(windows, slack):
 
 def kept_triples(rates, spans):
     """How many triples are kept at most where the streams come steadily at their rates."""
-    kept = ((math.ceil(rates[stream].items * span / 1000), rates[stream].triples) for stream, span in spans.items())
+    kept = ((math.ceil(items_in(rates[stream], span)), rates[stream].triples) for stream, span in spans.items())
     return sum(math.ceil(items * triples) for items, triples in kept)
+
+
+def items_in(rate, span):
+    """How many items come in so many milliseconds."""
+    return rate.items * span / 1000
 
 
 def full_after(rates, spans):
@@ -68,6 +75,21 @@ def full_after(rates, spans):
     return max(spans.values())
 
 
-def most_times(kept):
-    """By what the rates may be multiplied so that all is kept."""
-    return Fraction(MOST_HELD, kept)
+def most_times(rates, spans):
+    """By what the rates may be multiplied at most so that all is kept; None where nothing is, whatever comes."""
+    steady = sum(items_in(rates[stream], span) * rates[stream].triples for stream, span in spans.items())
+    if not steady:
+        return None
+    low, high = Fraction(0), MOST_HELD / steady
+    for _ in range(BISECTIONS):
+        middle = (low + high) / 2
+        low, high = (middle, high) if is_kept(rates, spans, middle) else (low, middle)
+    # it is where a stream has just a whole number of items
+    each = [items_in(rates[stream], span) for stream, span in spans.items()]
+    whole = [math.floor(high * items) / items for items in each if items]
+    return max((times for times in [low, *whole] if is_kept(rates, spans, times)))
+
+
+def is_kept(rates, spans, times):
+    """Whether all is kept at so many times the rates."""
+    return kept_triples({stream: rate._replace(items=rate.items * times) for stream, rate in rates.items()}, spans) <= MOST_HELD

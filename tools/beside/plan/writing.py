@@ -7,11 +7,12 @@ from model import MOST_HELD, MOST_QUADS
 from query_model import LAST_INSTANT
 
 from ..calls import Answer
+from ..course import MOST_TRIPLES
 from ..pages import COSTS
 from ..places import printable, quoted
 from .dues import in_words
-from .lengths import about, decimal, size
-from .nodes import NOTHING, is_by_key_alone
+from .lengths import about, at_most, decimal, size
+from .nodes import is_by_key_alone
 from .sizes import memory
 from .windows import full_after, kept_of, kept_triples, most_times, said_of, spans_of
 
@@ -29,7 +30,7 @@ def loaded(plan):
     rows, stored = plan.sizes.on_sides(plan.nodes[0].tree), load.stored
     takes = None if None in (kept, rows) else memory(kept, stored or 0, rows)
     full = None if kept is None or kept <= MOST_HELD else full_after(load.rates, spans)
-    return Told(kept, full, most_times(kept) if kept else None, stored, rows, takes)
+    return Told(kept, full, most_times(load.rates, spans) if kept else None, stored, rows, takes)
 
 
 def answered(plan):
@@ -85,11 +86,12 @@ def of_rows(node, sizes):
 
 
 def of_kept(node):
-    return "" if node.kept == NOTHING else f"; keeps {node.kept}"
+    return f"; keeps {node.kept}"
 
 
-def counted(many, what):
-    return f"{decimal(many)} {what}{'' if many == 1 else 's'}"
+def counted(many, what, rounded=decimal):
+    said = rounded(many)
+    return f"{said} {what}{'' if said == '1' else 's'}"
 
 
 # ---- the load
@@ -113,17 +115,18 @@ def of_rate(stream, plan):
         return f"of {name} nothing is known: `--rate {stream.decode()}=NxM` says that N items a second come, of M triples each"
     items, triples = plan.load.rates[stream]
     measured = ", as measured" if stream in plan.load.measured else ""
-    return f"{name}: {counted(items, 'item')} a second of {counted(triples, 'triple')}{measured}"
+    over = f": refusal 21 comes, since an item has {MOST_TRIPLES} at most" if triples > MOST_TRIPLES else ""
+    return f"{name}: {counted(items, 'item')} a second of {counted(triples, 'triple')}{measured}{over}"
 
 
 def of_kept_triples(plan, told):
     kept = f"{told.kept} of at most {MOST_HELD} triples are kept"
     if not told.kept:
         return [kept]
-    rates = [plan.load.rates[stream] for stream in spans_of(plan.windows, plan.slack)]
-    limit = f"{decimal(told.times)} times this rate"
-    if len(rates) == 1:
-        limit += f", which is {decimal(rates[0].items * told.times)} items a second"
+    first, *others = [plan.load.rates[stream] for stream in spans_of(plan.windows, plan.slack)]
+    limit = f"{at_most(told.times)} times {'these rates' if others else 'this rate'}"
+    if not others:
+        limit += f", which is {counted(first.items * told.times, 'item', at_most)} a second"
     if told.full is None:
         return [f"{kept}: refusal 19 comes beyond {limit}"]
     would = f"{told.kept} triples would be kept, and {MOST_HELD} may be"
@@ -140,7 +143,10 @@ def in_json(plan, told):
         "reports": json_of_reports(plan.reports),
         "windows": [json_of_window(*both, plan) for both in zip(plan.query["windows"], plan.windows)],
         "nodes": [json_of_node(node, plan) for node in plan.nodes],
-        "load": {name: number(value) for name, value in told._asdict().items()},
+        "load": {
+            **{name: number(value) for name, value in told._asdict().items()},
+            "times": None if told.times is None else json.loads(at_most(told.times)),
+        },
     }
 
 
