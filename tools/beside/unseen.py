@@ -12,6 +12,8 @@ from .places import cut
 
 # of longer names the front is compared
 MOST_COMPARED = 200
+# what is less like the name than this is hardly meant, and so many others are told
+LEAST_LIKE, MOST_OTHERS = 0.5, 4
 
 
 def unseen(watched, course):
@@ -33,11 +35,22 @@ def is_refused(spot, refused):
 
 def of_unseen(place, term, slot, there):
     near = nearest(term, there)
+    also = others(term, near, there)
     said = (
         f"{of_spot(slot.spot)} has {as_part(slot, term)}; the nearest is {whole(near)}, "
-        f"in {there[near]} {'triple' if there[near] == 1 else 'triples'}"
+        f"in {there[near]} {'triple' if there[near] == 1 else 'triples'}{also}"
     )
-    return Finding(place, "unseen", said, f"write {whole(near)}, if that is meant", page_of(TOOLS, "unseen"))
+    write = "write the one that is meant" if also else f"write {whole(near)}, if that is meant"
+    return Finding(place, "unseen", said, write, page_of(TOOLS, "unseen"))
+
+
+def others(term, near, there):
+    """Where the nearest term isn't near, the others that stand there, those that do most often first."""
+    rest = [other for other, _ in there.most_common() if other != near]
+    if not rest or ratio(own_name(term), own_name(near)) >= LEAST_LIKE:
+        return ""
+    told = ", ".join(map(whole, rest[:MOST_OTHERS]))
+    return f"; there {'is' if len(rest) == 1 else 'are'} {told}{' and others' if len(rest) > MOST_OTHERS else ''} too"
 
 
 def of_spot(spot):
