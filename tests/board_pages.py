@@ -7,7 +7,8 @@ import sys
 import board_runs
 import browser
 from board_runs import a_board, checked, decimal, iri, need, report, string
-from documents import TOP, Skipped, read
+from documents import TOP, read
+from outcomes import Skipped
 from pictures import Picture
 
 PICTURE = f"{TOP}/docs/board.png"

@@ -14,6 +14,8 @@ import subprocess
 import tempfile
 import time
 
+from outcomes import Skipped
+
 TOP = os.path.dirname(os.path.dirname(os.path.realpath(__file__)))
 SECONDS = 60
 # documents with commands, beside the pages of the examples, and documents with logs
@@ -41,13 +43,6 @@ def next_bytes(stream, count):
 def examples():
     """The folders of examples that are a run of the program each."""
     return sorted(name for name in os.listdir(f"{TOP}/examples") if name != "recipes")
-
-
-class Skipped:
-    """What stands in the place of a fault where a tool isn't there."""
-
-    def __init__(self, tool):
-        self.tool = tool
 
 
 def skipped(recipe):

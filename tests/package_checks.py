@@ -6,7 +6,8 @@ import shutil
 import subprocess
 import tempfile
 
-from documents import SECONDS, TOP, Skipped, read
+from documents import SECONDS, TOP, read
+from outcomes import Skipped
 
 # what of the sources a package is made from, without the crates
 OF_TOP = ("docs", "examples", "tools", "README.md", "CHANGELOG.md", "crates.txt")

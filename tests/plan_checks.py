@@ -18,6 +18,7 @@ sys.path.insert(0, f"{TOP}/tools")
 import beside  # noqa: E402,F401
 import documents  # noqa: E402
 import model  # noqa: E402
+import outcomes  # noqa: E402
 from algebra_model import OF_ONE, Overfull, solutions  # noqa: E402
 from beside.limits import within_limits  # noqa: E402
 from beside.linting import course_of_log  # noqa: E402
@@ -345,13 +346,7 @@ def main():
         with open(EXPECTED, "w", encoding="utf-8") as file:
             file.write("".join(plans().values()))
         return 0
-    passed = failed = 0
-    for name, wrong in checks():
-        passed, failed = passed + (wrong is None), failed + (wrong is not None)
-        if wrong is not None:
-            print(f"{name}: {wrong}")
-    print(f"{passed} passed, {failed} failed")
-    return int(failed > 0)
+    return outcomes.told(checks())
 
 
 if __name__ == "__main__":

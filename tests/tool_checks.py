@@ -16,6 +16,7 @@ TOP = os.path.dirname(os.path.dirname(os.path.realpath(__file__)))
 sys.path.insert(0, f"{TOP}/tools")
 import documents  # noqa: E402
 import model  # noqa: E402
+import outcomes  # noqa: E402
 import query_model  # noqa: E402
 import tool_cases  # noqa: E402
 from beside import counted, explaining, limits, marks, mistakes, of_texts, pages, refusals, texts, words  # noqa: E402
@@ -260,15 +261,5 @@ def checks():
     yield from checks_of_pages()
 
 
-def main():
-    passed = failed = 0
-    for name, wrong in checks():
-        passed, failed = passed + (wrong is None), failed + (wrong is not None)
-        if wrong is not None:
-            print(f"{name}: {wrong}")
-    print(f"{passed} passed, {failed} failed")
-    return int(failed > 0)
-
-
 if __name__ == "__main__":
-    sys.exit(main())
+    sys.exit(outcomes.told(checks()))
