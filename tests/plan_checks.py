@@ -23,13 +23,14 @@ from algebra_model import OF_ONE, Overfull, solutions  # noqa: E402
 from beside.limits import within_limits  # noqa: E402
 from beside.linting import course_of_log  # noqa: E402
 from beside.plan.asked import Rate  # noqa: E402
-from beside.plan.dues import instants_from  # noqa: E402
+from beside.plan.dues import dues, instants_from  # noqa: E402
 from beside.plan.lengths import at_most  # noqa: E402
 from beside.plan.loads import Measured  # noqa: E402
 from beside.plan.nodes import MATCHED, children, nodes_of, noted  # noqa: E402
 from beside.plan.names import Names  # noqa: E402
 from beside.plan.windows import is_kept, kept_triples, most_times, spans_of  # noqa: E402
 from parted_logs import writer_of_logs  # noqa: E402
+from policy_model import policy_of, window_of  # noqa: E402
 from random_queries import QueryWriter  # noqa: E402
 
 EXPECTED = f"{TOP}/tests/plans.expected"
@@ -261,6 +262,39 @@ class Plain(Names):
         return str(place)
 
 
+# ---- what has to come
+
+
+def fault_of_what_comes(dice):
+    """The first report comes with an item or a tick of the time that the plan names, and with none a millisecond earlier."""
+    text, slack, first = timed_text(dice), dice.choice([0, 3, 20]), dice.randrange(50)
+    query = model.good_query(text.encode())
+    windows = [window_of(clause, query["policy"]) for clause in query["windows"]]
+    found = dues(policy_of(query["policy"]), windows, max(0, first - slack), slack)
+    return next(filter(None, (fault_of_due(due, text, slack, first) for due in found[:1])), None)
+
+
+def fault_of_due(due, text, slack, first):
+    front = f"@register q\n{text}\n@end\n@item <s:a> {first}\n@end\n"
+    for at, lets in ((due.item, "@item <s:a> {}\n@end\n"), (due.tick, "@tick {}\n")):
+        came = [has_report(front + lets.format(time), slack, due.at) for time in (at - 1, at)]
+        if came != [False, True]:
+            return f"under a slack of {slack}, behind an item of {first}, {lets.format(at)} is to bring {due.at}: {came} by {text}"
+    return None
+
+
+def timed_text(dice):
+    policy = dice.choice(["CLOSE", "EVERY PT0.007S", "CLOSE AND EVERY PT0.004S"])
+    span = f"RANGE PT0.{dice.randrange(1, 30):03}S STEP PT0.{dice.randrange(1, 30):03}S"
+    window = f"FROM NAMED WINDOW <w:0> ON <s:a> [{span}]"
+    return f"REGISTER RSTREAM <q:o> REPORT {policy} TICK TIME AS SELECT ?s {window} WHERE {{ WINDOW <w:0> {{ ?s ?p ?o }} }}"
+
+
+def has_report(log, slack, at):
+    output, _ = model.run([b"events", b"--slack", b"%d" % slack], log.encode())
+    return b"# report q %d " % at in output
+
+
 # ---- kept triples
 
 
@@ -336,6 +370,8 @@ def checks():
     dice = random.Random(1)
     for number in range(STREAMS):
         yield f"kept triples of a steady stream, {number}", fault_of_steady(*steady(dice))
+    wrong = filter(None, (fault_of_what_comes(dice) for _ in range(LOADS)))
+    yield "what has to come for a report", next(wrong, None)
     wrong = filter(None, (fault_of_limit(*loads(dice)) for _ in range(LOADS)))
     yield "the rates up to which all is kept", next(wrong, None)
     yield from checks_of_logs()

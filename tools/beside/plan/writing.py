@@ -56,7 +56,7 @@ def of_reports(plan):
     said, dues, lets = plan.reports
     lines = [said, *(in_words(due, plan.mode) for due in dues or [])]
     if dues == []:
-        lines.append(f"none may come any more: the last instant is {LAST_INSTANT}")
+        lines.append(f"none comes up to the last instant, which is {LAST_INSTANT}")
     return [*lines, *([lets] if lets else [])]
 
 
