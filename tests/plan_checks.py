@@ -370,7 +370,7 @@ def checks():
     dice = random.Random(1)
     for number in range(STREAMS):
         yield f"kept triples of a steady stream, {number}", fault_of_steady(*steady(dice))
-    wrong = filter(None, (fault_of_what_comes(dice) for _ in range(LOADS)))
+    wrong = filter(None, (fault_of_what_comes(dice) for _ in range(STREAMS)))
     yield "what has to come for a report", next(wrong, None)
     wrong = filter(None, (fault_of_limit(*loads(dice)) for _ in range(LOADS)))
     yield "the rates up to which all is kept", next(wrong, None)
