@@ -59,7 +59,10 @@ class Case:
 
     def fault(self):
         """What is wrong, or None. Where it can't go on, it says so on standard error in any words."""
-        status, output, said = self.run()
+        try:
+            status, output, said = self.run()
+        except subprocess.TimeoutExpired:
+            return f"it hadn't ended after {SECONDS} seconds"
         if (status, output) != (self.status, self.output):
             return f"status {status}, and it gave {output}"
         is_wanted = bool(said) == (status in (2, 3)) if self.complaint is None else said == self.complaint
