@@ -4,12 +4,15 @@ import json
 import select
 import socket
 import subprocess
+import sys
 import time
 
 from documents import TOP
 
 BOARD = f"{TOP}/tools/board"
 SECONDS = 60
+# how deep Python lets calls be nested in a process that has just begun
+DEPTH = 1000
 XSD = "http://www.w3.org/2001/XMLSchema#"
 
 
@@ -173,12 +176,24 @@ def ended(*words, given=b"", **streams):
     return ran.returncode, ran.stdout, (ran.stderr or b"").decode()
 
 
+@contextlib.contextmanager
+def usual_depth():
+    """Calls may be nested as deep as in a process that has just begun: the models of the tests, which stand beside, allow more."""
+    before = sys.getrecursionlimit()
+    sys.setrecursionlimit(DEPTH)
+    try:
+        yield
+    finally:
+        sys.setrecursionlimit(before)
+
+
 def checked(*checks):
     """Each check, a function, by the first line of what it says of itself, and what it found wrong; so is whatever ends it."""
     for check in checks:
         name = check.__doc__.split("\n")[0].rstrip(".")
         try:
-            check()
+            with usual_depth():
+                check()
             yield f"tools/board: {name}", None
         except Exception as why:
             yield f"tools/board: {name}", f"{type(why).__name__}: {why}"[:1000]
