@@ -1,0 +1,3 @@
+mod GraphRows
+pub mod JsonParts
+pub mod Orders
