@@ -17,5 +17,5 @@ first_three other (Some subject ∷ (Some predicate ∷ (Some object ∷ []))) =
     record { subject = subject; predicate = predicate; object = object }
 first_three other _ = other
 
-pub told_apart : (x y : Triple) → terms x ≡ terms y → x ≡ y
-told_apart x y same = ap (first_three x) same
+pub triples_by_terms : (x y : Triple) → terms x ≡ terms y → x ≡ y
+triples_by_terms x y same = ap (first_three x) same

@@ -1,7 +1,7 @@
 //! The graph of a report: what the template of a query makes of its rows (SPARQL 1.1 Query, section 16.2), and its text.
 //!
-//! `graph_of` gives the set of the instances that are triples, in the byte order of their lines, so that a graph hangs on
-//! the rows as a set alone. `graph_text` and `graph_json` append exactly the defined text of a graph.
+//! `graph_of` gives each instance that is a triple once, in the byte order of their lines. `graph_text` and `graph_json`
+//! append exactly the defined text of a graph.
 #![tactic(auto)]
 
 mod graph;

@@ -39,13 +39,13 @@ impl Line {
 
 impl Lined for Line {
     ghost use Rattle.rsp_graphs.specs.Graphs.{line, terms};
-    ghost use Rattle.rsp_graphs.specs.Lines.{told_apart};
+    ghost use Rattle.rsp_graphs.specs.Lines.{triples_by_terms};
 
     ghost text = { line };
 
     ghost cells = { terms };
 
-    ghost told_apart = { told_apart };
+    ghost told_apart = { triples_by_terms };
 
     fn compare_cells(&self, other: &Line) -> Ordering {
         compare_triples(&self.triple, &other.triple)

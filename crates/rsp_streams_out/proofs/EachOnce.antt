@@ -10,7 +10,7 @@ use Rattle.std.specs.declared.cmp.Ordering.TheVariants.{Equal}
 use Rattle.rsp_multiset.specs.RowLists.{each_once}
 use Rattle.rsp_streams_out.proofs.InOrder.{before, ranks, sorted_by-from_sort}
 use Rattle.rsp_streams_out.proofs.SameOrder.{unordered}
-use Rattle.rsp_streams_out.proofs.Sorted.{AreAtLeast, Rises, Rises-from_sort}
+use Rattle.rsp_streams_out.proofs.Sorted.{AreAtLeast, Rises, Rises-from_sort, filter-kept, filter-dropped}
 use Rattle.rsp_streams_out.specs.Rows.{sorted_by}
 
 filter-twice : {X : Type 0} (p : X → Bool) (xs : List X) → filter p (filter p xs) ≡ filter p xs
@@ -18,8 +18,10 @@ filter-twice p [] = refl
 filter-twice p (x ∷ xs) =
     elim (cases_Bool (p x)) [
       | inl with ↦
-          ap (filter p) (cond-true _ _ _ with) ∙ cond-true _ _ _ with ∙ ap (λ l. x ∷ l) (filter-twice p xs) ∙ sym (cond-true _ _ _ with)
-      | inr without ↦ ap (filter p) (cond-false _ _ _ without) ∙ filter-twice p xs ∙ sym (cond-false _ _ _ without)
+          ap (filter p) (filter-kept p x xs with) ∙ filter-kept p x (filter p xs) with ∙ ap (λ l. x ∷ l) (filter-twice p xs)
+          ∙ sym (filter-kept p x xs with)
+      | inr without ↦
+          ap (filter p) (filter-dropped p x xs without) ∙ filter-twice p xs ∙ sym (filter-dropped p x xs without)
     ]
 
 module _ {X : Type 0} (lt : X → X → Bool) (o : IsStrictWeakOrder lt) (same eq : X → X → Bool)
@@ -30,12 +32,18 @@ module _ {X : Type 0} (lt : X → X → Bool) (o : IsStrictWeakOrder lt) (same e
   others k xs = filter (λ y. not (eq k y)) xs
 
   dropped : (k x : X) (xs : List X) → x ≡ k → others k (x ∷ xs) ≡ others k xs
-  dropped k x xs is = cond-false _ _ _ (ap not ((decides k x).1 (sym is)))
+  dropped k x xs is = filter-dropped (λ y. not (eq k y)) x xs (ap not ((decides k x).1 (sym is)))
 
   stays : (k x : X) (xs : List X) → eq k x ≡ false → others k (x ∷ xs) ≡ x ∷ others k xs
-  stays k x xs differs = cond-true _ _ _ (ap not differs)
+  stays k x xs differs = filter-kept (λ y. not (eq k y)) x xs (ap not differs)
 
-  -- k isn't among what is at least x, which stands behind k and isn't k
+  merged : (k x : X) (xs : List X) → same x k ≡ true → dedup_from same k (x ∷ xs) ≡ dedup_from same k xs
+  merged k x xs is = cond-true _ _ _ is
+
+  parted : (k x : X) (xs : List X) → same x k ≡ false → dedup_from same k (x ∷ xs) ≡ k ∷ dedup_from same x xs
+  parted k x xs away = cond-false _ _ _ away
+
+  -- k is not among what is at least x, where x is at least k and another
   none : (k x : X) → lt x k ≡ false → same x k ≡ false → (ys : List X) → AreAtLeast lt o x ys → others k ys ≡ ys
   none k x behind differs [] h = refl
   none k x behind differs (y ∷ ys) h =
@@ -50,8 +58,8 @@ module _ {X : Type 0} (lt : X → X → Bool) (o : IsStrictWeakOrder lt) (same e
   AreAtLeast-dedup_from n k [] le h = (le, tt)
   AreAtLeast-dedup_from n k (x ∷ xs) le h =
       elim (cases_Bool (same x k)) [
-        | inl is ↦ subst (AreAtLeast lt o n) (sym (cond-true _ _ _ is)) (AreAtLeast-dedup_from n k xs le h.1)
-        | inr away ↦ subst (AreAtLeast lt o n) (sym (cond-false _ _ _ away)) (le, AreAtLeast-dedup_from n x xs h.0 h.1)
+        | inl is ↦ subst (AreAtLeast lt o n) (sym (merged k x xs is)) (AreAtLeast-dedup_from n k xs le h.1)
+        | inr away ↦ subst (AreAtLeast lt o n) (sym (parted k x xs away)) (le, AreAtLeast-dedup_from n x xs h.0 h.1)
       ]
 
   once_from : (k : X) (xs : List X) → Rises lt o (k ∷ xs) → dedup_from same k xs ≡ each_once eq (k ∷ xs)
@@ -60,14 +68,14 @@ module _ {X : Type 0} (lt : X → X → Bool) (o : IsStrictWeakOrder lt) (same e
       elim (cases_Bool (same x k)) [
         | inl is ↦
             let one = (told x k).0 is in
-            cond-true _ _ _ is ∙ once_from k xs (h.0.1, h.1.1)
+            merged k x xs is ∙ once_from k xs (h.0.1, h.1.1)
             ∙ ap (λ l. k ∷ l) (sym (filter-twice (λ y. not (eq k y)) (each_once eq xs)))
             ∙ ap (λ z. k ∷ others k (others z (each_once eq xs))) (sym one)
             ∙ ap (λ l. k ∷ l) (sym (dropped k x (others x (each_once eq xs)) one))
         | inr away ↦
             let rest = once_from x xs h.1 in
             let apart = none k x h.0.0 away (dedup_from same x xs) (AreAtLeast-dedup_from x x xs (never x) h.1.0) in
-            cond-false _ _ _ away ∙ ap (λ l. k ∷ l) (sym apart ∙ ap (others k) rest)
+            parted k x xs away ∙ ap (λ l. k ∷ l) (sym apart ∙ ap (others k) rest)
       ]
     where
       never : (x : X) → lt x x ≡ false

@@ -5,10 +5,10 @@ use Rattle.std.specs.Cmp.{IsStrictWeakOrder}
 use Rattle.std.specs.List.Sorted.{ties, IsSortedBy, IsStableBy}
 
 module _ {X : Type 0} (p : X → Bool) where
-  filter-kept : (y : X) (ys : List X) → p y ≡ true → filter p (y ∷ ys) ≡ y ∷ filter p ys
+  pub filter-kept : (y : X) (ys : List X) → p y ≡ true → filter p (y ∷ ys) ≡ y ∷ filter p ys
   filter-kept y ys h = cond-true _ _ _ h
 
-  filter-dropped : (y : X) (ys : List X) → p y ≡ false → filter p (y ∷ ys) ≡ filter p ys
+  pub filter-dropped : (y : X) (ys : List X) → p y ≡ false → filter p (y ∷ ys) ≡ filter p ys
   filter-dropped y ys h = cond-false _ _ _ h
 
 module _ {X : Type 0} (lt : X → X → Bool) (o : IsStrictWeakOrder lt) where

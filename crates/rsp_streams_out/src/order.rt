@@ -58,8 +58,8 @@ fn with_text(alloc: Global, row: Row<Term>) -> Result<Keyed<Row<Term>>, AllocErr
     Ok(Keyed::new(text, row))
 }
 
-/// The values each once, in the byte order of their texts, and values of one text by their cells: the list depends on the values
-/// as a set alone. Compares about n log n times. Fails only where memory is refused.
+/// The values each once, in the byte order of their texts, and values of one text by their cells. Compares about n log n times.
+/// Fails only where memory is refused.
 pub fn each_in_order<T: Lined>(values: Vec<Keyed<T>>) -> Result<Vec<Keyed<T>>, AllocError>
     ensures { IfOk result (λ out. (same : T → T → Bool) → ((x y : T) → Decides (same x y) (x ≡ y))
         → out.items ≡ each_once same (sorted_by (text_order T.text T.cells) values.items)) }
