@@ -1,7 +1,8 @@
 -- Definitions: the graph of a report: what a template makes of its rows (SPARQL 1.1 Query, section 16.2).
 use Rattle.std.specs.Prelude.{ℕ, Bool, true, false, ◌&&◌, Option, Some, None, List, [], ◌∷◌}
 use Rattle.std.specs.Bool.{then_some}
-use Rattle.std.specs.List.{filter_map, flat_map}
+use Rattle.std.specs.List.{filter_map, flat_map, list_any}
+use Rattle.std.specs.Option.{option_map_or}
 use Rattle.rsp_multiset.specs.RowLists.{each_once}
 use Rattle.rsp_multiset.specs.Rows.{Cells}
 use Rattle.rsp_multiset.specs.Variables.{cell}
@@ -54,3 +55,8 @@ terms triple = Some triple.subject ∷ (Some triple.predicate ∷ (Some triple.o
 -- the graph of a report: each instance once, in the byte order of the lines; triples of one line by their terms
 abbrev pub graph_of : List Made → List (Cells Term) → List Triple
 graph_of template rows = each_once triple_eq (sorted_by (text_order line terms) (instances template rows))
+
+-- whether some triple of the template has this instance in some row
+abbrev pub is_made : List Made → List (Cells Term) → Triple → Bool
+is_made template rows triple =
+    list_any (λ row. list_any (λ made. option_map_or (triple_eq triple) (instance_in row made) false) template) rows

@@ -1,6 +1,9 @@
 // The graph of a report.
 ghost use Rattle.std.specs.Prelude.{◌≡◌, IfOk};
-ghost use Rattle.rsp_graphs.specs.Graphs.{graph_of};
+ghost use Rattle.std.specs.List.{list_any};
+ghost use Rattle.rsp_terms.specs.declared.statement.Triple.{Triple};
+ghost use Rattle.rsp_terms.specs.Same.{triple_eq};
+ghost use Rattle.rsp_graphs.specs.Graphs.{graph_of, is_made};
 
 use crate::instances::instances;
 use crate::line::Line;
@@ -72,7 +75,9 @@ pub fn graph_of(
     template: &[Made],
     rows: &[Row<Term>],
 ) -> Result<Graph, AllocError>
-    ensures { IfOk result (λ graph. graph ≡ graph_of template.now rows.now) }
+    ensures graph { IfOk result (λ graph. graph ≡ graph_of template.now rows.now) }
+    ensures members { IfOk result (λ graph. (triple : Triple) → list_any (triple_eq triple) graph
+        ≡ is_made template.now rows.now triple) }
 {
     let lines = each_in_order(instances(alloc, template, rows)?)?;
     Ok(Graph { lines })
