@@ -88,11 +88,7 @@ fn term_at(row: &Row<Term>, variable: usize) -> Option<&Term>
     }
 }
 
-fn triple_of(
-    subject: &Term,
-    predicate: &Term,
-    object: &Term,
-) -> Result<Option<Triple>, AllocError>
+fn triple_of(subject: &Term, predicate: &Term, object: &Term) -> Result<Option<Triple>, AllocError>
     ensures { IfOk result (λ triple. triple ≡ triple_of (Some subject.now) (Some predicate.now) (Some object.now)) }
 {
     if is_subject(subject) && is_predicate(predicate) {
