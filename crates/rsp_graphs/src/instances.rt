@@ -47,7 +47,8 @@ fn push_instance(
     row: &Row<Term>,
     lines: &mut Vec<Keyed<Line>>,
 ) -> Result<(), AllocError>
-    ensures { OnOk result ((more : _) → lines.new.items ++ more ≡ lines.old.items ++ cons_option (instance_in row.now made.now) more) }
+    ensures { OnOk result ((more : _)
+        → lines.new.items ++ more ≡ lines.old.items ++ cons_option (instance_in row.now made.now) more) }
 {
     match instance(made, row)? {
         None => Ok(()),
