@@ -7,13 +7,11 @@ returns-then-is_between_lines-clause-ends c = ends_between_if _ _ (c.is_between_
 
 pub returns-in-Some-clause-ends : goal.returns-in-Some-clause-ends
 returns-in-Some-clause-ends c =
-    ends_closed _ _ _ _ _ (λ is. true≢false (sym (c.is_between_lines.ensures.1 is) ∙ c.if-is_between_lines.false)) c.take_begun_line.ensures.after
-    (λ l is ended. c.held-line.ensures l (is ∙ sym c.take_begun_line.ensures.line) ended)
-    (rw c.in-Some.is at c.in_ok-block.ensures.takes)
+    ends_closed _ _ _ (λ is. true≢false (sym (c.is_between_lines.ensures.1 is) ∙ c.if-is_between_lines.false))
+    (rw c.in-Some.is at c.in_ok-end_line.ensures.takes)
 
 pub returns-in-None-clause-ends : goal.returns-in-None-clause-ends
 returns-in-None-clause-ends c =
-    ends_left_if _ _ _ _ _ (λ is. true≢false (sym (c.is_between_lines.ensures.1 is) ∙ c.if-is_between_lines.false)) c.take_begun_line.ensures.after
-    (λ l is ended. c.held-line.ensures l (is ∙ sym c.take_begun_line.ensures.line) ended)
-    (rw c.in-None.is at c.in_ok-block.ensures.takes)
+    ends_left_if _ _ _ (λ is. true≢false (sym (c.is_between_lines.ensures.1 is) ∙ c.if-is_between_lines.false))
+    (rw c.in-None.is at c.in_ok-end_line.ensures.takes)
     c.close_begun-in-None.ensures.ends
