@@ -9,7 +9,7 @@ ghost use Rattle.rsp_events.specs.Instants.{IsTimed};
 ghost use Rattle.rsp_events.specs.Lines as text;
 ghost use Rattle.rsp_events.specs.Lines.{Line};
 ghost use Rattle.rsp_events.specs.Steps.{Ends, Grows, place_of_long};
-ghost use Rattle.rsp_events.specs.declared.begun.Place.TheVariants as place;
+ghost use Rattle.rsp_events.specs.declared.begun.Place.TheVariants as places;
 
 use crate::buffers::LineBuffer;
 use crate::contents::content_of_lines;
@@ -122,12 +122,13 @@ impl Begun {
         match self.line {
             LineKept::Whole => {
                 self.line = lengthened(&mut self.buffer, run)?;
+                Ok(())
             }
             LineKept::Long(ending) => {
                 self.line = LineKept::Long(ending_behind(ending, run));
+                Ok(())
             }
         }
-        Ok(())
     }
 
     /// Ends the line, which has this number, with a line feed or without one. Fails only where memory is refused.
@@ -369,7 +370,7 @@ fn either(first: bool, second: bool) -> bool
 
 // one that begins a block
 fn place_of_head(line: &[u8]) -> Place
-    ensures { result ≡ (if text.has_body line.now then place.Inside else place.Last) }
+    ensures { result ≡ (if text.has_body line.now then places.Inside else places.Last) }
 {
     if has_body(line) {
         Place::Inside
@@ -379,7 +380,7 @@ fn place_of_head(line: &[u8]) -> Place
 }
 
 fn place_inside(ends: bool) -> Place
-    ensures { result ≡ (if ends then place.Last else place.Inside) }
+    ensures { result ≡ (if ends then places.Last else places.Inside) }
 {
     if ends { Place::Last } else { Place::Inside }
 }
