@@ -1,15 +1,16 @@
 -- A block with one line more: its lines before `@end`, and whether it has one.
 use Rattle.std.proofs.Common.{◌≡◌, ℕ, suc, ◌+◌, ◌<◌, Bool, true, false, List, [], ◌∷◌, ◌++◌, length, take, subst, refl, ap, sym, ◌∙◌, arith}
-use Rattle.std.specs.Prelude.{◌||◌, not, if◌then◌else◌, fold, map, nat_lt, ⊤}
+use Rattle.std.specs.Prelude.{◌||◌, not, if◌then◌else◌, fold, map, nat_lt}
 use Rattle.std.specs.List.{before_first, list_any, position_or_len}
 use Rattle.std.proofs.lemmas.Bool.Decides.{nat_tests}
-use Rattle.rsp_spec.specs.Limits.{most_block_sizedtes}
+use Rattle.rsp_spec.specs.Limits.{most_block_bytes}
 use Rattle.rsp_events.specs.Begun as block
-use Rattle.rsp_events.specs.Begun.{BegunBlock, EndedLine, begun_block_of, ended_line_of}
-use Rattle.rsp_events.specs.Lines.{Line, ends_body, has_body, is_end, is_long, is_passed, size_of, sizes_of, text_of}
+use Rattle.rsp_events.specs.declared.begun.Ending.{Ending}
+use Rattle.rsp_events.specs.Begun.{BegunBlock, BegunLine, EndedLine, begun_block_of, begun_line_of, ended_line_of, ending_of}
+use Rattle.rsp_events.specs.Lines.{Line, ends_body, is_end, is_long, size_of, sizes_of, text_of}
 use Rattle.rsp_events.specs.Steps.{Grows, behind, place_of_long}
 use Rattle.rsp_events.specs.declared.begun.Place.{Place}
-use Rattle.rsp_events.specs.declared.begun.Place.TheVariants.{Passed, Inside, Last}
+use Rattle.rsp_events.specs.declared.begun.Place.TheVariants.{Inside, Last}
 
 -- ---- what stands before the first that passes, with one more behind
 
@@ -65,7 +66,7 @@ sizes-more group l = sizes-from 0 group l
 
 -- a block of these lines, of so many bytes
 abbrev pub block_sized : ℕ → List (List ℕ) → Bool → ℕ → BegunBlock
-block_sized first texts ended size = if nat_lt most_block_sizedtes size then block.too_large else block.within first texts ended size
+block_sized first texts ended size = if nat_lt most_block_bytes size then block.too_large else block.within first texts ended size
 
 pub record AreParts (a first : ℕ) (b texts : List (List ℕ)) (c ended : Bool) (d size : ℕ) : Type 0 where
   pub first_is : a ≡ first
@@ -88,9 +89,9 @@ grown-lines : (group : List Line) (l : Line) (first : ℕ) (texts : List (List �
     → block_sized first (if ended || ends_body l then texts else texts ++ text_of l ∷ []) (ended || ends_body l) (before + size_of l)
     ≡ begun_block_of (group ++ l ∷ [])
 grown-lines [] l first texts ended before is = absurd (within-is _ first texts ended before is)
-grown-lines (head ∷ body) l first texts ended before is = by (nat_lt most_block_sizedtes (sizes_of (head ∷ body))) refl
+grown-lines (head ∷ body) l first texts ended before is = by (nat_lt most_block_bytes (sizes_of (head ∷ body))) refl
   where
-    by : (large : Bool) → nat_lt most_block_sizedtes (sizes_of (head ∷ body)) ≡ large
+    by : (large : Bool) → nat_lt most_block_bytes (sizes_of (head ∷ body)) ≡ large
         → block_sized first (if ended || ends_body l then texts else texts ++ text_of l ∷ []) (ended || ends_body l) (before + size_of l)
         ≡ begun_block_of (head ∷ body ++ l ∷ [])
     by true h = absurd (within-is _ first texts ended before (rw h at is))
@@ -134,16 +135,6 @@ kept-is l text size is = by (is_long l) refl
     by true h = absurd (rw h at parts)
     by false h = rw h at parts
 
-short-is : (l : Line) (text : List ℕ) (size : ℕ) → ended_line_of l ≡ block.sized text size → is_long l ≡ false
-short-is l text size is = by (is_long l) refl
-  where
-    parts : KeptIs (ended_line_of l) text size
-    parts = subst (λ line. KeptIs line text size) (sym is) (refl, refl)
-
-    by : (long : Bool) → is_long l ≡ long → is_long l ≡ false
-    by true h = absurd (rw h at parts)
-    by false h = h
-
 -- a line that isn't kept, by whether it ends a body
 abbrev LongIs : EndedLine → Bool → Type 0
 LongIs (block.sized a b) ends = ⊥
@@ -159,39 +150,28 @@ long-is l ends is = by (is_long l) refl
     by true h = (h, rw h at parts)
     by false h = absurd (rw h at parts)
 
--- ---- which lines a block has
+abbrev LongLineIs : BegunLine → Ending → Type 0
+LongLineIs (block.kept a) ending = ⊥
+LongLineIs (block.long a) ending = a ≡ ending
 
-abbrev NoneIs : BegunBlock → Type 0
-NoneIs block.between = ⊤
-NoneIs (block.within a b c d) = ⊥
-NoneIs block.too_large = ⊥
-
-none-is : (head : Line) (body : List Line) → begun_block_of (head ∷ body) ≡ block.between → ⊥
-none-is head body is = by (nat_lt most_block_bytes (sizes_of (head ∷ body))) refl
+long_line : (l : Line) (ending : Ending) → begun_line_of l.bytes ≡ block.long ending
+    → (is_long l ≡ true) × (ending_of l.bytes ≡ ending)
+long_line l ending is = by (is_long l) refl
   where
-    parts : NoneIs (begun_block_of (head ∷ body))
-    parts = subst NoneIs (sym is) tt
+    parts : LongLineIs (begun_line_of l.bytes) ending
+    parts = subst (λ line. LongLineIs line ending) (sym is) refl
 
-    by : (large : Bool) → nat_lt most_block_bytes (sizes_of (head ∷ body)) ≡ large → ⊥
-    by true h = rw h at parts
-    by false h = rw h at parts
-
-abbrev LargeIs : BegunBlock → Type 0
-LargeIs block.between = ⊥
-LargeIs (block.within a b c d) = ⊥
-LargeIs block.too_large = ⊤
-
-large-is : (head : Line) (body : List Line) → begun_block_of (head ∷ body) ≡ block.too_large
-    → nat_lt most_block_bytes (sizes_of (head ∷ body)) ≡ true
-large-is head body is = by (nat_lt most_block_bytes (sizes_of (head ∷ body))) refl
-  where
-    parts : LargeIs (begun_block_of (head ∷ body))
-    parts = subst LargeIs (sym is) tt
-
-    by : (large : Bool) → nat_lt most_block_bytes (sizes_of (head ∷ body)) ≡ large
-        → nat_lt most_block_bytes (sizes_of (head ∷ body)) ≡ true
-    by true h = h
+    by : (long : Bool) → is_long l ≡ long → (is_long l ≡ true) × (ending_of l.bytes ≡ ending)
+    by true h = (h, rw h at parts)
     by false h = absurd (rw h at parts)
+
+pub ended_long : (l : Line) (ending : Ending) (ends : Bool) → begun_line_of l.bytes ≡ block.long ending
+    → (ending_of l.bytes ≡ ending → ends ≡ ends_body l) → ended_line_of l ≡ block.too_long ends
+ended_long l ending ends is each =
+    let parts = long_line l ending is in
+    rw parts.0 (ap block.too_long (sym (each parts.1)))
+
+-- ---- which lines a block has
 
 larger : (head : Line) (body : List Line) → nat_lt most_block_bytes (sizes_of (head ∷ body)) ≡ true
     → begun_block_of (head ∷ body) ≡ block.too_large
@@ -216,10 +196,6 @@ behind_some : (v : Bool) (group : List Line) (l : Line) → behind (if v then La
 behind_some true group l = refl
 behind_some false group l = refl
 
-behind_head : (v : Bool) (group : List Line) (l : Line) → behind (if v then Inside else Last) group l ≡ group ++ l ∷ []
-behind_head true group l = refl
-behind_head false group l = refl
-
 pub grows_within : (first : ℕ) (texts : List (List ℕ)) (ended : Bool) (before : ℕ) (text : List ℕ) (size number : ℕ)
     (ends whole : Bool) (place : Place) (new : BegunBlock) → ends ≡ is_end text → whole ≡ (ended || ends)
     → place ≡ (if ends then Last else Inside)
@@ -237,44 +213,6 @@ grows_within first texts ended before text size number ends whole place new ends
           ∙ (λ i. block_sized first (if whole_here i then texts else texts ++ sym parts.0 i ∷ []) (whole_here i) (before + sym parts.1 i))
           ∙ grown-lines (head ∷ body) l first texts ended before is
           ∙ ap begun_block_of (sym (behind_some (ends_body l) (head ∷ body) l) ∙ ap (λ p. behind p (head ∷ body) l) (sym placed)),
-    )
-
-pub grows_too_large : (text : List ℕ) (size number : ℕ) (ends : Bool) (place : Place) → ends ≡ is_end text
-    → place ≡ (if ends then Last else Inside) → Grows block.too_large (block.sized text size) number place block.too_large
-grows_too_large text size number ends place ends_is place_is [] l is line _ = cc
-grows_too_large text size number ends place ends_is place_is (head ∷ body) l is line _ =
-    let parts = kept-is l text size line in
-    let placed : place ≡ (if ends_body l then Last else Inside)
-    = place_is ∙ ap (λ v. if v then Last else Inside) (ends_is ∙ ap is_end (sym parts.0)) in
-    let large = large-is head body is in
-    let over : most_block_bytes < sizes_of (head ∷ body) + size_of l = grind (arith, nat_tests) in (
-      placed,
-      sym (too-large (head ∷ body) l over)
-          ∙ ap begun_block_of (sym (behind_some (ends_body l) (head ∷ body) l) ∙ ap (λ p. behind p (head ∷ body) l) (sym placed)),
-    )
-
-pub grows_passed : (text : List ℕ) (size number : ℕ) → is_passed text ≡ true
-    → Grows block.between (block.sized text size) number Passed block.between
-grows_passed text size number passed (head ∷ body) l is line _ = absurd (none-is head body is)
-grows_passed text size number passed [] l is line _ =
-    let parts = kept-is l text size line in
-    let short = short-is l text size line in
-    let here : is_passed (text_of l) ≡ true = ap is_passed parts.0 ∙ passed in
-    (rw (short, here) refl, refl)
-
-pub grows_head : (text : List ℕ) (size number : ℕ) (place : Place) (new : BegunBlock) → is_passed text ≡ false
-    → place ≡ (if has_body text then Inside else Last) → new ≡ block_sized number (text ∷ []) false (0 + size)
-    → Grows block.between (block.sized text size) number place new
-grows_head text size number place new passed place_is new_is (head ∷ body) l is line _ = absurd (none-is head body is)
-grows_head text size number place new passed place_is new_is [] l is line numbered =
-    let parts = kept-is l text size line in
-    let short = short-is l text size line in
-    let here : is_passed (text_of l) ≡ false = ap is_passed parts.0 ∙ passed in
-    let body : has_body (text_of l) ≡ has_body text = ap has_body parts.0 in (
-      rw (short, here, body) place_is,
-      new_is
-          ∙ (λ i. block_sized (sym numbered i) (sym parts.0 i ∷ []) false (sym parts.1 i))
-          ∙ ap begun_block_of (sym (behind_head (has_body text) [] l) ∙ ap (λ p. behind p [] l) (sym place_is)),
     )
 
 long_behind : (head : Line) (body : List Line) (ends : Bool)

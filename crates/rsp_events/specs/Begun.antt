@@ -1,7 +1,7 @@
 -- Words of the way: what a reader keeps of a line and of a block that have begun.
 --
 -- It keeps their bytes, as long as they are no more than a block may have.
-use Rattle.std.specs.Prelude.{◌≡◌, ℕ, ◌≢◌, Bool, false, not, nat_lt, if◌then◌else◌, List, [], ◌∷◌, filter, map, length, ⊤}
+use Rattle.std.specs.Prelude.{◌≡◌, ℕ, ◌≢◌, Bool, not, nat_lt, if◌then◌else◌, List, [], ◌∷◌, filter, map, length, ⊤}
 use Rattle.std.specs.List.{AllByRecursion, before_first, flat_map, list_any}
 use Rattle.std.specs.Str.Lines.{strip_carriage_return}
 use Rattle.rsp_spec.specs.Limits.{most_block_bytes}

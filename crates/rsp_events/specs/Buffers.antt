@@ -1,5 +1,5 @@
 -- Words of the way: lines one behind the other in one buffer, by where each ends, and the bytes behind them.
-use Rattle.std.specs.Prelude.{◌≡◌, ℕ, zero, suc, ◌-◌, ◌≤◌, List, [], ◌∷◌, take, drop, get_or}
+use Rattle.std.specs.Prelude.{ℕ, zero, suc, ◌-◌, ◌≤◌, List, [], ◌∷◌, take, drop, get_or}
 
 -- the lines that have ended, and the bytes behind them
 pub record Buffer : Type 0 where

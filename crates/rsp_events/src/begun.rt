@@ -303,7 +303,10 @@ fn grown_within(
     let ends = is_end(buffer.rest());
     let ended = either(ended, ends);
     end_unless(buffer, ended)?;
-    Ok((place_inside(ends), within(buffer, first, ended, before, size)))
+    Ok((
+        place_inside(ends),
+        within(buffer, first, ended, before, size),
+    ))
 }
 
 // the same behind a block that is too large
