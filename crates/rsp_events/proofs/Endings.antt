@@ -9,7 +9,7 @@ use Rattle.std.proofs.lemmas.List.Folds.{list_all-append}
 use Rattle.std.proofs.lemmas.Bool.Decides.{nat_tests}
 use Rattle.rsp_spec.specs.Limits.{most_block_bytes}
 use Rattle.rsp_events.specs.declared.begun.Ending.{Ending}
-use Rattle.rsp_events.specs.declared.begun.BegunLine.TheVariants as begun
+use Rattle.rsp_events.specs.Begun as begun
 use Rattle.rsp_events.specs.Begun.{begun_line_of, ending_of}
 use Rattle.rsp_text.specs.Fronts.{is_blank}
 use Rattle.rsp_events.specs.Lines.{is_end}
@@ -65,7 +65,7 @@ pub long_now : (bytes run front rest : List ℕ) (ending : Ending) → length by
     → most_block_bytes - length bytes < length run → front ≡ take (most_block_bytes - length bytes) run
     → rest ≡ drop (most_block_bytes - length bytes) run
     → ((b : List ℕ) → 4 ≤ length b → ending_of b ≡ ending_of (bytes ++ front) → ending ≡ ending_of (b ++ rest))
-    → begun.Long ending ≡ begun_line_of (bytes ++ run)
+    → begun.long ending ≡ begun_line_of (bytes ++ run)
 long_now bytes run front rest ending low more front_is rest_is behind =
     let room = most_block_bytes - length bytes in
     let cut : front ++ rest ≡ run = rw (front_is, rest_is) (take-append-drop room run) in
@@ -74,20 +74,20 @@ long_now bytes run front rest ending low more front_is rest_is behind =
     let all : length (bytes ++ run) ≡ length bytes + length run = length-append bytes run in
     let long : nat_lt most_block_bytes (length (bytes ++ run)) ≡ true = grind (arith, nat_tests) in
     let is = behind (bytes ++ front) (omega (arith, full, front_length, low)) refl in
-    rw long (ap begun.Long (is ∙ ap ending_of (append_assoc bytes front rest ∙ ap (λ r. bytes ++ r) cut)))
+    rw long (ap begun.long (is ∙ ap ending_of (append_assoc bytes front rest ∙ ap (λ r. bytes ++ r) cut)))
 
-pub long_still : (bytes run : List ℕ) (old ending : Ending) → begun_line_of bytes ≡ begun.Long old
+pub long_still : (bytes run : List ℕ) (old ending : Ending) → begun_line_of bytes ≡ begun.long old
     → ((b : List ℕ) → 4 ≤ length b → ending_of b ≡ old → ending ≡ ending_of (b ++ run))
-    → begun.Long ending ≡ begun_line_of (bytes ++ run)
+    → begun.long ending ≡ begun_line_of (bytes ++ run)
 long_still bytes run old ending is behind =
     elim (nat_lt most_block_bytes (length bytes)) as (λ v. nat_lt most_block_bytes (length bytes) ≡ v
-    → cond v (begun.Long (ending_of bytes)) (begun.Kept bytes) ≡ begun.Long old → begun.Long ending ≡ begun_line_of (bytes ++ run)) [
+    → cond v (begun.long (ending_of bytes)) (begun.kept bytes) ≡ begun.long old → begun.long ending ≡ begun_line_of (bytes ++ run)) [
       | true ↦ λ test h.
           let all : length (bytes ++ run) ≡ length bytes + length run = length-append bytes run in
           let over : most_block_bytes < length bytes = grind (arith, nat_tests) in
           let long : nat_lt most_block_bytes (length (bytes ++ run)) ≡ true = grind (arith, nat_tests) in
           let same : ending_of bytes ≡ old = cc in
-          rw long (ap begun.Long (behind bytes (omega (arith, over)) same))
+          rw long (ap begun.long (behind bytes (omega (arith, over)) same))
       | false ↦ λ test h. cc
     ] refl is
 

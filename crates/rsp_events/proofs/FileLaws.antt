@@ -1,7 +1,7 @@
 -- What a file's lines say, line by line or as one list of answers.
 use Rattle.std.proofs.Common.{◌≡◌, ℕ, Bool, true, false, List, [], ◌∷◌, ◌++◌, map, filter, refl, sym, ap, ◌∙◌}
 use Rattle.std.specs.Prelude.{Option, None, Some, ◌||◌, if◌then◌else◌}
-use Rattle.std.specs.List.{before_first, cons_option, filter_map}
+use Rattle.std.specs.List.{cons_option, filter_map}
 use Rattle.std.specs.Option.{is_some, option_and_then, option_map, option_or}
 use Rattle.rsp_terms.specs.declared.term.Term.{Term}
 use Rattle.rsp_terms.specs.declared.statement.Quad.{Quad}
@@ -15,7 +15,7 @@ use Rattle.rsp_events.specs.declared.refused.RefusedAs.TheVariants.{BadStatement
 use Rattle.rsp_events.specs.Contents.{fault_in, quad_in}
 use Rattle.rsp_events.specs.Lines.{Line, log_lines, text_of}
 use Rattle.rsp_events.specs.Files.{loaded, refused_at}
-use Rattle.rsp_events.specs.FileLines.{FileLine, file_line, loaded_by, no_statement, quads, quads_in, refused_line, refused_quads, said}
+use Rattle.rsp_events.specs.FileLines.{FileLine, file_line, loaded_by, no_statement, quads, quads_in, refused_line, refused_quads}
 use Rattle.rsp_events.specs.Recorded as recorded
 use Rattle.rsp_events.specs.Recorded.{is_of, time_stated}
 use Rattle.rsp_events.specs.Openings.{Opening, graph, is_time_line, item_opened, items, name_behind, opening_in, recorded_by, refusal, refused, triples_of}

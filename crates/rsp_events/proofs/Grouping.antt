@@ -4,7 +4,7 @@ use Rattle.std.proofs.Common.{◌≡◌, ℕ, zero, suc, ◌≤◌, Bool, true, 
 use Rattle.std.specs.Prelude.{◌+◌, drop, filter, not, take, ◌||◌}
 use Rattle.std.specs.List.{after_first, list_any, flat_map, position_or_len}
 use Rattle.std.proofs.lemmas.List.Elements.{filter-append}
-use Rattle.rsp_events.specs.declared.blocks.Place.TheVariants.{Passed, Inside, Last}
+use Rattle.rsp_events.specs.declared.begun.Place.TheVariants.{Passed, Inside, Last}
 use Rattle.rsp_events.specs.Lines.{Line, passes, begins_body, ends_body}
 use Rattle.rsp_events.specs.Blocks.{groups_within, groups, is_whole}
 use Rattle.rsp_events.specs.Begun.{begun_group, whole_groups}

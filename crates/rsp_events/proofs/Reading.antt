@@ -7,12 +7,10 @@ use Rattle.std.proofs.lemmas.Result.{IfOk-weaker}
 use Rattle.std.proofs.lemmas.Bool.Decides.{nat_tests}
 use Rattle.rsp_spec.specs.Limits.{most_block_bytes}
 use Rattle.rsp_events.specs.declared.event.Block.{Block}
-use Rattle.rsp_events.specs.declared.begun.BegunLine.TheVariants as kept
-use Rattle.rsp_events.specs.declared.begun.HeldLine.{HeldLine}
-use Rattle.rsp_events.specs.declared.blocks.Place.{Place}
-use Rattle.rsp_events.specs.declared.blocks.Place.TheVariants.{Passed, Inside, Last}
+use Rattle.rsp_events.specs.declared.begun.Place.{Place}
+use Rattle.rsp_events.specs.declared.begun.Place.TheVariants.{Passed, Inside, Last}
 use Rattle.rsp_events.specs.Lines.{Line, log_lines}
-use Rattle.rsp_events.specs.Begun.{IsInLine, ending_of, begun_block_of, begun_line_of, held_line_of, begun_group, begun_line, whole_groups}
+use Rattle.rsp_events.specs.Begun.{IsInLine, ending_of, begun_block_of, begun_line_of, begun_group, begun_line, whole_groups, kept, long}
 use Rattle.rsp_events.specs.Reader.{Reader, HasRead}
 use Rattle.rsp_events.specs.Blocks.{blocks, content_of, ended_lines, groups, numbered_from, whole_blocks}
 use Rattle.rsp_events.specs.Instants.{AllTimed}
@@ -185,24 +183,19 @@ reads_run old new run within longer document block lines number ready =
     })
 
 -- the end of a line
-pub reads_line : (old mid new : Reader) (held : HeldLine) (given : List Block)
-    → mid ≡ record old { line = kept.Kept [] }
-    → ((l : Line) → begun_line_of l.bytes ≡ old.line → l.ended ≡ true → held ≡ held_line_of l)
-    → TakesLine mid held new given → Reads old (10 ∷ []) new given
-reads_line old mid new held given is holds taken =
-    let takes : TakesLine (record old { line = kept.Kept [] }) held new given = rw (← is) taken in
+pub reads_line : (old new : Reader) (given : List Block) → TakesLine old true new given → Reads old (10 ∷ []) new given
+reads_line old new given takes =
     reads old (10 ∷ []) new given takes.document takes.ready takes.number takes.timed
     (λ before at.
     let l : Line = record { number = 1 + count_at before; bytes = line_at before; ended = true } in
     let group = group_at before in
-    let is_held = sym (holds l (sym at.line) refl) in
     let number : 1 + count_at before ≡ old.lines + 1 = omega (arith, at.lines) in
     let closed = closed_at (place_of group l) group l in
     record {
       line = takes.line;
-      block = takes.block group l (sym at.block) is_held number;
+      block = takes.block group l (sym at.block) (sym at.line) refl number;
       lines = takes.lines;
-      blocks = takes.blocks group l (sym at.block) is_held number
+      blocks = takes.blocks group l (sym at.block) (sym at.line) refl number
           ∙ ap (λ gs. numbered_from (old.document) (old.number) gs) (sym (append-nil closed));
     })
 
@@ -252,24 +245,24 @@ ends old last each before read =
     (rw (← read.number, count) (sym (each (begun_line before) (begun_group (ended_lines before)) (sym read.line) (sym read.block))))
 
 -- no line has begun
-pub none_begun : (line : List ℕ) → begun_line_of line ≡ kept.Kept [] → line ≡ []
+pub none_begun : (line : List ℕ) → begun_line_of line ≡ kept [] → line ≡ []
 none_begun [] is = refl
 none_begun (b ∷ bs) is =
     elim (nat_lt most_block_bytes (length (b ∷ bs))) as (λ v.
-    cond v (kept.Long (ending_of (b ∷ bs))) (kept.Kept (b ∷ bs)) ≡ kept.Kept [] → b ∷ bs ≡ []) [
+    cond v (long (ending_of (b ∷ bs))) (kept (b ∷ bs)) ≡ kept [] → b ∷ bs ≡ []) [
       | true ↦ λ h. cc
       | false ↦ λ h. cc
     ] is
 
 -- the text ends between lines
-pub ends_between : (old : Reader) (last : List Block) → old.line ≡ kept.Kept [] → Closes old last → Ends old last
+pub ends_between : (old : Reader) (last : List Block) → old.line ≡ kept [] → Closes old last → Ends old last
 ends_between old last none closes =
     ends old last
     (λ line group kept_line kept_block.
     rw (none_begun line (kept_line ∙ none)) (closes group kept_block))
 
 -- the text ends in a line
-some_begun : (old : Reader) (line : List ℕ) → old.line ≢ kept.Kept [] → begun_line_of line ≡ old.line
+some_begun : (old : Reader) (line : List ℕ) → old.line ≢ kept [] → begun_line_of line ≡ old.line
     → (length line == 0) ≡ false
 some_begun old [] some is = absurd (some (sym is))
 some_begun old (b ∷ bs) some is = let more : suc (length bs) ≢ 0 = omega arith in grind (arith, nat_tests)
@@ -289,32 +282,25 @@ leaving Passed d n group line last none is = is
 leaving Inside d n group line last none is = is
 leaving Last d n group line last none is = cc
 
-pub ends_closed : (old mid new : Reader) (held : HeldLine) (block : Block) → old.line ≢ kept.Kept []
-    → mid ≡ record old { line = kept.Kept [] }
-    → ((l : Line) → begun_line_of l.bytes ≡ old.line → l.ended ≡ false → held ≡ held_line_of l)
-    → TakesLine mid held new (block ∷ []) → Ends old (block ∷ [])
-ends_closed old mid new held block some is holds taken =
-    let takes : TakesLine (record old { line = kept.Kept [] }) held new (block ∷ []) = rw (← is) taken in
+pub ends_closed : (old new : Reader) (block : Block) → old.line ≢ kept [] → TakesLine old false new (block ∷ [])
+    → Ends old (block ∷ [])
+ends_closed old new block some takes =
     ends old (block ∷ [])
     (λ line group kept_line kept_block.
     let l : Line = record { number = old.lines + 1; bytes = line; ended = false } in
-    let blocks = takes.blocks group l kept_block (sym (holds l kept_line refl)) refl in
+    let blocks = takes.blocks group l kept_block kept_line refl refl in
     rw (some_begun old line some kept_line)
     (closing (place_of group l) (old.document) (old.number) group l block blocks))
 
-pub ends_left : (old mid new : Reader) (held : HeldLine) (last : List Block) → old.line ≢ kept.Kept []
-    → mid ≡ record old { line = kept.Kept [] }
-    → ((l : Line) → begun_line_of l.bytes ≡ old.line → l.ended ≡ false → held ≡ held_line_of l)
-    → TakesLine mid held new [] → Closes new last → Ends old last
-ends_left old mid new held last some is holds taken closes =
-    let takes : TakesLine (record old { line = kept.Kept [] }) held new [] = rw (← is) taken in
+pub ends_left : (old new : Reader) (last : List Block) → old.line ≢ kept [] → TakesLine old false new [] → Closes new last
+    → Ends old last
+ends_left old new last some takes closes =
     ends old last
     (λ line group kept_line kept_block.
     let l : Line = record { number = old.lines + 1; bytes = line; ended = false } in
-    let is_held = sym (holds l kept_line refl) in
     let place = place_of group l in
-    let blocks = takes.blocks group l kept_block is_held refl in
-    let closed = closes (begun_at place group l) (sym (takes.block group l kept_block is_held refl)) in
+    let blocks = takes.blocks group l kept_block kept_line refl refl in
+    let closed = closes (begun_at place group l) (sym (takes.block group l kept_block kept_line refl refl)) in
     let same : new.number ≡ old.number = takes.number ∙ omega arith in
     let at_old : last ≡ numbered_from (old.document) (old.number) (begun_groups (begun_at place group l))
     = closed ∙ rw (takes.document, same) refl in
@@ -322,20 +308,18 @@ ends_left old mid new held last some is holds taken closes =
     (leaving place (old.document) (old.number) group l last blocks at_old))
 
 -- the same of a call that closes the block that has begun
-pub ends_between_if : {E : Type 0} (old : Reader) (result : Result (Option Block) E) → old.line ≡ kept.Kept []
+pub ends_between_if : {E : Type 0} (old : Reader) (result : Result (Option Block) E) → old.line ≡ kept []
     → IfOk result (λ last. Closes old (option_to_list last)) → IfOk result (λ last. Ends old (option_to_list last))
 ends_between_if old result none =
     IfOk-weaker result (λ last. Closes old (option_to_list last)) (λ last. Ends old (option_to_list last))
     (λ last. ends_between old (option_to_list last) none)
 
-pub ends_left_if : {E : Type 0} (old mid new : Reader) (held : HeldLine) (result : Result (Option Block) E)
-    → old.line ≢ kept.Kept [] → mid ≡ record old { line = kept.Kept [] }
-    → ((l : Line) → begun_line_of l.bytes ≡ old.line → l.ended ≡ false → held ≡ held_line_of l)
-    → TakesLine mid held new []
+pub ends_left_if : {E : Type 0} (old new : Reader) (result : Result (Option Block) E) → old.line ≢ kept []
+    → TakesLine old false new []
     → IfOk result (λ last. Closes new (option_to_list last)) → IfOk result (λ last. Ends old (option_to_list last))
-ends_left_if old mid new held result some is holds taken =
+ends_left_if old new result some takes =
     IfOk-weaker result (λ last. Closes new (option_to_list last)) (λ last. Ends old (option_to_list last))
-    (λ last. ends_left old mid new held (option_to_list last) some is holds taken)
+    (λ last. ends_left old new (option_to_list last) some takes)
 
 -- the blocks of a text begin with the whole ones of a beginning of it
 abbrev reader_at : ℕ → List ℕ → Reader

@@ -1,5 +1,10 @@
--- Words of the way: lines one behind the other in one buffer, by where each ends.
-use Rattle.std.specs.Prelude.{◌≡◌, ℕ, zero, suc, ◌-◌, ◌≤◌, List, [], ◌∷◌, take, drop, get_or}
+-- Words of the way: lines one behind the other in one buffer, by where each ends, and the bytes behind them.
+use Rattle.std.specs.Prelude.{ℕ, zero, suc, ◌-◌, ◌≤◌, List, [], ◌∷◌, take, drop, get_or}
+
+-- the lines that have ended, and the bytes behind them
+pub record Buffer : Type 0 where
+  pub lines : List (List ℕ)
+  pub rest : List ℕ
 
 -- the lines that stand in the bytes from the start on
 abbrev pub pieces : List ℕ → ℕ → List ℕ → List (List ℕ)

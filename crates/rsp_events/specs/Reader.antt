@@ -1,8 +1,6 @@
 -- Words of the way: what a reader of pieces keeps, and that it has read some bytes.
 use Rattle.std.specs.Prelude.{◌≡◌, ℕ, ◌+◌, Bool, false, List, length}
-use Rattle.rsp_events.specs.declared.begun.BegunLine.{BegunLine}
-use Rattle.rsp_events.specs.declared.begun.BegunBlock.{BegunBlock}
-use Rattle.rsp_events.specs.Begun.{begun_line_of, begun_block_of, begun_group, begun_line}
+use Rattle.rsp_events.specs.Begun.{BegunBlock, BegunLine, begun_line_of, begun_block_of, begun_group, begun_line}
 use Rattle.rsp_events.specs.Blocks.{ended_lines, whole_blocks}
 
 -- what is kept of the line that has begun and of the block that has begun, how many lines have ended, the number of

@@ -1,19 +1,25 @@
-// What is kept of a line and of a block that have begun: their bytes, as long as they are no more than a block may have.
-ghost use Rattle.std.specs.Prelude.{◌≡◌, ◌+◌, ◌++◌, ◌∷◌, ◌≤◌, ◌<◌, ◌&&◌, ◌||◌, [], ℕ, List, IfOk, length, if◌then◌else◌, nat_lt};
-ghost use Rattle.std.specs.Str.Lines.{strip_carriage_return};
+// What has begun, a block and the line behind its lines: their bytes, as long as they are no more than a block may have.
+ghost use Rattle.std.specs.Prelude.{◌≡◌, ◌+◌, ◌++◌, ◌∷◌, ◌↔◌, ◌≤◌, ◌&&◌, ◌||◌, [], ℕ, List, true, length, nat_lt};
+ghost use Rattle.std.specs.Prelude.{IfOk, OnOk, OnErr, if◌then◌else◌};
 ghost use Rattle.rsp_spec.specs.Limits.{most_block_bytes};
-ghost use Rattle.rsp_events.specs.Begun.{begun_block_of, begun_line_of, ending_of, ends_group, held_line_of};
-ghost use Rattle.rsp_events.specs.Lines as lines;
+ghost use Rattle.rsp_events.specs.Begun.{IsClean, begun_block_of, begun_line_of, block_by, ending_of, line_by};
+ghost use Rattle.rsp_events.specs.Begun.{between, kept, sized, too_large, too_long, within};
+ghost use Rattle.rsp_events.specs.Blocks.{content_of};
+ghost use Rattle.rsp_events.specs.Instants.{IsTimed};
+ghost use Rattle.rsp_events.specs.Lines as text;
 ghost use Rattle.rsp_events.specs.Lines.{Line};
-ghost use Rattle.rsp_events.specs.declared.begun.HeldLine.TheVariants as held;
-ghost use Rattle.rsp_events.specs.declared.begun.BegunBlock.TheVariants as begun;
+ghost use Rattle.rsp_events.specs.Steps.{Ends, Grows, place_of_long};
+ghost use Rattle.rsp_events.specs.declared.begun.Place.TheVariants as places;
 
-use crate::buffers::{LineBuffer, Spares};
-use crate::lines::{is_end, without_return};
+use crate::buffers::LineBuffer;
+use crate::contents::content_of_lines;
+use crate::lines::{has_body, is_end, is_passed, without_return};
+use crate::{BlockFault, Content};
 use rsp_spec::limits::MOST_BLOCK_BYTES;
-use rsp_terms::Listed;
+use rsp_terms::Texts;
 use rsp_text::is_blank;
-use std::alloc::AllocError;
+use std::alloc::{AllocError, Global};
+use std::marker::Model;
 
 /// Whether bytes are an `@end`: as the last line of a text, and as a line that a line feed ends, which drops a carriage
 /// return before it.
@@ -23,60 +29,172 @@ pub(crate) struct Ending {
     pub fed: bool,
 }
 
-/// The line that has begun: its bytes, or how it may end a body where they are more than a block may have.
-#[derive(Drop)]
-pub(crate) enum BegunLine {
-    Kept(Listed<u8>),
+/// Where a line stands that has come to its end.
+#[derive(Clone, Copy)]
+pub(crate) enum Place {
+    /// between blocks, and passed over
+    Passed,
+    /// in a block that goes on
+    Inside,
+    /// the last of a block
+    Last,
+}
+
+// The line that has begun: its bytes are those behind the buffer's lines, or are more than a block may have.
+#[derive(Clone, Copy)]
+enum LineKept {
+    Whole,
     Long(Ending),
 }
 
-/// A line that has come to its end: what it says and its bytes with the line feed, or whether it ends a body where it has
-/// more than a block may have.
-#[derive(Drop)]
-pub(crate) enum HeldLine {
-    Kept(Listed<u8>, usize),
-    Long(bool),
+// The block that has begun: none, or the buffer's lines, those before an `@end`, with the number of the first, whether the
+// block has an `@end`, and the bytes of all its lines, or one that has more than a block may have.
+#[derive(Clone, Copy)]
+enum BlockKept {
+    Between,
+    Within {
+        first: u64,
+        ended: bool,
+        size: usize,
+    },
+    TooLarge,
 }
 
-/// The block that has begun: none, or its lines before an `@end` with the number of the first, whether it has an `@end`, and
-/// the bytes of all its lines, or one that has more than a block may have.
+/// A block and a line that have begun, in one buffer, which keeps its room from block to block.
 #[derive(Drop)]
-pub(crate) enum BegunBlock {
-    Between,
-    Within(u64, LineBuffer, bool, usize),
-    TooLarge,
+pub(crate) struct Begun {
+    buffer: LineBuffer,
+    line: LineKept,
+    block: BlockKept,
+}
+
+impl Model for Begun {
+    ghost use Rattle.rsp_events.specs.Begun.{BegunState, IsClean, block_by, line_by};
+
+    ghost Value = { BegunState };
+
+    ghost view = { λ b. record {
+      line = line_by b.line b.buffer.rest;
+      block = block_by b.block b.buffer.lines;
+    } };
+
+    ghost invariant = { λ b. IsClean b.block b.buffer.lines };
+}
+
+impl Begun {
+    /// No line and no block. Takes no memory.
+    pub(crate) fn new(alloc: Global) -> Begun
+        ensures { result ≡ record { line = kept []; block = between } }
+    {
+        Begun {
+            buffer: LineBuffer::new(alloc),
+            line: LineKept::Whole,
+            block: BlockKept::Between,
+        }
+    }
+
+    /// Whether no byte stands behind the last line feed.
+    pub(crate) fn is_between_lines(&self) -> bool
+        ensures { result ≡ true ↔ (self.now.line ≡ kept []) }
+    {
+        match self.line {
+            LineKept::Whole => self.buffer.rest().is_empty(),
+            LineKept::Long(_) => false,
+        }
+    }
+
+    /// Whether no block has begun.
+    pub(crate) fn is_between_blocks(&self) -> bool
+        ensures { result ≡ true ↔ (self.now.block ≡ between) }
+    {
+        match self.block {
+            BlockKept::Between => true,
+            _ => false,
+        }
+    }
+
+    /// Puts bytes behind those of the line, of which none is a line feed. Fails only where memory is refused.
+    pub(crate) fn lengthen(&mut self, run: &[u8]) -> Result<(), AllocError>
+        ensures block { self.new.block ≡ self.old.block }
+        ensures line { OnOk result ((bytes : List ℕ) → begun_line_of bytes ≡ self.old.line
+            → self.new.line ≡ begun_line_of (bytes ++ run.now)) }
+    {
+        match self.line {
+            LineKept::Whole => {
+                self.line = lengthened(&mut self.buffer, run)?;
+                Ok(())
+            }
+            LineKept::Long(ending) => {
+                self.line = LineKept::Long(ending_behind(ending, run));
+                Ok(())
+            }
+        }
+    }
+
+    /// Ends the line, which has this number, with a line feed or without one. Fails only where memory is refused.
+    pub(crate) fn end_line(&mut self, number: u64, fed: bool) -> Result<Place, AllocError>
+        ensures line { OnOk result (self.new.line ≡ kept []) }
+        ensures block { IfOk result (λ place. Ends self.old.block self.old.line fed number place self.new.block) }
+    {
+        match self.line {
+            LineKept::Whole => {
+                let size = self.buffer.end_text(fed);
+                let (place, block) = grown(&mut self.buffer, self.block, number, size)?;
+                self.block = block;
+                Ok(place)
+            }
+            LineKept::Long(ending) => {
+                let (place, block) = grown_by_long(&mut self.buffer, self.block, ends(ending, fed));
+                self.line = LineKept::Whole;
+                self.block = block;
+                Ok(place)
+            }
+        }
+    }
+
+    /// What the block holds, as lines of this document. Fails only where memory is refused, or the 64-bit number of a line
+    /// would pass its last value.
+    pub(crate) fn content(&self, texts: &mut Texts, document: u32) -> Result<Content, AllocError>
+        ensures timed { IfOk result IsTimed }
+        ensures value { IfOk result (λ content. (group : List Line) → begun_block_of group ≡ self.now.block
+            → content ≡ content_of document group) }
+    {
+        match self.block {
+            BlockKept::Within { first, ended, .. } => {
+                content_of_lines(texts, document, first, &self.buffer.lines(), ended)
+            }
+            _ => Ok(Content::Fault(BlockFault::BlockTooLarge)),
+        }
+    }
+
+    /// Takes the block and the line away.
+    pub(crate) fn clear(&mut self)
+        ensures { self.new ≡ record { line = kept []; block = between } }
+    {
+        self.buffer.clear();
+        self.line = LineKept::Whole;
+        self.block = BlockKept::Between;
+    }
 }
 
 // ---- a line
 
-/// The line with these bytes behind it, of which none is a line feed. Fails only where memory is refused.
-pub(crate) fn lengthened(line: BegunLine, run: &[u8]) -> Result<BegunLine, AllocError>
-    ensures { IfOk result (λ new. (bytes : List ℕ) → begun_line_of bytes ≡ line → new ≡ begun_line_of (bytes ++ run.now)) }
+// the line in the buffer with these bytes behind it
+fn lengthened(buffer: &mut LineBuffer, run: &[u8]) -> Result<LineKept, AllocError>
+    ensures lines { buffer.new.lines ≡ buffer.old.lines }
+    ensures line { IfOk result (λ line. length buffer.old.rest ≤ most_block_bytes
+        → line_by line buffer.new.rest ≡ begun_line_of (buffer.old.rest ++ run.now)) }
 {
-    match line {
-        BegunLine::Kept(bytes) => lengthened_bytes(bytes, run),
-        BegunLine::Long(ending) => Ok(BegunLine::Long(ending_behind(ending, run))),
-    }
-}
-
-fn lengthened_bytes(bytes: Listed<u8>, run: &[u8]) -> Result<BegunLine, AllocError>
-    ensures { IfOk result (λ new. length bytes ≤ most_block_bytes → new ≡ begun_line_of (bytes ++ run.now)) }
-{
-    let room = MOST_BLOCK_BYTES.saturating_sub(bytes.as_slice().len());
+    let room = MOST_BLOCK_BYTES.saturating_sub(buffer.rest().len());
     if run.len() <= room {
-        return Ok(BegunLine::Kept(joined(bytes, run)?));
+        buffer.extend(run)?;
+        return Ok(LineKept::Whole);
     }
-    let (front, rest) = run.split_at(room);
-    let full = joined(bytes, front)?;
-    Ok(BegunLine::Long(ending_behind(ending_of(full.as_slice()), rest)))
-}
-
-fn joined(bytes: Listed<u8>, run: &[u8]) -> Result<Listed<u8>, AllocError>
-    ensures { IfOk result (λ joined. joined ≡ bytes ++ run.now) }
-{
-    let mut bytes = bytes.into_vec();
-    bytes.extend_from_slice(run)?;
-    Ok(Listed::from_vec(bytes))
+    let (front, behind) = run.split_at(room);
+    buffer.extend(front)?;
+    let ending = ending_of(buffer.rest());
+    buffer.drop_rest();
+    Ok(LineKept::Long(ending_behind(ending, behind)))
 }
 
 fn ending_of(bytes: &[u8]) -> Ending
@@ -112,101 +230,136 @@ fn both(first: bool, second: bool) -> bool
     first && second
 }
 
-/// The line at its end, with a line feed behind it or none.
-pub(crate) fn held(line: BegunLine, ended: bool) -> HeldLine
-    ensures { (l : Line) → begun_line_of l.bytes ≡ line → l.ended ≡ ended → result ≡ held_line_of l }
-{
-    match line {
-        BegunLine::Kept(bytes) => held_bytes(bytes, ended),
-        BegunLine::Long(ending) => HeldLine::Long(ends(ending, ended)),
-    }
-}
-
-fn held_bytes(bytes: Listed<u8>, ended: bool) -> HeldLine
-    ensures { (l : Line) → l.bytes ≡ bytes → l.ended ≡ ended → result ≡ held.Kept (lines.text_of l) (lines.size_of l) }
-{
-    let size = bytes.as_slice().len();
-    if ended {
-        HeldLine::Kept(stripped(bytes), size + 1)
-    } else {
-        HeldLine::Kept(bytes, size)
-    }
-}
-
-// the line without the one carriage return at its end
-fn stripped(line: Listed<u8>) -> Listed<u8>
-    ensures { result ≡ strip_carriage_return line }
-{
-    let mut bytes = line.into_vec();
-    if bytes.last() == Some(&b'\r') {
-        bytes.pop();
-    }
-    Listed::from_vec(bytes)
-}
-
 // whether a line ends a body that stands so to `@end`
-fn ends(ending: Ending, ended: bool) -> bool
-    ensures { (l : Line) → ending_of l.bytes ≡ ending → l.ended ≡ ended → result ≡ lines.is_end (lines.text_of l) }
+fn ends(ending: Ending, fed: bool) -> bool
+    ensures { (l : Line) → ending_of l.bytes ≡ ending → l.ended ≡ fed → result ≡ text.is_end (text.text_of l) }
 {
-    if ended { ending.fed } else { ending.last }
+    if fed { ending.fed } else { ending.last }
 }
 
 // ---- a block
 
-/// The block with this line behind it, which has this number and ends the block's body or doesn't. Fails only where memory is
-/// refused.
-pub(crate) fn grown(
-    spares: &mut Spares,
-    block: BegunBlock,
-    line: HeldLine,
+// Where the line in the buffer stands that has ended, and the block with it. It has this number and so many bytes.
+fn grown(
+    buffer: &mut LineBuffer,
+    block: BlockKept,
     number: u64,
-    ends: bool,
-) -> Result<BegunBlock, AllocError>
-    ensures { IfOk result (λ new. (group : List Line) (l : Line) → begun_block_of group ≡ block → held_line_of l ≡ line
-        → l.number ≡ number → ends_group group l ≡ ends → new ≡ begun_block_of (group ++ (l ∷ []))) }
+    size: usize,
+) -> Result<(Place, BlockKept), AllocError>
+    requires { IsClean block buffer.old.lines }
+    ensures rest { OnOk result (buffer.new.rest ≡ []) }
+    ensures clean { IfOk result (λ x. IsClean x.1 buffer.new.lines) }
+    ensures err { OnErr result (buffer.new.lines ≡ buffer.old.lines) }
+    ensures block { IfOk result (λ x.
+        Grows (block_by block buffer.old.lines) (sized buffer.old.rest size) number x.0 (block_by x.1 buffer.new.lines)) }
 {
-    let HeldLine::Kept(text, size) = line else {
-        return Ok(BegunBlock::TooLarge);
-    };
     match block {
-        BegunBlock::Between => {
-            let texts = spares.block();
-            let texts = joined_text(spares, texts, text, false)?;
-            Ok(within(number, texts, false, 0, size))
-        }
-        BegunBlock::Within(first, texts, ended, before) => {
-            let ended = either(ended, ends);
-            let texts = joined_text(spares, texts, text, ended)?;
-            Ok(within(first, texts, ended, before, size))
-        }
-        BegunBlock::TooLarge => Ok(BegunBlock::TooLarge),
+        BlockKept::Between => grown_from_none(buffer, number, size),
+        BlockKept::Within {
+            first,
+            ended,
+            size: before,
+        } => grown_within(buffer, first, ended, before, size),
+        BlockKept::TooLarge => Ok(grown_too_large(buffer)),
     }
 }
 
-// the lines with this one behind them, unless their body has ended
-fn joined_text(
-    spares: &mut Spares,
-    texts: LineBuffer,
-    text: Listed<u8>,
-    ended: bool,
-) -> Result<LineBuffer, AllocError>
-    ensures { IfOk result (λ joined. joined ≡ (if ended then texts else texts ++ (text ∷ []))) }
+// the same behind no block
+fn grown_from_none(
+    buffer: &mut LineBuffer,
+    number: u64,
+    size: usize,
+) -> Result<(Place, BlockKept), AllocError>
+    requires { buffer.old.lines ≡ [] }
+    ensures rest { OnOk result (buffer.new.rest ≡ []) }
+    ensures clean { IfOk result (λ x. IsClean x.1 buffer.new.lines) }
+    ensures err { OnErr result (buffer.new.lines ≡ buffer.old.lines) }
+    ensures block { IfOk result (λ x.
+        Grows between (sized buffer.old.rest size) number x.0 (block_by x.1 buffer.new.lines)) }
 {
-    let mut texts = texts;
-    if !ended {
-        texts.push(text.as_slice())?;
+    if is_passed(buffer.rest()) {
+        buffer.drop_rest();
+        return Ok((Place::Passed, BlockKept::Between));
     }
-    spares.keep_line(text);
-    Ok(texts)
+    let place = place_of_head(buffer.rest());
+    buffer.end_line()?;
+    Ok((place, within(buffer, number, false, 0, size)))
 }
 
-fn within(first: u64, texts: LineBuffer, ended: bool, before: usize, size: usize) -> BegunBlock
-    ensures { result ≡ (if nat_lt most_block_bytes (before + size)
-        then begun.TooLarge else begun.Within first texts ended (before + size)) }
+// the same behind a block that is kept
+fn grown_within(
+    buffer: &mut LineBuffer,
+    first: u64,
+    ended: bool,
+    before: usize,
+    size: usize,
+) -> Result<(Place, BlockKept), AllocError>
+    ensures rest { OnOk result (buffer.new.rest ≡ []) }
+    ensures clean { IfOk result (λ x. IsClean x.1 buffer.new.lines) }
+    ensures err { OnErr result (buffer.new.lines ≡ buffer.old.lines) }
+    ensures block { IfOk result (λ x. (number : ℕ) → Grows (within first buffer.old.lines ended before)
+        (sized buffer.old.rest size) number x.0 (block_by x.1 buffer.new.lines)) }
+{
+    let ends = is_end(buffer.rest());
+    let ended = either(ended, ends);
+    end_unless(buffer, ended)?;
+    Ok((
+        place_inside(ends),
+        within(buffer, first, ended, before, size),
+    ))
+}
+
+// the same behind a block that is too large
+fn grown_too_large(buffer: &mut LineBuffer) -> (Place, BlockKept)
+    requires { buffer.old.lines ≡ [] }
+    ensures rest { buffer.new.rest ≡ [] }
+    ensures clean { IsClean result.1 buffer.new.lines }
+    ensures block { (number size : ℕ) → Grows too_large (sized buffer.old.rest size) number result.0 (block_by result.1 buffer.new.lines) }
+{
+    let ends = is_end(buffer.rest());
+    buffer.drop_rest();
+    (place_inside(ends), BlockKept::TooLarge)
+}
+
+// the same of a line that has more bytes than a block may have
+fn grown_by_long(buffer: &mut LineBuffer, block: BlockKept, ends: bool) -> (Place, BlockKept)
+    ensures rest { buffer.new.rest ≡ [] }
+    ensures clean { IsClean result.1 buffer.new.lines }
+    ensures block { (number : ℕ) → Grows (block_by block buffer.old.lines) (too_long ends) number result.0
+        (block_by result.1 buffer.new.lines) }
+{
+    buffer.clear();
+    (place_of_long(block, ends), BlockKept::TooLarge)
+}
+
+// ends the line, unless the body has ended
+fn end_unless(buffer: &mut LineBuffer, ended: bool) -> Result<(), AllocError>
+    ensures ok { OnOk result (buffer.new ≡ record {
+      lines = if ended then buffer.old.lines else buffer.old.lines ++ buffer.old.rest ∷ [];
+      rest = [];
+    }) }
+    ensures err { OnErr result (buffer.new.lines ≡ buffer.old.lines) }
+{
+    if ended {
+        buffer.drop_rest();
+        return Ok(());
+    }
+    buffer.end_line()
+}
+
+// the block of the buffer's lines, which has so many bytes
+fn within(buffer: &mut LineBuffer, first: u64, ended: bool, before: usize, size: usize) -> BlockKept
+    ensures rest { buffer.old.rest ≡ [] → buffer.new.rest ≡ [] }
+    ensures clean { IsClean result buffer.new.lines }
+    ensures block { block_by result buffer.new.lines ≡ (if nat_lt most_block_bytes (before + size)
+        then too_large else within first buffer.old.lines ended (before + size)) }
 {
     match before.checked_add(size) {
-        Some(all) if all <= MOST_BLOCK_BYTES => BegunBlock::Within(first, texts, ended, all),
-        _ => BegunBlock::TooLarge,
+        Some(size) if size <= MOST_BLOCK_BYTES => BlockKept::Within { first, ended, size },
+        _ => {
+            buffer.clear();
+            BlockKept::TooLarge
+        }
     }
 }
 
@@ -214,4 +367,33 @@ fn either(first: bool, second: bool) -> bool
     ensures { result ≡ (first || second) }
 {
     first || second
+}
+
+// ---- where a line stands
+
+// one that begins a block
+fn place_of_head(line: &[u8]) -> Place
+    ensures { result ≡ (if text.has_body line.now then places.Inside else places.Last) }
+{
+    if has_body(line) {
+        Place::Inside
+    } else {
+        Place::Last
+    }
+}
+
+fn place_inside(ends: bool) -> Place
+    ensures { result ≡ (if ends then places.Last else places.Inside) }
+{
+    if ends { Place::Last } else { Place::Inside }
+}
+
+// one that has more bytes than a block may have
+fn place_of_long(block: BlockKept, ends: bool) -> Place
+    ensures { (texts : List (List ℕ)) → result ≡ place_of_long (block_by block texts) ends }
+{
+    match block {
+        BlockKept::Between => Place::Last,
+        _ => place_inside(ends),
+    }
 }

@@ -1,31 +1,38 @@
-// Lines one behind the other in one buffer, by where each ends.
-ghost use Rattle.std.specs.Prelude.{◌≡◌, ◌<◌, ◌≤◌, ◌++◌, ◌∷◌, [], OnOk, MatchOption, length, slice_index_or};
+// Lines one behind the other in one buffer, by where each ends, and the bytes of one that has begun behind them.
+ghost use Rattle.std.specs.Prelude.{◌≡◌, ◌+◌, ◌<◌, ◌≤◌, ◌++◌, ◌∷◌, [], OnOk, OnErr, MatchOption, if◌then◌else◌, length, slice_index_or};
+ghost use Rattle.std.specs.Str.Lines.{strip_carriage_return};
 ghost use Rattle.rsp_events.specs.Buffers.{IsCut, pieces, start_at};
 
-use rsp_terms::Listed;
+use crate::lines::without_return;
 use std::alloc::{AllocError, Global};
 use std::marker::Model;
-use std::mem;
 
 // a larger buffer is let go, so that a long line takes its room no longer than it is read
 const MOST_KEPT: usize = 65536;
 
-/// Texts of lines in one buffer, which keeps its room as it is emptied.
+/// Texts of lines in one buffer, and the bytes behind them of a line that hasn't ended. It keeps its room as it is emptied.
 #[derive(Drop)]
 pub(crate) struct LineBuffer {
     bytes: Vec<u8>,
     ends: Vec<usize>,
+    // where the bytes begin that belong to no line yet
+    start: usize,
+    alloc: Global,
 }
 
 impl Model for LineBuffer {
-    ghost use Rattle.std.specs.Prelude.{◌≡◌, ℕ, List, length};
-    ghost use Rattle.rsp_events.specs.Buffers.{IsCut, last_end, pieces};
+    ghost use Rattle.std.specs.Prelude.{◌≡◌, ◌≤◌, length, take, drop};
+    ghost use Rattle.rsp_events.specs.Buffers.{Buffer, IsCut, last_end, pieces};
 
-    ghost Value = { List (List ℕ) };
+    ghost Value = { Buffer };
 
-    ghost view = { λ b. pieces b.bytes.items 0 b.ends.items };
+    ghost view = { λ b. record {
+      lines = pieces (take b.start b.bytes.items) 0 b.ends.items;
+      rest = drop b.start b.bytes.items;
+    } };
 
-    ghost invariant = { λ b. IsCut 0 b.ends.items (length b.bytes.items) × (last_end 0 b.ends.items ≡ length b.bytes.items) };
+    ghost invariant = { λ b. (b.start ≤ length b.bytes.items)
+        × (IsCut 0 b.ends.items b.start × (last_end 0 b.ends.items ≡ b.start)) };
 }
 
 /// Some lines of a buffer.
@@ -48,51 +55,102 @@ impl<'a> Model for Lines<'a> {
 }
 
 impl LineBuffer {
-    /// A buffer without lines. Takes no memory.
+    /// A buffer without bytes. Takes no memory.
     pub(crate) fn new(alloc: Global) -> LineBuffer
-        ensures { result ≡ [] }
+        ensures { result ≡ record { lines = []; rest = [] } }
     {
         LineBuffer {
             bytes: Vec::new(alloc),
             ends: Vec::new(alloc),
+            start: 0,
+            alloc,
         }
     }
 
-    /// The buffer without its lines. Takes no memory.
-    pub(crate) fn emptied(self) -> LineBuffer
-        ensures { result ≡ [] }
+    /// Puts bytes behind those of the line that hasn't ended. Fails only where memory is refused.
+    pub(crate) fn extend(&mut self, run: &[u8]) -> Result<(), AllocError>
+        ensures lines { self.new.lines ≡ self.old.lines }
+        ensures rest { OnOk result (self.new.rest ≡ self.old.rest ++ run.now) }
     {
-        let LineBuffer { bytes, ends } = self;
-        let mut bytes = bytes;
-        let mut ends = ends;
-        bytes.clear();
-        ends.clear();
-        LineBuffer { bytes, ends }
-    }
-
-    /// Puts a line behind the others. Fails only where memory is refused.
-    pub(crate) fn push(&mut self, line: &[u8]) -> Result<(), AllocError>
-        ensures { OnOk result (self.new ≡ self.old ++ line.now ∷ []) }
-    {
-        let before = self.bytes.len();
-        self.bytes.extend_from_slice(line)?;
-        let end = self.bytes.len();
-        if self.ends.push(end).is_err() {
-            self.bytes.truncate(before);
-            return Err(AllocError);
-        }
+        self.bytes.extend_from_slice(run)?;
         Ok(())
+    }
+
+    /// The bytes of the line that hasn't ended.
+    pub(crate) fn rest(&self) -> &[u8]
+        ensures { result.now ≡ self.now.rest }
+    {
+        &self.bytes[self.start..]
+    }
+
+    /// Takes one carriage return from the end of the line, where a line feed ends it; how many bytes the line had, the line feed
+    /// among them.
+    pub(crate) fn end_text(&mut self, fed: bool) -> usize
+        ensures lines { self.new.lines ≡ self.old.lines }
+        ensures rest { self.new.rest ≡ (if fed then strip_carriage_return self.old.rest else self.old.rest) }
+        ensures size { result ≡ length self.old.rest + (if fed then 1 else 0) }
+    {
+        let size = self.rest().len();
+        if !fed {
+            return size;
+        }
+        self.drop_return();
+        size + 1
+    }
+
+    fn drop_return(&mut self)
+        ensures { self.new ≡ record { lines = self.old.lines; rest = strip_carriage_return self.old.rest } }
+    {
+        let kept = without_return(self.rest()).len();
+        self.bytes.truncate(self.start + kept);
+    }
+
+    /// Ends the line. Fails only where memory is refused, and then changes nothing.
+    pub(crate) fn end_line(&mut self) -> Result<(), AllocError>
+        ensures ok { OnOk result (self.new ≡ record { lines = self.old.lines ++ self.old.rest ∷ []; rest = [] }) }
+        ensures err { OnErr result (self.new ≡ self.old) }
+    {
+        let end = self.bytes.len();
+        self.ends.push(end)?;
+        self.start = end;
+        Ok(())
+    }
+
+    /// Takes the bytes away that belong to no line.
+    pub(crate) fn drop_rest(&mut self)
+        ensures { self.new ≡ record { lines = self.old.lines; rest = [] } }
+    {
+        self.bytes.truncate(self.start);
+    }
+
+    /// Takes all lines and bytes away.
+    pub(crate) fn clear(&mut self)
+        ensures { self.new ≡ record { lines = []; rest = [] } }
+    {
+        self.start = 0;
+        emptied(self.alloc, &mut self.bytes);
+        emptied(self.alloc, &mut self.ends);
     }
 
     /// The lines in order.
     pub(crate) fn lines(&self) -> Lines<'_>
-        ensures { result ≡ self.now }
+        ensures { result ≡ self.now.lines }
     {
         Lines {
-            bytes: self.bytes.as_slice(),
+            bytes: &self.bytes[..self.start],
             start: 0,
             ends: self.ends.as_slice(),
         }
+    }
+}
+
+// takes all items away, and the room for them where it is large
+fn emptied<T: Drop>(alloc: Global, items: &mut Vec<T>)
+    ensures { items.new.items ≡ [] }
+{
+    items.clear();
+    if MOST_KEPT < items.capacity() {
+        *items = Vec::new(alloc);
     }
 }
 
@@ -137,54 +195,4 @@ fn start_at(start: usize, ends: &[usize], place: usize) -> usize
     ensures { result ≡ start_at start ends.now place }
 {
     if place == 0 { start } else { ends[place - 1] }
-}
-
-/// Buffers that are not in use, with their room.
-#[derive(Drop)]
-pub(crate) struct Spares {
-    line: Vec<u8>,
-    block: LineBuffer,
-    alloc: Global,
-}
-
-impl Spares {
-    /// None yet. Takes no memory.
-    pub(crate) fn new(alloc: Global) -> Spares {
-        Spares {
-            line: Vec::new(alloc),
-            block: LineBuffer::new(alloc),
-            alloc,
-        }
-    }
-
-    /// A line without bytes. Takes no memory.
-    pub(crate) fn line(&mut self) -> Listed<u8>
-        ensures { result ≡ [] }
-    {
-        let mut line = mem::replace(&mut self.line, Vec::new(self.alloc));
-        line.clear();
-        Listed::from_vec(line)
-    }
-
-    /// A buffer without lines. Takes no memory.
-    pub(crate) fn block(&mut self) -> LineBuffer
-        ensures { result ≡ [] }
-    {
-        mem::replace(&mut self.block, LineBuffer::new(self.alloc)).emptied()
-    }
-
-    /// Takes a line that is no longer in use.
-    pub(crate) fn keep_line(&mut self, line: Listed<u8>) {
-        let line = line.into_vec();
-        if line.capacity() <= MOST_KEPT {
-            self.line = line;
-        }
-    }
-
-    /// Takes a buffer that is no longer in use.
-    pub(crate) fn keep_block(&mut self, block: LineBuffer) {
-        if block.bytes.capacity() <= MOST_KEPT && block.ends.capacity() <= MOST_KEPT {
-            self.block = block;
-        }
-    }
 }

@@ -1,6 +1,6 @@
 use Rattle.std.proofs.Common.{◌≡◌, ◌++◌, ◌∷◌, ◌∙◌, sym, ap}
 use Rattle.std.proofs.lemmas.List.{take-append-drop}
-use Rattle.rsp_events.proofs.Reading.{all_in_front, feed_behind, reads_last, reads_next, in_front}
+use Rattle.rsp_events.proofs.Reading.{all_in_front, feed_behind, reads_last, reads_line, reads_next, in_front}
 use Rattle.rsp_events.proofs.blocks.read_piece.Goals as goal
 
 pub take_run-requires : goal.take_run-requires
@@ -19,5 +19,6 @@ lines-preserved c =
     = sym (take-append-drop c.line_end-end.result c.lines.rest.now) ∙ rw (← c.split_at.ensures.front, ← c.split_at.ensures.back) (ap (λ b. c.split_at.result.0.now ++ b) behind) in (
       c.end_line.ensures.document ∙ (c.take_run.ensures.document ∙ c.lines.invariant.0),
       rw c.in_ok-push_some-in-Some.ensures
-          (reads_next _ _ _ _ _ _ _ _ _ _ c.lines.invariant.1 cut c.in_ok-take_run.ensures.reads c.in_ok-block-in-Some.ensures.reads),
+          (reads_next _ _ _ _ _ _ _ _ _ _ c.lines.invariant.1 cut c.in_ok-take_run.ensures.reads
+          (reads_line _ _ _ c.in_ok-block-in-Some.ensures.takes)),
     )

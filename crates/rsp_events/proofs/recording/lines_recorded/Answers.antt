@@ -1,4 +1,4 @@
-use Rattle.rsp_events.proofs.Recordings.{all_read, line_read}
+use Rattle.rsp_events.proofs.Recordings.{line_read}
 use Rattle.rsp_events.proofs.recording.lines_recorded.Goals as goal
 
 pub lines-preserved : goal.lines-preserved

@@ -1,16 +1,18 @@
-use Rattle.std.proofs.Common.{ap, sym, ◌∙◌}
+use Rattle.std.proofs.Common.{◌∙◌, ap, sym}
+use Rattle.std.proofs.lemmas.Result.{on_ok_weaker}
 use Rattle.rsp_events.specs.Reader.{Reader}
 use Rattle.rsp_events.proofs.Reading.{reads_run}
 use Rattle.rsp_events.proofs.blocks.Blocks.take_run.Goals as goal
 
 pub returns-clause-reads : goal.returns-clause-reads
 returns-clause-reads c =
-    let kept = c.keep_line.ensures in
-    let taken = c.take_begun_line-line.ensures.after in
-    reads_run _ _ _ c.requires
-    (λ bytes is. ap (λ (r : Reader). r.line) kept ∙ c.in_ok-line.ensures bytes (is ∙ sym c.take_begun_line-line.ensures.line))
-    (ap (λ (r : Reader). r.document) kept ∙ ap (λ (r : Reader). r.document) taken)
-    (ap (λ (r : Reader). r.block) kept ∙ ap (λ (r : Reader). r.block) taken)
-    (ap (λ (r : Reader). r.lines) kept ∙ ap (λ (r : Reader). r.lines) taken)
-    (ap (λ (r : Reader). r.number) kept ∙ ap (λ (r : Reader). r.number) taken)
-    (ap (λ (r : Reader). r.spent) kept ∙ ap (λ (r : Reader). r.spent) taken)
+    let seen = c.self.view_is in
+    on_ok_weaker c.lengthen.result
+    (λ line. reads_run c.args.self.now _ c.args.run.now c.requires
+    (λ bytes is. line bytes (is ∙ sym (ap (λ (r : Reader). r.line) seen)))
+    (ap (λ (r : Reader). r.document) seen)
+    (c.lengthen.ensures.block ∙ ap (λ (r : Reader). r.block) seen)
+    (ap (λ (r : Reader). r.lines) seen)
+    (ap (λ (r : Reader). r.number) seen)
+    (ap (λ (r : Reader). r.spent) seen))
+    c.lengthen.ensures.line
