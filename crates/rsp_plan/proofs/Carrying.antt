@@ -17,8 +17,8 @@ use Rattle.rsp_algebra.specs.Fitting.{Fits}
 use Rattle.rsp_algebra.specs.Nodes.{Node}
 use Rattle.rsp_algebra.specs.Solutions.{eval}
 use Rattle.rsp_algebra.proofs.Widths.{AllHave, eval-length}
-use Rattle.rsp_turns.specs.Times.{Time, rows_at}
-use Rattle.rsp_turns.specs.Waiting.{Differs, AreDifferences}
+use Rattle.rsp_plan.specs.Times.{Time, rows_at}
+use Rattle.rsp_plan.specs.Waiting.{Differs, AreDifferences}
 
 module _ {V : Type 0} {eq : V → V → Bool} (same : (x y : V) → Decides (eq x y) (x ≡ y)) where
   -- what weighs anything fits, so each entry does

@@ -16,9 +16,9 @@ use Rattle.rsp_algebra.proofs.Widths.{AllHave, eval-length}
 use Rattle.rsp_plan.specs.declared.leaves.Given.{Given}
 use Rattle.rsp_plan.specs.Kinds.{IsGiven, StandsGiven, IsScan, StandsScan}
 use Rattle.rsp_plan.specs.Scanning.{scanned_at}
-use Rattle.rsp_turns.specs.Times.{Time, rows_at, GoesOn, LeadsOn}
-use Rattle.rsp_turns.specs.Turns.{HasAnswered}
-use Rattle.rsp_turns.specs.Waiting.{AreDifferences}
+use Rattle.rsp_plan.specs.Times.{Time, rows_at, GoesOn, LeadsOn}
+use Rattle.rsp_plan.specs.Turns.{HasAnswered}
+use Rattle.rsp_plan.specs.Waiting.{AreDifferences}
 use Rattle.rsp_plan.proofs.Carrying.{differences-carried}
 use Rattle.rsp_plan.proofs.RowsKept.{none-leads}
 

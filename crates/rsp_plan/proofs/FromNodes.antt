@@ -8,7 +8,7 @@ use Rattle.rsp_algebra.specs.Nodes as node
 use Rattle.rsp_algebra.specs.Nodes.{Node}
 use Rattle.rsp_algebra.specs.Solutions.{eval}
 use Rattle.rsp_kinds.specs.Made.{IsGiven as HasGiven, SingleFor, DoubleFor}
-use Rattle.rsp_turns.specs.Laid.{part_at, below}
+use Rattle.rsp_plan.specs.Laid.{part_at, below}
 use Rattle.rsp_plan.specs.declared.leaves.Given.{Given}
 use Rattle.rsp_plan.specs.Kinds.{HasPattern, StandsGiven, StandsScan}
 use Rattle.rsp_plan.specs.Operating.{Table, StandsOver, StandsPair}

@@ -1,3 +1,9 @@
+pub mod Counting
+pub mod Turned
+pub mod Passing
+pub mod Works
+pub mod Listing
+pub mod Standing
 pub mod Carrying
 pub mod Operating
 pub mod Still
@@ -7,3 +13,8 @@ pub mod Paired
 pub mod RowsKept
 pub mod Childless
 pub mod FromNodes
+pub mod Along
+pub mod Popped
+pub mod Current
+pub mod StillSet
+pub mod Placed

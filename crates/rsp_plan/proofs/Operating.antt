@@ -8,9 +8,9 @@ use Rattle.rsp_algebra.specs.Nodes as node
 use Rattle.rsp_algebra.specs.Nodes.{Node, Single}
 use Rattle.rsp_kinds.specs.Made.{IsSingle}
 use Rattle.rsp_plan.specs.Operating.{Table, StandsOver}
-use Rattle.rsp_turns.specs.Times.{Time, rows_at, LeadsOn}
-use Rattle.rsp_turns.specs.Turns.{IsTurn, MayTake, HasAnswered}
-use Rattle.rsp_turns.specs.Waiting.{AreDifferences}
+use Rattle.rsp_plan.specs.Times.{Time, rows_at, LeadsOn}
+use Rattle.rsp_plan.specs.Turns.{IsTurn, MayTake, HasAnswered}
+use Rattle.rsp_plan.specs.Waiting.{AreDifferences}
 use Rattle.rsp_plan.proofs.Carrying.{change-fit, differences-carried, fit_at}
 
 is-single : (wide : ℕ) (key : List ℕ) (value : Table → Table) (wide' : ℕ) (key' : List ℕ) (value' : Table → Table) → wide' ≡ wide → key' ≡ key → value' ≡ value

@@ -14,10 +14,10 @@ use Rattle.rsp_algebra.specs.Overfull.{most_rows}
 use Rattle.rsp_algebra.specs.Solutions.{eval}
 use Rattle.rsp_kinds.specs.Made.{BindsKey, IsDouble, own_work}
 use Rattle.rsp_plan.specs.Operating.{Table, StandsPair}
-use Rattle.rsp_turns.specs.Times.{Time, rows_at}
-use Rattle.rsp_turns.specs.Turns.{IsTurn, MayTake, HasAnswered, HasTooMany}
-use Rattle.rsp_turns.specs.Waiting.{AreDifferences}
-use Rattle.rsp_turns.specs.Working.{pair_work, part_work}
+use Rattle.rsp_plan.specs.Times.{Time, rows_at}
+use Rattle.rsp_plan.specs.Turns.{IsTurn, MayTake, HasAnswered, HasTooMany}
+use Rattle.rsp_plan.specs.Waiting.{AreDifferences}
+use Rattle.rsp_plan.specs.Working.{pair_work, part_work}
 use Rattle.rsp_plan.proofs.Binding.{change-binds}
 use Rattle.rsp_plan.proofs.Carrying.{differences-carried}
 

@@ -11,8 +11,8 @@ use Rattle.rsp_plan.specs.declared.leaves.Given.{Given}
 use Rattle.rsp_plan.specs.declared.operator.Operator.{Operator}
 use Rattle.rsp_plan.specs.declared.operator.Operator.TheVariants as kind
 use Rattle.rsp_plan.specs.Operating.{Table, StandsOver, StandsPair}
-use Rattle.rsp_turns.specs.Times.{Time}
-use Rattle.rsp_turns.specs.Waiting.{IsFed, root}
+use Rattle.rsp_plan.specs.Times.{Time}
+use Rattle.rsp_plan.specs.Waiting.{IsFed, root}
 
 -- a leaf whose rows are these over all facts
 pub record IsGiven (given : Given) (width : ℕ) (tree : Node) : Type 0 where

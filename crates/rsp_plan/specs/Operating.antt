@@ -7,7 +7,7 @@ use Rattle.rsp_algebra.specs.Flat.{Part, above, pair}
 use Rattle.rsp_algebra.specs.Nodes as node
 use Rattle.rsp_algebra.specs.Nodes.{Node, Single, Double}
 use Rattle.rsp_kinds.specs.Made.{IsSingle, IsDouble}
-use Rattle.rsp_turns.specs.Times.{Time, rows_at}
+use Rattle.rsp_plan.specs.Times.{Time, rows_at}
 
 abbrev pub Table : Type 0
 Table = List (Cells Term)

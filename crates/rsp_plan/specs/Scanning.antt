@@ -4,7 +4,7 @@ use Rattle.rsp_multiset.specs.Rows.{Cells}
 use Rattle.rsp_terms.specs.declared.term.Term.{Term}
 use Rattle.rsp_simple_operators.specs.Scanned.{rows_of}
 use Rattle.rsp_simple_operators.specs.declared.scan.Scan.{Scan}
-use Rattle.rsp_turns.specs.Times.{Time}
+use Rattle.rsp_plan.specs.Times.{Time}
 
 abbrev pub scanned_at : Scan → Time → List (Cells Term)
 scanned_at scan None = []

@@ -4,17 +4,17 @@ ghost use Rattle.rsp_algebra.specs.Fitting.{Fits};
 ghost use Rattle.rsp_algebra.specs.Meanings.{node_of};
 ghost use Rattle.rsp_algebra.specs.Nodes.{Node};
 ghost use Rattle.rsp_kinds.specs.Made.{HasOne, HasTwo, IsGiven as HasGiven};
-ghost use Rattle.rsp_turns.specs.Laid.{part_at, below};
+ghost use Rattle.rsp_plan.specs.Laid.{part_at, below};
 ghost use Rattle.rsp_plan.specs.Kinds.{AsOperator, HasPattern, StandsGiven, StandsScan};
 ghost use Rattle.rsp_plan.specs.Operating.{StandsOver, StandsPair};
 
 use crate::leaves::Given;
+use crate::made::FromTree;
 use crate::operator::Operator;
 use rsp_algebra::Tree;
 use rsp_kinds::{DoubleNode, SingleNode, given_rows, scan_of};
 use rsp_simple_operators::Scan;
 use rsp_terms::Domain;
-use rsp_turns::FromTree;
 use std::alloc::{AllocError, Global};
 
 fn given_of(alloc: Global, tree: &Tree, width: usize) -> Result<Given, AllocError>

@@ -5,19 +5,20 @@ ghost use Rattle.rsp_operators.specs.Laws.{IsShownAlike};
 ghost use Rattle.rsp_algebra.specs.Flat.{Part};
 ghost use Rattle.rsp_algebra.specs.Nodes.{Node};
 ghost use Rattle.rsp_plan.specs.Kinds.{AsOperator};
-ghost use Rattle.rsp_turns.specs.Times.{Time, GoesOn};
-ghost use Rattle.rsp_turns.specs.Turns.{IsTurn, MayTurn, HasAnswered, HasTooMany};
-ghost use Rattle.rsp_turns.specs.Working.{part_work};
+ghost use Rattle.rsp_plan.specs.Times.{Time, GoesOn};
+ghost use Rattle.rsp_plan.specs.Turns.{IsTurn, MayTurn, HasAnswered, HasTooMany};
+ghost use Rattle.rsp_plan.specs.Working.{part_work};
 
 use crate::leaves::{Given, answer_given, answer_scan};
 use crate::over::answer_over;
 use crate::pair::answer_pair;
+use crate::pending::Stack;
+use crate::step::Step;
 use rsp_kinds::{Keeping, KeepingBoth};
 use rsp_multiset::{Changes, Row};
 use rsp_simple_operators::Scan;
 use rsp_steps::Steps;
 use rsp_terms::{Domain, Fact};
-use rsp_turns::{Stack, Step};
 use std::alloc::{AllocError, Global};
 use std::sync::ledger::Ledger;
 

@@ -7,13 +7,13 @@ ghost use Rattle.rsp_operators.specs.Laws.{Leads, MayBeGiven, AnswersFit, IsShow
 ghost use Rattle.rsp_algebra.specs.Flat.{Part};
 ghost use Rattle.rsp_algebra.specs.Nodes.{Node};
 ghost use Rattle.rsp_plan.specs.Operating.{StandsOver};
-ghost use Rattle.rsp_turns.specs.Times.{Time, LeadsOn};
-ghost use Rattle.rsp_turns.specs.Turns.{IsTurn, MayTake, HasAnswered};
+ghost use Rattle.rsp_plan.specs.Times.{Time, LeadsOn};
+ghost use Rattle.rsp_plan.specs.Turns.{IsTurn, MayTake, HasAnswered};
 
+use crate::pending::Stack;
 use rsp_kinds::Keeping;
 use rsp_multiset::{Cell, Changes, Row};
 use rsp_terms::Domain;
-use rsp_turns::Stack;
 use std::alloc::{AllocError, Global};
 
 // the changes of both

@@ -9,16 +9,16 @@ ghost use Rattle.rsp_algebra.specs.Flat.{Part};
 ghost use Rattle.rsp_algebra.specs.Nodes.{Node};
 ghost use Rattle.rsp_algebra.specs.Overfull.{most_rows};
 ghost use Rattle.rsp_plan.specs.Operating.{StandsPair};
-ghost use Rattle.rsp_turns.specs.Times.{Time};
-ghost use Rattle.rsp_turns.specs.Turns.{IsTurn, MayTake, HasAnswered, HasTooMany};
-ghost use Rattle.rsp_turns.specs.Working.{part_work};
+ghost use Rattle.rsp_plan.specs.Times.{Time};
+ghost use Rattle.rsp_plan.specs.Turns.{IsTurn, MayTake, HasAnswered, HasTooMany};
+ghost use Rattle.rsp_plan.specs.Working.{part_work};
 
+use crate::pending::Stack;
 use rsp_kinds::KeepingBoth;
 use rsp_multiset::{Cell, Changes, Row};
 use rsp_spec::limits::MOST_ROWS;
 use rsp_steps::Steps;
 use rsp_terms::Domain;
-use rsp_turns::Stack;
 use std::alloc::{AllocError, Global};
 use std::sync::ledger::Ledger;
 
