@@ -4,6 +4,7 @@ pub mod Chosen
 pub mod Copied
 pub mod Keys
 pub mod Nothing
+pub mod OverNothing
 pub mod Reading
 pub mod CellByCell
 pub mod Zipped

@@ -11,7 +11,7 @@ ghost use Rattle.rsp_groups.specs.Standing.{GroupStands, GroupsStand};
 ghost use Rattle.rsp_groups.specs.Values.{by_variable};
 ghost use Rattle.rsp_kinds.specs.Aggregations.{IsAggregated};
 ghost use Rattle.rsp_kinds.specs.Arguments.{argument_value};
-ghost use Rattle.rsp_kinds.specs.Made.{IsSingle};
+ghost use Rattle.rsp_kinds.specs.Made.{IsUnary};
 
 use crate::expressions::Argument;
 use rsp_aggregates::Folding;
@@ -28,7 +28,7 @@ pub(crate) fn grouping<D: Domain>(
     aggregates: &[(usize, Aggregate)],
     width: usize,
 ) -> Result<GroupOp<D, Argument, Folding>, AllocError>
-    ensures node { IfOk result (λ made. IsSingle width (node.group keys.now (aggregations_of aggregates.now))
+    ensures node { IfOk result (λ made. IsUnary width (node.group keys.now (aggregations_of aggregates.now))
         made.grouping.width [] (grouped_by (λ a group. folding_aggregate a.fold
         (map (λ row. argument_value a.argument.expression row) group)) made.grouping.width made.grouping.keys.items
         (by_variable (λ a. a.variable) made.grouping.aggregates.items))) }

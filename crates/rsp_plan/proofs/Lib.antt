@@ -5,11 +5,11 @@ pub mod Works
 pub mod Listing
 pub mod Standing
 pub mod Carrying
-pub mod Operating
-pub mod Still
+pub mod Carried
+pub mod OnOne
+pub mod OnTwo
 pub mod Begun
 pub mod Binding
-pub mod Paired
 pub mod RowsKept
 pub mod Childless
 pub mod FromNodes

@@ -1,11 +1,11 @@
 -- Words of the way: the nodes of a tree, each behind its children, and what makes each a part of the tree laid flat.
 use Rattle.std.specs.Prelude.{ℕ, None, List, [], ◌∷◌, ◌++◌, ⊤}
+use Rattle.rsp_terms.specs.declared.domain.Same.{Same}
 use Rattle.rsp_algebra.specs.Flat.{Part, leaf, above, pair}
 use Rattle.rsp_algebra.specs.Nodes as node
 use Rattle.rsp_algebra.specs.Nodes.{Node}
 use Rattle.rsp_plan.specs.declared.turns.Counted.{Counted}
 use Rattle.rsp_plan.specs.Passing.{StandsCounted}
-use Rattle.rsp_plan.specs.Times.{Time}
 
 -- the subtrees, those of the left child first
 abbrev pub posts : Node → List Node
@@ -30,10 +30,9 @@ below (node.of_two double left right) stack = right ∷ left ∷ stack
 below childless stack = stack
 
 -- each stands for nothing yet, as the node at its place
-abbrev pub AllMade :
-    {N : Type 0} → (N → ℕ → Part → List Node → Time → Type 0) → ℕ → List Node → List (Counted N) → Type 0
-AllMade stands width [] [] = ⊤
-AllMade stands width (tree ∷ trees) (counted ∷ nodes) =
-    ((stack : List Node) → StandsCounted stands width (part_at tree) (below tree stack) None counted)
-    × AllMade stands width trees nodes
-AllMade stands width trees nodes = ⊥
+abbrev pub AllMade : Same → ℕ → List Node → List Counted → Type 0
+AllMade domain width [] [] = ⊤
+AllMade domain width (tree ∷ trees) (counted ∷ nodes) =
+    ((stack : List Node) → StandsCounted domain width (part_at tree) (below tree stack) None counted)
+    × AllMade domain width trees nodes
+AllMade domain width trees nodes = ⊥

@@ -2,11 +2,8 @@
 pub mod Times
 pub mod Working
 pub mod Waiting
+pub mod Standing
 pub mod Turns
 pub mod Passing
 pub mod Laid
-pub mod Scanning
-pub mod Operating
-pub mod Kinds
-pub mod Rounds
 pub mod Kept

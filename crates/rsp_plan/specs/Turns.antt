@@ -1,47 +1,44 @@
 -- Words of the way: a node's turn: what it is given, and what it answers.
-use Rattle.std.specs.Prelude.{◌≡◌, ℕ, Bool, true, Option, List, ℤ}
-use Rattle.rsp_multiset.specs.Rows.{Cells}
-use Rattle.rsp_terms.specs.declared.term.Term.{Term}
+use Rattle.std.specs.Prelude.{◌≡◌, ℕ, true, Option, List, ℤ}
+use Rattle.rsp_terms.specs.declared.domain.Same.{Same}
 use Rattle.rsp_terms.specs.declared.statement.Fact.{Fact}
+use Rattle.rsp_terms.specs.Same.{term_eq}
 use Rattle.rsp_operators.specs.Laws.{Leads, AnswersFit}
 use Rattle.rsp_algebra.specs.Flat.{Part}
 use Rattle.rsp_algebra.specs.Nodes.{Node}
 use Rattle.rsp_algebra.specs.Overfull.{too_many}
+use Rattle.rsp_kinds.specs.Domains.{knows, shown}
 use Rattle.rsp_plan.specs.Times.{Time, rows_at, GoesOn}
-use Rattle.rsp_plan.specs.Waiting.{AreDifferences, root, rest}
+use Rattle.rsp_plan.specs.Waiting.{Change, AreDifferences, root, rest}
 
 -- it stands for a part at a time, and the changes of its children to another wait
-pub record IsTurn {V : Type 0} (eq : V → V → Bool) (knows : V → Type 0) (shown : V → Term)
-    (Stands : ℕ → Part → List Node → Time → Type 0) (pending : List (List (Cells V × ℤ)))
+pub record IsTurn (domain : Same) (Stands : ℕ → Part → List Node → Time → Type 0) (pending : List Change)
     (width : ℕ) (part : Part) (trees : List Node) (before after : Time) : Type 0 where
   pub stands : Stands width part trees before
-  pub differ : AreDifferences eq knows shown width before after trees pending
+  pub differ : AreDifferences domain width before after trees pending
 
 -- for some part and times
-pub record MayTake {V : Type 0} (eq : V → V → Bool) (knows : V → Type 0) (shown : V → Term)
-    (Stands : ℕ → Part → List Node → Time → Type 0) (pending : List (List (Cells V × ℤ))) : Type 0 where
+pub record MayTake (domain : Same) (Stands : ℕ → Part → List Node → Time → Type 0) (pending : List Change) : Type 0 where
   pub width : ℕ
   pub part : Part
   pub trees : List Node
   pub before : Time
   pub after : Time
-  pub turn : IsTurn eq knows shown Stands pending width part trees before after
+  pub turn : IsTurn domain Stands pending width part trees before after
 
 -- and for the times between which these changes of the facts lead
-pub record MayTurn {V : Type 0} (eq : V → V → Bool) (knows : V → Type 0) (shown : V → Term)
-    (Stands : ℕ → Part → List Node → Time → Type 0) (facts : Option (List (Fact × ℤ)))
-    (pending : List (List (Cells V × ℤ))) : Type 0 where
-  pub take : MayTake eq knows shown Stands pending
+pub record MayTurn (domain : Same) (Stands : ℕ → Part → List Node → Time → Type 0) (facts : Option (List (Fact × ℤ)))
+    (pending : List Change) : Type 0 where
+  pub take : MayTake domain Stands pending
   pub goes_on : GoesOn take.before facts take.after
 
 -- it stands for the part afterwards, and this is how the part's rows change
-pub record HasAnswered {V : Type 0} (eq : V → V → Bool) (knows : V → Type 0) (shown : V → Term)
-    (Stands : ℕ → Part → List Node → Time → Type 0) (net : List (Cells V × ℤ)) (pending : List (List (Cells V × ℤ)))
-    (width : ℕ) (part : Part) (trees : List Node) (before after : Time) : Type 0 where
+pub record HasAnswered (domain : Same) (Stands : ℕ → Part → List Node → Time → Type 0) (net : Change)
+    (pending : List Change) (width : ℕ) (part : Part) (trees : List Node) (before after : Time) : Type 0 where
   pub stands : Stands width part trees after
-  pub fit : AnswersFit eq width knows net
-  pub leads : Leads shown (rows_at width (root trees part) before) net (rows_at width (root trees part) after)
-  pub differ : AreDifferences eq knows shown width before after (rest trees part) pending
+  pub fit : AnswersFit term_eq width (knows domain) net
+  pub leads : Leads (shown domain) (rows_at width (root trees part) before) net (rows_at width (root trees part) after)
+  pub differ : AreDifferences domain width before after (rest trees part) pending
 
 -- the part has too many rows afterwards
 abbrev pub HasTooMany : ℕ → Part → List Node → Time → Type 0

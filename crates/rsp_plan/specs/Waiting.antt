@@ -1,31 +1,35 @@
 -- Words of the way: the changes of subtrees that wait on a stack for the node above.
-use Rattle.std.specs.Prelude.{ℕ, Bool, List, [], ◌∷◌, ℤ, ⊤}
+use Rattle.std.specs.Prelude.{ℕ, List, [], ◌∷◌, ℤ, ⊤}
 use Rattle.rsp_multiset.specs.Rows.{Cells, row_eq}
 use Rattle.rsp_multiset.specs.Weights.{AreChanges}
+use Rattle.rsp_terms.specs.declared.domain.Same.{Same}
 use Rattle.rsp_terms.specs.declared.term.Term.{Term}
+use Rattle.rsp_terms.specs.Same.{term_eq}
 use Rattle.rsp_operators.specs.Laws.{Leads, AnswersFit}
 use Rattle.rsp_algebra.specs.Fitting.{Fits}
 use Rattle.rsp_algebra.specs.Flat.{Part, leaf, above, pair}
 use Rattle.rsp_algebra.specs.Nodes as node
 use Rattle.rsp_algebra.specs.Nodes.{Node}
+use Rattle.rsp_kinds.specs.Domains.{knows, shown}
 use Rattle.rsp_plan.specs.Times.{Time, rows_at}
 
+-- what rows change by
+abbrev pub Change : Type 0
+Change = List (Cells Term × ℤ)
+
 -- the change is how the tree's rows differ between two times
-pub record Differs {V : Type 0} (eq : V → V → Bool) (knows : V → Type 0) (shown : V → Term) (width : ℕ)
-    (before after : Time) (tree : Node) (change : List (Cells V × ℤ)) : Type 0 where
+pub record Differs (domain : Same) (width : ℕ) (before after : Time) (tree : Node) (change : Change) : Type 0 where
   pub placed : Fits width tree
-  pub entries : AreChanges (row_eq eq) change
-  pub fit : AnswersFit eq width knows change
-  pub leads : Leads shown (rows_at width tree before) change (rows_at width tree after)
+  pub entries : AreChanges (row_eq term_eq) change
+  pub fit : AnswersFit term_eq width (knows domain) change
+  pub leads : Leads (shown domain) (rows_at width tree before) change (rows_at width tree after)
 
 -- so it is with each tree of a stack and the change at its place
-abbrev pub AreDifferences :
-    {V : Type 0} → (V → V → Bool) → (V → Type 0) → (V → Term) → ℕ → Time → Time → List Node →
-    List (List (Cells V × ℤ)) → Type 0
-AreDifferences eq knows shown width before after [] [] = ⊤
-AreDifferences eq knows shown width before after (tree ∷ trees) (change ∷ changes) =
-    Differs eq knows shown width before after tree change × AreDifferences eq knows shown width before after trees changes
-AreDifferences eq knows shown width before after trees changes = ⊥
+abbrev pub AreDifferences : Same → ℕ → Time → Time → List Node → List Change → Type 0
+AreDifferences domain width before after [] [] = ⊤
+AreDifferences domain width before after (tree ∷ trees) (change ∷ changes) =
+    Differs domain width before after tree change × AreDifferences domain width before after trees changes
+AreDifferences domain width before after trees changes = ⊥
 
 -- the children that a part takes are on the stack
 abbrev pub IsFed : List Node → Part → Type 0

@@ -9,7 +9,7 @@ ghost use Rattle.rsp_plan.specs.Passing.{AllStand};
 ghost use Rattle.rsp_plan.specs.Kept.{IsCurrent};
 
 use crate::laid::laid_flat;
-use crate::made::{FromTree, made_of};
+use crate::made::made_of;
 use crate::turning::first_rows;
 use crate::turns::Counted;
 use rsp_algebra::Tree;
@@ -17,32 +17,32 @@ use rsp_multiset::Bag;
 use rsp_terms::{Same, Term};
 use std::alloc::{AllocError, Global};
 
-fn steps_of<N: FromTree<Same>>(
+fn nodes_of(
     alloc: Global,
     tree: &Tree,
     width: usize,
-) -> Result<Vec<Counted<N>>, AllocError>
+) -> Result<Vec<Counted>, AllocError>
     requires { Fits width (node_of tree.now) }
     ensures { IfOk result (λ nodes. (domain : Same)
-        → AllStand (λ step. N.stands step domain) width None [] (flat (node_of tree.now)) nodes.items) }
+        → AllStand domain width None [] (flat (node_of tree.now)) nodes.items) }
 {
     let trees = laid_flat(alloc, tree)?;
-    made_of::<Same, N>(alloc, trees.as_slice(), width)
+    made_of(alloc, trees.as_slice(), width)
 }
 
 /// The tree's nodes and its rows over no facts; None exactly where it is overfull.
-pub(crate) fn begun<N: FromTree<Same>>(
+pub(crate) fn begun(
     alloc: Global,
     tree: &Tree,
     width: usize,
     domain: &mut Same,
-) -> Result<Option<(Vec<Counted<N>>, Bag<Term>)>, AllocError>
+) -> Result<Option<(Vec<Counted>, Bag<Term>)>, AllocError>
     requires { Fits width (node_of tree.now) }
     ensures none { IfOk result (λ begun. is_none begun ≡ overfull width (node_of tree.now) []) }
     ensures current { IfOk result (λ begun. IfSome begun (λ begun.
-        IsCurrent (λ step. N.stands step domain.new) width (node_of tree.now) [] begun.0.items begun.1)) }
+        IsCurrent domain.new width (node_of tree.now) [] begun.0.items begun.1)) }
 {
-    let mut nodes = steps_of::<N>(alloc, tree, width)?;
+    let mut nodes = nodes_of(alloc, tree, width)?;
     let rows = first_rows(alloc, &mut nodes, domain)?;
     match rows {
         None => Ok(None),

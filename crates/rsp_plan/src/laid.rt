@@ -49,7 +49,7 @@ fn push_children<'a>(waiting: &mut Vec<&'a Tree>, tree: &'a Tree) -> Result<(), 
 
 /// All subtrees, each behind its children, those of a left child before those of the right one. Fails only where memory is
 /// refused.
-pub fn laid_flat(alloc: Global, tree: &Tree) -> Result<Vec<&Tree>, AllocError>
+pub(crate) fn laid_flat(alloc: Global, tree: &Tree) -> Result<Vec<&Tree>, AllocError>
     ensures { IfOk result (λ nodes. map (λ node. node_of node.now) nodes.items ≡ posts (node_of tree.now)) }
 {
     let mut nodes = Vec::new(alloc);

@@ -5,24 +5,24 @@
 //! that order: a node takes the changes of its children from a stack, and puts there exactly how its own rows change. What
 //! is left is how the tree's solutions change. A turn stops at the first node that has more than 1,000,000 rows, and no
 //! turn takes more steps than the tree's work. Nothing recurses, however deep a tree is.
+//!
+//! A [`Plan`] keeps the nodes and the solutions, and is an answer as the algebra has it.
 #![tactic(auto)]
 
 mod beginning;
+mod binary;
 mod facts;
 mod laid;
 mod leaves;
 mod made;
-mod maintained;
 mod nodes;
 mod operator;
-mod over;
-mod pair;
-mod pending;
 mod plan;
 mod round;
 mod rows;
-mod step;
+mod stack;
 mod turning;
 mod turns;
+mod unary;
 
-pub use maintained::Maintained;
+pub use plan::Plan;

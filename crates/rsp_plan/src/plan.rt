@@ -1,7 +1,6 @@
 // An answer on maintained operators.
 use crate::beginning::begun;
 use crate::facts::change_facts;
-use crate::made::FromTree;
 use crate::rows::copied;
 use crate::turning::later_rows;
 use crate::turns::Counted;
@@ -16,18 +15,18 @@ use std::sync::ledger::Ledger;
 
 /// A tree's answer, each of whose nodes is kept up to date. It takes no more steps than the tree's work.
 #[derive(Drop)]
-pub struct Plan<N: FromTree<Same>> {
+pub struct Plan {
     alloc: Global,
     tree: Tree,
     width: usize,
     facts: FactStore,
-    nodes: Vec<Counted<N>>,
+    nodes: Vec<Counted>,
     domain: Same,
     /// The solutions over the facts; None once the answer is spent.
     rows: Option<Bag<Term>>,
 }
 
-impl<N: FromTree<Same>> Model for Plan<N> {
+impl Model for Plan {
     ghost use Rattle.std.specs.Prelude.{is_none};
     ghost use Rattle.rsp_algebra.specs.Meanings.{node_of};
     ghost use Rattle.rsp_plan.specs.Kept.{PlanState, IsKept};
@@ -41,10 +40,10 @@ impl<N: FromTree<Same>> Model for Plan<N> {
 
     ghost view = { λ p. record { tree = p.tree; width = p.width; facts = p.facts; spent = is_none p.rows } };
 
-    ghost invariant = { λ p. IsKept (λ step. N.stands step p.domain) p.width (node_of p.tree) p.facts p.nodes.items p.rows };
+    ghost invariant = { λ p. IsKept p.domain p.width (node_of p.tree) p.facts p.nodes.items p.rows };
 }
 
-impl<N: FromTree<Same>> Answer for Plan<N> {
+impl Answer for Plan {
     ghost use Rattle.rsp_algebra.specs.Meanings.{node_of};
 
     ghost node = { λ p. node_of p.tree };
@@ -55,7 +54,7 @@ impl<N: FromTree<Same>> Answer for Plan<N> {
 
     ghost spent = { λ p. p.spent };
 
-    fn start(alloc: Global, translated: &Translated) -> Result<Option<Plan<N>>, AllocError> {
+    fn start(alloc: Global, translated: &Translated) -> Result<Option<Plan>, AllocError> {
         let mut domain = Same::new();
         let begun = begun(alloc, &translated.tree, translated.width, &mut domain)?;
         let Some((nodes, rows)) = begun else {

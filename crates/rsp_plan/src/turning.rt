@@ -8,13 +8,11 @@ ghost use Rattle.rsp_algebra.specs.Nodes.{Node};
 ghost use Rattle.rsp_algebra.specs.Overfull.{overfull};
 ghost use Rattle.rsp_algebra.specs.Solutions.{same_row, eval};
 ghost use Rattle.rsp_algebra.specs.Work.{work};
-ghost use Rattle.rsp_plan.specs.Passing.{AllStand};
+ghost use Rattle.rsp_plan.specs.Passing.{AllStand, MayRun};
 ghost use Rattle.rsp_plan.specs.Kept.{IsCurrent, MayGoOn};
-ghost use Rattle.rsp_plan.specs.Rounds.{MayRun};
 
 use crate::round::{passed, started};
 use crate::rows::change_rows;
-use crate::step::Step;
 use crate::turns::Counted;
 use rsp_multiset::{Bag, Changes, Row};
 use rsp_steps::Steps;
@@ -23,18 +21,18 @@ use std::alloc::{AllocError, Global};
 use std::sync::ledger::Ledger;
 
 /// The rows over no facts; None exactly where the tree is overfull.
-pub(crate) fn first_rows<N: Step<Same>>(
+pub(crate) fn first_rows(
     alloc: Global,
-    nodes: &mut Vec<Counted<N>>,
+    nodes: &mut Vec<Counted>,
     domain: &mut Same,
 ) -> Result<Option<Bag<Term>>, AllocError>
-    requires { MayRun (λ step. N.stands step domain.old) nodes.old.items None }
+    requires { MayRun domain.old nodes.old.items None }
     ensures none { IfOk result (λ rows. (width : ℕ) (tree : Node)
-        → AllStand (λ step. N.stands step domain.old) width None [] (flat tree) nodes.old.items
+        → AllStand domain.old width None [] (flat tree) nodes.old.items
         → is_none rows ≡ overfull width tree []) }
     ensures rows { IfOk result (λ rows. IfSome rows (λ bag. (width : ℕ) (tree : Node)
-        → AllStand (λ step. N.stands step domain.old) width None [] (flat tree) nodes.old.items
-        → IsCurrent (λ step. N.stands step domain.new) width tree [] nodes.new.items bag)) }
+        → AllStand domain.old width None [] (flat tree) nodes.old.items
+        → IsCurrent domain.new width tree [] nodes.new.items bag)) }
 {
     let answer = started(alloc, nodes, domain)?;
     let Some(net) = answer else {
@@ -46,25 +44,25 @@ pub(crate) fn first_rows<N: Step<Same>>(
 }
 
 /// How the rows change with the facts, and the rows; None exactly where the tree is overfull.
-pub(crate) fn later_rows<N: Step<Same>, L: Ledger>(
+pub(crate) fn later_rows<L: Ledger>(
     alloc: Global,
-    nodes: &mut Vec<Counted<N>>,
+    nodes: &mut Vec<Counted>,
     changes: &Changes<Fact>,
     domain: &mut Same,
     mut rows: Bag<Term>,
     steps: &mut Steps<L>,
 ) -> Result<Option<(Changes<Row<Term>>, Bag<Term>)>, AllocError>
-    requires { MayGoOn (λ step. N.stands step domain.old) nodes.old.items rows changes.now }
+    requires { MayGoOn domain.old nodes.old.items rows changes.now }
     ensures none { IfOk result (λ turn. (width : ℕ) (tree : Node) (before after : List Fact)
-        → IsCurrent (λ step. N.stands step domain.old) width tree before nodes.old.items rows
+        → IsCurrent domain.old width tree before nodes.old.items rows
         → IsChanged fact_eq before changes.now after → is_none turn ≡ overfull width tree after) }
     ensures net { IfOk result (λ turn. IfSome turn (λ turn. (width : ℕ) (tree : Node) (before after : List Fact)
-        → IsCurrent (λ step. N.stands step domain.old) width tree before nodes.old.items rows
+        → IsCurrent domain.old width tree before nodes.old.items rows
         → IsChanged fact_eq before changes.now after
         → IsChanged same_row (eval width tree before) turn.0 (eval width tree after)
-        × IsCurrent (λ step. N.stands step domain.new) width tree after nodes.new.items turn.1)) }
+        × IsCurrent domain.new width tree after nodes.new.items turn.1)) }
     ensures cost { (width : ℕ) (tree : Node) (before after : List Fact)
-        → IsCurrent (λ step. N.stands step domain.old) width tree before nodes.old.items rows
+        → IsCurrent domain.old width tree before nodes.old.items rows
         → IsChanged fact_eq before changes.now after
         → steps.new ≤ steps.old + work width tree before after }
 {

@@ -2,29 +2,30 @@
 ghost use Rattle.std.specs.Prelude.{◌≡◌, ◌+◌, ◌≤◌, ℕ, pos, ◌+ℤ◌, [], List, nat_lt, IfOk};
 ghost use Rattle.std.specs.Option.{option_copied};
 ghost use Rattle.rsp_multiset.specs.Weights.{cardinality, AreChanges};
-ghost use Rattle.rsp_operators.specs.Laws.{IsShownAlike};
 ghost use Rattle.rsp_algebra.specs.Flat.{Part};
 ghost use Rattle.rsp_algebra.specs.Nodes.{Node};
 ghost use Rattle.rsp_algebra.specs.Overfull.{most_rows};
+ghost use Rattle.rsp_kinds.specs.Domains.{HasLearnt};
 ghost use Rattle.rsp_plan.specs.Passing.{StandsCounted, AllStand, TurnTaken, AllTaken, MayPass};
+ghost use Rattle.rsp_plan.specs.Standing.{Stands};
 ghost use Rattle.rsp_plan.specs.Times.{Time, GoesOn};
 ghost use Rattle.rsp_plan.specs.Turns.{IsTurn, MayTurn};
 ghost use Rattle.rsp_plan.specs.Waiting.{AreDifferences};
 ghost use Rattle.rsp_plan.specs.Working.{part_work, works};
 
-use crate::pending::Stack;
-use crate::step::Step;
+use crate::operator::{Operator, answer};
+use crate::stack::Stack;
 use rsp_multiset::{Cell, Changes, Count, Row};
 use rsp_spec::limits::MOST_ROWS;
 use rsp_steps::Steps;
-use rsp_terms::{Domain, Fact};
+use rsp_terms::{Fact, Same, Term};
 use std::alloc::{AllocError, Global};
 use std::sync::ledger::Ledger;
 
 /// A node with how many rows it has.
 #[derive(Drop)]
-pub struct Counted<N> {
-    pub step: N,
+pub struct Counted {
+    pub operator: Operator,
     pub rows: Count,
 }
 
@@ -44,30 +45,27 @@ fn raised<V: Cell>(rows: Count, net: &Changes<V>) -> Result<Count, AllocError>
 }
 
 // the node's turn; whether it has too many rows after it
-fn take_turn<D: Domain, N: Step<D>, L: Ledger>(
+fn take_turn<L: Ledger>(
     alloc: Global,
-    counted: &mut Counted<N>,
+    counted: &mut Counted,
     facts: Option<&Changes<Fact>>,
-    pending: &mut Stack<Changes<Row<D::Value>>>,
-    domain: &mut D,
+    pending: &mut Stack<Changes<Row<Term>>>,
+    domain: &mut Same,
     steps: &mut Steps<L>,
 ) -> Result<bool, AllocError>
-    requires { MayTurn D.Value.eq (D.knows domain.old) (D.shown domain.old) (N.stands counted.old.step domain.old)
-        (option_copied facts) pending.old }
-    ensures known { (v : D.Value) → D.knows domain.old v
-        → IsShownAlike (D.shown domain.old) (D.knows domain.new) (D.shown domain.new) v }
+    requires { MayTurn domain.old (Stands domain.old counted.old.operator) (option_copied facts) pending.old }
+    ensures known { HasLearnt domain.old domain.new }
     ensures law { IfOk result (λ over. (width : ℕ) (part : Part) (trees : List Node) (before after : Time)
-        → StandsCounted (λ step. N.stands step domain.old) width part trees before counted.old
+        → StandsCounted domain.old width part trees before counted.old
         → GoesOn before (option_copied facts.entry) after
-        → AreDifferences D.Value.eq (D.knows domain.old) (D.shown domain.old) width before after trees pending.old
-        → TurnTaken D.Value.eq (D.knows domain.new) (D.shown domain.new) (λ step. N.stands step domain.new)
-        width part before after trees counted.new pending.new over) }
+        → AreDifferences domain.old width before after trees pending.old
+        → TurnTaken domain.new width part before after trees counted.new pending.new over) }
     ensures cost { (width : ℕ) (part : Part) (trees : List Node) (before after : Time)
-        → IsTurn D.Value.eq (D.knows domain.old) (D.shown domain.old) (N.stands counted.old.step domain.old) pending.old
-        width part trees before after → GoesOn before (option_copied facts.entry) after
+        → IsTurn domain.old (Stands domain.old counted.old.operator) pending.old width part trees before after
+        → GoesOn before (option_copied facts.entry) after
         → steps.new ≤ steps.old + part_work width before after trees part }
 {
-    let answer = counted.step.answer(alloc, facts, pending, domain, steps)?;
+    let answer = answer(alloc, &mut counted.operator, facts, pending, domain, steps)?;
     let Some(net) = answer else {
         return Ok(true);
     };
@@ -81,25 +79,23 @@ fn take_turn<D: Domain, N: Step<D>, L: Ledger>(
 
 /// The turns of all nodes, at the start or at changes of the facts, up to the first that has too many rows after it; whether
 /// there is one.
-pub fn take_turns<D: Domain, N: Step<D>, L: Ledger>(
+pub(crate) fn take_turns<L: Ledger>(
     alloc: Global,
-    nodes: &mut [Counted<N>],
+    nodes: &mut [Counted],
     facts: Option<&Changes<Fact>>,
-    pending: &mut Stack<Changes<Row<D::Value>>>,
-    domain: &mut D,
+    pending: &mut Stack<Changes<Row<Term>>>,
+    domain: &mut Same,
     steps: &mut Steps<L>,
 ) -> Result<bool, AllocError>
-    requires may { MayPass (λ step. N.stands step domain.old) nodes.old (option_copied facts) }
+    requires may { MayPass domain.old nodes.old (option_copied facts) }
     requires none { pending.old ≡ [] }
-    ensures known { (v : D.Value) → D.knows domain.old v
-        → IsShownAlike (D.shown domain.old) (D.knows domain.new) (D.shown domain.new) v }
+    ensures known { HasLearnt domain.old domain.new }
     ensures law { IfOk result (λ over. (width : ℕ) (parts : List Part) (before after : Time)
-        → AllStand (λ step. N.stands step domain.old) width before [] parts nodes.old
+        → AllStand domain.old width before [] parts nodes.old
         → GoesOn before (option_copied facts.entry) after
-        → AllTaken D.Value.eq (D.knows domain.new) (D.shown domain.new) (λ step. N.stands step domain.new)
-        width parts before after nodes.new pending.new over) }
+        → AllTaken domain.new width parts before after nodes.new pending.new over) }
     ensures cost { (width : ℕ) (parts : List Part) (before after : Time)
-        → AllStand (λ step. N.stands step domain.old) width before [] parts nodes.old
+        → AllStand domain.old width before [] parts nodes.old
         → GoesOn before (option_copied facts.entry) after
         → steps.new ≤ steps.old + works width before after [] parts }
 {

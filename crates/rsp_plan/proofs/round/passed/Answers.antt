@@ -1,5 +1,4 @@
 use Rattle.std.proofs.Common.{sym, ◌∙◌}
-use Rattle.std.specs.Prelude.{⊤}
 use Rattle.rsp_algebra.specs.Flat.{flat}
 use Rattle.rsp_plan.proofs.Popped.{popped-none, popped-law, some_of}
 use Rattle.rsp_plan.proofs.round.passed.Goals as goal
@@ -16,11 +15,11 @@ returns-then-over-clause-none g c = λ width tree before after stand on.
 
 pub returns-clause-none : goal.returns-clause-none
 returns-clause-none g c = λ width tree before after stand on.
-    popped-none (λ v. ⊤) (λ step. g.N.Step.stands step c.take_all_turns.new.domain) c.take_all_turns.new.nodes.items c.pop.result c.take_all_turns.new.pending c.pop.new.self c.pop.ensures.some c.pop.ensures.none
+    popped-none c.take_all_turns.new.domain c.take_all_turns.new.nodes.items c.pop.result c.take_all_turns.new.pending c.pop.new.self c.pop.ensures.some c.pop.ensures.none
     width tree before after c.in_ok-over.over c.if-over.false (c.in_ok-over.ensures.law width (flat tree) before after stand on)
 
 pub returns-clause-law : goal.returns-clause-law
 returns-clause-law g c =
     some_of c.pop.result
-    (popped-law (λ v. ⊤) (λ step. g.N.Step.stands step c.take_all_turns.new.domain) c.take_all_turns.new.nodes.items c.pop.result c.take_all_turns.new.pending c.pop.new.self c.pop.ensures.some c.pop.ensures.none)
+    (popped-law c.take_all_turns.new.domain c.take_all_turns.new.nodes.items c.pop.result c.take_all_turns.new.pending c.pop.new.self c.pop.ensures.some c.pop.ensures.none)
     (λ net law width tree before after stand on. law width tree before after c.in_ok-over.over c.if-over.false (c.in_ok-over.ensures.law width (flat tree) before after stand on))

@@ -17,7 +17,7 @@ pub change_rows-requires : goal.change_rows-requires
 change_rows-requires g c = λ q.
     let may = c.requires in
     let law = rw c.in-Some.is at c.in_ok-answer.ensures.law in
-    later-never (λ step. g.N.Step.stands step c.args.domain.now) (λ step. g.N.Step.stands step c.passed.new.domain) may.width may.tree c.args.nodes.now.items c.passed.new.nodes.items c.in-Some.net may.before may.after _ may.current (law may.width may.tree (Some may.before) (Some may.after) may.current.nodes_stand may.changed) q
+    later-never c.args.domain.now c.passed.new.domain may.width may.tree c.args.nodes.now.items c.passed.new.nodes.items c.in-Some.net may.before may.after _ may.current (law may.width may.tree (Some may.before) (Some may.after) may.current.nodes_stand may.changed) q
 
 pub returns-clause-none : goal.returns-clause-none
 returns-clause-none g c = λ width tree before after current changed.
@@ -28,7 +28,7 @@ pub returns-clause-net : goal.returns-clause-net
 returns-clause-net g c = λ width tree before after current changed.
     let law = rw c.in-Some.is at c.in_ok-answer.ensures.law in
     let passed = law width tree (Some before) (Some after) current.nodes_stand changed in
-    (passed.changed, later-current (λ step. g.N.Step.stands step c.args.domain.now) (λ step. g.N.Step.stands step c.passed.new.domain) width tree c.args.nodes.now.items c.passed.new.nodes.items c.in-Some.net before after _ current passed _ c.in_ok-change_rows.ensures)
+    (passed.changed, later-current c.args.domain.now c.passed.new.domain width tree c.args.nodes.now.items c.passed.new.nodes.items c.in-Some.net before after _ current passed _ c.in_ok-change_rows.ensures)
 
 pub returns-in_err-answer-clause-cost : goal.returns-in_err-answer-clause-cost
 returns-in_err-answer-clause-cost g c = λ width tree before after current changed.

@@ -1,6 +1,7 @@
 use Rattle.std.proofs.Common.{◌<◌, ◌≤◌, [], length, refl, ◌∙◌, arith}
 use Rattle.std.specs.List.{fold}
 use Rattle.rsp_algebra.specs.Flat.{built}
+use Rattle.rsp_plan.proofs.Carried.{stands-carried, stands-fed}
 use Rattle.rsp_plan.proofs.Passing.{turning_from, turn-ends, midway-start, over-end, midway-on, midway-whole, midway-few}
 use Rattle.rsp_plan.proofs.turns.take_turns.Goals as goal
 
@@ -8,8 +9,7 @@ pub take_turn-requires : goal.take_turn-requires
 take_turn-requires g c =
     let may = c.requires.may in
     let below : c.loop-counted.counted-index < length c.loop-counted.nodes = omega arith in
-    let t = turning_from g.D.Value.PartialEq.eq (g.D.Domain.knows c.loop-counted.domain) (g.D.Domain.shown c.loop-counted.domain)
-    (λ step. g.N.Step.stands step c.args.domain.now) (λ step. g.N.Step.stands step c.loop-counted.domain) may.width may.parts may.before may.after
+    let t = turning_from c.args.domain.now c.loop-counted.domain may.width may.parts may.before may.after
     c.loop-counted.nodes c.loop-counted.counted-index c.loop-counted.pending c.args.steps.now c.loop-counted.steps c.counted-item.result below
     (c.loop-counted.invariant.1 may.width may.parts may.before may.after may.nodes_stand may.goes_on) in
     record {
@@ -22,7 +22,7 @@ take_turn-requires g c =
             after = may.after;
             turn =
                 record {
-                  stands = g.met.N.Step.carried _ c.args.domain.now c.loop-counted.domain may.width t.part (fold built [] t.past) may.before c.loop-counted.invariant.0 t.here.stands_for;
+                  stands = stands-carried c.args.domain.now c.loop-counted.domain c.loop-counted.invariant.0 _ may.width t.part (fold built [] t.past) may.before t.here.stands_for;
                   differ = t.differ;
                 };
           };
@@ -32,13 +32,12 @@ take_turn-requires g c =
 pub returns-then-branch-clause-law : goal.returns-then-branch-clause-law
 returns-then-branch-clause-law g c = λ width parts before after stand on.
     let below : c.loop-counted.counted-index < length c.loop-counted.nodes = omega arith in
-    over-end g.D.Value.PartialEq.eq (g.D.Domain.knows c.loop-counted.domain) (g.D.Domain.shown c.loop-counted.domain)
-    (λ step. g.N.Step.stands step c.args.domain.now) (λ step. g.N.Step.stands step c.loop-counted.domain) width parts before after
+    over-end c.args.domain.now c.loop-counted.domain width parts before after
     c.loop-counted.nodes c.loop-counted.counted-index c.loop-counted.pending c.args.steps.now c.loop-counted.steps
-    (g.D.Domain.knows c.take_turn.new.domain) (g.D.Domain.shown c.take_turn.new.domain) (λ step. g.N.Step.stands step c.take_turn.new.domain)
-    (λ step w part trees facts. g.met.N.Step.carried step c.args.domain.now c.loop-counted.domain w part trees facts c.loop-counted.invariant.0)
-    (λ step w part trees facts. g.met.N.Step.carried step c.loop-counted.domain c.take_turn.new.domain w part trees facts c.take_turn.ensures.known)
-    (λ step w part trees facts. g.met.N.Step.fed step c.args.domain.now w part trees facts)
+    c.take_turn.new.domain
+    (stands-carried c.args.domain.now c.loop-counted.domain c.loop-counted.invariant.0)
+    (stands-carried c.loop-counted.domain c.take_turn.new.domain c.take_turn.ensures.known)
+    (stands-fed c.args.domain.now)
     c.counted-item.result c.take_turn.new.counted c.take_turn.new.pending c.take_turn.new.steps c.in_ok-take_turn.field-0 below
     (λ part trees here differ. c.in_ok-take_turn.ensures.law width part trees before after here on differ)
     (λ part trees here differ. c.take_turn.ensures.cost width part trees before after (record { stands = here; differ = differ }) on)
@@ -51,13 +50,12 @@ loop-counted-preserved g c =
           let next = c.take_turn.ensures.known v first.0 in
           (next.0, next.1 ∙ first.1),
       λ width parts before after stand on.
-          midway-on g.D.Value.PartialEq.eq (g.D.Domain.knows c.loop-counted.domain) (g.D.Domain.shown c.loop-counted.domain)
-          (λ step. g.N.Step.stands step c.args.domain.now) (λ step. g.N.Step.stands step c.loop-counted.domain) width parts before after
+          midway-on c.args.domain.now c.loop-counted.domain width parts before after
           c.loop-counted.nodes c.loop-counted.counted-index c.loop-counted.pending c.args.steps.now c.loop-counted.steps
-          (g.D.Domain.knows c.take_turn.new.domain) (g.D.Domain.shown c.take_turn.new.domain) (λ step. g.N.Step.stands step c.take_turn.new.domain)
-          (λ step w part trees facts. g.met.N.Step.carried step c.args.domain.now c.loop-counted.domain w part trees facts c.loop-counted.invariant.0)
-          (λ step w part trees facts. g.met.N.Step.carried step c.loop-counted.domain c.take_turn.new.domain w part trees facts c.take_turn.ensures.known)
-          (λ step w part trees facts. g.met.N.Step.fed step c.args.domain.now w part trees facts)
+          c.take_turn.new.domain
+          (stands-carried c.args.domain.now c.loop-counted.domain c.loop-counted.invariant.0)
+          (stands-carried c.loop-counted.domain c.take_turn.new.domain c.take_turn.ensures.known)
+          (stands-fed c.args.domain.now)
           c.counted-item.result c.take_turn.new.counted c.take_turn.new.pending c.take_turn.new.steps c.in_ok-take_turn.field-0 below
           (λ part trees here differ. c.in_ok-take_turn.ensures.law width part trees before after here on differ)
           (λ part trees here differ. c.take_turn.ensures.cost width part trees before after (record { stands = here; differ = differ }) on)
@@ -67,17 +65,15 @@ loop-counted-preserved g c =
 pub returns-clause-law : goal.returns-clause-law
 returns-clause-law g c = λ width parts before after stand on.
     let past : length c.loop-counted.nodes ≤ c.loop-counted.counted-index = grind arith in
-    midway-whole g.D.Value.PartialEq.eq (g.D.Domain.knows c.loop-counted.domain) (g.D.Domain.shown c.loop-counted.domain)
-    (λ step. g.N.Step.stands step c.args.domain.now) (λ step. g.N.Step.stands step c.loop-counted.domain) width parts before after
+    midway-whole c.args.domain.now c.loop-counted.domain width parts before after
     c.loop-counted.nodes c.loop-counted.counted-index c.loop-counted.pending c.args.steps.now c.loop-counted.steps past (c.loop-counted.invariant.1 width parts before after stand on)
 
 pub returns-then-branch-clause-cost : goal.returns-then-branch-clause-cost
 returns-then-branch-clause-cost g c = λ width parts before after stand on.
     let below : c.loop-counted.counted-index < length c.loop-counted.nodes = omega arith in
-    turn-ends g.D.Value.PartialEq.eq (g.D.Domain.knows c.loop-counted.domain) (g.D.Domain.shown c.loop-counted.domain)
-    (λ step. g.N.Step.stands step c.args.domain.now) (λ step. g.N.Step.stands step c.loop-counted.domain) width parts before after
+    turn-ends c.args.domain.now c.loop-counted.domain width parts before after
     c.loop-counted.nodes c.loop-counted.counted-index c.loop-counted.pending c.args.steps.now c.loop-counted.steps
-    (λ step w part trees facts. g.met.N.Step.carried step c.args.domain.now c.loop-counted.domain w part trees facts c.loop-counted.invariant.0)
+    (stands-carried c.args.domain.now c.loop-counted.domain c.loop-counted.invariant.0)
     c.counted-item.result c.take_turn.new.steps below
     (λ part trees here differ. c.take_turn.ensures.cost width part trees before after (record { stands = here; differ = differ }) on)
     (c.loop-counted.invariant.1 width parts before after stand on)
@@ -85,18 +81,16 @@ returns-then-branch-clause-cost g c = λ width parts before after stand on.
 pub returns-in_err-take_turn-clause-cost : goal.returns-in_err-take_turn-clause-cost
 returns-in_err-take_turn-clause-cost g c = λ width parts before after stand on.
     let below : c.loop-counted.counted-index < length c.loop-counted.nodes = omega arith in
-    turn-ends g.D.Value.PartialEq.eq (g.D.Domain.knows c.loop-counted.domain) (g.D.Domain.shown c.loop-counted.domain)
-    (λ step. g.N.Step.stands step c.args.domain.now) (λ step. g.N.Step.stands step c.loop-counted.domain) width parts before after
+    turn-ends c.args.domain.now c.loop-counted.domain width parts before after
     c.loop-counted.nodes c.loop-counted.counted-index c.loop-counted.pending c.args.steps.now c.loop-counted.steps
-    (λ step w part trees facts. g.met.N.Step.carried step c.args.domain.now c.loop-counted.domain w part trees facts c.loop-counted.invariant.0)
+    (stands-carried c.args.domain.now c.loop-counted.domain c.loop-counted.invariant.0)
     c.counted-item.result c.take_turn.new.steps below
     (λ part trees here differ. c.take_turn.ensures.cost width part trees before after (record { stands = here; differ = differ }) on)
     (c.loop-counted.invariant.1 width parts before after stand on)
 
 pub returns-clause-cost : goal.returns-clause-cost
 returns-clause-cost g c = λ width parts before after stand on.
-    midway-few g.D.Value.PartialEq.eq (g.D.Domain.knows c.loop-counted.domain) (g.D.Domain.shown c.loop-counted.domain)
-    (λ step. g.N.Step.stands step c.args.domain.now) (λ step. g.N.Step.stands step c.loop-counted.domain) width parts before after
+    midway-few c.args.domain.now c.loop-counted.domain width parts before after
     c.loop-counted.nodes c.loop-counted.counted-index c.loop-counted.pending c.args.steps.now c.loop-counted.steps
     (c.loop-counted.invariant.1 width parts before after stand on)
 
@@ -104,6 +98,6 @@ pub loop-counted-init : goal.loop-counted-init
 loop-counted-init g c = (
   λ v known. (known, refl),
   λ width parts before after stand on.
-      midway-start g.D.Value.PartialEq.eq (g.D.Domain.knows c.args.domain.now) (g.D.Domain.shown c.args.domain.now) (λ step. g.N.Step.stands step c.args.domain.now)
+      midway-start c.args.domain.now
       width parts before after c.args.nodes.now c.args.pending.now c.args.steps.now stand c.requires.none,
 )
