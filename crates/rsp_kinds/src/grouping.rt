@@ -14,9 +14,8 @@ ghost use Rattle.rsp_kinds.specs.Arguments.{argument_value};
 ghost use Rattle.rsp_kinds.specs.Made.{IsUnary};
 
 use crate::expressions::Argument;
-use rsp_aggregates::Folding;
+use rsp_aggregates::{Folding, folding_of};
 use rsp_expr::Aggregate;
-use rsp_group_laws::{folding_of, value_is_grouped};
 use rsp_groups::{Aggregated, GroupOp, Grouping};
 use rsp_terms::Domain;
 use std::alloc::{AllocError, Global};
@@ -47,7 +46,6 @@ pub(crate) fn grouping<D: Domain>(
         aggregates: all_aggregated(alloc, aggregates)?,
     };
     let made = GroupOp::new(alloc, grouping)?;
-    value_is_grouped(&made);
     Ok(made)
 }
 

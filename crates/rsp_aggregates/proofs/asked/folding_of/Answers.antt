@@ -2,8 +2,8 @@ use Rattle.std.proofs.Common.{ap, sym, ◌∙◌, map}
 use Rattle.std.specs.Prelude.{is_some, not}
 use Rattle.rsp_aggregates.specs.Folds.{asked_aggregate}
 use Rattle.rsp_expr.specs.Meanings.{maybe_formula}
-use Rattle.rsp_group_laws.proofs.Grouping.{asked-over}
-use Rattle.rsp_group_laws.proofs.laws.folding_of.Goals as goal
+use Rattle.rsp_aggregates.proofs.Arguments.{asked-over}
+use Rattle.rsp_aggregates.proofs.asked.folding_of.Goals as goal
 
 pub returns-in-None-clause-value : goal.returns-in-None-clause-value
 returns-in-None-clause-value c = λ of group is.
