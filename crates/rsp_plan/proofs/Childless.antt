@@ -1,5 +1,5 @@
 -- Nodes without children, as parts of a tree.
-use Rattle.std.proofs.Common.{◌≡◌, ℕ, Bool, false, true≢false, None, Some, is_none, cond, Bor, List, [], ◌∷◌, ℤ, refl, sym, ap, subst, ◌∙◌, Decides}
+use Rattle.std.proofs.Common.{◌≡◌, ℕ, Bool, false, true≢false, None, Some, is_none, cond, Bor, List, [], ◌∷◌, ℤ, refl, sym, ap, subst, ◌∙◌}
 use Rattle.std.specs.Option.{option_copied}
 use Rattle.std.specs.Prelude.{Option}
 use Rattle.rsp_multiset.specs.Rows.{Cells}

@@ -1,5 +1,5 @@
 -- The rows of a tree that are kept are those over the facts.
-use Rattle.std.proofs.Common.{◌≡◌, ℕ, Option, None, Some, List, [], ◌∷◌, ℤ, pos, ◌+ℤ◌, sym, ap, subst, arith}
+use Rattle.std.proofs.Common.{◌≡◌, ℕ, Option, None, Some, List, [], ◌∷◌, pos, ◌+ℤ◌, sym, ap, subst, arith}
 use Rattle.std.specs.Prelude.{◌≤ℤ◌, IfSome}
 use Rattle.std.specs.List.{IsDistinct}
 use Rattle.std.proofs.lemmas.Int.{ints}
@@ -10,7 +10,7 @@ use Rattle.rsp_terms.specs.declared.statement.Fact.{Fact}
 use Rattle.rsp_terms.specs.declared.term.Term.{Term}
 use Rattle.rsp_algebra.specs.Changing.{IsSet}
 use Rattle.rsp_algebra.specs.Fitting.{Fits}
-use Rattle.rsp_algebra.specs.Flat.{Part, flat}
+use Rattle.rsp_algebra.specs.Flat.{flat}
 use Rattle.rsp_algebra.specs.Nodes.{Node}
 use Rattle.rsp_algebra.specs.Overfull.{overfull, too_many}
 use Rattle.rsp_algebra.specs.Solutions.{same_row, eval}

@@ -1,7 +1,5 @@
 -- An operator on one child, as a part of a tree.
-use Rattle.std.proofs.Common.{◌≡◌, ℕ, Bool, true, false, true≢false, None, Some, is_none, cond, List, [], ◌∷◌, ℤ, refl, sym, ap, subst, ◌∙◌, Decides}
-use Rattle.rsp_multiset.specs.Rows.{Cells}
-use Rattle.rsp_terms.specs.declared.term.Term.{Term}
+use Rattle.std.proofs.Common.{◌≡◌, ℕ, Bool, true, false, true≢false, None, Some, is_none, cond, List, [], ◌∷◌, refl, sym, ap, subst, ◌∙◌}
 use Rattle.rsp_operators.specs.Laws.{Leads, MayBeGiven, AnswersFit}
 use Rattle.rsp_algebra.specs.Flat.{Part, leaf, above, pair}
 use Rattle.rsp_algebra.specs.Nodes as node

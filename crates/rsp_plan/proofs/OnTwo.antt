@@ -1,10 +1,8 @@
 -- An operator on two children, as a part of a tree.
-use Rattle.std.proofs.Common.{◌≡◌, ◌<◌, ◌≤◌, ◌+◌, ℕ, Bool, None, Some, List, [], ◌∷◌, ℤ, length, refl, sym, ap, subst, ◌∙◌, arith, Decides}
+use Rattle.std.proofs.Common.{◌≡◌, ◌<◌, ◌≤◌, ◌+◌, ℕ, None, Some, List, [], ◌∷◌, length, refl, sym, ap, subst, ◌∙◌, arith}
 use Rattle.std.proofs.lemmas.Bool.Decides.{nat_tests}
 use Rattle.rsp_multiset.specs.Matching.{matching_part}
-use Rattle.rsp_multiset.specs.Rows.{Cells}
 use Rattle.rsp_multiset.specs.Shown.{AreToldApart}
-use Rattle.rsp_terms.specs.declared.term.Term.{Term}
 use Rattle.rsp_terms.specs.Same.{term_eq, term_same}
 use Rattle.rsp_operators.specs.Laws.{Leads, AllFit, MayBothBeGiven, AnswersFit}
 use Rattle.rsp_algebra.specs.Flat.{Part, leaf, above, pair}

@@ -1,5 +1,5 @@
 -- What is left on the stack is how the whole tree's rows differ.
-use Rattle.std.proofs.Common.{◌≡◌, ℕ, Bool, false, Option, None, Some, is_none, List, [], ◌∷◌, ℤ, ◌+ℤ◌, ◌++◌, length, take, drop, refl, sym, ap, subst, ◌∙◌, arith}
+use Rattle.std.proofs.Common.{◌≡◌, ℕ, Bool, false, Option, None, Some, is_none, List, [], ◌∷◌, ◌+ℤ◌, ◌++◌, length, take, drop, refl, sym, ap, subst, ◌∙◌, arith}
 use Rattle.std.proofs.lemmas.List.{append-nil, drop_all, take_all}
 use Rattle.std.specs.Prelude.{Result, Ok, Err, IfOk, IfSome, IfNone}
 use Rattle.rsp_multiset.specs.Rows.{Cells, row_eq}

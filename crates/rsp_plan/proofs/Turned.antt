@@ -1,8 +1,7 @@
 -- A node has taken its turn.
 use Rattle.std.proofs.Common.{◌≡◌, ℕ, Bool, true, false, true≢false, List, ◌∷◌, ℤ, pos, ◌+ℤ◌, length, nat_lt, sym, ap, subst, ◌∙◌}
-use Rattle.rsp_multiset.specs.Rows.{Cells, row_eq}
+use Rattle.rsp_multiset.specs.Rows.{row_eq}
 use Rattle.rsp_multiset.specs.Weights.{cardinality, AreChanges}
-use Rattle.rsp_terms.specs.declared.term.Term.{Term}
 use Rattle.rsp_operators.specs.Laws.{Leads, AnswersFit}
 use Rattle.rsp_algebra.specs.Fitting.{Fits}
 use Rattle.rsp_algebra.specs.Flat.{Part}

@@ -17,11 +17,7 @@ use rsp_multiset::Bag;
 use rsp_terms::{Same, Term};
 use std::alloc::{AllocError, Global};
 
-fn nodes_of(
-    alloc: Global,
-    tree: &Tree,
-    width: usize,
-) -> Result<Vec<Counted>, AllocError>
+fn nodes_of(alloc: Global, tree: &Tree, width: usize) -> Result<Vec<Counted>, AllocError>
     requires { Fits width (node_of tree.now) }
     ensures { IfOk result (λ nodes. (domain : Same)
         → AllStand domain width None [] (flat (node_of tree.now)) nodes.items) }
