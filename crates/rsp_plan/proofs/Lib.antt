@@ -7,3 +7,4 @@ pub mod Paired
 pub mod RowsKept
 pub mod Childless
 pub mod FromNodes
+mod Few

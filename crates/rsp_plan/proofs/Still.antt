@@ -1,10 +1,13 @@
 -- An operator whose children's rows didn't change: it stands as it stood, and its own rows didn't change.
-use Rattle.std.proofs.Common.{◌≡◌, suc, Bool, true, false, ◌&&◌, true≢false, List, [], ◌∷◌, ℤ, length, refl, sym, subst, ◌∙◌, arith}
+use Rattle.std.proofs.Common.{◌≡◌, ◌≤◌, ◌+◌, ℕ, suc, Bool, true, false, ◌&&◌, true≢false, List, [], ◌∷◌, ℤ, length, refl, sym, subst, ◌∙◌, arith}
 use Rattle.std.specs.Prelude.{◌==◌}
 use Rattle.std.proofs.lemmas.Bool.Decides.{nat_tests}
 use Rattle.std.proofs.lemmas.Int.{ints}
 use Rattle.rsp_multiset.specs.Rows.{Cells}
+use Rattle.rsp_multiset.specs.RowSame.{row_decides}
+use Rattle.rsp_multiset.proofs.Linear.{length-same}
 use Rattle.rsp_terms.specs.declared.term.Term.{Term}
+use Rattle.rsp_terms.specs.Same.{term_same}
 use Rattle.rsp_operators.specs.Laws.{Leads}
 use Rattle.rsp_kinds.specs.Alike.{SameRows}
 use Rattle.rsp_plan.specs.Operating.{Table}
@@ -53,3 +56,12 @@ module _ {V : Type 0} (shown : V → Term) where
           alike lefts lefts' rights rights' same_left same_right stands,
           same-leads net none (value lefts rights) (value lefts' rights') (values lefts lefts' rights rights' same_left same_right),
         )
+
+    -- they are no more than before
+    pub still-few : (left right : List (Cells V × ℤ)) → ((length left == 0) && (length right == 0)) ≡ true → (more : ℕ)
+        → (lefts lefts' rights rights' : Table) → Leads shown lefts left lefts' → Leads shown rights right rights' → length (value lefts' rights') ≤ length (value lefts rights) + more
+    still-few left right empty more lefts lefts' rights rights' left_leads right_leads =
+        let same_left = still-same left (is-none left (first_true (length left == 0) (length right == 0) empty)) lefts lefts' left_leads in
+        let same_right = still-same right (is-none right (second_true (length left == 0) (length right == 0) empty)) rights rights' right_leads in
+        let long = length-same (row_decides term_same) (value lefts rights) (value lefts' rights') (values lefts lefts' rights rights' same_left same_right) in
+        omega (arith, long)

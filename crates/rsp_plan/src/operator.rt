@@ -6,7 +6,7 @@ ghost use Rattle.rsp_algebra.specs.Flat.{Part};
 ghost use Rattle.rsp_algebra.specs.Nodes.{Node};
 ghost use Rattle.rsp_plan.specs.Kinds.{AsOperator};
 ghost use Rattle.rsp_turns.specs.Times.{Time, GoesOn};
-ghost use Rattle.rsp_turns.specs.Turns.{IsTurn, MayTurn, HasAnswered, HasTooMany};
+ghost use Rattle.rsp_turns.specs.Turns.{IsTurn, MayTurn, HasAnswered, HasTooMany, HasFew};
 ghost use Rattle.rsp_turns.specs.Working.{part_work};
 
 use crate::leaves::{Given, answer_given, answer_scan};
@@ -59,6 +59,13 @@ fn answered<D: Domain, O: Keeping<D>, B: KeepingBoth<D>, L: Ledger>(
         (λ b. B.stands b domain.old) operator.old) pending.old width part trees before after
         → GoesOn before (option_copied facts.entry) after
         → HasTooMany width part trees after)) }
+    ensures within { IfOk result (λ answer. IfSome answer (λ _.
+        (width : ℕ) (part : Part) (trees : List Node) (before after : Time)
+        → IsTurn D.Value.eq (D.knows domain.old) (D.shown domain.old)
+        (AsOperator O.width O.key O.value B.width B.key B.factor B.value (λ o. O.stands o domain.old)
+        (λ b. B.stands b domain.old) operator.old) pending.old width part trees before after
+        → GoesOn before (option_copied facts.entry) after
+        → HasFew width part trees before after)) }
     ensures cost { (width : ℕ) (part : Part) (trees : List Node) (before after : Time)
         → IsTurn D.Value.eq (D.knows domain.old) (D.shown domain.old)
         (AsOperator O.width O.key O.value B.width B.key B.factor B.value (λ o. O.stands o domain.old)

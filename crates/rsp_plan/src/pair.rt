@@ -10,7 +10,7 @@ ghost use Rattle.rsp_algebra.specs.Nodes.{Node};
 ghost use Rattle.rsp_algebra.specs.Overfull.{most_rows};
 ghost use Rattle.rsp_plan.specs.Operating.{StandsPair};
 ghost use Rattle.rsp_turns.specs.Times.{Time};
-ghost use Rattle.rsp_turns.specs.Turns.{IsTurn, MayTake, HasAnswered, HasTooMany};
+ghost use Rattle.rsp_turns.specs.Turns.{IsTurn, MayTake, HasAnswered, HasTooMany, HasFew};
 ghost use Rattle.rsp_turns.specs.Working.{part_work};
 
 use rsp_kinds::KeepingBoth;
@@ -55,6 +55,11 @@ fn changed<D: Domain, B: KeepingBoth<D>, L: Ledger>(
         → B.stands operator.old domain.old lefts rights
         → Leads (D.shown domain.old) lefts left.now lefts' → Leads (D.shown domain.old) rights right.now rights'
         → most_rows < length (B.value operator.old lefts' rights'))) }
+    ensures within { IfOk result (λ answer. IfSome answer (λ _. (lefts lefts' rights rights' : List (Cells Term))
+        → B.stands operator.old domain.old lefts rights
+        → Leads (D.shown domain.old) lefts left.now lefts' → Leads (D.shown domain.old) rights right.now rights'
+        → length (B.value operator.old lefts' rights') ≤ length (B.value operator.old lefts rights)
+        + (most_rows + (length lefts' + length rights')))) }
     ensures cost { (lefts lefts' rights rights' : List (Cells Term)) → B.stands operator.old domain.old lefts rights
         → Leads (D.shown domain.old) lefts left.now lefts' → Leads (D.shown domain.old) rights right.now rights'
         → steps.new ≤ steps.old
@@ -93,6 +98,12 @@ pub(crate) fn answer_pair<D: Domain, B: KeepingBoth<D>, L: Ledger>(
         (B.key operator.old) (B.factor operator.old) (B.value operator.old) (B.stands operator.old domain.old))
         pending.old width part trees before after
         → HasTooMany width part trees after)) }
+    ensures within { IfOk result (λ answer. IfSome answer (λ _.
+        (width : ℕ) (part : Part) (trees : List Node) (before after : Time)
+        → IsTurn D.Value.eq (D.knows domain.old) (D.shown domain.old) (StandsPair (B.width operator.old)
+        (B.key operator.old) (B.factor operator.old) (B.value operator.old) (B.stands operator.old domain.old))
+        pending.old width part trees before after
+        → HasFew width part trees before after)) }
     ensures cost { (width : ℕ) (part : Part) (trees : List Node) (before after : Time)
         → IsTurn D.Value.eq (D.knows domain.old) (D.shown domain.old) (StandsPair (B.width operator.old)
         (B.key operator.old) (B.factor operator.old) (B.value operator.old) (B.stands operator.old domain.old))

@@ -16,7 +16,7 @@ pub trait Step<D: Domain>: Drop {
     ghost use Rattle.rsp_algebra.specs.Flat.{Part};
     ghost use Rattle.rsp_algebra.specs.Nodes.{Node};
     ghost use Rattle.rsp_turns.specs.Times.{Time, GoesOn};
-    ghost use Rattle.rsp_turns.specs.Turns.{IsTurn, MayTurn, HasAnswered, HasTooMany};
+    ghost use Rattle.rsp_turns.specs.Turns.{IsTurn, MayTurn, HasAnswered, HasTooMany, HasFew};
     ghost use Rattle.rsp_turns.specs.Waiting.{IsFed, root};
     ghost use Rattle.rsp_turns.specs.Working.{part_work};
 
@@ -24,8 +24,9 @@ pub trait Step<D: Domain>: Drop {
     ghost stands: { Self → D → ℕ → Part → List Node → Time → Type 0 };
 
     /// Takes the changes of the facts, or none at the start, and those of the children, and answers how the node's rows
-    /// change; None only where they are more than 1,000,000 after it. After None, or want of memory, the node is only to be
-    /// dropped.
+    /// change; None only where they are more than 1,000,000 after it. On two children it is None wherever they are more than
+    /// 1,000,000 beyond what they were before it and what both children's are. After None, or want of memory, the node is only
+    /// to be dropped.
     fn answer<L: Ledger>(
         &mut self,
         alloc: Global,
@@ -49,6 +50,11 @@ pub trait Step<D: Domain>: Drop {
             → IsTurn D.Value.eq (D.knows domain.old) (D.shown domain.old) (stands self.old domain.old) pending.old
             width part trees before after → GoesOn before (option_copied facts.entry) after
             → HasTooMany width part trees after)) }
+        ensures within { IfOk result (λ answer. IfSome answer (λ _.
+            (width : ℕ) (part : Part) (trees : List Node) (before after : Time)
+            → IsTurn D.Value.eq (D.knows domain.old) (D.shown domain.old) (stands self.old domain.old) pending.old
+            width part trees before after → GoesOn before (option_copied facts.entry) after
+            → HasFew width part trees before after)) }
         ensures cost { (width : ℕ) (part : Part) (trees : List Node) (before after : Time)
             → IsTurn D.Value.eq (D.knows domain.old) (D.shown domain.old) (stands self.old domain.old) pending.old
             width part trees before after → GoesOn before (option_copied facts.entry) after

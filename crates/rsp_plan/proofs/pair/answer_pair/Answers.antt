@@ -1,6 +1,6 @@
 use Rattle.std.proofs.Common.{refl}
-use Rattle.rsp_plan.proofs.Carrying.{both_some, none_led}
-use Rattle.rsp_plan.proofs.Paired.{pair-may, pair-law, pair-more, pair-few}
+use Rattle.rsp_plan.proofs.Carrying.{both_some, some_led, none_led}
+use Rattle.rsp_plan.proofs.Paired.{pair-may, pair-law, pair-more, pair-within, pair-few}
 use Rattle.rsp_plan.proofs.pair.answer_pair.Goals as goal
 
 pub changed-requires : goal.changed-requires
@@ -30,6 +30,15 @@ returns-clause-more g c =
     (g.B.Binary.factor c.args.operator.now) (g.B.Binary.value c.args.operator.now) (g.B.Binary.stands c.args.operator.now c.args.domain.now) c.in-Some-pop.left c.in-Some.right
     c.args.pending.now c.pop.new.self c.pop-2.new.self c.in-Some.ensures.some c.in-Some-pop.ensures.some
     (g.met.B.KeepingBoth.nothing c.args.operator.now) _ refl more)
+
+pub returns-clause-within : goal.returns-clause-within
+returns-clause-within g c =
+    some_led c.changed.result c.changed.ensures.within
+    (λ net within.
+    pair-within g.met.D.Value.Cell.identical (g.D.Domain.knows c.args.domain.now) (g.D.Domain.shown c.args.domain.now) (g.B.Binary.width c.args.operator.now) (g.B.Binary.key c.args.operator.now)
+    (g.B.Binary.factor c.args.operator.now) (g.B.Binary.value c.args.operator.now) (g.B.Binary.stands c.args.operator.now c.args.domain.now) c.in-Some-pop.left c.in-Some.right
+    c.args.pending.now c.pop.new.self c.pop-2.new.self c.in-Some.ensures.some c.in-Some-pop.ensures.some
+    (g.met.B.KeepingBoth.nothing c.args.operator.now) within)
 
 pub returns-clause-cost : goal.returns-clause-cost
 returns-clause-cost g c =
