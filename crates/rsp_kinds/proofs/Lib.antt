@@ -2,6 +2,7 @@ pub mod Answered
 pub mod ByKey
 pub mod Chosen
 pub mod Copied
+pub mod Counted
 pub mod Grouped
 pub mod Keys
 pub mod Nothing

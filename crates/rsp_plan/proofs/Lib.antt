@@ -18,3 +18,4 @@ pub mod Popped
 pub mod Current
 pub mod StillSet
 pub mod Placed
+mod Few

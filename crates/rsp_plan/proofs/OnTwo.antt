@@ -13,7 +13,7 @@ use Rattle.rsp_algebra.specs.Solutions.{eval}
 use Rattle.rsp_kinds.specs.Made.{BindsKey, IsBinary, own_work}
 use Rattle.rsp_plan.specs.Standing.{Table, StandsPair}
 use Rattle.rsp_plan.specs.Times.{Time, rows_at}
-use Rattle.rsp_plan.specs.Turns.{IsTurn, MayTake, HasAnswered, HasTooMany}
+use Rattle.rsp_plan.specs.Turns.{IsTurn, MayTake, HasAnswered, HasTooMany, HasFew}
 use Rattle.rsp_plan.specs.Waiting.{Change, AreDifferences}
 use Rattle.rsp_plan.specs.Working.{pair_work, part_work}
 use Rattle.rsp_plan.proofs.Binding.{change-binds}
@@ -177,6 +177,27 @@ module _ (domain : Same)
             let long = ap length (value-at nothing width double l r after stands.is) in
             let past : most_rows < length (rows_at width (node.of_two double l r) after) = omega (arith, is, many, long) in
             grind (arith, nat_tests)
+
+    -- an answer: there are few
+    pub pair-within : (nothing : value [] [] ≡ [])
+        → ((lefts lefts' rights rights' : Table) → Stands lefts rights → Leads (shown domain) lefts left lefts' → Leads (shown domain) rights right rights'
+        → length (value lefts' rights') ≤ length (value lefts rights) + (most_rows + (length lefts' + length rights')))
+        → (width : ℕ) (part : Part) (trees : List Node) (before after : Time)
+        → IsTurn domain (StandsPair wide key factor value Stands) whole width part trees before after → HasFew width part trees before after
+    pair-within nothing within width part trees before after turn =
+        by part trees turn.stands (subst (AreDifferences domain width before after trees) split-both turn.differ)
+      where
+        by : (part : Part) (trees : List Node) → StandsPair wide key factor value Stands width part trees before → AreDifferences domain width before after trees (right ∷ left ∷ pending)
+            → HasFew width part trees before after
+        by (leaf tree) trees stands differ = absurd stands
+        by (above single) trees stands differ = absurd stands
+        by (pair double) [] stands differ = absurd stands
+        by (pair double) (r ∷ []) stands differ = absurd stands
+        by (pair double) (r ∷ l ∷ trees) stands differ =
+            let few = within (rows_at width l before) (rows_at width l after) (rows_at width r before) (rows_at width r after) stands.stands differ.1.0.leads differ.0.leads in
+            let first = ap length (value-at nothing width double l r before stands.is) in
+            let last = ap length (value-at nothing width double l r after stands.is) in
+            omega (arith, few, first, last)
 
     -- its steps
     pub pair-few : (start steps : ℕ)

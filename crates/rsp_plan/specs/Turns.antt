@@ -1,12 +1,13 @@
 -- Words of the way: a node's turn: what it is given, and what it answers.
-use Rattle.std.specs.Prelude.{◌≡◌, ℕ, true, Option, List, ℤ}
+use Rattle.std.specs.Prelude.{◌≡◌, ◌≤◌, ◌+◌, ℕ, true, Option, List, ◌∷◌, ℤ, ⊤, length}
 use Rattle.rsp_terms.specs.declared.domain.Same.{Same}
 use Rattle.rsp_terms.specs.declared.statement.Fact.{Fact}
 use Rattle.rsp_terms.specs.Same.{term_eq}
 use Rattle.rsp_operators.specs.Laws.{Leads, AnswersFit}
-use Rattle.rsp_algebra.specs.Flat.{Part}
+use Rattle.rsp_algebra.specs.Flat.{Part, pair}
+use Rattle.rsp_algebra.specs.Nodes as node
 use Rattle.rsp_algebra.specs.Nodes.{Node}
-use Rattle.rsp_algebra.specs.Overfull.{too_many}
+use Rattle.rsp_algebra.specs.Overfull.{most_rows, too_many}
 use Rattle.rsp_kinds.specs.Domains.{knows, shown}
 use Rattle.rsp_plan.specs.Times.{Time, rows_at, GoesOn}
 use Rattle.rsp_plan.specs.Waiting.{Change, AreDifferences, root, rest}
@@ -43,3 +44,11 @@ pub record HasAnswered (domain : Same) (Stands : ℕ → Part → List Node → 
 -- the part has too many rows afterwards
 abbrev pub HasTooMany : ℕ → Part → List Node → Time → Type 0
 HasTooMany width part trees after = too_many (rows_at width (root trees part) after) ≡ true
+
+-- a part on two children has no more than 1,000,000 rows more than before and than its children have
+abbrev pub HasFew : ℕ → Part → List Node → Time → Time → Type 0
+HasFew width (pair double) (right ∷ left ∷ trees) before after =
+    length (rows_at width (node.of_two double left right) after)
+    ≤ length (rows_at width (node.of_two double left right) before)
+    + (most_rows + (length (rows_at width left after) + length (rows_at width right after)))
+HasFew width part trees before after = ⊤

@@ -5,7 +5,7 @@ ghost use Rattle.rsp_algebra.specs.Nodes.{Node};
 ghost use Rattle.rsp_kinds.specs.Domains.{HasLearnt};
 ghost use Rattle.rsp_plan.specs.Standing.{StandsBinary};
 ghost use Rattle.rsp_plan.specs.Times.{Time};
-ghost use Rattle.rsp_plan.specs.Turns.{IsTurn, MayTake, HasAnswered, HasTooMany};
+ghost use Rattle.rsp_plan.specs.Turns.{IsTurn, MayTake, HasAnswered, HasTooMany, HasFew};
 ghost use Rattle.rsp_plan.specs.Working.{part_work};
 
 use crate::stack::Stack;
@@ -35,6 +35,10 @@ pub(crate) fn answer_binary<L: Ledger>(
         (width : ℕ) (part : Part) (trees : List Node) (before after : Time)
         → IsTurn domain.old (StandsBinary domain.old operator.old) pending.old width part trees before after
         → HasTooMany width part trees after)) }
+    ensures within { IfOk result (λ answer. IfSome answer (λ _.
+        (width : ℕ) (part : Part) (trees : List Node) (before after : Time)
+        → IsTurn domain.old (StandsBinary domain.old operator.old) pending.old width part trees before after
+        → HasFew width part trees before after)) }
     ensures cost { (width : ℕ) (part : Part) (trees : List Node) (before after : Time)
         → IsTurn domain.old (StandsBinary domain.old operator.old) pending.old width part trees before after
         → steps.new ≤ steps.old + part_work width before after trees part }

@@ -6,7 +6,7 @@ ghost use Rattle.rsp_algebra.specs.Nodes.{Node};
 ghost use Rattle.rsp_kinds.specs.Domains.{HasLearnt};
 ghost use Rattle.rsp_plan.specs.Standing.{Stands};
 ghost use Rattle.rsp_plan.specs.Times.{Time, GoesOn};
-ghost use Rattle.rsp_plan.specs.Turns.{IsTurn, MayTurn, HasAnswered, HasTooMany};
+ghost use Rattle.rsp_plan.specs.Turns.{IsTurn, MayTurn, HasAnswered, HasTooMany, HasFew};
 ghost use Rattle.rsp_plan.specs.Working.{part_work};
 
 use crate::binary::answer_binary;
@@ -31,7 +31,8 @@ pub enum Operator {
 }
 
 /// Takes the changes of the facts, or none at the start, and those of the children, and answers how the node's rows change;
-/// None only where they are more than 1,000,000 after it. After None, or want of memory, the node is only to be dropped.
+/// None only where they are more than 1,000,000 after it. On two children it is None wherever they are more than 1,000,000
+/// beyond what they were before it and what both children's are. After None, or want of memory, the node is only to be dropped.
 pub(crate) fn answer<L: Ledger>(
     alloc: Global,
     operator: &mut Operator,
@@ -52,6 +53,11 @@ pub(crate) fn answer<L: Ledger>(
         → IsTurn domain.old (Stands domain.old operator.old) pending.old width part trees before after
         → GoesOn before (option_copied facts.entry) after
         → HasTooMany width part trees after)) }
+    ensures within { IfOk result (λ answer. IfSome answer (λ _.
+        (width : ℕ) (part : Part) (trees : List Node) (before after : Time)
+        → IsTurn domain.old (Stands domain.old operator.old) pending.old width part trees before after
+        → GoesOn before (option_copied facts.entry) after
+        → HasFew width part trees before after)) }
     ensures cost { (width : ℕ) (part : Part) (trees : List Node) (before after : Time)
         → IsTurn domain.old (Stands domain.old operator.old) pending.old width part trees before after
         → GoesOn before (option_copied facts.entry) after

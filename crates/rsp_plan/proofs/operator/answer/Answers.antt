@@ -2,6 +2,7 @@ use Rattle.std.proofs.Common.{rules, ◌≡◌, is_none}
 use Rattle.std.specs.Option.{option_copied}
 use Rattle.rsp_plan.proofs.Childless.{given-wide, given-law, scan-law, leads-from}
 use Rattle.rsp_plan.proofs.Carrying.{some_led, none_led}
+use Rattle.rsp_plan.proofs.Few.{given-few, scan-few, over-few}
 use Rattle.rsp_plan.proofs.operator.answer.Goals as goal
 
 pub answer_given-requires : goal.answer_given-requires
@@ -39,6 +40,23 @@ pub returns-in-Binary-clause-more : goal.returns-in-Binary-clause-more
 returns-in-Binary-clause-more g c =
     none_led c.answer_binary.result c.answer_binary.ensures.more
     (λ more width part trees before after turn on. more width part trees before after (record { stands = rw c.in-Binary.is at turn.stands; differ = turn.differ }))
+
+pub returns-in_ok-answer_given-in-Given-clause-within : goal.returns-in_ok-answer_given-in-Given-clause-within
+returns-in_ok-answer_given-in-Given-clause-within g c = λ width part trees before after turn on.
+    given-few c.in-Given.given width part trees before after (rw c.in-Given.is at turn.stands)
+
+pub returns-in_ok-answer_scan-in-Scan-clause-within : goal.returns-in_ok-answer_scan-in-Scan-clause-within
+returns-in_ok-answer_scan-in-Scan-clause-within g c = λ width part trees before after turn on.
+    scan-few c.in-Scan.scan width part trees before after (rw c.in-Scan.is at turn.stands)
+
+pub returns-in_ok-answer_unary-in-Unary-clause-within : goal.returns-in_ok-answer_unary-in-Unary-clause-within
+returns-in_ok-answer_unary-in-Unary-clause-within g c = λ width part trees before after turn on.
+    over-few _ _ _ _ width part trees before after (rw c.in-Unary.is at turn.stands)
+
+pub returns-in-Binary-clause-within : goal.returns-in-Binary-clause-within
+returns-in-Binary-clause-within g c =
+    some_led c.answer_binary.result c.answer_binary.ensures.within
+    (λ net within width part trees before after turn on. within width part trees before after (record { stands = rw c.in-Binary.is at turn.stands; differ = turn.differ }))
 
 pub returns-in-Binary-clause-cost : goal.returns-in-Binary-clause-cost
 returns-in-Binary-clause-cost g c = λ width part trees before after turn on.
