@@ -3,4 +3,5 @@ pub mod Counts
 pub mod Held
 pub mod Ordered
 pub mod Sums
+pub mod Asked
 pub mod Folds

@@ -5,6 +5,7 @@
 //! an aggregate is counted, so that it can go.
 #![tactic(auto)]
 
+mod asked;
 mod copies;
 mod counting;
 mod distinct;
@@ -13,6 +14,7 @@ mod folding;
 mod plain;
 mod summing;
 
+pub use asked::folding_of;
 pub use counting::Counting;
 pub use distinct::DistinctFold;
 pub use extremes::Extreme;

@@ -1,8 +1,8 @@
 -- Words of the way: they link code to definitions, and need no belief
 pub mod Aggregations
-pub mod Alike
-pub mod AlikeGroups
 pub mod Arguments
+pub mod Coming
+pub mod Domains
 pub mod Made
 pub mod Patterns
 pub mod Ways

@@ -12,7 +12,7 @@ use Rattle.rsp_algebra.specs.Solutions.{eval, rows_over, rows_of}
 use Rattle.rsp_algebra.specs.Work as work
 
 -- of an operator on one child: no key, and the value of the part at every list of rows
-pub record IsSingle (width : ℕ) (single : Single) (wide : ℕ) (key : List ℕ)
+pub record IsUnary (width : ℕ) (single : Single) (wide : ℕ) (key : List ℕ)
     (value : List (Cells Term) → List (Cells Term)) : Type 0 where
   pub wide_is : wide ≡ width
   pub key_is : key ≡ []
@@ -31,7 +31,7 @@ own_work double left right lefts lefts_after rights rights_after =
 
 -- of an operator on two children: a key that both bind, the value of the part at the rows of the children over whatever facts
 -- (some operators rely on what those rows bind), and no more steps than the part's work
-pub record IsDouble (width : ℕ) (double : Double) (left right : Node) (wide : ℕ) (key : List ℕ) (factor : ℕ)
+pub record IsBinary (width : ℕ) (double : Double) (left right : Node) (wide : ℕ) (key : List ℕ) (factor : ℕ)
     (value : List (Cells Term) → List (Cells Term) → List (Cells Term)) : Type 0 where
   pub wide_is : wide ≡ width
   pub left_binds : BindsKey width key left
@@ -58,11 +58,11 @@ HasTwo (node.of_two double left right) = ⊤
 HasTwo other = ⊥
 
 -- what the operator of the node is
-abbrev pub SingleFor : ℕ → Node → ℕ → List ℕ → (List (Cells Term) → List (Cells Term)) → Type 0
-SingleFor width (node.over single child) wide key value = IsSingle width single wide key value
-SingleFor width other wide key value = ⊥
+abbrev pub UnaryFor : ℕ → Node → ℕ → List ℕ → (List (Cells Term) → List (Cells Term)) → Type 0
+UnaryFor width (node.over single child) wide key value = IsUnary width single wide key value
+UnaryFor width other wide key value = ⊥
 
-abbrev pub DoubleFor :
+abbrev pub BinaryFor :
     ℕ → Node → ℕ → List ℕ → ℕ → (List (Cells Term) → List (Cells Term) → List (Cells Term)) → Type 0
-DoubleFor width (node.of_two double left right) wide key factor value = IsDouble width double left right wide key factor value
-DoubleFor width other wide key factor value = ⊥
+BinaryFor width (node.of_two double left right) wide key factor value = IsBinary width double left right wide key factor value
+BinaryFor width other wide key factor value = ⊥

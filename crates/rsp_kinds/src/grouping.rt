@@ -11,12 +11,11 @@ ghost use Rattle.rsp_groups.specs.Standing.{GroupStands, GroupsStand};
 ghost use Rattle.rsp_groups.specs.Values.{by_variable};
 ghost use Rattle.rsp_kinds.specs.Aggregations.{IsAggregated};
 ghost use Rattle.rsp_kinds.specs.Arguments.{argument_value};
-ghost use Rattle.rsp_kinds.specs.Made.{IsSingle};
+ghost use Rattle.rsp_kinds.specs.Made.{IsUnary};
 
 use crate::expressions::Argument;
-use rsp_aggregates::Folding;
+use rsp_aggregates::{Folding, folding_of};
 use rsp_expr::Aggregate;
-use rsp_group_laws::{folding_of, value_is_grouped};
 use rsp_groups::{Aggregated, GroupOp, Grouping};
 use rsp_terms::Domain;
 use std::alloc::{AllocError, Global};
@@ -28,7 +27,7 @@ pub(crate) fn grouping<D: Domain>(
     aggregates: &[(usize, Aggregate)],
     width: usize,
 ) -> Result<GroupOp<D, Argument, Folding>, AllocError>
-    ensures node { IfOk result (λ made. IsSingle width (node.group keys.now (aggregations_of aggregates.now))
+    ensures node { IfOk result (λ made. IsUnary width (node.group keys.now (aggregations_of aggregates.now))
         made.grouping.width [] (grouped_by (λ a group. folding_aggregate a.fold
         (map (λ row. argument_value a.argument.expression row) group)) made.grouping.width made.grouping.keys.items
         (by_variable (λ a. a.variable) made.grouping.aggregates.items))) }
@@ -47,7 +46,6 @@ pub(crate) fn grouping<D: Domain>(
         aggregates: all_aggregated(alloc, aggregates)?,
     };
     let made = GroupOp::new(alloc, grouping)?;
-    value_is_grouped(&made);
     Ok(made)
 }
 

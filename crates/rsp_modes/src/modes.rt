@@ -21,9 +21,9 @@ use crate::log::LogFeed;
 use crate::run::replay_on;
 use crate::status::Status;
 use crate::voice::Voice;
-use rsp_answers::Maintained;
 use rsp_engine::Engine;
 use rsp_io::{Shelf, Sink, Source};
+use rsp_plan::Plan;
 use rsp_spec::limits::MOST_LOG_BYTES;
 use rsp_steps::Steps;
 use rsp_words::{Log, Replay};
@@ -34,7 +34,7 @@ use std::sync::ledger::Ledger;
 const LOG: u32 = 1;
 
 // an engine of the empty world of this slack, with no report left; of all answers one is taken here alone
-fn new_engine(alloc: Global, slack: u64) -> Engine<Maintained>
+fn new_engine(alloc: Global, slack: u64) -> Engine<Plan>
     requires day { slack ≤ most_slack }
     ensures stands { Stands result (empty_world slack) [] }
     ensures idle { IsTrue (is_idle result) }

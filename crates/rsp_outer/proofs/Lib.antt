@@ -1,6 +1,7 @@
 mod Agreeing
 mod Bare
 mod Buckets
+pub mod Coming
 mod Lonely
 mod Moving
 mod There

@@ -11,7 +11,7 @@ use Rattle.rsp_terms.specs.Same.{term_eq}
 use Rattle.rsp_operators.specs.Laws.{Leads, MayBeGiven, ChangesFit, AnswersFit, IsShownAlike}
 use Rattle.rsp_simple_operators.proofs.Fitting.{change-fits}
 use Rattle.rsp_simple_operators.proofs.Learning.{learnt-fits, learnt-shown, learnt-known}
-use Rattle.rsp_plan.specs.Operating.{Table}
+use Rattle.rsp_plan.specs.Standing.{Table}
 
 module _ {V : Type 0} {eq : V → V → Bool} (same : (x y : V) → Decides (eq x y) (x ≡ y)) where
   -- the sum of two answers fits, and leads on from where the other leads

@@ -8,17 +8,19 @@ use Rattle.rsp_multiset.specs.RowSame.{row_decides}
 use Rattle.rsp_multiset.specs.Shown.{IsKnown}
 use Rattle.rsp_multiset.specs.Weights.{times, AreChanges}
 use Rattle.rsp_terms.specs.declared.term.Term.{Term}
-use Rattle.rsp_terms.specs.Same.{term_eq}
+use Rattle.rsp_terms.specs.Same.{term_eq, term_same}
 use Rattle.rsp_operators.specs.Laws as law
-use Rattle.rsp_operators.specs.Laws.{ChangesFit, AllFit, AnswersFit, IsShownAlike}
+use Rattle.rsp_operators.specs.Laws.{ChangesFit, AllFit, AnswersFit}
 use Rattle.rsp_simple_operators.proofs.Crossed.{entries-have}
 use Rattle.rsp_simple_operators.proofs.Learning.{learnt-fits, learnt-shown}
 use Rattle.rsp_algebra.specs.Fitting.{Fits}
 use Rattle.rsp_algebra.specs.Nodes.{Node}
 use Rattle.rsp_algebra.specs.Solutions.{eval}
 use Rattle.rsp_algebra.proofs.Widths.{AllHave, eval-length}
-use Rattle.rsp_turns.specs.Times.{Time, rows_at}
-use Rattle.rsp_turns.specs.Waiting.{Differs, AreDifferences}
+use Rattle.rsp_plan.specs.Times.{Time, rows_at}
+use Rattle.rsp_plan.specs.Waiting.{Change, Differs, AreDifferences}
+use Rattle.rsp_terms.specs.declared.domain.Same.{Same}
+use Rattle.rsp_kinds.specs.Domains.{knows, shown, HasLearnt}
 
 module _ {V : Type 0} {eq : V → V → Bool} (same : (x y : V) → Decides (eq x y) (x ≡ y)) where
   -- what weighs anything fits, so each entry does
@@ -28,24 +30,25 @@ module _ {V : Type 0} {eq : V → V → Bool} (same : (x y : V) → Decides (eq 
       (recursion_from_All (λ (e : Cells V × ℤ). e.1 ≢ pos 0) change entries.counted)
       (λ row some. (record { long = (fit row some).0; bound = tt }, (fit row some).1))
 
-  module _ (knows knows' : V → Type 0) (shown shown' : V → Term) (learnt : (v : V) → knows v → IsShownAlike shown knows' shown' v) (width : ℕ) (before after : Time) where
-    differ-carried : (tree : Node) (change : List (Cells V × ℤ)) → Differs eq knows shown width before after tree change → Differs eq knows' shown' width before after tree change
-    differ-carried tree change differ =
-        record {
-          placed = differ.placed;
-          entries = differ.entries;
-          fit = learnt-fits knows knows' shown shown' learnt eq width change differ.fit;
-          leads =
-              λ q.
-              differ.leads q
-              ∙ ap (λ n. times (row_eq term_eq) (rows_at width tree before) q +ℤ n) (sym (learnt-shown knows knows' shown shown' learnt same width change differ.entries differ.fit q));
-        }
+module _ (domain domain' : Same) (learnt : HasLearnt domain domain') (width : ℕ) (before after : Time) where
+  differ-carried : (tree : Node) (change : Change) → Differs domain width before after tree change → Differs domain' width before after tree change
+  differ-carried tree change differ =
+      record {
+        placed = differ.placed;
+        entries = differ.entries;
+        fit = learnt-fits (knows domain) (knows domain') (shown domain) (shown domain') learnt term_eq width change differ.fit;
+        leads =
+            λ q.
+            differ.leads q
+            ∙ ap (λ n. times (row_eq term_eq) (rows_at width tree before) q +ℤ n)
+            (sym (learnt-shown (knows domain) (knows domain') (shown domain) (shown domain') learnt term_same width change differ.entries differ.fit q));
+      }
 
-    pub differences-carried : (trees : List Node) (pending : List (List (Cells V × ℤ))) → AreDifferences eq knows shown width before after trees pending → AreDifferences eq knows' shown' width before after trees pending
-    differences-carried [] [] differ = tt
-    differences-carried [] (change ∷ pending) differ = absurd differ
-    differences-carried (tree ∷ trees) [] differ = absurd differ
-    differences-carried (tree ∷ trees) (change ∷ pending) differ = (differ-carried tree change differ.0, differences-carried trees pending differ.1)
+  pub differences-carried : (trees : List Node) (pending : List Change) → AreDifferences domain width before after trees pending → AreDifferences domain' width before after trees pending
+  differences-carried [] [] differ = tt
+  differences-carried [] (change ∷ pending) differ = absurd differ
+  differences-carried (tree ∷ trees) [] differ = absurd differ
+  differences-carried (tree ∷ trees) (change ∷ pending) differ = (differ-carried tree change differ.0, differences-carried trees pending differ.1)
 
 pub all-fit : (width : ℕ) (rows : List (Cells Term)) → AllHave width rows → AllFit width [] rows
 all-fit width [] all = tt

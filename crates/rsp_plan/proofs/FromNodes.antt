@@ -7,11 +7,11 @@ use Rattle.rsp_algebra.specs.Fitting.{Fits}
 use Rattle.rsp_algebra.specs.Nodes as node
 use Rattle.rsp_algebra.specs.Nodes.{Node}
 use Rattle.rsp_algebra.specs.Solutions.{eval}
-use Rattle.rsp_kinds.specs.Made.{IsGiven as HasGiven, SingleFor, DoubleFor}
-use Rattle.rsp_turns.specs.Laid.{part_at, below}
+use Rattle.rsp_kinds.specs.Made.{IsGiven as HasGiven, UnaryFor, BinaryFor}
+use Rattle.rsp_plan.specs.Laid.{part_at, below}
 use Rattle.rsp_plan.specs.declared.leaves.Given.{Given}
-use Rattle.rsp_plan.specs.Kinds.{HasPattern, StandsGiven, StandsScan}
-use Rattle.rsp_plan.specs.Operating.{Table, StandsOver, StandsPair}
+use Rattle.rsp_plan.specs.Standing.{HasPattern, StandsGiven, StandsScan}
+use Rattle.rsp_plan.specs.Standing.{Table, StandsOver, StandsPair}
 
 module _ (width : ℕ) (tree : Node) (stack : List Node) where
   pub given-made : (given : Given) → HasGiven tree → Fits width tree → given.width ≡ width → ((facts : List Fact) → eval width tree facts ≡ given.rows)
@@ -36,22 +36,22 @@ module _ (width : ℕ) (tree : Node) (stack : List Node) where
       by (node.over single child) is placed rows = absurd is
       by (node.of_two double left right) is placed rows = absurd is
 
-  pub over-made : (wide : ℕ) (key : List ℕ) (value : Table → Table) (Stands : Table → Type 0) → Fits width tree → SingleFor width tree wide key value → Stands []
+  pub over-made : (wide : ℕ) (key : List ℕ) (value : Table → Table) (Stands : Table → Type 0) → Fits width tree → UnaryFor width tree wide key value → Stands []
       → StandsOver wide key value Stands width (part_at tree) (below tree stack) None
   over-made wide key value Stands placed is nothing = by tree placed is
     where
-      by : (tree : Node) → Fits width tree → SingleFor width tree wide key value → StandsOver wide key value Stands width (part_at tree) (below tree stack) None
+      by : (tree : Node) → Fits width tree → UnaryFor width tree wide key value → StandsOver wide key value Stands width (part_at tree) (below tree stack) None
       by node.unit placed is = absurd is
       by (node.values own) placed is = absurd is
       by (node.pattern place triple) placed is = absurd is
       by (node.over single child) placed is = record { is = is; placed = placed; stands = nothing }
       by (node.of_two double left right) placed is = absurd is
 
-  pub pair-made : (wide : ℕ) (key : List ℕ) (factor : ℕ) (value : Table → Table → Table) (Stands : Table → Table → Type 0) → Fits width tree → DoubleFor width tree wide key factor value
+  pub pair-made : (wide : ℕ) (key : List ℕ) (factor : ℕ) (value : Table → Table → Table) (Stands : Table → Table → Type 0) → Fits width tree → BinaryFor width tree wide key factor value
       → Stands [] [] → StandsPair wide key factor value Stands width (part_at tree) (below tree stack) None
   pair-made wide key factor value Stands placed is nothing = by tree placed is
     where
-      by : (tree : Node) → Fits width tree → DoubleFor width tree wide key factor value → StandsPair wide key factor value Stands width (part_at tree) (below tree stack) None
+      by : (tree : Node) → Fits width tree → BinaryFor width tree wide key factor value → StandsPair wide key factor value Stands width (part_at tree) (below tree stack) None
       by node.unit placed is = absurd is
       by (node.values own) placed is = absurd is
       by (node.pattern place triple) placed is = absurd is

@@ -1,9 +1,21 @@
+pub mod Counting
+pub mod Turned
+pub mod Passing
+pub mod Works
+pub mod Listing
+pub mod Standing
 pub mod Carrying
-pub mod Operating
-pub mod Still
+pub mod Carried
+pub mod OnOne
+pub mod OnTwo
 pub mod Begun
 pub mod Binding
-pub mod Paired
 pub mod RowsKept
 pub mod Childless
 pub mod FromNodes
+pub mod Along
+pub mod Popped
+pub mod Current
+pub mod StillSet
+pub mod Placed
+mod Few

@@ -1,15 +1,28 @@
-//! Maintained operators as the steps of a plan.
+//! The answer of the program: a tree laid flat, each of whose nodes is kept up to date.
 //!
-//! An [`Operator`] is a node of a tree laid flat: given rows, a scan, or an operator on the rows of one child or of
-//! two. It takes the changes of its children from the stack, and answers as the operator does; at the start an operator
-//! on one child answers with what is there over no row too.
+//! The nodes stand in one vector, children before parents (`laid_flat`). Each is an `Operator`: given rows, a scan, or an
+//! operator on the rows of one child or of two. At the start, and at each change of the facts, they take their turns in
+//! that order: a node takes the changes of its children from a stack, and puts there exactly how its own rows change. What
+//! is left is how the tree's solutions change. A turn stops at the first node that has more than 1,000,000 rows, and no
+//! turn takes more steps than the tree's work. Nothing recurses, however deep a tree is.
+//!
+//! A [`Plan`] keeps the nodes and the solutions, and is an answer as the algebra has it.
 #![tactic(auto)]
 
+mod beginning;
+mod binary;
+mod facts;
+mod laid;
 mod leaves;
+mod made;
 mod nodes;
 mod operator;
-mod over;
-mod pair;
+mod plan;
+mod round;
+mod rows;
+mod stack;
+mod turning;
+mod turns;
+mod unary;
 
-pub use leaves::Given;
-pub use operator::Operator;
+pub use plan::Plan;

@@ -1,20 +1,18 @@
 // Operators made of the nodes of trees.
 ghost use Rattle.std.specs.Prelude.{None, List, IfOk};
+ghost use Rattle.rsp_terms.specs.declared.domain.Same.{Same};
 ghost use Rattle.rsp_algebra.specs.Fitting.{Fits};
 ghost use Rattle.rsp_algebra.specs.Meanings.{node_of};
 ghost use Rattle.rsp_algebra.specs.Nodes.{Node};
 ghost use Rattle.rsp_kinds.specs.Made.{HasOne, HasTwo, IsGiven as HasGiven};
-ghost use Rattle.rsp_turns.specs.Laid.{part_at, below};
-ghost use Rattle.rsp_plan.specs.Kinds.{AsOperator, HasPattern, StandsGiven, StandsScan};
-ghost use Rattle.rsp_plan.specs.Operating.{StandsOver, StandsPair};
+ghost use Rattle.rsp_plan.specs.Laid.{part_at, below};
+ghost use Rattle.rsp_plan.specs.Standing.{HasPattern, StandsGiven, StandsScan, StandsUnary, StandsBinary, Stands};
 
 use crate::leaves::Given;
 use crate::operator::Operator;
 use rsp_algebra::Tree;
-use rsp_kinds::{DoubleNode, SingleNode, given_rows, scan_of};
+use rsp_kinds::{BinaryOp, UnaryOp, given_rows, scan_of};
 use rsp_simple_operators::Scan;
-use rsp_terms::Domain;
-use rsp_turns::FromTree;
 use std::alloc::{AllocError, Global};
 
 fn given_of(alloc: Global, tree: &Tree, width: usize) -> Result<Given, AllocError>
@@ -43,43 +41,30 @@ fn scan_for(tree: &Tree, width: usize) -> Result<Scan, AllocError>
     }
 }
 
-fn over_of<D: Domain, O: SingleNode<D>>(
-    alloc: Global,
-    tree: &Tree,
-    width: usize,
-) -> Result<O, AllocError>
+fn unary_of(alloc: Global, tree: &Tree, width: usize) -> Result<UnaryOp, AllocError>
     requires fits { Fits width (node_of tree.now) }
     requires one { HasOne (node_of tree.now) }
-    ensures { IfOk result (λ over. (domain : D) (stack : List Node)
-        → StandsOver (O.width over) (O.key over) (O.value over) (O.stands over domain) width (part_at (node_of tree.now))
-        (below (node_of tree.now) stack) None) }
+    ensures { IfOk result (λ operator. (domain : Same) (stack : List Node)
+        → StandsUnary domain operator width (part_at (node_of tree.now)) (below (node_of tree.now) stack) None) }
 {
-    <O as SingleNode<D>>::of_root(alloc, tree, width)
+    UnaryOp::of_root(alloc, tree, width)
 }
 
-fn pair_of<D: Domain, B: DoubleNode<D>>(
-    alloc: Global,
-    tree: &Tree,
-    width: usize,
-) -> Result<B, AllocError>
+fn binary_of(alloc: Global, tree: &Tree, width: usize) -> Result<BinaryOp, AllocError>
     requires fits { Fits width (node_of tree.now) }
     requires two { HasTwo (node_of tree.now) }
-    ensures { IfOk result (λ pair. (domain : D) (stack : List Node)
-        → StandsPair (B.width pair) (B.key pair) (B.factor pair) (B.value pair) (B.stands pair domain) width
-        (part_at (node_of tree.now)) (below (node_of tree.now) stack) None) }
+    ensures { IfOk result (λ operator. (domain : Same) (stack : List Node)
+        → StandsBinary domain operator width (part_at (node_of tree.now)) (below (node_of tree.now) stack) None) }
 {
-    <B as DoubleNode<D>>::of_root(alloc, tree, width)
+    BinaryOp::of_root(alloc, tree, width)
 }
 
-fn operator_of<D: Domain, O: SingleNode<D>, B: DoubleNode<D>>(
-    alloc: Global,
-    tree: &Tree,
-    width: usize,
-) -> Result<Operator<O, B>, AllocError>
+/// The operator of the tree's own node, at rows of this width: before the start, under every domain. Fails only where memory
+/// is refused.
+pub(crate) fn operator_of(alloc: Global, tree: &Tree, width: usize) -> Result<Operator, AllocError>
     requires { Fits width (node_of tree.now) }
-    ensures { IfOk result (λ operator. (domain : D) (stack : List Node)
-        → AsOperator O.width O.key O.value B.width B.key B.factor B.value (λ o. O.stands o domain) (λ b. B.stands b domain)
-        operator width (part_at (node_of tree.now)) (below (node_of tree.now) stack) None) }
+    ensures { IfOk result (λ operator. (domain : Same) (stack : List Node)
+        → Stands domain operator width (part_at (node_of tree.now)) (below (node_of tree.now) stack) None) }
 {
     match tree {
         Tree::Unit | Tree::Values { .. } => Ok(Operator::Given(given_of(alloc, tree, width)?)),
@@ -88,18 +73,12 @@ fn operator_of<D: Domain, O: SingleNode<D>, B: DoubleNode<D>>(
         | Tree::Extend { .. }
         | Tree::Project { .. }
         | Tree::Distinct { .. }
-        | Tree::Group { .. } => Ok(Operator::Over(over_of::<D, O>(alloc, tree, width)?)),
+        | Tree::Group { .. } => Ok(Operator::Unary(unary_of(alloc, tree, width)?)),
         Tree::Join { .. }
         | Tree::LeftJoin { .. }
         | Tree::Union { .. }
         | Tree::Minus { .. }
         | Tree::Exists { .. }
-        | Tree::NotExists { .. } => Ok(Operator::Pair(pair_of::<D, B>(alloc, tree, width)?)),
-    }
-}
-
-impl<D: Domain, O: SingleNode<D>, B: DoubleNode<D>> FromTree<D> for Operator<O, B> {
-    fn of_node(alloc: Global, tree: &Tree, width: usize) -> Result<Operator<O, B>, AllocError> {
-        operator_of::<D, O, B>(alloc, tree, width)
+        | Tree::NotExists { .. } => Ok(Operator::Binary(binary_of(alloc, tree, width)?)),
     }
 }

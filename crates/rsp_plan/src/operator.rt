@@ -1,108 +1,78 @@
-// The kinds of nodes.
+// A node of a tree that is kept up to date, apart from its children.
 ghost use Rattle.std.specs.Prelude.{◌+◌, ◌≤◌, ℕ, List, IfOk, IfSome, IfNone};
 ghost use Rattle.std.specs.Option.{option_copied};
-ghost use Rattle.rsp_operators.specs.Laws.{IsShownAlike};
 ghost use Rattle.rsp_algebra.specs.Flat.{Part};
 ghost use Rattle.rsp_algebra.specs.Nodes.{Node};
-ghost use Rattle.rsp_plan.specs.Kinds.{AsOperator};
-ghost use Rattle.rsp_turns.specs.Times.{Time, GoesOn};
-ghost use Rattle.rsp_turns.specs.Turns.{IsTurn, MayTurn, HasAnswered, HasTooMany};
-ghost use Rattle.rsp_turns.specs.Working.{part_work};
+ghost use Rattle.rsp_kinds.specs.Domains.{HasLearnt};
+ghost use Rattle.rsp_plan.specs.Standing.{Stands};
+ghost use Rattle.rsp_plan.specs.Times.{Time, GoesOn};
+ghost use Rattle.rsp_plan.specs.Turns.{IsTurn, MayTurn, HasAnswered, HasTooMany, HasFew};
+ghost use Rattle.rsp_plan.specs.Working.{part_work};
 
+use crate::binary::answer_binary;
 use crate::leaves::{Given, answer_given, answer_scan};
-use crate::over::answer_over;
-use crate::pair::answer_pair;
-use rsp_kinds::{Keeping, KeepingBoth};
+use crate::stack::Stack;
+use crate::unary::answer_unary;
+use rsp_kinds::{BinaryOp, UnaryOp};
 use rsp_multiset::{Changes, Row};
 use rsp_simple_operators::Scan;
 use rsp_steps::Steps;
-use rsp_terms::{Domain, Fact};
-use rsp_turns::{Stack, Step};
+use rsp_terms::{Fact, Same, Term};
 use std::alloc::{AllocError, Global};
 use std::sync::ledger::Ledger;
 
 /// A node without its children: rows of its own, or an operator on the rows of one child or of two.
 #[derive(Drop)]
-pub enum Operator<O, B> {
+pub enum Operator {
     Given(Given),
     Scan(Scan),
-    Over(O),
-    Pair(B),
+    Unary(UnaryOp),
+    Binary(BinaryOp),
 }
 
-fn answered<D: Domain, O: Keeping<D>, B: KeepingBoth<D>, L: Ledger>(
+/// Takes the changes of the facts, or none at the start, and those of the children, and answers how the node's rows change;
+/// None only where they are more than 1,000,000 after it. On two children it is None wherever they are more than 1,000,000
+/// beyond what they were before it and what both children's are. After None, or want of memory, the node is only to be dropped.
+pub(crate) fn answer<L: Ledger>(
     alloc: Global,
-    operator: &mut Operator<O, B>,
+    operator: &mut Operator,
     facts: Option<&Changes<Fact>>,
-    pending: &mut Stack<Changes<Row<D::Value>>>,
-    domain: &mut D,
+    pending: &mut Stack<Changes<Row<Term>>>,
+    domain: &mut Same,
     steps: &mut Steps<L>,
-) -> Result<Option<Changes<Row<D::Value>>>, AllocError>
-    requires { MayTurn D.Value.eq (D.knows domain.old) (D.shown domain.old)
-        (AsOperator O.width O.key O.value B.width B.key B.factor B.value (λ o. O.stands o domain.old)
-        (λ b. B.stands b domain.old) operator.old) (option_copied facts) pending.old }
-    ensures known { (v : D.Value) → D.knows domain.old v
-        → IsShownAlike (D.shown domain.old) (D.knows domain.new) (D.shown domain.new) v }
+) -> Result<Option<Changes<Row<Term>>>, AllocError>
+    requires { MayTurn domain.old (Stands domain.old operator.old) (option_copied facts) pending.old }
+    ensures known { HasLearnt domain.old domain.new }
     ensures law { IfOk result (λ answer. IfSome answer (λ net.
         (width : ℕ) (part : Part) (trees : List Node) (before after : Time)
-        → IsTurn D.Value.eq (D.knows domain.old) (D.shown domain.old)
-        (AsOperator O.width O.key O.value B.width B.key B.factor B.value (λ o. O.stands o domain.old)
-        (λ b. B.stands b domain.old) operator.old) pending.old width part trees before after
+        → IsTurn domain.old (Stands domain.old operator.old) pending.old width part trees before after
         → GoesOn before (option_copied facts.entry) after
-        → HasAnswered D.Value.eq (D.knows domain.new) (D.shown domain.new)
-        (AsOperator O.width O.key O.value B.width B.key B.factor B.value (λ o. O.stands o domain.new)
-        (λ b. B.stands b domain.new) operator.new) net pending.new width part trees before after)) }
+        → HasAnswered domain.new (Stands domain.new operator.new) net pending.new width part trees before after)) }
     ensures more { IfOk result (λ answer. IfNone answer (
         (width : ℕ) (part : Part) (trees : List Node) (before after : Time)
-        → IsTurn D.Value.eq (D.knows domain.old) (D.shown domain.old)
-        (AsOperator O.width O.key O.value B.width B.key B.factor B.value (λ o. O.stands o domain.old)
-        (λ b. B.stands b domain.old) operator.old) pending.old width part trees before after
+        → IsTurn domain.old (Stands domain.old operator.old) pending.old width part trees before after
         → GoesOn before (option_copied facts.entry) after
         → HasTooMany width part trees after)) }
+    ensures within { IfOk result (λ answer. IfSome answer (λ _.
+        (width : ℕ) (part : Part) (trees : List Node) (before after : Time)
+        → IsTurn domain.old (Stands domain.old operator.old) pending.old width part trees before after
+        → GoesOn before (option_copied facts.entry) after
+        → HasFew width part trees before after)) }
     ensures cost { (width : ℕ) (part : Part) (trees : List Node) (before after : Time)
-        → IsTurn D.Value.eq (D.knows domain.old) (D.shown domain.old)
-        (AsOperator O.width O.key O.value B.width B.key B.factor B.value (λ o. O.stands o domain.old)
-        (λ b. B.stands b domain.old) operator.old) pending.old width part trees before after
+        → IsTurn domain.old (Stands domain.old operator.old) pending.old width part trees before after
         → GoesOn before (option_copied facts.entry) after
         → steps.new ≤ steps.old + part_work width before after trees part }
 {
     match operator {
         Operator::Given(given) => Ok(Some(answer_given(alloc, given, facts.is_none(), domain)?)),
         Operator::Scan(scan) => Ok(Some(answer_scan(alloc, scan, facts, domain)?)),
-        Operator::Over(over) => Ok(Some(answer_over(
+        Operator::Unary(unary) => Ok(Some(answer_unary(
             alloc,
-            over,
+            unary,
             facts.is_none(),
             pending,
             domain,
         )?)),
-        Operator::Pair(pair) => answer_pair(alloc, pair, pending, domain, steps),
-    }
-}
-
-impl<D: Domain, O: Keeping<D>, B: KeepingBoth<D>> Step<D> for Operator<O, B> {
-    ghost use Rattle.rsp_plan.specs.Kinds.{as_moved, as_fed};
-
-    ghost stands = { λ operator domain. AsOperator O.width O.key O.value B.width B.key B.factor B.value
-        (λ o. O.stands o domain) (λ b. B.stands b domain) operator };
-
-    ghost carried = { λ operator d d' width part trees time alike.
-        as_moved O.width O.key O.value B.width B.key B.factor B.value
-        (λ o. O.stands o d) (λ o. O.stands o d') (λ b. B.stands b d) (λ b. B.stands b d')
-        (λ o rows. O.moved o d d' rows alike) (λ b lefts rights. B.moved b d d' lefts rights alike)
-        operator width part trees time };
-
-    ghost fed = { λ operator d.
-        as_fed O.width O.key O.value B.width B.key B.factor B.value (λ o. O.stands o d) (λ b. B.stands b d) operator };
-
-    fn answer<L: Ledger>(
-        &mut self,
-        alloc: Global,
-        facts: Option<&Changes<Fact>>,
-        pending: &mut Stack<Changes<Row<D::Value>>>,
-        domain: &mut D,
-        steps: &mut Steps<L>,
-    ) -> Result<Option<Changes<Row<D::Value>>>, AllocError> {
-        answered(alloc, self, facts, pending, domain, steps)
+        Operator::Binary(binary) => answer_binary(alloc, binary, pending, domain, steps),
     }
 }

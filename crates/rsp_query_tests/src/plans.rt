@@ -5,9 +5,9 @@ use crate::beside::{Run, Told, first_told, run_beside};
 use crate::facts::many;
 use crate::queries::{GROUPS, JOINS, OVERFULL, PARTNERS, Text, query};
 use rsp_algebra::Translated;
-use rsp_answers::Maintained;
 use rsp_eval::Plain;
 use rsp_multiset::Changes;
+use rsp_plan::Plan;
 use rsp_terms::Fact;
 use rsp_trials::Refused;
 use std::alloc::Global;
@@ -21,7 +21,7 @@ const CHANGES: usize = 60;
 fn beside(alloc: Global, query: &Translated) -> Result<Option<Run>, Refused>
     requires { IsPlaced query.now }
 {
-    run_beside::<Maintained, Plain, Brand>(alloc, query, CHANGES, Blank::new(1))
+    run_beside::<Plan, Plain, Brand>(alloc, query, CHANGES, Blank::new(1))
 }
 
 fn at_first(
@@ -31,7 +31,7 @@ fn at_first(
 ) -> Result<Option<Told>, Refused>
     requires { IsPlaced query.now }
 {
-    first_told::<Maintained, Plain, Brand>(alloc, query, changes, Blank::new(1))
+    first_told::<Plan, Plain, Brand>(alloc, query, changes, Blank::new(1))
 }
 
 // whether both answers of the query told the same at each change, and some rows at some

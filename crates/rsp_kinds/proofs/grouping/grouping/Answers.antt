@@ -6,6 +6,7 @@ use Rattle.rsp_algebra.specs.Solutions.{grouped}
 use Rattle.rsp_groups.specs.declared.aggregated.Aggregated.{Aggregated}
 use Rattle.rsp_kinds.specs.Aggregations.{IsAggregated}
 use Rattle.rsp_kinds.specs.declared.expressions.Argument.{Argument}
+use Rattle.rsp_kinds.proofs.Grouped.{grouped-alike}
 use Rattle.rsp_kinds.proofs.grouping.grouping.Goals as goal
 
 pub returns-clause-node : goal.returns-clause-node
@@ -16,7 +17,7 @@ returns-clause-node g c =
       key_is = refl;
       value_is =
           λ rows.
-          c.value_is_grouped.ensures aggregates rows
+          grouped-alike _ _ _ _ _ aggregates rows
           (subst (λ (items : List (Aggregated Argument Folding)). AllZip IsAggregated items aggregates) (λ i. (sym c.in_ok-made.ensures.grouping i).aggregates.items)
           c.in_ok-all_aggregated.ensures)
           ∙ ((λ i. grouped (c.in_ok-made.ensures.grouping i).width (c.in_ok-made.ensures.grouping i).keys.items aggregates rows)

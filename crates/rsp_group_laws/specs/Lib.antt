@@ -1,2 +1,0 @@
--- Words of the way: they link code to definitions, and need no belief
-pub mod Alike

@@ -1,5 +1,0 @@
-use Rattle.rsp_maintained.proofs.passing.started.Given as goal
-
--- the ledger of a count that nobody reads
-abbrev pub ghosts-started_over : goal.ghosts-started_over
-ghosts-started_over g call = record { name = call.blank.name; parts = call.blank.parts }

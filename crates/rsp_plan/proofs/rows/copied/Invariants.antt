@@ -1,0 +1,10 @@
+use Rattle.std.proofs.Common.{◌≡◌, ◌+ℤ◌, drop}
+use Rattle.rsp_multiset.specs.Rows.{Cells}
+use Rattle.rsp_multiset.specs.Weights.{weight}
+use Rattle.rsp_terms.specs.declared.term.Term.{Term}
+use Rattle.rsp_algebra.specs.Solutions.{same_row}
+use Rattle.rsp_plan.proofs.rows.copied.Given as goal
+
+abbrev pub invariant-loop-index : goal.invariant-loop-index
+invariant-loop-index l =
+    (q : Cells Term) → weight same_row l.copy q +ℤ weight same_row (drop l.index l.rows) q ≡ weight same_row l.rows q

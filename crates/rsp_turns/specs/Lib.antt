@@ -1,7 +1,0 @@
--- Words of the way: they link code to definitions, and need no belief
-pub mod Times
-pub mod Working
-pub mod Waiting
-pub mod Turns
-pub mod Passing
-pub mod Laid
