@@ -552,7 +552,7 @@ query_body =
 
 -- Prefix ::= 'PREFIX' Prefixed-with-empty-local Iri-token                                               [6] PrefixDecl
 abbrev pub prefix_of_kind : Kind → Said → Option (List ℕ)
-prefix_of_kind kind.Prefixed said = cond (bytes_eq said.local []) (Some said.text) None
+prefix_of_kind kind.Prefixed said = cond (length said.local == 0) (Some said.text) None
 prefix_of_kind _ said = None
 
 abbrev pub prefix : Rule (List ℕ × List ℕ)
