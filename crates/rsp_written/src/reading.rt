@@ -148,6 +148,7 @@ fn meant<M: Spelled>(values: &[M], number: u8) -> Option<M>
 }
 
 /// Whether the next token means one of these.
+#[tactic(auto, using(crate::proofs::Simple::found))]
 pub fn begins<M: Spelled>(values: &[M], tokens: &[Said]) -> bool
     ensures { result ≡ starts kind_number (numbers (map M.spelling values.now)) tokens.now }
 {
