@@ -15,7 +15,7 @@ use rsp_functions::Sign;
 use rsp_read_expressions::{aggregate_expression, aggregate_in_parens, expression, maybe_word};
 use rsp_terms::Text;
 use rsp_written::{
-    Expression, Halt, Item, Keyword, Kind, Projection, Said, Symbol, first_is, first_is_among,
+    Expression, Halt, Item, Keyword, Kind, Projection, Said, Symbol, first_is, first_is_among, one,
     sign, variable, word,
 };
 use std::alloc::Global;
