@@ -2,8 +2,7 @@
 ghost use Rattle.std.specs.Prelude.{◌≡◌, map};
 ghost use Rattle.rsp_phrases.specs.Gathering.{as_read, gathered, single};
 ghost use Rattle.rsp_phrases.specs.Readers.{mapped_read, starts};
-ghost use Rattle.rsp_read_queries.specs.Clauses.{clause_of, name_end_read, tail_of, wide_read};
-ghost use Rattle.rsp_written.specs.Building.{keys_or_none};
+ghost use Rattle.rsp_read_queries.specs.Clauses.{clause_of, keys_or_none, name_end_read, tail_of, wide_read};
 ghost use Rattle.rsp_written.specs.Gives.{Gives};
 ghost use Rattle.rsp_written.specs.Grammar.{kind_number, numbers};
 ghost use Rattle.rsp_written.specs.GroupMeanings.{item_of, maybe_expr, projection_of};
@@ -16,7 +15,7 @@ use rsp_functions::Sign;
 use rsp_read_expressions::{aggregate_expression, aggregate_in_parens, expression, maybe_word};
 use rsp_terms::Text;
 use rsp_written::{
-    Expression, Halt, Item, Keyword, Kind, Projection, Said, Symbol, first_is, first_is_among,
+    Expression, Halt, Item, Keyword, Kind, Projection, Said, Symbol, first_is, first_is_among, one,
     sign, variable, word,
 };
 use std::alloc::Global;
@@ -143,8 +142,8 @@ fn all_items(wide: bool, alloc: Global, tokens: &[Said]) -> Result<(Vec<Item>, &
 fn projected(alloc: Global, tokens: &[Said]) -> Result<(Projection, &[Said]), Halt>
     ensures { Gives (λ x. (projection_of x.0, x.1.now)) result (readings.projection_read tokens.now) }
 {
-    if first_is(Kind::Symbol(Symbol::Sign(Sign::Multiply)), tokens) {
-        let (_, rest) = sign(Symbol::Sign(Sign::Multiply), tokens)?;
+    if first_is(Kind::Sign(Sign::Multiply), tokens) {
+        let (_, rest) = one(&[Kind::Sign(Sign::Multiply)], tokens)?;
         return Ok((Projection::Every, rest));
     }
     let (items, rest) = all_items(true, alloc, tokens)?;
