@@ -21,35 +21,79 @@ const JOINING: &[Parts] = &[("?0", "p:v", "?1")];
 
 const GRAPH_CASES: [GraphCase; 17] = [
     // constants alone, over two rows, over a row without cells, over none
-    (CONSTANT, &[&["b:1"], &["b:2"]], "# graph g 10000 1\n<a:1> <p:m> <a:2> .\n"),
+    (
+        CONSTANT,
+        &[&["b:1"], &["b:2"]],
+        "# graph g 10000 1\n<a:1> <p:m> <a:2> .\n",
+    ),
     (CONSTANT, &[&[]], "# graph g 10000 1\n<a:1> <p:m> <a:2> .\n"),
     (CONSTANT, &[], "# graph g 10000 0\n"),
     // a variable that is unbound, and one that has no cell
-    (JOINING, &[&["a:1", ""], &["a:2", "a:3"]], "# graph g 10000 1\n<a:2> <p:v> <a:3> .\n"),
+    (
+        JOINING,
+        &[&["a:1", ""], &["a:2", "a:3"]],
+        "# graph g 10000 1\n<a:2> <p:v> <a:3> .\n",
+    ),
     (JOINING, &[&["a:1"], &[]], "# graph g 10000 0\n"),
     // each triple of the template by itself
-    (&[("?0", "p:v", "?1"), ("?0", "p:t", "t:1")], &[&["a:1", ""]], "# graph g 10000 1\n<a:1> <p:t> <t:1> .\n"),
+    (
+        &[("?0", "p:v", "?1"), ("?0", "p:t", "t:1")],
+        &[&["a:1", ""]],
+        "# graph g 10000 1\n<a:1> <p:t> <t:1> .\n",
+    ),
     // a variable in two places
-    (&[("?0", "p:v", "?0")], &[&["a:1"]], "# graph g 10000 1\n<a:1> <p:v> <a:1> .\n"),
+    (
+        &[("?0", "p:v", "?0")],
+        &[&["a:1"]],
+        "# graph g 10000 1\n<a:1> <p:v> <a:1> .\n",
+    ),
     // a literal as a subject
-    (&[("?1", "p:v", "?0")], &[&["a:1", "\"5"], &["a:2", "b:1"]], "# graph g 10000 1\n<b:1> <p:v> <a:2> .\n"),
-    (&[("?0", "p:v", "a:2")], &[&["@chat"]], "# graph g 10000 0\n"),
+    (
+        &[("?1", "p:v", "?0")],
+        &[&["a:1", "\"5"], &["a:2", "b:1"]],
+        "# graph g 10000 1\n<b:1> <p:v> <a:2> .\n",
+    ),
+    (
+        &[("?0", "p:v", "a:2")],
+        &[&["@chat"]],
+        "# graph g 10000 0\n",
+    ),
     // a literal and a blank node as predicates
-    (&[("a:1", "?0", "a:2")], &[&["\"p"], &["@p"], &["_:p"], &["p:v"]], "# graph g 10000 1\n<a:1> <p:v> <a:2> .\n"),
+    (
+        &[("a:1", "?0", "a:2")],
+        &[&["\"p"], &["@p"], &["_:p"], &["p:v"]],
+        "# graph g 10000 1\n<a:1> <p:v> <a:2> .\n",
+    ),
     // one triple from two rows, and from two triples of the template
-    (JOINING, &[&["a:1", "a:2"], &["a:1", "a:2"]], "# graph g 10000 1\n<a:1> <p:v> <a:2> .\n"),
-    (&[("?0", "p:v", "?1"), ("a:1", "p:v", "?1")], &[&["a:1", "a:2"]], "# graph g 10000 1\n<a:1> <p:v> <a:2> .\n"),
+    (
+        JOINING,
+        &[&["a:1", "a:2"], &["a:1", "a:2"]],
+        "# graph g 10000 1\n<a:1> <p:v> <a:2> .\n",
+    ),
+    (
+        &[("?0", "p:v", "?1"), ("a:1", "p:v", "?1")],
+        &[&["a:1", "a:2"]],
+        "# graph g 10000 1\n<a:1> <p:v> <a:2> .\n",
+    ),
     // a template without triples
     (&[], &[&["a:1"], &["a:2"]], "# graph g 10000 0\n"),
     // blank nodes, and literals
-    (JOINING, &[&["_:y", "_:x"]], "# graph g 10000 1\n_:b7xy <p:v> _:b7xx .\n"),
+    (
+        JOINING,
+        &[&["_:y", "_:x"]],
+        "# graph g 10000 1\n_:b7xy <p:v> _:b7xx .\n",
+    ),
     (
         JOINING,
         &[&["a:1", "\"a\tb"], &["a:1", "@chat"]],
         "# graph g 10000 2\n<a:1> <p:v> \"a\\tb\" .\n<a:1> <p:v> \"chat\"@fr .\n",
     ),
     // by the bytes of lines: `/` stands before `>`
-    (JOINING, &[&["a:1", "b:1"], &["a:1/2", "b:1"]], "# graph g 10000 2\n<a:1/2> <p:v> <b:1> .\n<a:1> <p:v> <b:1> .\n"),
+    (
+        JOINING,
+        &[&["a:1", "b:1"], &["a:1/2", "b:1"]],
+        "# graph g 10000 2\n<a:1/2> <p:v> <b:1> .\n<a:1> <p:v> <b:1> .\n",
+    ),
     // two triples of one line
     (
         &[("?0", "?1", "a:2")],
@@ -153,7 +197,11 @@ fn are_the_triples(alloc: Global) -> Result<bool, AllocError> {
     let triples = graph.into_triples(alloc)?;
     let blank = term(alloc, "_:x")?;
     match triples.as_slice() {
-        [first, second] => Ok(two && first.object == blank && second.object == blank && first.subject == term(alloc, "a:1")?),
+        [first, second] => Ok(
+            two && first.object == blank
+                && second.object == blank
+                && first.subject == term(alloc, "a:1")?,
+        ),
         _ => Ok(false),
     }
 }
@@ -182,7 +230,11 @@ fn joined(alloc: Global, pieces: &[&str]) -> Result<Vec<u8>, AllocError> {
 }
 
 fn is_told_in_json(alloc: Global) -> Result<bool, AllocError> {
-    let two = graph(alloc, JOINING, &[&["a:1", "b:1"], &["a:1", "\"\"\\/\té\u{1}\u{8}\u{c}"]])?;
+    let two = graph(
+        alloc,
+        JOINING,
+        &[&["a:1", "b:1"], &["a:1", "\"\"\\/\té\u{1}\u{8}\u{c}"]],
+    )?;
     let none = graph(alloc, JOINING, &[])?;
     let mut out = Vec::new(alloc);
     graph_json(alloc, "g", 10_000, &two, &mut out)?;
@@ -221,8 +273,10 @@ fn are_many_told(alloc: Global) -> Result<bool, AllocError> {
     let mut out = Vec::new(alloc);
     graph_text(alloc, "g", 10_000, &graph, &mut out)?;
     let text = out.as_slice();
-    Ok(text.starts_with(b"# graph g 10000 100001\n<n:0> <p:v> <a:1> .\n<n:100000> ")
-        && text.ends_with(b"\n<n:99> <p:v> <a:1> .\n<n:9> <p:v> <a:1> .\n"))
+    Ok(
+        text.starts_with(b"# graph g 10000 100001\n<n:0> <p:v> <a:1> .\n<n:100000> ")
+            && text.ends_with(b"\n<n:99> <p:v> <a:1> .\n<n:9> <p:v> <a:1> .\n"),
+    )
 }
 
 #[test]
