@@ -5,7 +5,7 @@ ghost use Rattle.std.specs.Str.Lines.{strip_carriage_return};
 ghost use Rattle.rsp_text.specs.Fronts.{is_blank};
 ghost use Rattle.rsp_events.specs.Lines as text;
 
-use memchr::memchr;
+use memchr::{memchr, memchr2};
 use rsp_text::is_blank;
 
 /// Where the first line feed stands, or the number of bytes.
@@ -87,7 +87,10 @@ pub(crate) fn first_blank(line: &[u8]) -> usize
     ensures place { result ≡ position_or_len is_blank line.now }
     ensures bound { result ≤ length line.now }
 {
-    line.iter().take_while(|c| !is_blank(**c)).count()
+    match memchr2(b' ', b'\t', line) {
+        Some(place) => place,
+        None => line.len(),
+    }
 }
 
 /// Whether a line ends a body.
