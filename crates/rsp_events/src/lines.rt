@@ -82,14 +82,21 @@ pub(crate) fn first_field(line: &[u8]) -> &[u8]
     &line[..end]
 }
 
-/// Where the first blank stands, or the line's length.
-pub(crate) fn first_blank(line: &[u8]) -> usize
+fn first_blank(line: &[u8]) -> usize
     ensures place { result ≡ position_or_len is_blank line.now }
     ensures bound { result ≤ length line.now }
 {
-    match memchr2(b' ', b'\t', line) {
+    line.iter().take_while(|c| !is_blank(**c)).count()
+}
+
+/// Where the first blank stands, or the number of bytes; for what may be long.
+pub(crate) fn field_end(text: &[u8]) -> usize
+    ensures place { result ≡ position_or_len is_blank text.now }
+    ensures bound { result ≤ length text.now }
+{
+    match memchr2(b' ', b'\t', text) {
         Some(place) => place,
-        None => line.len(),
+        None => text.len(),
     }
 }
 

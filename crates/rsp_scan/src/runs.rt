@@ -63,6 +63,10 @@ fn front_len(kind: Kind, text: &[u8]) -> usize
 fn is_plain(kind: Kind, c: u8) -> bool
     ensures { result ≡ kinds.is_plain kind c }
 {
+    // most of them are small letters
+    if c.is_ascii_lowercase() {
+        return true;
+    }
     match kind {
         Kind::Iri => {
             !matches!(c, 0..=b' ' | b'"' | b'<' | b'>' | b'\\' | b'^' | b'`' | b'{'..=b'}')
