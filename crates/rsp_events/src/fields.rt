@@ -4,7 +4,7 @@ ghost use Rattle.std.specs.List.{list_all};
 ghost use Rattle.rsp_events.specs.Directives as form;
 ghost use Rattle.rsp_events.specs.DirectiveSteps as steps;
 
-use crate::lines::field_end;
+use crate::lines::first_blank;
 use rsp_spec::limits::LAST_INSTANT;
 use rsp_terms::{Text, ascii_text};
 use rsp_text::{behind_blanks, instant, read_u64};
@@ -53,7 +53,7 @@ fn next_field(text: &[u8]) -> Option<(&[u8], &[u8])>
     if text.is_empty() {
         return None;
     }
-    Some(text.split_at(field_end(text)))
+    Some(text.split_at(first_blank(text)))
 }
 
 // ---- names and times

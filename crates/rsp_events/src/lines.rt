@@ -5,7 +5,7 @@ ghost use Rattle.std.specs.Str.Lines.{strip_carriage_return};
 ghost use Rattle.rsp_text.specs.Fronts.{is_blank};
 ghost use Rattle.rsp_events.specs.Lines as text;
 
-use memchr::{memchr, memchr2};
+use memchr::memchr;
 use rsp_text::is_blank;
 
 /// Where the first line feed stands, or the number of bytes.
@@ -82,22 +82,12 @@ pub(crate) fn first_field(line: &[u8]) -> &[u8]
     &line[..end]
 }
 
-fn first_blank(line: &[u8]) -> usize
+/// Where the first blank stands, or the line's length.
+pub(crate) fn first_blank(line: &[u8]) -> usize
     ensures place { result ≡ position_or_len is_blank line.now }
     ensures bound { result ≤ length line.now }
 {
     line.iter().take_while(|c| !is_blank(**c)).count()
-}
-
-/// Where the first blank stands, or the number of bytes; for what may be long.
-pub(crate) fn field_end(text: &[u8]) -> usize
-    ensures place { result ≡ position_or_len is_blank text.now }
-    ensures bound { result ≤ length text.now }
-{
-    match memchr2(b' ', b'\t', text) {
-        Some(place) => place,
-        None => text.len(),
-    }
 }
 
 /// Whether a line ends a body.

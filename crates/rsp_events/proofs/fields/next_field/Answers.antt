@@ -18,4 +18,4 @@ returns c =
     let passed = c.if-is_empty.false in
     let some : length c.behind_blanks-text.result.now ≢ 0 = grind (arith, nat_tests) in
     rw (c.split_at.ensures.front, c.split_at.ensures.back)
-    (next_part is_blank c.args.text.now _ _ c.behind_blanks-text.ensures some c.field_end.ensures.place)
+    (next_part is_blank c.args.text.now _ _ c.behind_blanks-text.ensures some c.first_blank.ensures.place)
