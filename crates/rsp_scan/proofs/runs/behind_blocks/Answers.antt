@@ -1,5 +1,5 @@
 use Rattle.std.proofs.Common.{◌≡◌, ◌+◌, true, length, take, drop, sym, ◌∙◌, arith}
-use Rattle.std.specs.List.{list_all, prefix_len}
+use Rattle.std.specs.List.{list_all}
 use Rattle.rsp_scan.specs.Kinds.{is_plain}
 use Rattle.rsp_scan.proofs.PlainBlocks.{whole_block}
 use Rattle.rsp_scan.proofs.runs.behind_blocks.Goals as goal

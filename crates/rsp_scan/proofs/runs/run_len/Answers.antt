@@ -1,4 +1,4 @@
-use Rattle.std.proofs.Common.{◌+◌, ◌≤◌, ◌<◌, length, ◌∙◌, ap, arith}
+use Rattle.std.proofs.Common.{◌+◌, ◌≤◌, ◌<◌, length, ◌∙◌, ap}
 use Rattle.std.specs.List.{prefix_len}
 use Rattle.rsp_scan.specs.Kinds.{is_plain}
 use Rattle.rsp_scan.proofs.PlainBlocks.{ends_near, goes_far}
