@@ -18,8 +18,8 @@ pub data BegunLine : Type 0 where
   kept : List ℕ → BegunLine
   long : Ending → BegunLine
 
--- a line that has come to its end: what it says and how many bytes it has with its line feed, or whether it ends a body where it has
--- more than a block may have
+-- a line that has come to its end: what it says and how many bytes it has with its line feed, or whether it ends a body where
+-- it has more than a block may have
 pub data EndedLine : Type 0 where
   sized : List ℕ → ℕ → EndedLine
   too_long : Bool → EndedLine

@@ -314,7 +314,8 @@ fn grown_too_large(buffer: &mut LineBuffer) -> (Place, BlockKept)
     requires { buffer.old.lines ≡ [] }
     ensures rest { buffer.new.rest ≡ [] }
     ensures clean { IsClean result.1 buffer.new.lines }
-    ensures block { (number size : ℕ) → Grows too_large (sized buffer.old.rest size) number result.0 (block_by result.1 buffer.new.lines) }
+    ensures block { (number size : ℕ) → Grows too_large (sized buffer.old.rest size) number result.0
+        (block_by result.1 buffer.new.lines) }
 {
     let ends = is_end(buffer.rest());
     buffer.drop_rest();

@@ -2,6 +2,7 @@
 ghost use Rattle.std.specs.Prelude.{◌≡◌, ℕ, List, MatchOption, MatchResult, Some, None, Ok, Err, IfOk, true, false, length};
 ghost use Rattle.std.specs.Option.{option_map};
 ghost use Rattle.rsp_nquads.specs.Grammar.{is_relative};
+ghost use Rattle.rsp_terms.specs.Characters.{is_absolute};
 ghost use Rattle.rsp_nquads.specs.Parts as part;
 ghost use Rattle.rsp_nquads.specs.Statements as lines;
 ghost use Rattle.rsp_nquads.specs.Results.{reader, three_of, graph_to_end, Halts};
@@ -200,10 +201,20 @@ fn is_relative(term: &Term) -> bool
     ensures { result ≡ is_relative term.now }
 {
     match term {
-        Term::Iri(name) => !is_absolute(name.as_str()),
+        Term::Iri(name) => !has_scheme(name.as_str()),
         Term::Blank { .. } => false,
-        Term::Literal { datatype, .. } => !is_absolute(datatype.as_str()),
+        Term::Literal { datatype, .. } => !has_scheme(datatype.as_str()),
         Term::Tagged { .. } => false,
+    }
+}
+
+// whether an IRI is absolute; most of them begin with the same scheme
+fn has_scheme(name: &str) -> bool
+    ensures { result ≡ is_absolute name.now }
+{
+    match name.as_bytes() {
+        [b'h', b't', b't', b'p', b':', ..] => true,
+        _ => is_absolute(name),
     }
 }
 

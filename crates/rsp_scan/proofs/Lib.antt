@@ -9,3 +9,4 @@ pub mod Pieces
 pub mod RuleLaws
 pub mod ScannedBytes
 pub mod Spelling
+pub mod PlainBlocks

@@ -4,7 +4,11 @@ use Rattle.std.specs.Char.{encode_utf8}
 use Rattle.std.specs.List.{take_while}
 use Rattle.std.specs.Str.{is_utf8}
 use Rattle.std.proofs.lemmas.Str.{IsUtf8-from_is_utf8}
-use Rattle.rsp_scan.specs.Readers.{PartReader, behind, onto, spelled}
+use Rattle.std.specs.Prelude.{◌==◌, slice_index, [], ◌∷◌}
+use Rattle.rsp_scan.specs.declared.enclosed.Kind.{Kind}
+use Rattle.rsp_scan.specs.declared.enclosed.Kind.TheVariants.{Iri, String}
+use Rattle.rsp_scan.specs.Kinds.{escape as escape_of}
+use Rattle.rsp_scan.specs.Readers.{PartReader, behind, echar, iri_escape, onto, spelled, string_escape, uchar}
 
 pub not_utf8 : (bs : List ℕ) → ¬ (IsUtf8 bs) → is_utf8 bs ≡ false
 not_utf8 bs wrong = by (is_utf8 bs) refl
@@ -53,3 +57,14 @@ module _ (now : List ℕ) (all : Option (List ℕ × List ℕ)) (n k : ℕ) (pla
   loop_more c rest one whole some held =
       rw (append_assoc now (take_while plain text) (encode_utf8 c)) (sym (onto_onto now (take_while plain text ++ encode_utf8 c) (spelled k plain escape rest)))
       ∙ (ap (λ o. onto now o) (sym (more_spelled k plain escape text whole c rest some)) ∙ rw (← one) held)
+
+-- ---- where no escape begins
+
+pub no_escape : (kind : Kind) (text : List ℕ) → (slice_index text 0 == 92) ≡ false → escape_of kind text ≡ None
+unfolding iri_escape string_escape uchar echar
+no_escape Iri [] other = refl
+no_escape Iri (c ∷ []) other = refl
+no_escape Iri (c ∷ d ∷ text) other = rw other refl
+no_escape String [] other = refl
+no_escape String (c ∷ []) other = refl
+no_escape String (c ∷ d ∷ text) other = rw other refl

@@ -7,7 +7,8 @@ ghost use Rattle.rsp_scan.specs.Enclosed.{IsIri, IsString, HasFront, HasNoFront,
 ghost use Rattle.rsp_scan.specs.Kinds as kinds;
 ghost use Rattle.rsp_scan.specs.Readers as part;
 
-use crate::escapes::{iri_escape, string_escape};
+use crate::escapes::{begins_escape, iri_escape, string_escape};
+use crate::runs::run_len;
 use crate::signs::sign;
 use rsp_terms::{Text, Texts};
 use std::alloc::AllocError;
@@ -21,20 +22,14 @@ pub(crate) enum Kind {
 }
 
 impl Kind {
-    fn is_plain(self, c: u8) -> bool
-        ensures { result ≡ kinds.is_plain self c }
-    {
-        match self {
-            Kind::Iri =>
-                !matches!(c, 0..=b' ' | b'"' | b'<' | b'>' | b'\\' | b'^' | b'`' | b'{'..=b'}'),
-            Kind::String => is_string_character(c),
-        }
-    }
-
     fn escape(self, text: &[u8]) -> Option<(char, &[u8])>
         ensures { MatchOption result (kinds.escape self text.now ≡ None)
             (λ x. kinds.escape self text.now ≡ Some (x.0, x.1.now)) }
     {
+        // most runs end at the sign that closes
+        if !begins_escape(text) {
+            return None;
+        }
         match self {
             Kind::Iri => iri_escape(text),
             Kind::String => string_escape(text),
@@ -48,25 +43,12 @@ impl Kind {
             × (x.0.now ≡ take_while (kinds.is_plain self) text.now)
             × (x.1.now ≡ part.behind (take_while (kinds.is_plain self) text.now) text.now)) }
     {
-        let (run, behind) = text.split_at(self.run_len(text));
+        let (run, behind) = text.split_at(run_len(self, text));
         match str::from_utf8(run) {
             Ok(characters) => Some((characters, behind)),
             Err(_) => None,
         }
     }
-
-    fn run_len(self, text: &[u8]) -> usize
-        ensures value { result ≡ prefix_len (kinds.is_plain self) text.now }
-        ensures bound { result ≤ length text.now }
-    {
-        text.iter().take_while(|c| self.is_plain(**c)).count()
-    }
-}
-
-fn is_string_character(c: u8) -> bool
-    ensures { result ≡ string_character c }
-{
-    !matches!(c, b'"' | b'\\' | b'\n' | b'\r')
 }
 
 /// The IRI in brackets at the front of a text (RDF 1.1 N-Quads, section 4: IRIREF), with escapes replaced, and the text

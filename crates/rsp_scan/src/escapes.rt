@@ -1,5 +1,5 @@
 // Escapes: the character that one stands for, and the text behind it.
-ghost use Rattle.std.specs.Prelude.{◌≡◌, ◌≤◌, MatchOption, Some, None, length, IsTrue};
+ghost use Rattle.std.specs.Prelude.{◌≡◌, ◌≤◌, ◌==◌, MatchOption, Some, None, length, slice_index, IsTrue};
 ghost use Rattle.std.specs.Char.{is_ascii_hexdigit};
 ghost use Rattle.std.specs.List.{list_all};
 ghost use Rattle.std.specs.Str.Parse.{digits_value};
@@ -7,6 +7,16 @@ ghost use Rattle.rsp_scan.specs.Readers as part;
 
 use crate::escaping::{digit_value, is_hexadecimal, named_character};
 use rsp_terms::characters::is_iri_character;
+
+/// Whether the sign stands at the front that each escape begins with.
+pub(crate) fn begins_escape(text: &[u8]) -> bool
+    ensures { result ≡ (slice_index text.now 0 == 92) }
+{
+    match text.first() {
+        Some(c) => *c == b'\\',
+        None => false,
+    }
+}
 
 /// An escape in an IRI: a UCHAR that names an IRI character.
 #[tactic(auto, unfolding(crate::specs::Readers::iri_escape))]

@@ -11,6 +11,7 @@ mod escapes;
 mod escaping;
 mod following;
 mod labels;
+mod runs;
 mod signs;
 
 pub use enclosed::{iri, string};
