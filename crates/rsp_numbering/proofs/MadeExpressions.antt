@@ -1,5 +1,5 @@
 -- An expression, its place behind, its aggregates and its operators by one function are those by a word of each.
-use Rattle.std.proofs.Common.{◌≡◌, ℕ, suc, ◌+◌, ◌-◌, List, [], ◌∷◌, refl, ap, ◌∙◌, arith}
+use Rattle.std.proofs.Common.{◌≡◌, ℕ, ◌+◌, ◌-◌, List, [], refl, ap, arith}
 use Rattle.rsp_expr.specs.Formulas.{Aggregation, Formula, formulas_in}
 use Rattle.rsp_expr.specs.Formulas as formula
 use Rattle.rsp_written.specs.Trees.{Expr, variable, iri, constant, any_of, all_of, compared, member, sum, product, signed, bound, call, count_rows, aggregate, Exprs, no_expr, expr_then, Operands, no_operand, operand_then}

@@ -1,5 +1,5 @@
 -- Definitions: what is counted of a query as it is written, and the first limit that it passes.
-use Rattle.std.specs.Prelude.{ℕ, ◌+◌, Bool, true, ◌&&◌, cond, nat_lt, nat_le, List, Option, None, Some, length, unwrap_or}
+use Rattle.std.specs.Prelude.{ℕ, ◌+◌, Bool, true, ◌&&◌, cond, nat_lt, nat_le, Option, None, Some, length, unwrap_or}
 use Rattle.std.specs.List.{list_all}
 use Rattle.rsp_spec.specs.Limits.{last_instant, most_windows, most_variables, most_patterns, most_operators, most_elements}
 use Rattle.rsp_spec.specs.Limits.{most_value_rows}
