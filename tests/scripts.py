@@ -233,6 +233,8 @@ def builds(room):
 def builds_beside(room):
     """Builds that are broken off, and two at once, in a cache of their own."""
     env = {"XDG_CACHE_HOME": f"{room.caller}/cache", "SLOW": "0.5"}
+    # what a shell begins in the background ignores it, and so would what is begun here
+    signal.signal(signal.SIGINT, signal.default_int_handler)
     room.make_stale()
     room.built()
     first = room.begun(["events"], **env)
