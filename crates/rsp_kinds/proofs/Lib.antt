@@ -10,3 +10,4 @@ pub mod OverNothing
 pub mod Reading
 pub mod CellByCell
 pub mod Zipped
+mod Stepped

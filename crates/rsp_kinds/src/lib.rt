@@ -9,6 +9,7 @@
 
 mod binary;
 mod expressions;
+mod functions;
 mod given;
 mod grouping;
 mod left_alone;

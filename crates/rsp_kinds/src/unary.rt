@@ -1,31 +1,22 @@
 // The operators on one child of all kinds of nodes.
-ghost use Rattle.std.specs.Prelude.{◌≡◌, [], IfOk, filter, map};
-ghost use Rattle.rsp_algebra.specs.Nodes as node;
-ghost use Rattle.rsp_expr.specs.Meanings.{formula_of};
-ghost use Rattle.rsp_expr.specs.Values.{truth as passes, value as value_of};
-ghost use Rattle.rsp_multiset.specs.Variables.{extension, projection};
-ghost use Rattle.rsp_kinds.specs.Made.{IsUnary};
-
-use crate::expressions::{Argument, ByExpression};
+use crate::expressions::Argument;
+use crate::functions::{NodeFunction, extending, projecting, selecting};
 use crate::grouping::grouping;
 use rsp_aggregates::Folding;
 use rsp_algebra::Tree;
-use rsp_expr::Expression;
 use rsp_groups::GroupOp;
 use rsp_multiset::{Changes, Row};
 use rsp_operators::Unary;
-use rsp_simple_operators::{Deduping, Extending, Projecting, Select};
+use rsp_simple_operators::{Deduping, Linear};
 use rsp_terms::{Same, Term};
 use std::alloc::{AllocError, Global};
 
-/// An operator on one child, of any kind of node: Filter, Extend, Project, Distinct, Group with AggregateJoin (SPARQL 1.1 Query,
-/// section 18.5). A type of its own, and no alias of one with parameters: whoever names it would otherwise have to be shown all
+/// An operator on one child, of any kind of node: Filter, Extend and Project, which are one, Distinct, Group with AggregateJoin
+/// (SPARQL 1.1 Query, section 18.5). A type of its own, and no alias of one with parameters: whoever names it would otherwise have to be shown all
 /// that its operators are, each time.
 #[derive(Drop)]
 pub enum UnaryOp {
-    Filter(Select<ByExpression>),
-    Extend(Extending<ByExpression>),
-    Project(Projecting),
+    Rows(Linear<NodeFunction>),
     Distinct(Deduping<Same>),
     Group(GroupOp<Same, Argument, Folding>),
 }
@@ -34,41 +25,31 @@ impl Unary<Same> for UnaryOp {
     ghost use Rattle.rsp_kinds.specs.declared.unary.UnaryOp.TheVariants as one;
 
     ghost width = { elim [
-      | one.Filter operator ↦ ⟦<Select<ByExpression> as Unary<Same>>⟧.width operator
-      | one.Extend operator ↦ ⟦<Extending<ByExpression> as Unary<Same>>⟧.width operator
-      | one.Project operator ↦ ⟦<Projecting as Unary<Same>>⟧.width operator
+      | one.Rows operator ↦ ⟦<Linear<NodeFunction> as Unary<Same>>⟧.width operator
       | one.Distinct operator ↦ ⟦<Deduping<Same> as Unary<Same>>⟧.width operator
       | one.Group operator ↦ ⟦<GroupOp<Same, Argument, Folding> as Unary<Same>>⟧.width operator
     ] };
 
     ghost key = { elim [
-      | one.Filter operator ↦ ⟦<Select<ByExpression> as Unary<Same>>⟧.key operator
-      | one.Extend operator ↦ ⟦<Extending<ByExpression> as Unary<Same>>⟧.key operator
-      | one.Project operator ↦ ⟦<Projecting as Unary<Same>>⟧.key operator
+      | one.Rows operator ↦ ⟦<Linear<NodeFunction> as Unary<Same>>⟧.key operator
       | one.Distinct operator ↦ ⟦<Deduping<Same> as Unary<Same>>⟧.key operator
       | one.Group operator ↦ ⟦<GroupOp<Same, Argument, Folding> as Unary<Same>>⟧.key operator
     ] };
 
     ghost value = { elim [
-      | one.Filter operator ↦ ⟦<Select<ByExpression> as Unary<Same>>⟧.value operator
-      | one.Extend operator ↦ ⟦<Extending<ByExpression> as Unary<Same>>⟧.value operator
-      | one.Project operator ↦ ⟦<Projecting as Unary<Same>>⟧.value operator
+      | one.Rows operator ↦ ⟦<Linear<NodeFunction> as Unary<Same>>⟧.value operator
       | one.Distinct operator ↦ ⟦<Deduping<Same> as Unary<Same>>⟧.value operator
       | one.Group operator ↦ ⟦<GroupOp<Same, Argument, Folding> as Unary<Same>>⟧.value operator
     ] };
 
     ghost stands = { elim [
-      | one.Filter operator ↦ ⟦<Select<ByExpression> as Unary<Same>>⟧.stands operator
-      | one.Extend operator ↦ ⟦<Extending<ByExpression> as Unary<Same>>⟧.stands operator
-      | one.Project operator ↦ ⟦<Projecting as Unary<Same>>⟧.stands operator
+      | one.Rows operator ↦ ⟦<Linear<NodeFunction> as Unary<Same>>⟧.stands operator
       | one.Distinct operator ↦ ⟦<Deduping<Same> as Unary<Same>>⟧.stands operator
       | one.Group operator ↦ ⟦<GroupOp<Same, Argument, Folding> as Unary<Same>>⟧.stands operator
     ] };
 
     ghost kept = { elim [
-      | one.Filter operator ↦ ⟦<Select<ByExpression> as Unary<Same>>⟧.kept operator
-      | one.Extend operator ↦ ⟦<Extending<ByExpression> as Unary<Same>>⟧.kept operator
-      | one.Project operator ↦ ⟦<Projecting as Unary<Same>>⟧.kept operator
+      | one.Rows operator ↦ ⟦<Linear<NodeFunction> as Unary<Same>>⟧.kept operator
       | one.Distinct operator ↦ ⟦<Deduping<Same> as Unary<Same>>⟧.kept operator
       | one.Group operator ↦ ⟦<GroupOp<Same, Argument, Folding> as Unary<Same>>⟧.kept operator
     ] };
@@ -82,9 +63,7 @@ impl Unary<Same> for UnaryOp {
         domain: &mut Same,
     ) -> Result<Changes<Row<Term>>, AllocError> {
         match self {
-            UnaryOp::Filter(operator) => operator.apply(alloc, change, domain),
-            UnaryOp::Extend(operator) => operator.apply(alloc, change, domain),
-            UnaryOp::Project(operator) => operator.apply(alloc, change, domain),
+            UnaryOp::Rows(operator) => operator.apply(alloc, change, domain),
             UnaryOp::Distinct(operator) => operator.apply(alloc, change, domain),
             UnaryOp::Group(operator) => operator.apply(alloc, change, domain),
         }
@@ -109,15 +88,15 @@ impl UnaryOp {
     {
         match tree {
             Tree::Filter { condition, .. } => {
-                Ok(UnaryOp::Filter(selecting(alloc, condition, width)?))
+                Ok(UnaryOp::Rows(Linear::new(selecting(alloc, condition, width)?)))
             }
             Tree::Extend {
                 variable,
                 expression,
                 ..
-            } => Ok(UnaryOp::Extend(extending(alloc, *variable, expression, width)?)),
+            } => Ok(UnaryOp::Rows(Linear::new(extending(alloc, *variable, expression, width)?))),
             Tree::Project { variables, .. } => {
-                Ok(UnaryOp::Project(projecting(alloc, variables, width)?))
+                Ok(UnaryOp::Rows(Linear::new(projecting(alloc, variables, width)?)))
             }
             Tree::Distinct { .. } => Ok(UnaryOp::Distinct(Deduping::new(alloc, width)?)),
             Tree::Group {
@@ -144,36 +123,4 @@ impl UnaryOp {
             _ => Ok(Changes::new(alloc)),
         }
     }
-}
-
-fn selecting(
-    alloc: Global,
-    condition: &Expression,
-    width: usize,
-) -> Result<Select<ByExpression>, AllocError>
-    ensures { IfOk result (λ made. IsUnary width (node.filter (formula_of condition.now)) made.width []
-        (λ rows. filter (λ row. passes (formula_of made.condition.expression) row) rows)) }
-{
-    let condition = ByExpression::new(alloc, condition.share(alloc)?);
-    Ok(Select::new(width, condition))
-}
-
-fn extending(
-    alloc: Global,
-    variable: usize,
-    expression: &Expression,
-    width: usize,
-) -> Result<Extending<ByExpression>, AllocError>
-    ensures { IfOk result (λ made. IsUnary width (node.extend variable (formula_of expression.now)) made.width []
-        (λ rows. map (λ row. extension made.width made.variable (value_of (formula_of made.computed.expression) row) row) rows)) }
-{
-    let computed = ByExpression::new(alloc, expression.share(alloc)?);
-    Ok(Extending::new(width, variable, computed))
-}
-
-fn projecting(alloc: Global, variables: &[usize], width: usize) -> Result<Projecting, AllocError>
-    ensures { IfOk result (λ made. IsUnary width (node.project variables.now) made.width []
-        (λ rows. map (projection made.width made.variables.items) rows)) }
-{
-    Ok(Projecting::new(width, Vec::from_slice(alloc, variables)?))
 }

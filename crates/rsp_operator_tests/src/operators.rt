@@ -6,7 +6,7 @@ use crate::notation::single_turns_out;
 use crate::trials::{WIDTH, once};
 use rsp_multiset::Row;
 use rsp_operators::{Computed, Condition};
-use rsp_simple_operators::{Extending, Projecting, Select};
+use rsp_simple_operators::{Extension, Linear, Passing, Projection};
 use rsp_terms::{Same, Term};
 use rsp_trials::{Refused, UnaryTrial};
 use rsp_values::{MergedRows, ReadRow, ShownRow};
@@ -82,19 +82,20 @@ const ONCE: &str = "2*12_ 1__||12_ 1__
 12_||12_";
 
 fn selects_so(alloc: Global, turns: &str) -> Result<bool, Refused> {
-    let operator = Select::new(WIDTH, BindsFirst {});
+    let operator = Linear::new(Passing::new(WIDTH, BindsFirst {}));
     let trial = UnaryTrial::new(alloc, operator, WIDTH, Vec::new(alloc));
     single_turns_out(alloc, trial, turns)
 }
 
 fn projects_so(alloc: Global, turns: &str) -> Result<bool, Refused> {
-    let operator = Projecting::new(WIDTH, Vec::from_slice(alloc, &[0])?);
+    let function = Projection::new(WIDTH, Vec::from_slice(alloc, &[0])?);
+    let operator = Linear::new(function);
     let trial = UnaryTrial::new(alloc, operator, WIDTH, Vec::new(alloc));
     single_turns_out(alloc, trial, turns)
 }
 
 fn extends_so(alloc: Global, turns: &str) -> Result<bool, Refused> {
-    let operator = Extending::new(WIDTH, 1, First {});
+    let operator = Linear::new(Extension::new(WIDTH, 1, First {}));
     let trial = UnaryTrial::new(alloc, operator, WIDTH, Vec::new(alloc));
     single_turns_out(alloc, trial, turns)
 }

@@ -1,7 +1,6 @@
 pub mod Fitting
 pub mod Unions
-pub mod Filters
-pub mod Mapped
+pub mod Cut
 pub mod Crossed
-pub mod Extended
 pub mod Learning
+pub mod Given

@@ -11,6 +11,12 @@ use Rattle.rsp_terms.specs.declared.term.Term.{Term}
 use Rattle.rsp_terms.specs.Same.{term_eq}
 use Rattle.rsp_operators.specs.Laws.{IsShownAlike}
 
+-- what is known is known in any weaker way
+pub known_weaker : {V : Type 0} {P Q : V → Type 0} → ((v : V) → P v → Q v) → (row : Cells V) → IsKnown P row → IsKnown Q row
+known_weaker f [] known = tt
+known_weaker f (None ∷ row) known = (tt, known_weaker f row known.1)
+known_weaker f (Some v ∷ row) known = (f v known.0, known_weaker f row known.1)
+
 -- the kept entries hold the rows by what they show, and their cells are known
 abbrev pub StandsFor : {V : Type 0} → (V → Type 0) → (V → Term) → List (Cells V × ℤ) → List (Cells Term) → Type 0
 StandsFor {V} knows shown kept rows =

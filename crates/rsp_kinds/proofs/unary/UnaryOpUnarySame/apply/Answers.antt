@@ -1,26 +1,13 @@
 use Rattle.std.proofs.lemmas.Result.{IfOk-weaker}
 use Rattle.rsp_kinds.proofs.unary.UnaryOpUnarySame.apply.Goals as goal
 
-pub returns-in-Filter-clause-value : goal.returns-in-Filter-clause-value
-returns-in-Filter-clause-value c = rw c.in-Filter.is c.apply.ensures.value
+pub returns-in-Rows-clause-value : goal.returns-in-Rows-clause-value
+returns-in-Rows-clause-value c = rw c.in-Rows.is c.apply.ensures.value
 
-pub returns-in-Filter-clause-law : goal.returns-in-Filter-clause-law
-returns-in-Filter-clause-law c =
+pub returns-in-Rows-clause-law : goal.returns-in-Rows-clause-law
+returns-in-Rows-clause-law c =
     IfOk-weaker c.apply.result _ _
-    (λ net law before after stands leads. rw c.in-Filter.is (law before after (rw c.in-Filter.is at stands) leads)) c.apply.ensures.law
-
-pub returns-in-Extend-clause-value : goal.returns-in-Extend-clause-value
-returns-in-Extend-clause-value c = rw c.in-Extend.is c.apply-in-Extend.ensures.value
-
-pub returns-in-Extend-clause-law : goal.returns-in-Extend-clause-law
-returns-in-Extend-clause-law c =
-    IfOk-weaker c.apply-in-Extend.result _ _
-    (λ net law before after stands leads. rw c.in-Extend.is (law before after (rw c.in-Extend.is at stands) leads)) c.apply-in-Extend.ensures.law
-
-pub returns-in-Project-clause-law : goal.returns-in-Project-clause-law
-returns-in-Project-clause-law c =
-    IfOk-weaker c.apply-in-Project.result _ _
-    (λ net law before after stands leads. rw c.in-Project.is (law before after (rw c.in-Project.is at stands) leads)) c.apply-in-Project.ensures.law
+    (λ net law before after stands leads. rw c.in-Rows.is (law before after (rw c.in-Rows.is at stands) leads)) c.apply.ensures.law
 
 pub returns-in-Distinct-clause-law : goal.returns-in-Distinct-clause-law
 returns-in-Distinct-clause-law c =
