@@ -2,7 +2,7 @@
 ghost use Rattle.std.specs.Prelude.{◌≡◌, ◌<◌};
 
 use rsp_index::Index;
-use rsp_multiset::Row;
+use rsp_multiset::{Count, Row};
 use rsp_steps::Steps;
 use std::alloc::{AllocError, Global};
 use std::marker::Brand;
@@ -27,7 +27,7 @@ fn row(alloc: Global, first: u64, second: u64) -> Result<Row<u64>, AllocError> {
 
 fn add_rows(alloc: Global, index: &mut Index<u64>) -> Result<(), AllocError> {
     for (first, second, by) in &ROWS {
-        index.alter(&row(alloc, *first, *second)?, *by)?;
+        index.add(&row(alloc, *first, *second)?, Count::new(*by)?)?;
     }
     Ok(())
 }
@@ -60,7 +60,7 @@ fn refuses(
     held: u64,
 ) -> Result<bool, AllocError> {
     let row = row(alloc, 4, second)?;
-    Ok(index.alter(&row, by).is_err() && index.count(&row) == held)
+    Ok(index.add(&row, Count::new(by)?).is_err() && index.count(&row) == held)
 }
 
 fn refuse(alloc: Global, index: &mut Index<u64>) -> Result<bool, AllocError> {
