@@ -1,13 +1,13 @@
 -- Exact readers of rules that are the same on short texts read short texts alike.
 use Rattle.std.proofs.Common.{◌≡◌, ℕ, Bool, ◌<◌, List, ◌++◌, length, sym, ap, ◌∙◌, subst, arith, Ok, Err}
-use Rattle.rsp_phrases.specs.Languages.{Language, CannotGoOn}
+use Rattle.rsp_phrases.specs.Languages.{Kinds, Language, CannotGoOn}
 use Rattle.rsp_phrases.specs.Exact.{Reads}
 use Rattle.rsp_phrases.specs.Readers.{Reading, Reader}
 use Rattle.rsp_phrases.proofs.Cuts.{Cut, level, longer, shorter, cut, left_le}
 use Rattle.rsp_phrases.proofs.Good.{Good}
 use Rattle.rsp_phrases.proofs.Under.{Under}
 
-module _ {T A : Type 0} {kind : T → ℕ} {p q : Language T A} {r s : Reader T A} {bp gp bq gq : List ℕ} {ep xp eq xq : Bool}
+module _ {T A : Type 0} {kind : Kinds T} {p q : Language T A} {r s : Reader T A} {bp gp bq gq : List kind.Kind} {ep xp eq xq : Bool}
     (n : ℕ) (ts : List T) (hp : Good kind p r bp gp ep xp) (hq : Good kind q s bq gq eq xq) (under : Under n p q) (short : length ts < n) where
   -- two readings that can't go on end at one place
   same_cut : (left right used ahead : List T) → ts ≡ left ++ right → ts ≡ used ++ ahead → p.front left → q.front used
@@ -44,6 +44,6 @@ module _ {T A : Type 0} {kind : T → ℕ} {p q : Language T A} {r s : Reader T 
   same_reading_at : r ts ≡ s ts
   same_reading_at = same_reads (r ts) (s ts) (hp.reads ts) (hq.reads ts)
 
-pub same_reading : {T A : Type 0} {kind : T → ℕ} {p q : Language T A} {r s : Reader T A} {bp gp bq gq : List ℕ} {ep xp eq xq : Bool}
+pub same_reading : {T A : Type 0} {kind : Kinds T} {p q : Language T A} {r s : Reader T A} {bp gp bq gq : List kind.Kind} {ep xp eq xq : Bool}
     (n : ℕ) (ts : List T) → Good kind p r bp gp ep xp → Good kind q s bq gq eq xq → Under n p q → length ts < n → r ts ≡ s ts
 same_reading {T = T} n ts hp hq under short = same_reading_at {T = T} n ts hp hq under short

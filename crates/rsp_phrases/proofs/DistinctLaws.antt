@@ -1,7 +1,7 @@
 -- Tokens with values that are each new.
 use Rattle.std.proofs.Common.{◌≡◌, ℕ, Bool, true, false, true≢false, cond, ◌||◌, List, [], ◌∷◌, ◌++◌, refl, sym, ap, ap₂, ◌∙◌, subst, inl, inr, Option, Some, None, Ok, Err, IsSome, is_some}
 use Rattle.std.specs.List.{list_any}
-use Rattle.rsp_phrases.specs.Languages.{has, distinct, IsNew, AreNew, SomeNew, CannotGoOn}
+use Rattle.rsp_phrases.specs.Languages.{Kinds, has, distinct, IsNew, AreNew, SomeNew, CannotGoOn}
 use Rattle.rsp_phrases.specs.Exact.{Reads}
 use Rattle.rsp_phrases.specs.Readers.{Reading, before, distinct_at, distinct_read}
 use Rattle.rsp_phrases.proofs.Cuts.{no_cons, same_head}
@@ -9,10 +9,10 @@ use Rattle.rsp_phrases.proofs.Membership.{or_cases, or_left}
 use Rattle.rsp_phrases.proofs.Good.{Good, same_some}
 use Rattle.rsp_phrases.proofs.TiedLaws.{no_truth}
 
-module _ {T A : Type 0} (kind : T → ℕ) (same : A → A → Bool) (of : T → Option A) (kinds : List ℕ)
+module _ {T A : Type 0} (kind : Kinds T) (same : A → A → Bool) (of : T → Option A) (kinds : List kind.Kind)
     (same_is : (a b : A) → same a b ≡ true → a ≡ b) (self : (a : A) → same a a ≡ true)
-    (some : (x : T) → IsSome (of x) → has kinds (kind x) ≡ true)
-    (every : (x : T) → has kinds (kind x) ≡ true → IsSome (of x)) where
+    (some : (x : T) → IsSome (of x) → has kind kinds (kind.of x) ≡ true)
+    (every : (x : T) → has kind kinds (kind.of x) ≡ true → IsSome (of x)) where
   is_new : (v : A) (there : List A) → list_any (same v) there ≡ false → IsNew v there
   is_new v [] h = tt
   is_new v (w ∷ there) h = (
@@ -88,10 +88,10 @@ module _ {T A : Type 0} (kind : T → ℕ) (same : A → A → Bool) (of : T →
   distinct_reads there (x ∷ ts) =
       distinct_at_reads there x ts (of x) (λ v. distinct_read same of (v ∷ there) ts) refl (λ v. distinct_reads (v ∷ there) ts)
 
-  distinct_begins : (there : List A) (x : T) (m : List T) → SomeNew of there (x ∷ m) → has kinds (kind x) ≡ true
+  distinct_begins : (there : List A) (x : T) (m : List T) → SomeNew of there (x ∷ m) → has kind kinds (kind.of x) ≡ true
   distinct_begins there x m f = some x (ap is_some (head_is there x m f.values f.spelled).1)
 
-  at_end : (there : List A) (ts : List T) (x : T) (m : List T) (vs : List A) → AreNew of there (ts ++ (x ∷ m)) vs → has kinds (kind x) ≡ true
+  at_end : (there : List A) (ts : List T) (x : T) (m : List T) (vs : List A) → AreNew of there (ts ++ (x ∷ m)) vs → has kind kinds (kind.of x) ≡ true
   at_end there [] x m vs f = distinct_begins there x m record { values = vs; spelled = f }
   at_end there (y ∷ ts) x m [] f = absurd f
   at_end there (y ∷ ts) x m (v ∷ vs) f = at_end (v ∷ there) ts x m vs f.2
@@ -130,8 +130,8 @@ module _ {T A : Type 0} (kind : T → ℕ) (same : A → A → Bool) (of : T →
     first = λ e x is. first_new x (of x) refl (every x is);
   }
 
-pub good_distinct : {T A : Type 0} (kind : T → ℕ) (same : A → A → Bool) (of : T → Option A) (kinds : List ℕ)
+pub good_distinct : {T A : Type 0} (kind : Kinds T) (same : A → A → Bool) (of : T → Option A) (kinds : List kind.Kind)
     → ((a b : A) → same a b ≡ true → a ≡ b) → ((a : A) → same a a ≡ true)
-    → ((x : T) → IsSome (of x) → has kinds (kind x) ≡ true) → ((x : T) → has kinds (kind x) ≡ true → IsSome (of x))
+    → ((x : T) → IsSome (of x) → has kind kinds (kind.of x) ≡ true) → ((x : T) → has kind kinds (kind.of x) ≡ true → IsSome (of x))
     → Good kind (distinct of []) (distinct_read same of []) kinds kinds true true
 good_distinct kind same of kinds a b c d = good_distinct_at kind same of kinds a b c d

@@ -1,6 +1,6 @@
 -- A loop that reads parts with a mark between, and maybe one at the end, goes as the reader of such a row.
 use Rattle.std.proofs.Common.{◌≡◌, ◌<◌, ◌≤◌, ℕ, suc, ◌+◌, ◌-◌, true, false, cond, List, [], ◌∷◌, ◌++◌, refl, sym, ap, ◌∙◌, append_assoc, append-nil, Option, Some, None, Ok, Err, arith}
-use Rattle.rsp_phrases.specs.Languages.{follows}
+use Rattle.rsp_phrases.specs.Languages.{Kinds, follows}
 use Rattle.rsp_phrases.specs.Readers.{Reading, Reader, starts, image, tied_from, beside, both_read, optional_read, follows_at_most_read}
 use Rattle.rsp_phrases.specs.Gathering.{gathered, single, as_read}
 
@@ -14,7 +14,7 @@ joined : {T A B : Type 0} (front : List A) (w : B) (v : A) (more : Reading T (Li
 joined front w v (Ok x) = ap (λ vs. Ok (vs, x.1)) (sym (append_assoc front (v ∷ []) x.0))
 joined front w v (Err left) = refl
 
-module _ {T A B : Type 0} (kind : T → ℕ) (marks kinds : List ℕ) (d : Reader T B) (r : Reader T A) where
+module _ {T A B : Type 0} (kind : Kinds T) (marks kinds : List kind.Kind) (d : Reader T B) (r : Reader T A) where
   abbrev parts : ℕ → Reader T (List A)
   parts n = follows_at_most_read kind marks kinds d r n
 

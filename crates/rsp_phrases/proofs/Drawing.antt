@@ -1,6 +1,6 @@
 -- Rules that say the same, and the law that draws a common first part out of two alternatives.
 use Rattle.std.proofs.Common.{ℕ, Bool, List, [], ◌∷◌, ◌++◌, refl, sym, ap, ◌∙◌, append_assoc, inl, inr, Ok, Err, Some, None, subst}
-use Rattle.rsp_phrases.specs.Languages.{Language, mapped, both, second_of, either, optional}
+use Rattle.rsp_phrases.specs.Languages.{Kinds, Language, mapped, both, second_of, either, optional}
 use Rattle.rsp_phrases.specs.Exact.{Reads}
 use Rattle.rsp_phrases.specs.Readers.{Reading, Reader}
 use Rattle.rsp_phrases.proofs.Good.{Good}
@@ -28,7 +28,7 @@ same_reads h ts (Err left) k = record {
   unfinished = λ v f. k.unfinished v (h.full_from k.used v f);
 }
 
-pub good_same : {T A : Type 0} {kind : T → ℕ} {p q : Language T A} {r : Reader T A} {begin go : List ℕ} {empty exact : Bool}
+pub good_same : {T A : Type 0} {kind : Kinds T} {p q : Language T A} {r : Reader T A} {begin go : List kind.Kind} {empty exact : Bool}
     → Same p q → Good kind p r begin go empty exact → Good kind q r begin go empty exact
 good_same {r = r} s h = record {
   reads = λ ts. same_reads s ts (r ts) (h.reads ts);

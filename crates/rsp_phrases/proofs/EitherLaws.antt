@@ -1,31 +1,31 @@
 -- One token ahead decides between two rules that begin with different kinds.
 use Rattle.std.proofs.Common.{◌≡◌, ℕ, Bool, true, false, true≢false, cond, not, ◌&&◌, ◌||◌, List, [], ◌∷◌, ◌++◌, refl, sym, ap, ◌∙◌, subst, inl, inr, Some, None, Ok, Err}
 use Rattle.std.proofs.lemmas.Bool.{cases_Bool}
-use Rattle.rsp_phrases.specs.Languages.{Language, has, either, optional, CannotGoOn}
+use Rattle.rsp_phrases.specs.Languages.{Kinds, Language, has, either, optional, CannotGoOn}
 use Rattle.rsp_phrases.specs.Exact.{Reads}
 use Rattle.rsp_phrases.specs.Readers.{Reading, Reader, either_read, optional_read, starts}
 use Rattle.rsp_phrases.proofs.Cuts.{no_cons, same_head}
-use Rattle.rsp_phrases.proofs.Membership.{apart, not_both, has_append, has_left, has_right, where_so, and_left, and_right, or_cases}
+use Rattle.rsp_phrases.proofs.Membership.{apart, apart_none, not_both, has_append, has_left, has_right, where_so, and_left, and_right, or_cases}
 use Rattle.rsp_phrases.proofs.Good.{Good, good_mapped, good_nothing}
 use Rattle.rsp_phrases.proofs.TiedLaws.{so, no_truth}
 
-module _ {T A : Type 0} (kind : T → ℕ) (p : Language T A) (r : Reader T A) (q : Language T A) (s : Reader T A)
-    (bp gp bq gq : List ℕ) (xp eq xq : Bool)
+module _ {T A : Type 0} (kind : Kinds T) (p : Language T A) (r : Reader T A) (q : Language T A) (s : Reader T A)
+    (bp gp bq gq : List kind.Kind) (xp eq xq : Bool)
     (hp : Good kind p r bp gp false xp) (hq : Good kind q s bq gq eq xq)
-    (apart_so : apart bp bq ≡ true) (sure : xp || not eq ≡ true) where
+    (apart_so : apart kind bp bq ≡ true) (sure : xp || not eq ≡ true) where
   clash : (x y : T) (m n : List T) → x ≡ y → p.front (x ∷ m) → q.front (y ∷ n) → ⊥
   clash x y m n is f g =
-      not_both bp bq (kind x) apart_so (hp.begins x m f) (subst (λ z. has bq (kind z) ≡ true) (sym is) (hq.begins y n g))
+      not_both kind bp bq (kind.of x) apart_so (hp.begins x m f) (subst (λ z. has kind bq (kind.of z) ≡ true) (sym is) (hq.begins y n g))
 
   -- the first, where the next token begins it
-  begun_stop : (x : T) (ts used rest : List T) → has bp (kind x) ≡ true → x ∷ ts ≡ used ++ rest
+  begun_stop : (x : T) (ts used rest : List T) → has kind bp (kind.of x) ≡ true → x ∷ ts ≡ used ++ rest
       → (y : T) (after more : List T) → rest ≡ y ∷ after → q.front (used ++ (y ∷ more)) → ⊥
   begun_stop x ts [] rest b whole y after more is f =
-      not_both bp bq (kind x) apart_so b (subst (λ z. has bq (kind z) ≡ true) (sym (same_head (whole ∙ is))) (hq.begins y more f))
+      not_both kind bp bq (kind.of x) apart_so b (subst (λ z. has kind bq (kind.of z) ≡ true) (sym (same_head (whole ∙ is))) (hq.begins y more f))
   begun_stop x ts (z ∷ used) rest b whole y after more is f =
-      not_both bp bq (kind x) apart_so b (subst (λ w. has bq (kind w) ≡ true) (sym (same_head whole)) (hq.begins z (used ++ (y ∷ more)) f))
+      not_both kind bp bq (kind.of x) apart_so b (subst (λ w. has kind bq (kind.of w) ≡ true) (sym (same_head whole)) (hq.begins z (used ++ (y ∷ more)) f))
 
-  begun_unfinished : (x : T) (ts used rest : List T) → has bp (kind x) ≡ true → x ∷ ts ≡ used ++ rest → CannotGoOn p used rest
+  begun_unfinished : (x : T) (ts used rest : List T) → has kind bp (kind.of x) ≡ true → x ∷ ts ≡ used ++ rest → CannotGoOn p used rest
       → (v : A) → q.full used v → ⊥
   begun_unfinished x ts [] rest b whole stop v f = elim (or_cases xp (not eq) sure) [
     | inl e ↦ stop x ts [] (sym whole) (hp.first e x b)
@@ -35,9 +35,9 @@ module _ {T A : Type 0} (kind : T → ℕ) (p : Language T A) (r : Reader T A) (
     ]
   ]
   begun_unfinished x ts (z ∷ used) rest b whole stop v f =
-      not_both bp bq (kind x) apart_so b (subst (λ w. has bq (kind w) ≡ true) (sym (same_head whole)) (hq.begins z used (hq.whole (z ∷ used) v f)))
+      not_both kind bp bq (kind.of x) apart_so b (subst (λ w. has kind bq (kind.of w) ≡ true) (sym (same_head whole)) (hq.begins z used (hq.whole (z ∷ used) v f)))
 
-  first_reads : (x : T) (ts : List T) (read : Reading T A) → has bp (kind x) ≡ true → Reads p (x ∷ ts) read → Reads (either p q) (x ∷ ts) read
+  first_reads : (x : T) (ts : List T) (read : Reading T A) → has kind bp (kind.of x) ≡ true → Reads p (x ∷ ts) read → Reads (either p q) (x ∷ ts) read
   first_reads x ts (Ok v) b h = record {
     used = h.used;
     whole = h.whole;
@@ -72,15 +72,15 @@ module _ {T A : Type 0} (kind : T → ℕ) (p : Language T A) (r : Reader T A) (
   other_stop [] [] rest b whole y after more is f = no_cons (whole ∙ is)
   other_stop [] (z ∷ used) rest b whole y after more is f = no_cons whole
   other_stop (x ∷ ts) [] rest b whole y after more is f =
-      no_truth (subst (λ z. has bp (kind z) ≡ true) (sym (same_head (whole ∙ is))) (hp.begins y more f)) b
+      no_truth (subst (λ z. has kind bp (kind.of z) ≡ true) (sym (same_head (whole ∙ is))) (hp.begins y more f)) b
   other_stop (x ∷ ts) (z ∷ used) rest b whole y after more is f =
-      no_truth (subst (λ w. has bp (kind w) ≡ true) (sym (same_head whole)) (hp.begins z (used ++ (y ∷ more)) f)) b
+      no_truth (subst (λ w. has kind bp (kind.of w) ≡ true) (sym (same_head whole)) (hp.begins z (used ++ (y ∷ more)) f)) b
 
   other_unfinished : (ts used rest : List T) → starts kind bp ts ≡ false → ts ≡ used ++ rest → (v : A) → p.full used v → ⊥
   other_unfinished ts [] rest b whole v f = hp.void refl v f
   other_unfinished [] (z ∷ used) rest b whole v f = no_cons whole
   other_unfinished (x ∷ ts) (z ∷ used) rest b whole v f =
-      no_truth (subst (λ w. has bp (kind w) ≡ true) (sym (same_head whole)) (hp.begins z used (hp.whole (z ∷ used) v f))) b
+      no_truth (subst (λ w. has kind bp (kind.of w) ≡ true) (sym (same_head whole)) (hp.begins z used (hp.whole (z ∷ used) v f))) b
 
   other_reads : (ts : List T) (read : Reading T A) → starts kind bp ts ≡ false → Reads q ts read → Reads (either p q) ts read
   other_reads ts (Ok v) b h = record {
@@ -116,20 +116,20 @@ module _ {T A : Type 0} (kind : T → ℕ) (p : Language T A) (r : Reader T A) (
   reads_at (x ∷ ts) true is = first_reads x ts (r (x ∷ ts)) is (hp.reads (x ∷ ts))
   reads_at ts false is = other_reads ts (s ts) is (hq.reads ts)
 
-  either_begins : (x : T) (m : List T) → (either p q).front (x ∷ m) → has (bp ++ bq) (kind x) ≡ true
-  either_begins x m (inl f) = has_left bp bq (kind x) (hp.begins x m f)
-  either_begins x m (inr f) = has_right bp bq (kind x) (hq.begins x m f)
+  either_begins : (x : T) (m : List T) → (either p q).front (x ∷ m) → has kind (bp ++ bq) (kind.of x) ≡ true
+  either_begins x m (inl f) = has_left kind bp bq (kind.of x) (hp.begins x m f)
+  either_begins x m (inr f) = has_right kind bp bq (kind.of x) (hq.begins x m f)
 
   either_goes : (ts : List T) (v : A) (x : T) (m : List T) → (either p q).full ts v → (either p q).front (ts ++ (x ∷ m))
-      → has (gp ++ (gq ++ where_so eq bp)) (kind x) ≡ true
-  either_goes ts v x m (inl f) (inl g) = has_left gp (gq ++ where_so eq bp) (kind x) (hp.goes ts v x m f g)
+      → has kind (gp ++ (gq ++ where_so eq bp)) (kind.of x) ≡ true
+  either_goes ts v x m (inl f) (inl g) = has_left kind gp (gq ++ where_so eq bp) (kind.of x) (hp.goes ts v x m f g)
   either_goes ts v x m (inr f) (inr g) =
-      has_right gp (gq ++ where_so eq bp) (kind x) (has_left gq (where_so eq bp) (kind x) (hq.goes ts v x m f g))
+      has_right kind gp (gq ++ where_so eq bp) (kind.of x) (has_left kind gq (where_so eq bp) (kind.of x) (hq.goes ts v x m f g))
   either_goes [] v x m (inl f) (inr g) = absurd (hp.void refl v f)
   either_goes (y ∷ ts) v x m (inl f) (inr g) = absurd (clash y y ts (ts ++ (x ∷ m)) refl (hp.whole (y ∷ ts) v f) g)
   either_goes [] v x m (inr f) (inl g) =
-      has_right gp (gq ++ where_so eq bp) (kind x) (has_right gq (where_so eq bp) (kind x) (elim (cases_Bool eq) [
-        | inl e ↦ so bp (kind x) e (hp.begins x m g)
+      has_right kind gp (gq ++ where_so eq bp) (kind.of x) (has_right kind gq (where_so eq bp) (kind.of x) (elim (cases_Bool eq) [
+        | inl e ↦ so kind bp (kind.of x) e (hp.begins x m g)
         | inr e ↦ absurd (hq.void e v f)
       ]))
   either_goes (y ∷ ts) v x m (inr f) (inl g) = absurd (clash y y (ts ++ (x ∷ m)) ts refl g (hq.whole (y ∷ ts) v f))
@@ -154,8 +154,8 @@ module _ {T A : Type 0} (kind : T → ℕ) (p : Language T A) (r : Reader T A) (
   either_void e v (inl f) = hp.void refl v f
   either_void e v (inr f) = hq.void e v f
 
-  either_first : xp && xq ≡ true → (x : T) → has (bp ++ bq) (kind x) ≡ true → (either p q).front (x ∷ [])
-  either_first e x h = elim (has_append bp bq (kind x) h) [
+  either_first : xp && xq ≡ true → (x : T) → has kind (bp ++ bq) (kind.of x) ≡ true → (either p q).front (x ∷ [])
+  either_first e x h = elim (has_append kind bp bq (kind.of x) h) [
     | inl a ↦ inl (hp.first (and_left xp xq e) x a)
     | inr b ↦ inr (hq.first (and_right xp xq e) x b)
   ]
@@ -174,18 +174,14 @@ module _ {T A : Type 0} (kind : T → ℕ) (p : Language T A) (r : Reader T A) (
     first = either_first;
   }
 
-pub good_either : {T A : Type 0} {kind : T → ℕ} {p : Language T A} {r : Reader T A} {q : Language T A} {s : Reader T A}
-    {bp gp bq gq : List ℕ} {xp eq xq : Bool}
-    → Good kind p r bp gp false xp → Good kind q s bq gq eq xq → apart bp bq ≡ true → xp || not eq ≡ true
+pub good_either : {T A : Type 0} {kind : Kinds T} {p : Language T A} {r : Reader T A} {q : Language T A} {s : Reader T A}
+    {bp gp bq gq : List kind.Kind} {xp eq xq : Bool}
+    → Good kind p r bp gp false xp → Good kind q s bq gq eq xq → apart kind bp bq ≡ true → xp || not eq ≡ true
     → Good kind (either p q) (either_read kind bp r s) (bp ++ bq) (gp ++ (gq ++ where_so eq bp)) eq (xp && xq)
 good_either {kind = kind} {p = p} {r = r} {q = q} {s = s} {bp = bp} {gp = gp} {bq = bq} {gq = gq} {xp = xp} {eq = eq} {xq = xq} hp hq h k =
     good_either_at kind p r q s bp gp bq gq xp eq xq hp hq h k
 
-apart_nil : (ks : List ℕ) → apart ks [] ≡ true
-apart_nil [] = refl
-apart_nil (k ∷ ks) = apart_nil ks
-
-pub good_optional : {T A : Type 0} {kind : T → ℕ} {p : Language T A} {r : Reader T A} {bp gp : List ℕ}
+pub good_optional : {T A : Type 0} {kind : Kinds T} {p : Language T A} {r : Reader T A} {bp gp : List kind.Kind}
     → Good kind p r bp gp false true
     → Good kind (optional p) (optional_read kind bp r) (bp ++ []) (gp ++ bp) true true
-good_optional {kind = kind} {bp = bp} h = good_either (good_mapped Some h) (good_nothing kind None) (apart_nil bp) refl
+good_optional {kind = kind} {bp = bp} h = good_either (good_mapped Some h) (good_nothing kind None) (apart_none kind bp) refl

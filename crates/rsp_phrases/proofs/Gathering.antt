@@ -1,6 +1,6 @@
 -- A loop that gathers what is made of each part that it reads goes as the reader of many parts.
 use Rattle.std.proofs.Common.{◌≡◌, ◌<◌, ◌≤◌, ℕ, suc, ◌+◌, ◌-◌, true, false, cond, List, [], ◌++◌, refl, sym, ap, ◌∙◌, append_assoc, append-nil, Some, None, Ok, Err, arith}
-use Rattle.rsp_phrases.specs.Languages.{listed}
+use Rattle.rsp_phrases.specs.Languages.{Kinds, listed}
 use Rattle.rsp_phrases.specs.Readers.{Reading, Reader, starts, image, tied_from, beside, at_most_read}
 use Rattle.rsp_phrases.specs.Gathering.{gathered, single, as_read, Gathers}
 
@@ -14,7 +14,7 @@ joined {make = make} {make_all = make_all} g front v (Ok x) =
     ap (λ bs. Ok (bs, x.1)) (ap (λ bs. front ++ bs) (g.first v x.0) ∙ sym (append_assoc front (make v) (make_all x.0)))
 joined g front v (Err left) = refl
 
-one_more : {T A B : Type 0} {make : A → List B} {make_all : List A → List B} (g : Gathers make make_all) (kind : T → ℕ) (kinds : List ℕ) (r : Reader T A)
+one_more : {T A B : Type 0} {make : A → List B} {make_all : List A → List B} (g : Gathers make make_all) (kind : Kinds T) (kinds : List kind.Kind) (r : Reader T A)
     (n : ℕ) (front : List B) (v : A) (ts rest : List T)
     → starts kind kinds ts ≡ true → r ts ≡ Ok (v, rest)
     → gathered make_all front (at_most_read kind kinds r (suc n) ts) ≡ gathered make_all (front ++ make v) (at_most_read kind kinds r n rest)
@@ -24,7 +24,7 @@ one_more {make_all = make_all} g kind kinds r n front v ts rest is read =
     ∙ ap (λ x. gathered make_all front (image listed (image Some (tied_from x (λ w. at_most_read kind kinds r n))))) read
     ∙ joined g front v (at_most_read kind kinds r n rest)
 
-one_wrong : {T A B : Type 0} (make_all : List A → List B) (kind : T → ℕ) (kinds : List ℕ) (r : Reader T A)
+one_wrong : {T A B : Type 0} (make_all : List A → List B) (kind : Kinds T) (kinds : List kind.Kind) (r : Reader T A)
     (n : ℕ) (front : List B) (left : ℕ) (ts : List T)
     → starts kind kinds ts ≡ true → r ts ≡ Err left
     → gathered make_all front (at_most_read kind kinds r (suc n) ts) ≡ Err left
@@ -33,7 +33,7 @@ one_wrong make_all kind kinds r n front left ts is read =
     ap (λ b. gathered make_all front (image listed (cond b (image Some (tied_from (r ts) (λ w. at_most_read kind kinds r n))) (Ok (None, ts))))) is
     ∙ ap (λ x. gathered make_all front (image listed (image Some (tied_from x (λ w. at_most_read kind kinds r n))))) read
 
-no_more : {T A B : Type 0} {make : A → List B} {make_all : List A → List B} (g : Gathers make make_all) (kind : T → ℕ) (kinds : List ℕ) (r : Reader T A)
+no_more : {T A B : Type 0} {make : A → List B} {make_all : List A → List B} (g : Gathers make make_all) (kind : Kinds T) (kinds : List kind.Kind) (r : Reader T A)
     (n : ℕ) (front : List B) (ts : List T)
     → starts kind kinds ts ≡ false
     → gathered make_all front (at_most_read kind kinds r (suc n) ts) ≡ Ok (front, ts)
@@ -45,7 +45,7 @@ no_more {make_all = make_all} g kind kinds r n front ts is =
 -- ---- at a loop's counter. `whole`: what the loop is to give.
 
 -- where one more part is read
-pub more_at : {T A B : Type 0} {make : A → List B} {make_all : List A → List B} (g : Gathers make make_all) (kind : T → ℕ) (kinds : List ℕ) (r : Reader T A)
+pub more_at : {T A B : Type 0} {make : A → List B} {make_all : List A → List B} (g : Gathers make make_all) (kind : Kinds T) (kinds : List kind.Kind) (r : Reader T A)
     (end counter : ℕ) (front all : List B) (ts rest : List T) (whole : Reading T (List B))
     → counter < end → starts kind kinds ts ≡ true → gathered make front (r ts) ≡ Ok (all, rest)
     → gathered make_all front (at_most_read kind kinds r (end - counter) ts) ≡ whole
@@ -65,7 +65,7 @@ more_at {T = T} {A = A} {B = B} {make = make} {make_all = make_all} g kind kinds
     go (Err left) e same = cc
 
 -- where the next part is wrong
-pub wrong_at : {T A B : Type 0} (make : A → List B) (make_all : List A → List B) (kind : T → ℕ) (kinds : List ℕ) (r : Reader T A)
+pub wrong_at : {T A B : Type 0} (make : A → List B) (make_all : List A → List B) (kind : Kinds T) (kinds : List kind.Kind) (r : Reader T A)
     (end counter : ℕ) (front : List B) (left : ℕ) (ts : List T) (whole : Reading T (List B))
     → counter < end → starts kind kinds ts ≡ true → gathered make front (r ts) ≡ Err left
     → gathered make_all front (at_most_read kind kinds r (end - counter) ts) ≡ whole
@@ -81,7 +81,7 @@ wrong_at {T = T} {A = A} {B = B} make make_all kind kinds r end counter front le
         ∙ one_wrong make_all kind kinds r (end - (counter + 1)) front k ts is e ∙ same
 
 -- where no part begins
-pub none_at : {T A B : Type 0} {make : A → List B} {make_all : List A → List B} (g : Gathers make make_all) (kind : T → ℕ) (kinds : List ℕ) (r : Reader T A)
+pub none_at : {T A B : Type 0} {make : A → List B} {make_all : List A → List B} (g : Gathers make make_all) (kind : Kinds T) (kinds : List kind.Kind) (r : Reader T A)
     (end counter : ℕ) (front : List B) (ts : List T) (whole : Reading T (List B))
     → counter < end → starts kind kinds ts ≡ false
     → gathered make_all front (at_most_read kind kinds r (end - counter) ts) ≡ whole
@@ -92,7 +92,7 @@ none_at {make_all = make_all} g kind kinds r end counter front ts whole below is
     ∙ no_more g kind kinds r (end - (counter + 1)) front ts is
 
 -- at the loop's end
-pub end_at : {T A B : Type 0} {make : A → List B} {make_all : List A → List B} (g : Gathers make make_all) (kind : T → ℕ) (kinds : List ℕ) (r : Reader T A)
+pub end_at : {T A B : Type 0} {make : A → List B} {make_all : List A → List B} (g : Gathers make make_all) (kind : Kinds T) (kinds : List kind.Kind) (r : Reader T A)
     (end counter : ℕ) (front : List B) (ts : List T) (whole : Reading T (List B))
     → end ≤ counter
     → gathered make_all front (at_most_read kind kinds r (end - counter) ts) ≡ whole

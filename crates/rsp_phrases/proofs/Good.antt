@@ -1,6 +1,6 @@
 -- A rule with its reader, and what one token ahead decides. The laws of the simplest combinators.
 use Rattle.std.proofs.Common.{◌≡◌, ℕ, Bool, true, false, true≢false, cond, List, [], ◌∷◌, ◌++◌, length, refl, sym, ap, ◌∙◌, Option, Some, None, Ok, Err, IsSome, is_some}
-use Rattle.rsp_phrases.specs.Languages.{Language, IsOne, IsOneAtMost, token, among, has, nothing, never, mapped}
+use Rattle.rsp_phrases.specs.Languages.{Kinds, Language, IsOne, IsOneAtMost, token, among, has, nothing, never, mapped}
 use Rattle.rsp_phrases.specs.Exact.{Reads}
 use Rattle.rsp_phrases.specs.Readers.{Reading, Reader, start, token_read, among_read, nothing_read, never_read, image, mapped_read}
 use Rattle.rsp_phrases.proofs.Cuts.{no_nil, no_cons, same_head}
@@ -8,44 +8,44 @@ use Rattle.rsp_phrases.proofs.Membership.{covered, has_covered}
 
 -- `begin`: the kinds that may begin it; `go`: the kinds by which it may go on after an expansion; `empty`: whether
 -- nothing is an expansion; `exact`: each kind of `begin` can really begin it
-pub record Good {T A : Type 0} (kind : T → ℕ) (p : Language T A) (r : Reader T A) (begin go : List ℕ) (empty exact : Bool) : Type 0 where
+pub record Good {T A : Type 0} (kind : Kinds T) (p : Language T A) (r : Reader T A) (begin go : List kind.Kind) (empty exact : Bool) : Type 0 where
   pub reads : (ts : List T) → Reads p ts (r ts)
-  pub begins : (x : T) (m : List T) → p.front (x ∷ m) → has begin (kind x) ≡ true
-  pub goes : (ts : List T) (v : A) (x : T) (m : List T) → p.full ts v → p.front (ts ++ (x ∷ m)) → has go (kind x) ≡ true
+  pub begins : (x : T) (m : List T) → p.front (x ∷ m) → has kind begin (kind.of x) ≡ true
+  pub goes : (ts : List T) (v : A) (x : T) (m : List T) → p.full ts v → p.front (ts ++ (x ∷ m)) → has kind go (kind.of x) ≡ true
   pub begun : p.front []
   pub whole : (ts : List T) (v : A) → p.full ts v → p.front ts
   pub closed : (ts us : List T) → p.front (ts ++ us) → p.front ts
   pub unique : (ts : List T) (v w : A) → p.full ts v → p.full ts w → v ≡ w
   pub void : empty ≡ false → (v : A) → p.full [] v → ⊥
   pub blank : empty ≡ true → (v : A) × p.full [] v
-  pub first : exact ≡ true → (x : T) → has begin (kind x) ≡ true → p.front (x ∷ [])
+  pub first : exact ≡ true → (x : T) → has kind begin (kind.of x) ≡ true → p.front (x ∷ [])
 
 -- the lists and flags as they are written for a rule: the same kinds at the beginning, no fewer later
-pub listed_as : {T A : Type 0} {kind : T → ℕ} {p : Language T A} {r : Reader T A} {begin go : List ℕ} {empty exact : Bool}
-    (firsts later : List ℕ) → Good kind p r begin go empty exact
-    → covered begin firsts ≡ true → covered firsts begin ≡ true → covered go later ≡ true
+pub listed_as : {T A : Type 0} {kind : Kinds T} {p : Language T A} {r : Reader T A} {begin go : List kind.Kind} {empty exact : Bool}
+    (firsts later : List kind.Kind) → Good kind p r begin go empty exact
+    → covered kind begin firsts ≡ true → covered kind firsts begin ≡ true → covered kind go later ≡ true
     → Good kind p r firsts later empty exact
 listed_as {kind = kind} {begin = begin} {go = go} firsts later h a b c = record {
   reads = h.reads;
-  begins = λ x m f. has_covered begin firsts (kind x) a (h.begins x m f);
-  goes = λ ts v x m p f. has_covered go later (kind x) c (h.goes ts v x m p f);
+  begins = λ x m f. has_covered kind begin firsts (kind.of x) a (h.begins x m f);
+  goes = λ ts v x m p f. has_covered kind go later (kind.of x) c (h.goes ts v x m p f);
   begun = h.begun;
   whole = h.whole;
   closed = h.closed;
   unique = h.unique;
   void = h.void;
   blank = h.blank;
-  first = λ e x is. h.first e x (has_covered firsts begin (kind x) b is);
+  first = λ e x is. h.first e x (has_covered kind firsts begin (kind.of x) b is);
 }
 
 -- a rule whose first tokens aren't tested may have more kinds at the beginning
-pub loosened : {T A : Type 0} {kind : T → ℕ} {p : Language T A} {r : Reader T A} {begin go : List ℕ} {empty exact : Bool}
-    (firsts later : List ℕ) → Good kind p r begin go empty exact → covered begin firsts ≡ true → covered go later ≡ true
+pub loosened : {T A : Type 0} {kind : Kinds T} {p : Language T A} {r : Reader T A} {begin go : List kind.Kind} {empty exact : Bool}
+    (firsts later : List kind.Kind) → Good kind p r begin go empty exact → covered kind begin firsts ≡ true → covered kind go later ≡ true
     → Good kind p r firsts later empty false
 loosened {kind = kind} {begin = begin} {go = go} firsts later h a c = record {
   reads = h.reads;
-  begins = λ x m f. has_covered begin firsts (kind x) a (h.begins x m f);
-  goes = λ ts v x m p f. has_covered go later (kind x) c (h.goes ts v x m p f);
+  begins = λ x m f. has_covered kind begin firsts (kind.of x) a (h.begins x m f);
+  goes = λ ts v x m p f. has_covered kind go later (kind.of x) c (h.goes ts v x m p f);
   begun = h.begun;
   whole = h.whole;
   closed = h.closed;
@@ -120,14 +120,14 @@ token_unique of [] v w f g = absurd f
 token_unique of (x ∷ []) v w f g = same_some (sym f ∙ g)
 token_unique of (x ∷ (y ∷ ts)) v w f g = absurd f
 
-token_begins : {T A : Type 0} (kind : T → ℕ) (of : T → Option A) (kinds : List ℕ) → ((x : T) → IsSome (of x) → has kinds (kind x) ≡ true)
-    → (x : T) (m : List T) → IsOneAtMost of (x ∷ m) → has kinds (kind x) ≡ true
+token_begins : {T A : Type 0} (kind : Kinds T) (of : T → Option A) (kinds : List kind.Kind) → ((x : T) → IsSome (of x) → has kind kinds (kind.of x) ≡ true)
+    → (x : T) (m : List T) → IsOneAtMost of (x ∷ m) → has kind kinds (kind.of x) ≡ true
 token_begins kind of kinds h x [] f = h x f
 token_begins kind of kinds h x (y ∷ m) f = absurd f
 
-pub good_token : {T A : Type 0} (kind : T → ℕ) (of : T → Option A) (kinds : List ℕ) (exact : Bool)
-    → ((x : T) → IsSome (of x) → has kinds (kind x) ≡ true)
-    → (exact ≡ true → (x : T) → has kinds (kind x) ≡ true → IsSome (of x))
+pub good_token : {T A : Type 0} (kind : Kinds T) (of : T → Option A) (kinds : List kind.Kind) (exact : Bool)
+    → ((x : T) → IsSome (of x) → has kind kinds (kind.of x) ≡ true)
+    → (exact ≡ true → (x : T) → has kind kinds (kind.of x) ≡ true → IsSome (of x))
     → Good kind (token of) (token_read of) kinds [] false exact
 good_token kind of kinds exact h g = record {
   reads = token_reads of;
@@ -150,10 +150,10 @@ chosen_some : {T : Type 0} (b : Bool) (x : T) → b ≡ true → IsSome (cond b 
 chosen_some true x h = refl
 chosen_some false x h = absurd (true≢false (sym h))
 
-pub good_among : {T : Type 0} (kind : T → ℕ) (kinds : List ℕ) → Good kind (among kind kinds) (among_read kind kinds) kinds [] false true
+pub good_among : {T : Type 0} (kind : Kinds T) (kinds : List kind.Kind) → Good kind (among kind kinds) (among_read kind kinds) kinds [] false true
 good_among kind kinds =
-    good_token kind (λ x. cond (has kinds (kind x)) (Some x) None) kinds true
-    (λ x. some_chosen (has kinds (kind x)) x) (λ e x. chosen_some (has kinds (kind x)) x)
+    good_token kind (λ x. cond (has kind kinds (kind.of x)) (Some x) None) kinds true
+    (λ x. some_chosen (has kind kinds (kind.of x)) x) (λ e x. chosen_some (has kind kinds (kind.of x)) x)
 
 -- ---- nothing, and what has no expansion
 
@@ -165,7 +165,7 @@ front_no : {T : Type 0} (ts us : List T) → ts ++ us ≡ [] → ts ≡ []
 front_no [] us h = refl
 front_no (x ∷ ts) us h = absurd (no_nil h)
 
-pub good_nothing : {T A : Type 0} (kind : T → ℕ) (a : A) → Good {T = T} {A = A} kind (nothing a) (nothing_read a) [] [] true true
+pub good_nothing : {T A : Type 0} (kind : Kinds T) (a : A) → Good {T = T} {A = A} kind (nothing a) (nothing_read a) [] [] true true
 good_nothing kind a = record {
   reads = λ ts. record { used = []; whole = refl; spelled = (refl, refl); stopped = λ x after more h f. no_nil f };
   begins = λ x m f. absurd (no_nil f);
@@ -179,7 +179,7 @@ good_nothing kind a = record {
   first = λ e x is. absurd (true≢false (sym is));
 }
 
-pub good_never : {T A : Type 0} (kind : T → ℕ) → Good {T = T} {A = A} kind never never_read [] [] false true
+pub good_never : {T A : Type 0} (kind : Kinds T) → Good {T = T} {A = A} kind never never_read [] [] false true
 good_never kind = record {
   reads = λ ts. record { used = []; rest = ts; whole = refl; place = refl; begun = refl; stopped = λ x after more h f. no_nil f; unfinished = λ v f. f };
   begins = λ x m f. absurd (no_nil f);
@@ -212,7 +212,7 @@ mapped_reads f p ts (Err left) h = record {
   unfinished = λ v g. h.unfinished g.source g.spelled;
 }
 
-pub good_mapped : {T A B : Type 0} {kind : T → ℕ} {p : Language T A} {r : Reader T A} {begin go : List ℕ} {empty exact : Bool}
+pub good_mapped : {T A B : Type 0} {kind : Kinds T} {p : Language T A} {r : Reader T A} {begin go : List kind.Kind} {empty exact : Bool}
     (f : A → B) → Good kind p r begin go empty exact → Good kind (mapped f p) (mapped_read f r) begin go empty exact
 good_mapped {p = p} {r = r} f h = record {
   reads = λ ts. mapped_reads f p ts (r ts) (h.reads ts);

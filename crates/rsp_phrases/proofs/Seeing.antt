@@ -1,7 +1,7 @@
 -- A rule on tokens that are read as others.
 use Rattle.std.proofs.Common.{◌≡◌, ℕ, ◌-◌, Bool, true, false, true≢false, List, [], ◌∷◌, ◌++◌, length, drop, map, refl, sym, ap, ◌∙◌, subst, arith, length-append, Ok, Err}
 use Rattle.std.proofs.lemmas.List.{map-append, length-map, drop_at}
-use Rattle.rsp_phrases.specs.Languages.{Language, has, seen, CannotGoOn}
+use Rattle.rsp_phrases.specs.Languages.{Kinds, Language, has, seen, CannotGoOn}
 use Rattle.rsp_phrases.specs.Exact.{Reads}
 use Rattle.rsp_phrases.specs.Readers.{Reading, Reader, rest_of, seen_read}
 use Rattle.rsp_phrases.proofs.Cuts.{no_cons, same_head, same_tail}
@@ -61,10 +61,10 @@ seen_reads p f ts (Err left) h =
       unfinished = λ v g. h.unfinished v (subst (λ us. p.full us v) l.front_is g);
     }
 
-pub good_seen : {T A : Type 0} {kind : T → ℕ} {p : Language T A} {r : Reader T A} {begin go : List ℕ} {empty exact : Bool}
-    (f : T → T) (firsts later : List ℕ) → Good kind p r begin go empty exact
-    → ((x : T) → has begin (kind (f x)) ≡ true → has firsts (kind x) ≡ true)
-    → ((x : T) → has go (kind (f x)) ≡ true → has later (kind x) ≡ true)
+pub good_seen : {T A : Type 0} {kind : Kinds T} {p : Language T A} {r : Reader T A} {begin go : List kind.Kind} {empty exact : Bool}
+    (f : T → T) (firsts later : List kind.Kind) → Good kind p r begin go empty exact
+    → ((x : T) → has kind begin (kind.of (f x)) ≡ true → has kind firsts (kind.of x) ≡ true)
+    → ((x : T) → has kind go (kind.of (f x)) ≡ true → has kind later (kind.of x) ≡ true)
     → Good kind (seen f p) (seen_read f r) firsts later empty false
 good_seen {p = p} {r = r} f firsts later h a b = record {
   reads = λ ts. seen_reads p f ts (r (map f ts)) (h.reads (map f ts));

@@ -1,7 +1,7 @@
 -- One part behind the other is read part by part, where nothing that begins the second goes on the first.
 use Rattle.std.proofs.Common.{◌≡◌, ℕ, Bool, true, false, true≢false, not, ◌&&◌, ◌||◌, List, [], ◌∷◌, ◌++◌, refl, sym, ap, ap₂, ◌∙◌, subst, append_assoc, append-nil, inl, inr, Ok, Err}
 use Rattle.std.proofs.lemmas.Bool.{cases_Bool}
-use Rattle.rsp_phrases.specs.Languages.{Language, has, tied, Tied, CannotGoOn}
+use Rattle.rsp_phrases.specs.Languages.{Kinds, Language, has, tied, Tied, CannotGoOn}
 use Rattle.rsp_phrases.specs.Exact.{IsRead, Reads}
 use Rattle.rsp_phrases.specs.Readers.{Reading, Reader, beside, tied_from, tied_read}
 use Rattle.rsp_phrases.proofs.Cuts.{no_cons, same_head, level, longer, shorter, cut}
@@ -11,13 +11,13 @@ use Rattle.rsp_phrases.proofs.Good.{Good}
 pub no_truth : {e : Bool} → e ≡ true → e ≡ false → ⊥
 no_truth a b = true≢false (sym a ∙ b)
 
-pub so : {e : Bool} (ks : List ℕ) (k : ℕ) → e ≡ true → has ks k ≡ true → has (where_so e ks) k ≡ true
-so ks k e h = subst (λ b. has (where_so b ks) k ≡ true) (sym e) h
+pub so : {T : Type 0} (kind : Kinds T) {e : Bool} (ks : List kind.Kind) (k : kind.Kind) → e ≡ true → has kind ks k ≡ true → has kind (where_so e ks) k ≡ true
+so kind ks k e h = subst (λ b. has kind (where_so b ks) k ≡ true) (sym e) h
 
-pub not_so : {e : Bool} (ks : List ℕ) (k : ℕ) → has (where_so e ks) k ≡ true → (e ≡ true) × (has ks k ≡ true)
-not_so {e = e} ks k h = go e ks k h
+pub not_so : {T : Type 0} (kind : Kinds T) {e : Bool} (ks : List kind.Kind) (k : kind.Kind) → has kind (where_so e ks) k ≡ true → (e ≡ true) × (has kind ks k ≡ true)
+not_so kind {e = e} ks k h = go e ks k h
   where
-    go : (e : Bool) (ks : List ℕ) (k : ℕ) → has (where_so e ks) k ≡ true → (e ≡ true) × (has ks k ≡ true)
+    go : (e : Bool) (ks : List kind.Kind) (k : kind.Kind) → has kind (where_so e ks) k ≡ true → (e ≡ true) × (has kind ks k ≡ true)
     go true ks k h = (refl, h)
     go false ks k h = absurd (true≢false (sym h))
 
@@ -47,12 +47,12 @@ some_start (z ∷ front) x more = (z, (front ++ (x ∷ more), refl))
 pub pair_is : {A B : Type 0} (v w : A × B) → v.0 ≡ w.0 → v.1 ≡ w.1 → v ≡ w
 pair_is v w a b = ap₂ (λ x y. (x, y)) a b
 
-module _ {T A B : Type 0} (kind : T → ℕ) (p : Language T A) (r : Reader T A) (q : A → Language T B) (s : A → Reader T B)
-    (bp gp bq gq : List ℕ) (ep xp eq xq : Bool)
-    (hp : Good kind p r bp gp ep xp) (hq : (a : A) → Good kind (q a) (s a) bq gq eq xq) (apart_so : apart bq gp ≡ true) where
+module _ {T A B : Type 0} (kind : Kinds T) (p : Language T A) (r : Reader T A) (q : A → Language T B) (s : A → Reader T B)
+    (bp gp bq gq : List kind.Kind) (ep xp eq xq : Bool)
+    (hp : Good kind p r bp gp ep xp) (hq : (a : A) → Good kind (q a) (s a) bq gq eq xq) (apart_so : apart kind bq gp ≡ true) where
   seam : (a a' : A) (left : List T) (x : T) (m n : List T) → p.full left a → p.front (left ++ (x ∷ m)) → (q a').front (x ∷ n) → ⊥
   seam a a' left x m n full f g =
-      not_both bq gp (kind x) apart_so ((hq a').begins x n g) (hp.goes left a x m full f)
+      not_both kind bq gp (kind.of x) apart_so ((hq a').begins x n g) (hp.goes left a x m full f)
 
   -- where p can't go on from `used`, each other cut is this one
   meets : (a : A) (left right used ahead : List T) → p.full left a → (q a).front right → left ++ right ≡ used ++ ahead → p.front used
@@ -132,58 +132,58 @@ module _ {T A B : Type 0} (kind : T → ℕ) (p : Language T A) (r : Reader T A)
           h.unfinished f.value (subst (λ zs. p.full zs f.value) met.0 f.first)
 
   begins_at : (left right : List T) (a : A) (x : T) (m : List T) → p.full left a → (q a).front right → x ∷ m ≡ left ++ right
-      → has (bp ++ where_so ep bq) (kind x) ≡ true
+      → has kind (bp ++ where_so ep bq) (kind.of x) ≡ true
   begins_at [] right a x m full g is =
-      has_right bp (where_so ep bq) (kind x) (elim (cases_Bool ep) [
-        | inl e ↦ so bq (kind x) e ((hq a).begins x m (subst (q a).front (sym is) g))
+      has_right kind bp (where_so ep bq) (kind.of x) (elim (cases_Bool ep) [
+        | inl e ↦ so kind bq (kind.of x) e ((hq a).begins x m (subst (q a).front (sym is) g))
         | inr e ↦ absurd (hp.void e a full)
       ])
   begins_at (y ∷ left) right a x m full g is =
-      has_left bp (where_so ep bq) (kind x) (subst (λ z. has bp (kind z) ≡ true) (sym (same_head is)) (hp.begins y left (hp.whole (y ∷ left) a full)))
+      has_left kind bp (where_so ep bq) (kind.of x) (subst (λ z. has kind bp (kind.of z) ≡ true) (sym (same_head is)) (hp.begins y left (hp.whole (y ∷ left) a full)))
 
-  tied_begins : (x : T) (m : List T) → (tied p q).front (x ∷ m) → has (bp ++ where_so ep bq) (kind x) ≡ true
-  tied_begins x m (inl f) = has_left bp (where_so ep bq) (kind x) (hp.begins x m f)
+  tied_begins : (x : T) (m : List T) → (tied p q).front (x ∷ m) → has kind (bp ++ where_so ep bq) (kind.of x) ≡ true
+  tied_begins x m (inl f) = has_left kind bp (where_so ep bq) (kind.of x) (hp.begins x m f)
   tied_begins x m (inr f) = begins_at f.left f.right f.value x m f.first f.second f.whole
 
   -- behind a second part that is empty
   goes_nil : (left : List T) (v : A × B) (x : T) (m : List T) → p.full left v.0 → (q v.0).full [] v.1
-      → (tied p q).front (left ++ (x ∷ m)) → has (gq ++ where_so eq gp) (kind x) ≡ true
+      → (tied p q).front (left ++ (x ∷ m)) → has kind (gq ++ where_so eq gp) (kind.of x) ≡ true
   goes_nil left v x m full empty (inl f) =
-      has_right gq (where_so eq gp) (kind x) (elim (cases_Bool eq) [
-        | inl e ↦ so gp (kind x) e (hp.goes left v.0 x m full f)
+      has_right kind gq (where_so eq gp) (kind.of x) (elim (cases_Bool eq) [
+        | inl e ↦ so kind gp (kind.of x) e (hp.goes left v.0 x m full f)
         | inr e ↦ absurd ((hq v.0).void e v.1 empty)
       ])
   goes_nil left v x m full empty (inr f) = elim (cut f.left f.right left (x ∷ m) (sym f.whole)) [
-    | level l e ↦ has_left gq (where_so eq gp) (kind x) ((hq v.0).goes [] v.1 x m empty
+    | level l e ↦ has_left kind gq (where_so eq gp) (kind.of x) ((hq v.0).goes [] v.1 x m empty
         (at_value v.0 f.value left (x ∷ m) full (subst (λ zs. p.full zs f.value) l f.first) (subst (q f.value).front e f.second)))
     | longer y n l e ↦ goes_nil_by y n (same_head e) (subst p.front l (hp.whole f.left f.value f.first))
     | shorter y n l e ↦ absurd (seam f.value f.value f.left y n (n ++ (x ∷ m)) f.first (subst p.front l (hp.whole left v.0 full)) (subst (q f.value).front e f.second))
   ]
     where
-      goes_nil_by : (y : T) (n : List T) → x ≡ y → p.front (left ++ (y ∷ n)) → has (gq ++ where_so eq gp) (kind x) ≡ true
+      goes_nil_by : (y : T) (n : List T) → x ≡ y → p.front (left ++ (y ∷ n)) → has kind (gq ++ where_so eq gp) (kind.of x) ≡ true
       goes_nil_by y n same g =
-          has_right gq (where_so eq gp) (kind x) (elim (cases_Bool eq) [
-            | inl e ↦ so gp (kind x) e (subst (λ z. has gp (kind z) ≡ true) (sym same) (hp.goes left v.0 y n full g))
+          has_right kind gq (where_so eq gp) (kind.of x) (elim (cases_Bool eq) [
+            | inl e ↦ so kind gp (kind.of x) e (subst (λ z. has kind gp (kind.of z) ≡ true) (sym same) (hp.goes left v.0 y n full g))
             | inr e ↦ absurd ((hq v.0).void e v.1 empty)
           ])
 
   goes_cons : (left : List T) (z : T) (zs : List T) (v : A × B) (x : T) (m : List T) → p.full left v.0 → (q v.0).full (z ∷ zs) v.1
-      → (tied p q).front (left ++ (z ∷ (zs ++ (x ∷ m)))) → has (gq ++ where_so eq gp) (kind x) ≡ true
+      → (tied p q).front (left ++ (z ∷ (zs ++ (x ∷ m)))) → has kind (gq ++ where_so eq gp) (kind.of x) ≡ true
   goes_cons left z zs v x m full second (inl f) =
       absurd (seam v.0 v.0 left z (zs ++ (x ∷ m)) zs full f ((hq v.0).whole (z ∷ zs) v.1 second))
   goes_cons left z zs v x m full second (inr f) =
       let met = meets f.value f.left f.right left (z ∷ (zs ++ (x ∷ m))) f.first f.second (sym f.whole) (hp.whole left v.0 full)
       (λ y n o g. seam v.0 v.0 left y n zs full g
       (subst (λ w. (q v.0).front (w ∷ zs)) (same_head o.1) ((hq v.0).whole (z ∷ zs) v.1 second))) in
-      has_left gq (where_so eq gp) (kind x) ((hq v.0).goes (z ∷ zs) v.1 x m second
+      has_left kind gq (where_so eq gp) (kind.of x) ((hq v.0).goes (z ∷ zs) v.1 x m second
       (at_value v.0 f.value left (z ∷ (zs ++ (x ∷ m))) full (subst (λ w. p.full w f.value) met.0 f.first) (subst (q f.value).front met.1 f.second)))
 
   goes_at : (left right : List T) (v : A × B) (x : T) (m : List T) → p.full left v.0 → (q v.0).full right v.1
-      → (tied p q).front (left ++ (right ++ (x ∷ m))) → has (gq ++ where_so eq gp) (kind x) ≡ true
+      → (tied p q).front (left ++ (right ++ (x ∷ m))) → has kind (gq ++ where_so eq gp) (kind.of x) ≡ true
   goes_at left [] v x m full second f = goes_nil left v x m full second f
   goes_at left (z ∷ zs) v x m full second f = goes_cons left z zs v x m full second f
 
-  tied_goes : (ts : List T) (v : A × B) (x : T) (m : List T) → Tied p q ts v → (tied p q).front (ts ++ (x ∷ m)) → has (gq ++ where_so eq gp) (kind x) ≡ true
+  tied_goes : (ts : List T) (v : A × B) (x : T) (m : List T) → Tied p q ts v → (tied p q).front (ts ++ (x ∷ m)) → has kind (gq ++ where_so eq gp) (kind.of x) ≡ true
   tied_goes ts v x m h f =
       goes_at h.left h.right v x m h.first h.second
       (subst (tied p q).front (ap (λ zs. zs ++ (x ∷ m)) h.whole ∙ append_assoc h.left h.right (x ∷ m)) f)
@@ -227,11 +227,11 @@ module _ {T A B : Type 0} (kind : T → ℕ) (p : Language T A) (r : Reader T A)
       let b = (hq a.0).blank (and_right ep eq e) in
       ((a.0, b.0), record { left = []; right = []; whole = refl; first = a.1; second = b.1 })
 
-  tied_first : xp && (not ep || xq) ≡ true → (x : T) → has (bp ++ where_so ep bq) (kind x) ≡ true → (tied p q).front (x ∷ [])
-  tied_first e x h = elim (has_append bp (where_so ep bq) (kind x) h) [
+  tied_first : xp && (not ep || xq) ≡ true → (x : T) → has kind (bp ++ where_so ep bq) (kind.of x) ≡ true → (tied p q).front (x ∷ [])
+  tied_first e x h = elim (has_append kind bp (where_so ep bq) (kind.of x) h) [
     | inl a ↦ inl (hp.first (and_left xp (not ep || xq) e) x a)
     | inr b ↦
-        let is = not_so bq (kind x) b in
+        let is = not_so kind bq (kind.of x) b in
         let a = hp.blank is.0 in
         let second_exact : xq ≡ true = sym (ap (λ z. not z || xq) is.0) ∙ and_right xp (not ep || xq) e in
         inr record { value = a.0; left = []; right = x ∷ []; whole = refl; first = a.1; second = (hq a.0).first second_exact x is.1 }
@@ -251,9 +251,9 @@ module _ {T A B : Type 0} (kind : T → ℕ) (p : Language T A) (r : Reader T A)
     first = tied_first;
   }
 
-pub good_tied : {T A B : Type 0} {kind : T → ℕ} {p : Language T A} {r : Reader T A} {q : A → Language T B} {s : A → Reader T B}
-    {bp gp bq gq : List ℕ} {ep xp eq xq : Bool}
-    → Good kind p r bp gp ep xp → ((a : A) → Good kind (q a) (s a) bq gq eq xq) → apart bq gp ≡ true
+pub good_tied : {T A B : Type 0} {kind : Kinds T} {p : Language T A} {r : Reader T A} {q : A → Language T B} {s : A → Reader T B}
+    {bp gp bq gq : List kind.Kind} {ep xp eq xq : Bool}
+    → Good kind p r bp gp ep xp → ((a : A) → Good kind (q a) (s a) bq gq eq xq) → apart kind bq gp ≡ true
     → Good kind (tied p q) (tied_read r s) (bp ++ where_so ep bq) (gq ++ where_so eq gp) (ep && eq) (xp && (not ep || xq))
 good_tied {kind = kind} {p = p} {r = r} {q = q} {s = s} {bp = bp} {gp = gp} {bq = bq} {gq = gq} {ep = ep} {xp = xp} {eq = eq} {xq = xq} hp hq h =
     good_tied_at kind p r q s bp gp bq gq ep xp eq xq hp hq h

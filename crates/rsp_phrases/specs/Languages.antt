@@ -1,5 +1,6 @@
 -- Definitions: languages of tokens, and the combinators that a grammar's rules are written with.
-use Rattle.std.specs.Prelude.{◌≡◌, ℕ, zero, suc, Bool, ⊤, ◌⊎◌, List, [], ◌∷◌, ◌++◌, ◌==◌, map, cond, Option, None, Some, IsSome}
+use Rattle.std.specs.Prelude.{◌≡◌, ℕ, zero, suc, Bool, ⊤, ◌⊎◌, List, [], ◌∷◌, ◌++◌, map, cond, Option, None, Some, IsSome}
+use Rattle.std.specs.Bool.{Decides}
 use Rattle.std.specs.List.{list_any}
 
 -- A rule. `full`: these tokens are an expansion of it, with this value. `front`: some leftmost expansion of it passes
@@ -28,13 +29,20 @@ IsOneAtMost of (x ∷ (y ∷ more)) = ⊥
 abbrev pub token : {T A : Type 0} → (T → Option A) → Language T A
 token of = record { full = IsOne of; front = IsOneAtMost of }
 
+-- the kinds that tokens have, and the test whether two are the same
+pub record Kinds (T : Type 0) : Type 1 where
+  pub Kind : Type 0
+  pub of : T → Kind
+  pub same : Kind → Kind → Bool
+  pub alike : (j k : Kind) → Decides (same j k) (j ≡ k)
+
 -- one of these kinds
-abbrev pub has : List ℕ → ℕ → Bool
-has kinds kind = list_any (λ k. k == kind) kinds
+abbrev pub has : {T : Type 0} (kind : Kinds T) → List kind.Kind → kind.Kind → Bool
+has kind kinds k = list_any (λ j. kind.same j k) kinds
 
 -- a token of one of these kinds; its value is it itself
-abbrev pub among : {T : Type 0} → (T → ℕ) → List ℕ → Language T T
-among kind kinds = token (λ x. cond (has kinds (kind x)) (Some x) None)
+abbrev pub among : {T : Type 0} (kind : Kinds T) → List kind.Kind → Language T T
+among kind kinds = token (λ x. cond (has kind kinds (kind.of x)) (Some x) None)
 
 -- ---- nothing, and what has no expansion
 

@@ -2,7 +2,7 @@
 use Rattle.std.specs.Prelude.{ℕ, zero, suc, Bool, false, List, [], ◌∷◌, ◌++◌, length, ◌-◌, drop, map, cond, Option, None, Some}
 use Rattle.std.specs.Prelude.{Result, Ok, Err}
 use Rattle.std.specs.List.{list_any}
-use Rattle.rsp_phrases.specs.Languages.{has, listed, follows}
+use Rattle.rsp_phrases.specs.Languages.{Kinds, has, listed, follows}
 
 -- a value and the tokens behind it, or how many tokens are left from the first wrong one
 abbrev pub Reading : Type 0 → Type 0 → Type 0
@@ -24,8 +24,8 @@ abbrev pub token_read : {T A : Type 0} → (T → Option A) → Reader T A
 token_read of [] = Err 0
 token_read of (x ∷ ts) = start x ts (length (x ∷ ts)) (of x)
 
-abbrev pub among_read : {T : Type 0} → (T → ℕ) → List ℕ → Reader T T
-among_read kind kinds = token_read (λ x. cond (has kinds (kind x)) (Some x) None)
+abbrev pub among_read : {T : Type 0} (kind : Kinds T) → List kind.Kind → Reader T T
+among_read kind kinds = token_read (λ x. cond (has kind kinds (kind.of x)) (Some x) None)
 
 abbrev pub nothing_read : {T A : Type 0} → A → Reader T A
 nothing_read a ts = Ok (a, ts)
@@ -69,15 +69,15 @@ abbrev pub seen_read : {T A : Type 0} → (T → T) → Reader T A → Reader T 
 seen_read f r ts = rest_of ts (r (map f ts))
 
 -- whether the next token is of one of these kinds
-abbrev pub starts : {T : Type 0} → (T → ℕ) → List ℕ → List T → Bool
+abbrev pub starts : {T : Type 0} (kind : Kinds T) → List kind.Kind → List T → Bool
 starts kind kinds [] = false
-starts kind kinds (x ∷ ts) = has kinds (kind x)
+starts kind kinds (x ∷ ts) = has kind kinds (kind.of x)
 
 -- the first where the next token is of one of these kinds
-abbrev pub either_read : {T A : Type 0} → (T → ℕ) → List ℕ → Reader T A → Reader T A → Reader T A
+abbrev pub either_read : {T A : Type 0} (kind : Kinds T) → List kind.Kind → Reader T A → Reader T A → Reader T A
 either_read kind kinds r s ts = cond (starts kind kinds ts) (r ts) (s ts)
 
-abbrev pub optional_read : {T A : Type 0} → (T → ℕ) → List ℕ → Reader T A → Reader T (Option A)
+abbrev pub optional_read : {T A : Type 0} (kind : Kinds T) → List kind.Kind → Reader T A → Reader T (Option A)
 optional_read kind kinds r = either_read kind kinds (mapped_read Some r) (nothing_read None)
 
 unfoldable pub nested_read : {T A : Type 0} → (Reader T A → Reader T A) → ℕ → Reader T A
@@ -92,29 +92,29 @@ abbrev pub with_front : {T A : Type 0} → List A → Reading T (List A) → Rea
 with_front front (Ok x) = Ok (front ++ x.0, x.1)
 with_front front (Err left) = Err left
 
-unfoldable pub at_most_read : {T A : Type 0} → (T → ℕ) → List ℕ → Reader T A → ℕ → Reader T (List A)
+unfoldable pub at_most_read : {T A : Type 0} (kind : Kinds T) → List kind.Kind → Reader T A → ℕ → Reader T (List A)
 at_most_read kind kinds r zero = nothing_read []
 at_most_read kind kinds r (suc n) =
     mapped_read listed (optional_read kind kinds (both_read r (at_most_read kind kinds r n)))
 
-abbrev pub many_read : {T A : Type 0} → (T → ℕ) → List ℕ → Reader T A → Reader T (List A)
+abbrev pub many_read : {T A : Type 0} (kind : Kinds T) → List kind.Kind → Reader T A → Reader T (List A)
 many_read kind kinds r ts = at_most_read kind kinds r (length ts) ts
 
-unfoldable pub follows_at_most_read : {T A B : Type 0} → (T → ℕ) → List ℕ → List ℕ → Reader T B → Reader T A → ℕ
+unfoldable pub follows_at_most_read : {T A B : Type 0} (kind : Kinds T) → List kind.Kind → List kind.Kind → Reader T B → Reader T A → ℕ
     → Reader T (List A)
 follows_at_most_read kind marks kinds d r zero = nothing_read []
 follows_at_most_read kind marks kinds d r (suc n) =
     mapped_read follows (optional_read kind marks (second_read d (optional_read kind kinds
     (both_read r (follows_at_most_read kind marks kinds d r n)))))
 
-abbrev pub follows_on_read : {T A B : Type 0} → (T → ℕ) → List ℕ → List ℕ → Reader T B → Reader T A → Reader T (List A)
+abbrev pub follows_on_read : {T A B : Type 0} (kind : Kinds T) → List kind.Kind → List kind.Kind → Reader T B → Reader T A → Reader T (List A)
 follows_on_read kind marks kinds d r ts = follows_at_most_read kind marks kinds d r (length ts) ts
 
-abbrev pub dotted_read : {T A B : Type 0} → (T → ℕ) → List ℕ → List ℕ → Reader T B → Reader T A → Reader T (List A)
+abbrev pub dotted_read : {T A B : Type 0} (kind : Kinds T) → List kind.Kind → List kind.Kind → Reader T B → Reader T A → Reader T (List A)
 dotted_read kind marks kinds d r = mapped_read (λ (v : _ × _). v.0 ∷ v.1) (both_read r (follows_on_read kind marks kinds d r))
 
 -- maybe one part, then a closing sign, whose kinds are tested
-abbrev pub closed_read : {T A B : Type 0} → (T → ℕ) → List ℕ → Reader T B → Reader T A → Reader T (Option A × B)
+abbrev pub closed_read : {T A B : Type 0} (kind : Kinds T) → List kind.Kind → Reader T B → Reader T A → Reader T (Option A × B)
 closed_read kind marks d r =
     either_read kind marks (mapped_read (λ w. (None, w)) d) (mapped_read (λ (v : _ × _). (Some v.0, v.1)) (both_read r d))
 
