@@ -22,7 +22,7 @@ use Rattle.rsp_written.specs.declared.said.Said.{Said}
 use Rattle.rsp_written.specs.Trees.{Way, step, named, along, Node, variable_node, iri_node, constant_node, label_node, blank_node, described, Properties, no_property, values}
 use Rattle.rsp_written.specs.Building.{turned, rdf_type, property_list}
 use Rattle.rsp_written.specs.Grammar.{Rule, kind_number, numbers, sign, way_name, path_part, path_sequence, path_rule, path, verb, subject_name, node_name, no_properties, node, properties_end, object, objects, property, properties_rule, properties, same, triples_rule, value, in_braces, one_column, value_row, name_if_variable, columns, many_columns, block}
-use Rattle.rsp_written.specs.Readings.{repeated_read, word_kinds, sign_kinds, suffix_first}
+use Rattle.rsp_written.specs.Readings.{repeated_read, sign_kinds, suffix_first}
 use Rattle.rsp_written.specs.TripleReadings.{name_first, way_name_read, part_read, sequence_row, sequence_read, choice_row, path_rule_read, path_read, verb_read, subject_name_first, subject_name_read, node_name_read, no_properties_read, properties_end_read, bracket_read, node_name_first, object_read, objects_read, property_read, verb_first, properties_rule_read, properties_read, named_same_read, blank_same_read, described_same_read, same_read, same_first, triples_read, value_first, value_read, one_column_read, value_row_read, columns_read, value_rows_read, many_columns_read, block_read}
 use Rattle.rsp_written.proofs.Simple.{G, good_one, good_says, good_second_of, good_first_of, good_both, good_behind, good_in_parens, good_separated, under_second, under_first, under_in_parens, under_separated, good_iri, good_variable, good_literal}
 

@@ -15,7 +15,7 @@ use Rattle.rsp_written.specs.Trees.{Way, step, sequence, choice, Verb, named, al
 use Rattle.rsp_written.specs.Trees.{constant_node, label_node, blank_node, described, Properties, no_property, Element, values}
 use Rattle.rsp_written.specs.Building.{alone_or, ways_in, turned, rdf_type, property_list}
 use Rattle.rsp_written.specs.Grammar.{kind_number, numbers, name_if_variable}
-use Rattle.rsp_written.specs.Readings.{one_read, word_read, sign_read, choice_read, maybe_read, repeated_read, says_read}
+use Rattle.rsp_written.specs.Readings.{one_read, sign_read, choice_read, maybe_read, repeated_read, says_read}
 use Rattle.rsp_written.specs.Readings.{separated_read, word_kinds, sign_kinds, in_parens_read, iri_read, variable_read}
 use Rattle.rsp_written.specs.Readings.{signed_first, literal_read}
 
