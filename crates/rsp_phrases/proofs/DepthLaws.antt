@@ -101,7 +101,7 @@ at_most_good : {T A : Type 0} {kind : Kinds T} {p : Language T A} {r : Reader T 
     → (n : ℕ) → Good kind (at_most p n) (at_most_read kind bp r n) bp (gp ++ bp) true false
 unfolding at_most at_most_read
 at_most_good {kind = kind} {bp = bp} {gp = gp} h a zero = loosened bp (gp ++ bp) (good_nothing kind []) refl refl
-at_most_good {bp = bp} {gp = gp} h a (suc n) =
+at_most_good {kind = kind} {bp = bp} {gp = gp} h a (suc n) =
     let part = listed_as bp (gp ++ bp) (good_tied h (λ v. at_most_good h a n) a) (covered_nil kind bp)
     (covered_by kind bp (bp ++ []) (λ k is. has_left kind bp [] k is))
     (covered_by kind ((gp ++ bp) ++ gp) (gp ++ bp) (λ k is.

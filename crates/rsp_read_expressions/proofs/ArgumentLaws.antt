@@ -8,7 +8,7 @@ use Rattle.rsp_written.specs.declared.said.Symbol.TheVariants as symbol
 use Rattle.rsp_functions.specs.declared.function.Arity.{Arity}
 use Rattle.rsp_functions.specs.declared.function.Arity.TheVariants as arity
 use Rattle.rsp_written.specs.Trees.{Expr}
-use Rattle.rsp_written.specs.Grammar.{kind_number, numbers, maybe_third}
+use Rattle.rsp_written.specs.Grammar.{by_kind, maybe_third}
 use Rattle.rsp_written.specs.Readings.{sign_read, sign_kinds, maybe_read, in_parens_read, another_read, items_read, expressions_read, arguments_read}
 use Rattle.rsp_read_expressions.specs.Levels.{parts_at_most}
 use Rattle.rsp_read_expressions.specs.Lists.{needed_of, most_of, checked, list_from, list_read, closed_list_read, bracketed_list_read}
@@ -44,12 +44,12 @@ put_before first vs rest false = refl
 
 -- ---- with a reader of the expression within
 
-module _ (ks : List ℕ) (x s : Reader Said Expr) where
+module _ (ks : List Kind) (x s : Reader Said Expr) where
   more : ℕ → Reader Said (List Expr)
-  more n ts = at_most_read kind_number (numbers (sign_kinds symbol.Comma)) (another_read s) n ts
+  more n ts = at_most_read by_kind (sign_kinds symbol.Comma) (another_read s) n ts
 
   commas : List Said → Bool
-  commas ts = starts kind_number (numbers (sign_kinds symbol.Comma)) ts
+  commas ts = starts by_kind (sign_kinds symbol.Comma) ts
 
   checked_is : (n : ℕ) (first : Expr) (c : Reading Said (List Expr)) → checked n first c ≡ before first (filled n c)
   unfolding filled
@@ -234,12 +234,12 @@ module _ (ks : List ℕ) (x s : Reader Said Expr) where
 
   any_closed : (us : List Said)
       → mapped_read (λ (v : _ × _). listed v.0)
-      (closed_read kind_number (numbers (sign_kinds symbol.CloseParen)) (sign_read symbol.CloseParen) (items_read s)) us
+      (closed_read by_kind (sign_kinds symbol.CloseParen) (sign_read symbol.CloseParen) (items_read s)) us
       ≡ closed_list_read arity.Any ks x s us
   unfolding items_read closed_list_read list_read more
   any_closed us =
-      one_or_none (starts kind_number (numbers (sign_kinds symbol.CloseParen)) us) (sign_read symbol.CloseParen us) (items_read s us)
-      ∙ ap (λ l. cond (starts kind_number (numbers (sign_kinds symbol.CloseParen)) us) (image (λ (w : Said). []) (sign_read symbol.CloseParen us))
+      one_or_none (starts by_kind (sign_kinds symbol.CloseParen) us) (sign_read symbol.CloseParen us) (items_read s us)
+      ∙ ap (λ l. cond (starts by_kind (sign_kinds symbol.CloseParen) us) (image (λ (w : Said). []) (sign_read symbol.CloseParen us))
       (image (λ (v : List Expr × Said). v.0) (tied_from l (λ w. sign_read symbol.CloseParen)))) (any (s us) ∙ list_is arity.Any (s us))
 
   behind_opening : (q q' : Reader Said (List Expr)) → ((us : List Said) → q us ≡ q' us) → (c : Reading Said Said)
@@ -263,5 +263,5 @@ module _ (ks : List ℕ) (x s : Reader Said Expr) where
       (list_read arity.TwoOrThree ks x s) (λ us. two_or_three (s us) ∙ list_is arity.TwoOrThree (s us)) ts
   arguments_same arity.Any ts =
       behind_opening (mapped_read (λ (v : _ × _). listed v.0)
-      (closed_read kind_number (numbers (sign_kinds symbol.CloseParen)) (sign_read symbol.CloseParen) (items_read s)))
+      (closed_read by_kind (sign_kinds symbol.CloseParen) (sign_read symbol.CloseParen) (items_read s)))
       (closed_list_read arity.Any ks x s) any_closed (sign_read symbol.OpenParen ts)

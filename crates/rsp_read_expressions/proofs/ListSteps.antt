@@ -8,7 +8,7 @@ use Rattle.rsp_read_expressions.specs.Levels.{parts_at_most}
 use Rattle.rsp_read_expressions.specs.Lists.{needed_of, most_of, enough, checked, list_from, list_read}
 use Rattle.rsp_read_expressions.specs.declared.level.Parts.TheVariants.{Arguments}
 
-module _ (a : Arity) (ks : List ℕ) (x s : Reader Said Expr) (ts rest : List Said) (first : Expr) (most : ℕ)
+module _ (a : Arity) (ks : List Kind) (x s : Reader Said Expr) (ts rest : List Said) (first : Expr) (most : ℕ)
     (read : s ts ≡ Ok (first, rest)) (is : most ≡ most_of a (length rest)) where
   -- where the arguments behind the first are wrong
   pub list_wrong : (left : ℕ) → parts_at_most Arguments most ks x s rest ≡ Err left → list_read a ks x s ts ≡ Err left

@@ -13,7 +13,7 @@ use Rattle.rsp_read_expressions.specs.declared.level.Parts.{Parts}
 
 -- ---- a sign that is kept
 
-module _ (level : Level) (ks : List ℕ) (x s : Reader Said Expr) (front : List (Sign × Expr)) (ts : List Said) where
+module _ (level : Level) (ks : List Kind) (x s : Reader Said Expr) (front : List (Sign × Expr)) (ts : List Said) where
   behind_sign : Reading Said Sign → Reading Said (List (Sign × Expr))
   behind_sign reading = with_last front (tied_from reading (λ v. operand_part_read level ks x s))
 
@@ -30,7 +30,7 @@ module _ (level : Level) (ks : List ℕ) (x s : Reader Said Expr) (front : List 
 
 -- ---- a symbol that isn't
 
-module _ (parts : Parts) (ks : List ℕ) (x s : Reader Said Expr) (front : List Expr) (ts : List Said) where
+module _ (parts : Parts) (ks : List Kind) (x s : Reader Said Expr) (front : List Expr) (ts : List Said) where
   put : Reading Said (Said × Expr) → Reading Said (List Expr)
   put reading = with_last front (image (λ (v : Said × Expr). v.1) reading)
 

@@ -6,7 +6,7 @@ use Rattle.rsp_functions.specs.declared.function.Arity.TheVariants as arity
 use Rattle.rsp_written.specs.declared.said.Said.{Said}
 use Rattle.rsp_written.specs.declared.said.Symbol.TheVariants as symbol
 use Rattle.rsp_written.specs.Trees.{Expr}
-use Rattle.rsp_written.specs.Grammar.{kind_number, numbers}
+use Rattle.rsp_written.specs.Grammar.{by_kind}
 use Rattle.rsp_written.specs.Readings.{sign_read, sign_kinds}
 use Rattle.rsp_read_expressions.specs.Levels.{parts_at_most}
 use Rattle.rsp_read_expressions.specs.declared.level.Parts.TheVariants.{Arguments}
@@ -39,22 +39,22 @@ abbrev pub checked : ℕ → Expr → Reading Said (List Expr) → Reading Said 
 checked needed first (Ok x) = enough needed (first ∷ x.0) x.1
 checked needed first (Err left) = Err left
 
-abbrev pub list_from : Arity → List ℕ → Reader Said Expr → Reader Said Expr → Reading Said Expr → Reading Said (List Expr)
+abbrev pub list_from : Arity → List Kind → Reader Said Expr → Reader Said Expr → Reading Said Expr → Reading Said (List Expr)
 list_from a ks x s (Ok v) = checked (needed_of a) v.0 (parts_at_most Arguments (most_of a (length v.1)) ks x s v.1)
 list_from a ks x s (Err left) = Err left
 
 -- the arguments without brackets
-unfoldable pub list_read : Arity → List ℕ → Reader Said Expr → Reader Said Expr → Reader Said (List Expr)
+unfoldable pub list_read : Arity → List Kind → Reader Said Expr → Reader Said Expr → Reader Said (List Expr)
 list_read a ks x s ts = list_from a ks x s (s ts)
 
 -- whether the list ends before its first argument
 abbrev pub ends_empty : Arity → List Said → Bool
-ends_empty a ts = is_any a && starts kind_number (numbers (sign_kinds symbol.CloseParen)) ts
+ends_empty a ts = is_any a && starts by_kind (sign_kinds symbol.CloseParen) ts
 
-unfoldable pub closed_list_read : Arity → List ℕ → Reader Said Expr → Reader Said Expr → Reader Said (List Expr)
+unfoldable pub closed_list_read : Arity → List Kind → Reader Said Expr → Reader Said Expr → Reader Said (List Expr)
 closed_list_read a ks x s ts =
     cond (ends_empty a ts) (mapped_read (λ w. []) (sign_read symbol.CloseParen) ts)
     (first_read (list_read a ks x s) (sign_read symbol.CloseParen) ts)
 
-unfoldable pub bracketed_list_read : Arity → List ℕ → Reader Said Expr → Reader Said Expr → Reader Said (List Expr)
+unfoldable pub bracketed_list_read : Arity → List Kind → Reader Said Expr → Reader Said Expr → Reader Said (List Expr)
 bracketed_list_read a ks x s = second_read (sign_read symbol.OpenParen) (closed_list_read a ks x s)

@@ -2,7 +2,6 @@
 ghost use Rattle.std.specs.Prelude.{◌≡◌};
 ghost use Rattle.rsp_read_expressions.specs.Leaves.{counted_read};
 ghost use Rattle.rsp_written.specs.Gives.{Gives};
-ghost use Rattle.rsp_written.specs.Grammar.{numbers};
 ghost use Rattle.rsp_written.specs.Meanings.{expr_of};
 ghost use Rattle.rsp_written.specs.Readings as readings;
 
@@ -82,7 +81,7 @@ fn aggregate(alloc: Global, tokens: &[Said]) -> Result<(Expression, &[Said]), Ha
 struct Aggregates;
 
 impl Primaries for Aggregates {
-    ghost first = { numbers readings.aggregate_first };
+    ghost first = { readings.aggregate_first };
 
     ghost reading = { readings.aggregate_read };
 

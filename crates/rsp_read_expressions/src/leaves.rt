@@ -5,7 +5,7 @@ ghost use Rattle.rsp_phrases.specs.Readers.{starts};
 ghost use Rattle.rsp_read_expressions.specs.Leaves.{leaf_read, maybe_word_read};
 ghost use Rattle.rsp_read_expressions.specs.Lists as lists;
 ghost use Rattle.rsp_written.specs.Gives.{Gives};
-ghost use Rattle.rsp_written.specs.Grammar.{comparisons, kind_number, numbers};
+ghost use Rattle.rsp_written.specs.Grammar.{comparisons, by_kind};
 ghost use Rattle.rsp_written.specs.Meanings.{expr_of};
 ghost use Rattle.rsp_written.specs.Readings as readings;
 ghost use Rattle.rsp_written.specs.declared.said.Kind.TheVariants as kind;
@@ -18,7 +18,7 @@ use rsp_written::{
 use std::alloc::Global;
 
 pub(crate) fn begins_unary(tokens: &[Said]) -> bool
-    ensures { result ≡ starts kind_number (numbers readings.unary_signs) tokens.now }
+    ensures { result ≡ starts by_kind readings.unary_signs tokens.now }
 {
     first_is_among(
         &[
@@ -56,7 +56,7 @@ const COMPARISONS: [Sign; 6] = [
 ];
 
 pub(crate) fn compares(tokens: &[Said]) -> bool
-    ensures { result ≡ starts kind_number (numbers readings.comparison_first) tokens.now }
+    ensures { result ≡ starts by_kind readings.comparison_first tokens.now }
 {
     begins(&COMPARISONS, tokens)
 }
@@ -69,7 +69,7 @@ pub(crate) fn comparison_sign(tokens: &[Said]) -> Result<(Sign, &[Said]), Halt>
 
 /// Whether a comparison, IN or NOT IN is next.
 pub(crate) fn begins_relation(tokens: &[Said]) -> bool
-    ensures { result ≡ starts kind_number (numbers readings.relation_first) tokens.now }
+    ensures { result ≡ starts by_kind readings.relation_first tokens.now }
 {
     compares(tokens) || first_is_among(&[Kind::Word(Keyword::Not), Kind::Word(Keyword::In)], tokens)
 }
@@ -118,7 +118,7 @@ const FUNCTIONS: [Function; 28] = [
 ];
 
 pub fn begins_call(tokens: &[Said]) -> bool
-    ensures { result ≡ starts kind_number (numbers readings.call_first) tokens.now }
+    ensures { result ≡ starts by_kind readings.call_first tokens.now }
 {
     first_is(Kind::Word(Keyword::Bound), tokens) || begins(&FUNCTIONS, tokens)
 }

@@ -1,10 +1,11 @@
 // What may be a primary expression besides brackets, calls, names and literals.
-ghost use Rattle.std.specs.Prelude.{◌≡◌, ℕ, List, []};
+ghost use Rattle.std.specs.Prelude.{◌≡◌, List, []};
 ghost use Rattle.rsp_phrases.specs.Readers.{Reader, never_read, starts};
 ghost use Rattle.rsp_written.specs.Gives.{Gives};
-ghost use Rattle.rsp_written.specs.Grammar.{kind_number};
+ghost use Rattle.rsp_written.specs.Grammar.{by_kind};
 ghost use Rattle.rsp_written.specs.Meanings.{expr_of};
 ghost use Rattle.rsp_written.specs.Trees.{Expr};
+ghost use Rattle.rsp_written.specs.declared.said.Kind as kinds;
 ghost use Rattle.rsp_written.specs.declared.said.Said as said;
 
 use rsp_written::{Expression, Halt, Said};
@@ -13,13 +14,13 @@ use std::alloc::Global;
 /// What else may be a primary expression.
 pub(crate) trait Primaries {
     /// The kinds that begin it.
-    ghost first: { List ℕ };
+    ghost first: { List kinds.Kind };
     /// How it is read.
     ghost reading: { Reader said.Said Expr };
 
     /// Whether it begins here.
     fn begins(tokens: &[Said]) -> bool
-        ensures { result ≡ starts kind_number first tokens.now };
+        ensures { result ≡ starts by_kind first tokens.now };
 
     /// What stands here.
     fn read(alloc: Global, tokens: &[Said]) -> Result<(Expression, &[Said]), Halt>

@@ -4,7 +4,7 @@ ghost use Rattle.rsp_phrases.specs.Gathering.{gathered};
 ghost use Rattle.rsp_phrases.specs.Readers.{mapped_read, starts};
 ghost use Rattle.rsp_written.specs.Building.{run};
 ghost use Rattle.rsp_written.specs.Gives.{Gives};
-ghost use Rattle.rsp_written.specs.Grammar.{kind_number, numbers};
+ghost use Rattle.rsp_written.specs.Grammar.{by_kind};
 ghost use Rattle.rsp_written.specs.GroupMeanings.{element_of, graph_of};
 ghost use Rattle.rsp_written.specs.GroupReadings as readings;
 ghost use Rattle.rsp_written.specs.Meanings.{subject_of};
@@ -98,7 +98,7 @@ pub(crate) fn with_triples(
 
 /// Whether an element other than triples begins here.
 pub(crate) fn begins_other(tokens: &[Said]) -> bool
-    ensures { result ≡ starts kind_number (numbers readings.other_first) tokens.now }
+    ensures { result ≡ starts by_kind readings.other_first tokens.now }
 {
     first_is_among(
         &[

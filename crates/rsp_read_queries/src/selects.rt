@@ -4,7 +4,7 @@ ghost use Rattle.rsp_phrases.specs.Gathering.{as_read, gathered, single};
 ghost use Rattle.rsp_phrases.specs.Readers.{mapped_read, starts};
 ghost use Rattle.rsp_read_queries.specs.Clauses.{clause_of, keys_or_none, name_end_read, tail_of, wide_read};
 ghost use Rattle.rsp_written.specs.Gives.{Gives};
-ghost use Rattle.rsp_written.specs.Grammar.{kind_number, numbers};
+ghost use Rattle.rsp_written.specs.Grammar.{by_kind};
 ghost use Rattle.rsp_written.specs.GroupMeanings.{item_of, maybe_expr, projection_of};
 ghost use Rattle.rsp_written.specs.GroupReadings as readings;
 ghost use Rattle.rsp_written.specs.Meanings.{expr_of};
@@ -83,7 +83,7 @@ fn one_item(wide: bool, alloc: Global, tokens: &[Said]) -> Result<(Item, &[Said]
 }
 
 fn begins_item(tokens: &[Said]) -> bool
-    ensures { result ≡ starts kind_number (numbers readings.item_first) tokens.now }
+    ensures { result ≡ starts by_kind readings.item_first tokens.now }
 {
     first_is_among(&[Kind::Variable, Kind::Symbol(Symbol::OpenParen)], tokens)
 }

@@ -3,7 +3,7 @@ ghost use Rattle.std.specs.Prelude.{◌≡◌};
 ghost use Rattle.rsp_phrases.specs.Gathering.{as_read, gathered, single};
 ghost use Rattle.rsp_phrases.specs.Readers.{starts};
 ghost use Rattle.rsp_written.specs.Gives.{Gives};
-ghost use Rattle.rsp_written.specs.Grammar.{kind_number, numbers};
+ghost use Rattle.rsp_written.specs.Grammar.{by_kind};
 ghost use Rattle.rsp_written.specs.Readings.{behind_read, repeated_read, word_kinds};
 ghost use Rattle.rsp_written.specs.GroupReadings as readings;
 ghost use Rattle.rsp_written.specs.declared.said.Keyword.TheVariants as keyword;
@@ -127,7 +127,7 @@ pub(crate) fn policy(alloc: Global, tokens: &[Said]) -> Result<(PolicyWords, &[S
 
 /// Whether a policy begins here.
 pub(crate) fn begins_policy(tokens: &[Said]) -> bool
-    ensures { result ≡ starts kind_number (numbers readings.policy_first) tokens.now }
+    ensures { result ≡ starts by_kind readings.policy_first tokens.now }
 {
     first_is_among(
         &[Kind::Word(Keyword::Under), Kind::Word(Keyword::Report)],

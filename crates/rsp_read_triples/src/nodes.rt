@@ -2,7 +2,7 @@
 ghost use Rattle.std.specs.Prelude.{◌≡◌};
 ghost use Rattle.rsp_phrases.specs.Readers.{starts};
 ghost use Rattle.rsp_written.specs.Gives.{Gives};
-ghost use Rattle.rsp_written.specs.Grammar.{kind_number, numbers};
+ghost use Rattle.rsp_written.specs.Grammar.{by_kind};
 ghost use Rattle.rsp_written.specs.Meanings.{node_of};
 ghost use Rattle.rsp_written.specs.TripleReadings as readings;
 
@@ -32,7 +32,7 @@ pub(crate) fn subject_name(tokens: &[Said]) -> Result<(Node, &[Said]), Halt>
 
 /// Whether a name begins here that can be a subject.
 pub(crate) fn begins_subject_name(tokens: &[Said]) -> bool
-    ensures { result ≡ starts kind_number (numbers readings.subject_name_first) tokens.now }
+    ensures { result ≡ starts by_kind readings.subject_name_first tokens.now }
 {
     first_is_among(&[Kind::Variable, Kind::Iri, Kind::Label], tokens)
 }
@@ -52,7 +52,7 @@ pub(crate) fn node_name(alloc: Global, tokens: &[Said]) -> Result<(Node, &[Said]
 
 /// Whether a name or a literal begins here.
 pub(crate) fn begins_node_name(tokens: &[Said]) -> bool
-    ensures { result ≡ starts kind_number (numbers readings.node_name_first) tokens.now }
+    ensures { result ≡ starts by_kind readings.node_name_first tokens.now }
 {
     first_is_among(
         &[

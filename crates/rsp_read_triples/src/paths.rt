@@ -6,7 +6,7 @@ ghost use Rattle.rsp_phrases.specs.Readers.{starts};
 ghost use Rattle.rsp_read_triples.specs.Within.{path_within};
 ghost use Rattle.rsp_written.specs.Building.{rdf_type};
 ghost use Rattle.rsp_written.specs.Gives.{Gives};
-ghost use Rattle.rsp_written.specs.Grammar.{kind_number, numbers};
+ghost use Rattle.rsp_written.specs.Grammar.{by_kind};
 ghost use Rattle.rsp_written.specs.Meanings.{way_of, verb_of};
 ghost use Rattle.rsp_written.specs.Readings.{behind_read, choice_read, in_parens_read, repeated_read, sign_kinds};
 ghost use Rattle.rsp_written.specs.Trees.{inverse, step};
@@ -43,7 +43,7 @@ fn step(alloc: Global, tokens: &[Said]) -> Result<(Path, &[Said]), Halt>
 }
 
 fn begins_name(tokens: &[Said]) -> bool
-    ensures { result ≡ starts kind_number (numbers readings.name_first) tokens.now }
+    ensures { result ≡ starts by_kind readings.name_first tokens.now }
 {
     first_is_among(&[Kind::Iri, Kind::Word(Keyword::A)], tokens)
 }
@@ -239,7 +239,7 @@ pub fn verb(alloc: Global, tokens: &[Said]) -> Result<(Verb, &[Said]), Halt>
 
 /// Whether a verb begins here.
 pub(crate) fn begins_verb(tokens: &[Said]) -> bool
-    ensures { result ≡ starts kind_number (numbers readings.verb_first) tokens.now }
+    ensures { result ≡ starts by_kind readings.verb_first tokens.now }
 {
     let caret = Kind::Symbol(Symbol::Caret);
     let paren = Kind::Symbol(Symbol::OpenParen);

@@ -3,7 +3,7 @@ ghost use Rattle.std.specs.Prelude.{◌≡◌, IfSome, Ok, is_some, map};
 ghost use Rattle.rsp_phrases.specs.Gathering.{as_read, gathered, single};
 ghost use Rattle.rsp_phrases.specs.Readers.{follows_on_read, starts};
 ghost use Rattle.rsp_written.specs.Gives.{Gives};
-ghost use Rattle.rsp_written.specs.Grammar.{kind_number, numbers};
+ghost use Rattle.rsp_written.specs.Grammar.{by_kind};
 ghost use Rattle.rsp_written.specs.Meanings.{node_of, subject_of};
 ghost use Rattle.rsp_written.specs.Readings.{sign_kinds, sign_read};
 ghost use Rattle.rsp_written.specs.TripleReadings as readings;
@@ -73,7 +73,7 @@ fn subject(alloc: Global, tokens: &[Said]) -> Result<(Subject, &[Said]), Halt>
 
 /// Whether triples begin here.
 pub fn begins_triples(tokens: &[Said]) -> bool
-    ensures { result ≡ starts kind_number (numbers readings.same_first) tokens.now }
+    ensures { result ≡ starts by_kind readings.same_first tokens.now }
 {
     let bracket = Kind::Symbol(Symbol::OpenBracket);
     first_is_among(&[Kind::Variable, Kind::Iri, Kind::Label, bracket], tokens)
@@ -81,7 +81,7 @@ pub fn begins_triples(tokens: &[Said]) -> bool
 
 // a `.`, where one stands here, and the tokens behind it
 fn dot(tokens: &[Said]) -> Option<(&Said, &[Said])>
-    ensures there { is_some result ≡ starts kind_number (numbers (sign_kinds symbol.Dot)) tokens.now }
+    ensures there { is_some result ≡ starts by_kind (sign_kinds symbol.Dot) tokens.now }
     ensures read { IfSome result (λ x. sign_read symbol.Dot tokens.now ≡ Ok (x.0.now, x.1.now)) }
 {
     if !first_is(Kind::Symbol(Symbol::Dot), tokens) {
@@ -112,8 +112,8 @@ fn more_subjects(
 ) -> Result<(Vec<Subject>, &[Said]), Halt>
     ensures { Gives (λ x. (map subject_of x.0.items, x.1.now)) result
         (gathered as_read (map subject_of before.items)
-        (follows_on_read kind_number (numbers (sign_kinds symbol.Dot))
-        (numbers readings.same_first) (sign_read symbol.Dot) readings.same_read tokens.now)) }
+        (follows_on_read by_kind (sign_kinds symbol.Dot)
+        readings.same_first (sign_read symbol.Dot) readings.same_read tokens.now)) }
 {
     let mut subjects = before;
     let mut rest = tokens;

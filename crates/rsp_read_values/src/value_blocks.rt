@@ -5,7 +5,7 @@ ghost use Rattle.rsp_phrases.specs.Languages.{has};
 ghost use Rattle.rsp_phrases.specs.Readers.{first_read, second_read, starts};
 ghost use Rattle.rsp_read_values.specs.Rows.{is_new, one_value, so_many_read};
 ghost use Rattle.rsp_written.specs.Gives.{Gives};
-ghost use Rattle.rsp_written.specs.Grammar.{kind_number, name_if_variable, numbers};
+ghost use Rattle.rsp_written.specs.Grammar.{by_kind, name_if_variable};
 ghost use Rattle.rsp_written.specs.GroupMeanings.{values_of};
 ghost use Rattle.rsp_written.specs.Readings.{repeated_read, sign_kinds, sign_read};
 ghost use Rattle.rsp_written.specs.TripleReadings as readings;
@@ -22,7 +22,7 @@ use rsp_written::{
 use std::alloc::{AllocError, Global};
 
 fn begins_literal(tokens: &[Said]) -> bool
-    ensures { result ≡ starts kind_number (numbers readings.literal_first) tokens.now }
+    ensures { result ≡ starts by_kind readings.literal_first tokens.now }
 {
     first_is_among(
         &[
@@ -39,7 +39,7 @@ fn begins_literal(tokens: &[Said]) -> bool
 }
 
 fn begins_value(tokens: &[Said]) -> bool
-    ensures { result ≡ starts kind_number (numbers readings.value_first) tokens.now }
+    ensures { result ≡ starts by_kind readings.value_first tokens.now }
 {
     first_is_among(
         &[

@@ -25,7 +25,7 @@ use Rattle.rsp_written.specs.declared.said.Kind.TheVariants as kind
 use Rattle.rsp_written.specs.declared.said.Said.{Said}
 use Rattle.rsp_written.specs.Trees.{Expr, Operands, variable, iri, constant, bound, count_rows, sum, product}
 use Rattle.rsp_written.specs.Building.{with_operands, compared_to, one_of, related, with_sign, call_of, aggregate_of}
-use Rattle.rsp_written.specs.Grammar.{Rule, kind_number, numbers, meaning, word, sign, expressions, another, bound_call, maybe_third, call_rule, primary, unary_operator, unary, row, product_rule, sum_rule, comparisons, membership, relation, and_rule, or_rule, expression, maybe_distinct, count_rule, folds, aggregate_rule, aggregate_expression, arguments, function_call}
+use Rattle.rsp_written.specs.Grammar.{Rule, by_kind, meaning, word, sign, expressions, another, bound_call, maybe_third, call_rule, primary, unary_operator, unary, row, product_rule, sum_rule, comparisons, membership, relation, and_rule, or_rule, expression, maybe_distinct, count_rule, folds, aggregate_rule, aggregate_expression, arguments, function_call}
 use Rattle.rsp_written.specs.Readings.{word_kinds, sign_kinds, suffix_first, another_read, items_read, expressions_read, bound_read, call_names, call_first, call_read, primary_read, simple_read, minus_kind, plus_kind, unary_signs, unary_operator_read, unary_read, row_read, product_signs, product_read, sum_signs, sum_read, comparison_read, membership_read, relation_first, relation_read, all_row, and_read, any_row, or_read, expression_read, flagged, maybe_distinct_read, count_read, aggregate_first, aggregate_read, aggregate_expression_read, arguments_read, function_read}
 use Rattle.rsp_written.proofs.Simple.{G, good_one, good_meaning, good_says, good_second_of, good_both, good_behind, good_in_parens, good_separated, under_second, under_in_parens, under_separated, good_iri, good_variable, unsigned_first, good_unsigned_literal}
 
@@ -58,12 +58,12 @@ expr_go = kind.Symbol symbol.Or ∷ and_go
 -- ---- lists and calls, by an expression within brackets that begins with `first`
 
 module _ (q : Rule Expr) (s : Reader Said Expr) (first : List Kind) (h : G q s first expr_go false false)
-    (closed : apart (numbers (sign_kinds symbol.CloseParen)) ((numbers first ++ []) ++ []) ≡ true) where
-  good_another : Good kind_number (another q) (another_read s) (numbers (sign_kinds symbol.Comma)) (numbers expr_go ++ []) false true
+    (closed : apart by_kind (sign_kinds symbol.CloseParen) ((first ++ []) ++ []) ≡ true) where
+  good_another : Good by_kind (another q) (another_read s) (sign_kinds symbol.Comma) (expr_go ++ []) false true
   good_another = good_behind (sign_kinds symbol.Comma) h
 
-  good_items : Good kind_number (both q (many (another q))) (items_read s) (numbers first ++ [])
-      (((numbers expr_go ++ []) ++ numbers (sign_kinds symbol.Comma)) ++ numbers expr_go) false false
+  good_items : Good by_kind (both q (many (another q))) (items_read s) (first ++ [])
+      (((expr_go ++ []) ++ (sign_kinds symbol.Comma)) ++ expr_go) false false
   unfolding items_read
   good_items = good_both h (good_many good_another refl) refl
 
@@ -75,7 +75,7 @@ module _ (q : Rule Expr) (s : Reader Said Expr) (first : List Kind) (h : G q s f
       let none = good_mapped (λ (w : Said). let v : Option (Expr × List Expr) × Said = (None, w) in v) close in
       let part = good_same (closing (both q (many (another q))) (sign symbol.CloseParen) good_items.begun) (good_either none some closed refl) in
       good_second_of (good_one (sign_kinds symbol.OpenParen)) (good_mapped (λ (v : _ × _). listed v.0) part)
-      (apart_none (numbers (sign_kinds symbol.CloseParen) ++ ((numbers first ++ []) ++ [])))
+      (apart_none by_kind ((sign_kinds symbol.CloseParen) ++ ((first ++ []) ++ [])))
 
   good_bound : G bound_call bound_read (word_kinds keyword.Bound) [] false true
   unfolding bound_read
@@ -108,13 +108,13 @@ module _ (q : Rule Expr) (s : Reader Said Expr) (first : List Kind) (h : G q s f
 
 -- ---- rows of signs
 
-good_row : (signs : List Sign) (make : Expr → Operands → Expr) {p : Rule Expr} {r : Reader Said Expr} {bp gp : List ℕ}
-    → Good kind_number p r bp gp false true → apart (numbers (map kind.Sign signs)) gp ≡ true
-    → Good kind_number (row signs make p) (row_read signs make r) (bp ++ []) ((gp ++ numbers (map kind.Sign signs)) ++ gp) false true
+good_row : (signs : List Sign) (make : Expr → Operands → Expr) {p : Rule Expr} {r : Reader Said Expr} {bp gp : List Kind}
+    → Good by_kind p r bp gp false true → apart by_kind (map kind.Sign signs) gp ≡ true
+    → Good by_kind (row signs make p) (row_read signs make r) (bp ++ []) ((gp ++ (map kind.Sign signs)) ++ gp) false true
 good_row signs make {bp = bp} {gp = gp} h a =
-    let marks = numbers (map kind.Sign signs) in
-    let part = listed_as marks gp (good_both (good_meaning kind.Sign signs) h (apart_none bp)) (covered_nil marks)
-    (covered_by marks (marks ++ []) (λ k is. has_left marks [] k is)) (covered_nil gp) in
+    let marks = (map kind.Sign signs) in
+    let part = listed_as marks gp (good_both (good_meaning kind.Sign signs) h (apart_none by_kind bp)) (covered_nil by_kind marks)
+    (covered_by by_kind marks (marks ++ []) (λ k is. has_left by_kind marks [] k is)) (covered_nil by_kind gp) in
     good_mapped (with_operands make) (good_both h (good_many part a) a)
 
 good_unary_operator : G unary_operator unary_operator_read unary_signs [] false true
@@ -126,7 +126,7 @@ good_unary_operator =
 -- ---- the levels, without and with aggregates
 
 good_primary_plain : (e : Rule Expr) (x : Reader Said Expr) (q : Rule Expr) (s : Reader Said Expr) → G e x [] [] false true → G q s plain_first expr_go false false
-    → G (primary e q) (primary_read (numbers []) x s) ([] ++ primary_first) suffix_first false true
+    → G (primary e q) (primary_read [] x s) ([] ++ primary_first) suffix_first false true
 unfolding primary_read simple_read
 good_primary_plain e x q s he hq =
     good_either he (good_either (good_in_parens hq refl) (good_either (good_call q s plain_first hq refl)
@@ -134,46 +134,46 @@ good_primary_plain e x q s he hq =
     (good_mapped constant good_unsigned_literal) refl refl) refl refl) refl refl) refl refl) refl refl
 
 good_unary_plain : (e : Rule Expr) (x : Reader Said Expr) (q : Rule Expr) (s : Reader Said Expr) → G e x [] [] false true → G q s plain_first expr_go false false
-    → G (unary e q) (unary_read (numbers []) x s) plain_first suffix_first false true
+    → G (unary e q) (unary_read [] x s) plain_first suffix_first false true
 unfolding unary_read
 good_unary_plain e x q s he hq =
     good_mapped with_sign (good_both (good_optional good_unary_operator) (good_primary_plain e x q s he hq) refl)
 
 good_product_plain : (e : Rule Expr) (x : Reader Said Expr) (q : Rule Expr) (s : Reader Said Expr) → G e x [] [] false true → G q s plain_first expr_go false false
-    → G (product_rule e q) (product_read (numbers []) x s) plain_first product_go false true
+    → G (product_rule e q) (product_read [] x s) plain_first product_go false true
 unfolding product_read
 good_product_plain e x q s he hq =
-    listed_as (numbers plain_first) (numbers product_go) (good_row product_signs product (good_unary_plain e x q s he hq) refl) refl refl refl
+    listed_as plain_first product_go (good_row product_signs product (good_unary_plain e x q s he hq) refl) refl refl refl
 
 good_sum_plain : (e : Rule Expr) (x : Reader Said Expr) (q : Rule Expr) (s : Reader Said Expr) → G e x [] [] false true → G q s plain_first expr_go false false
-    → G (sum_rule e q) (sum_read (numbers []) x s) plain_first sum_go false true
+    → G (sum_rule e q) (sum_read [] x s) plain_first sum_go false true
 unfolding sum_read
 good_sum_plain e x q s he hq =
-    listed_as (numbers plain_first) (numbers sum_go) (good_row sum_signs sum (good_product_plain e x q s he hq) refl) refl refl refl
+    listed_as plain_first sum_go (good_row sum_signs sum (good_product_plain e x q s he hq) refl) refl refl refl
 
 good_relation_plain : (e : Rule Expr) (x : Reader Said Expr) (q : Rule Expr) (s : Reader Said Expr) → G e x [] [] false true → G q s plain_first expr_go false false
-    → G (relation e q) (relation_read (numbers []) x s) plain_first relation_go false true
+    → G (relation e q) (relation_read [] x s) plain_first relation_go false true
 unfolding relation_read comparison_read
 good_relation_plain e x q s he hq =
     let part = good_sum_plain e x q s he hq in
     let sign_and_sum = good_mapped (λ (v : Sign × Expr). compared_to v.0 v.1) (good_both (good_meaning kind.Sign comparisons) part refl) in
-    listed_as (numbers plain_first) (numbers relation_go)
+    listed_as plain_first relation_go
     (good_mapped related (good_both part (good_optional (good_either sign_and_sum (good_membership q s plain_first hq refl) refl refl)) refl)) refl refl refl
 
 good_and_plain : (e : Rule Expr) (x : Reader Said Expr) (q : Rule Expr) (s : Reader Said Expr) → G e x [] [] false true → G q s plain_first expr_go false false
-    → G (and_rule e q) (and_read (numbers []) x s) plain_first and_go false true
+    → G (and_rule e q) (and_read [] x s) plain_first and_go false true
 unfolding and_read
 good_and_plain e x q s he hq =
-    listed_as (numbers plain_first) (numbers and_go) (good_mapped all_row (good_separated (kind.Symbol symbol.And) (good_relation_plain e x q s he hq) refl)) refl refl refl
+    listed_as plain_first and_go (good_mapped all_row (good_separated (kind.Symbol symbol.And) (good_relation_plain e x q s he hq) refl)) refl refl refl
 
 good_or_plain : (e : Rule Expr) (x : Reader Said Expr) (q : Rule Expr) (s : Reader Said Expr) → G e x [] [] false true → G q s plain_first expr_go false false
-    → G (or_rule e q) (or_read (numbers []) x s) plain_first expr_go false true
+    → G (or_rule e q) (or_read [] x s) plain_first expr_go false true
 unfolding or_read
 good_or_plain e x q s he hq =
-    listed_as (numbers plain_first) (numbers expr_go) (good_mapped any_row (good_separated (kind.Symbol symbol.Or) (good_and_plain e x q s he hq) refl)) refl refl refl
+    listed_as plain_first expr_go (good_mapped any_row (good_separated (kind.Symbol symbol.Or) (good_and_plain e x q s he hq) refl)) refl refl refl
 
 good_primary_wide : (e : Rule Expr) (x : Reader Said Expr) (q : Rule Expr) (s : Reader Said Expr) → G e x aggregate_first [] false true → G q s wide_first expr_go false false
-    → G (primary e q) (primary_read (numbers aggregate_first) x s) (aggregate_first ++ primary_first) suffix_first false true
+    → G (primary e q) (primary_read aggregate_first x s) (aggregate_first ++ primary_first) suffix_first false true
 unfolding primary_read simple_read
 good_primary_wide e x q s he hq =
     good_either he (good_either (good_in_parens hq refl) (good_either (good_call q s wide_first hq refl)
@@ -181,43 +181,43 @@ good_primary_wide e x q s he hq =
     (good_mapped constant good_unsigned_literal) refl refl) refl refl) refl refl) refl refl) refl refl
 
 good_unary_wide : (e : Rule Expr) (x : Reader Said Expr) (q : Rule Expr) (s : Reader Said Expr) → G e x aggregate_first [] false true → G q s wide_first expr_go false false
-    → G (unary e q) (unary_read (numbers aggregate_first) x s) wide_first suffix_first false true
+    → G (unary e q) (unary_read aggregate_first x s) wide_first suffix_first false true
 unfolding unary_read
 good_unary_wide e x q s he hq =
     good_mapped with_sign (good_both (good_optional good_unary_operator) (good_primary_wide e x q s he hq) refl)
 
 good_product_wide : (e : Rule Expr) (x : Reader Said Expr) (q : Rule Expr) (s : Reader Said Expr) → G e x aggregate_first [] false true → G q s wide_first expr_go false false
-    → G (product_rule e q) (product_read (numbers aggregate_first) x s) wide_first product_go false true
+    → G (product_rule e q) (product_read aggregate_first x s) wide_first product_go false true
 unfolding product_read
 good_product_wide e x q s he hq =
-    listed_as (numbers wide_first) (numbers product_go) (good_row product_signs product (good_unary_wide e x q s he hq) refl) refl refl refl
+    listed_as wide_first product_go (good_row product_signs product (good_unary_wide e x q s he hq) refl) refl refl refl
 
 good_sum_wide : (e : Rule Expr) (x : Reader Said Expr) (q : Rule Expr) (s : Reader Said Expr) → G e x aggregate_first [] false true → G q s wide_first expr_go false false
-    → G (sum_rule e q) (sum_read (numbers aggregate_first) x s) wide_first sum_go false true
+    → G (sum_rule e q) (sum_read aggregate_first x s) wide_first sum_go false true
 unfolding sum_read
 good_sum_wide e x q s he hq =
-    listed_as (numbers wide_first) (numbers sum_go) (good_row sum_signs sum (good_product_wide e x q s he hq) refl) refl refl refl
+    listed_as wide_first sum_go (good_row sum_signs sum (good_product_wide e x q s he hq) refl) refl refl refl
 
 good_relation_wide : (e : Rule Expr) (x : Reader Said Expr) (q : Rule Expr) (s : Reader Said Expr) → G e x aggregate_first [] false true → G q s wide_first expr_go false false
-    → G (relation e q) (relation_read (numbers aggregate_first) x s) wide_first relation_go false true
+    → G (relation e q) (relation_read aggregate_first x s) wide_first relation_go false true
 unfolding relation_read comparison_read
 good_relation_wide e x q s he hq =
     let part = good_sum_wide e x q s he hq in
     let sign_and_sum = good_mapped (λ (v : Sign × Expr). compared_to v.0 v.1) (good_both (good_meaning kind.Sign comparisons) part refl) in
-    listed_as (numbers wide_first) (numbers relation_go)
+    listed_as wide_first relation_go
     (good_mapped related (good_both part (good_optional (good_either sign_and_sum (good_membership q s wide_first hq refl) refl refl)) refl)) refl refl refl
 
 good_and_wide : (e : Rule Expr) (x : Reader Said Expr) (q : Rule Expr) (s : Reader Said Expr) → G e x aggregate_first [] false true → G q s wide_first expr_go false false
-    → G (and_rule e q) (and_read (numbers aggregate_first) x s) wide_first and_go false true
+    → G (and_rule e q) (and_read aggregate_first x s) wide_first and_go false true
 unfolding and_read
 good_and_wide e x q s he hq =
-    listed_as (numbers wide_first) (numbers and_go) (good_mapped all_row (good_separated (kind.Symbol symbol.And) (good_relation_wide e x q s he hq) refl)) refl refl refl
+    listed_as wide_first and_go (good_mapped all_row (good_separated (kind.Symbol symbol.And) (good_relation_wide e x q s he hq) refl)) refl refl refl
 
 good_or_wide : (e : Rule Expr) (x : Reader Said Expr) (q : Rule Expr) (s : Reader Said Expr) → G e x aggregate_first [] false true → G q s wide_first expr_go false false
-    → G (or_rule e q) (or_read (numbers aggregate_first) x s) wide_first expr_go false true
+    → G (or_rule e q) (or_read aggregate_first x s) wide_first expr_go false true
 unfolding or_read
 good_or_wide e x q s he hq =
-    listed_as (numbers wide_first) (numbers expr_go) (good_mapped any_row (good_separated (kind.Symbol symbol.Or) (good_and_wide e x q s he hq) refl)) refl refl refl
+    listed_as wide_first expr_go (good_mapped any_row (good_separated (kind.Symbol symbol.Or) (good_and_wide e x q s he hq) refl)) refl refl refl
 
 -- ---- the same on short texts
 
@@ -276,7 +276,7 @@ under_or e n q q' h =
 -- ---- expressions
 
 good_none : G {A = Expr} never never_read [] [] false true
-good_none = good_never kind_number
+good_none = good_never by_kind
 
 pub good_expression : G expression expression_read plain_first expr_go false true
 unfolding expression_read
@@ -289,12 +289,12 @@ unfolding expression_read
 deep_call ts depth short =
     let q = nested (or_rule never) depth in
     let r = nested_read (or_read [] never_read) depth in
-    let inner = nested_good kind_number (or_rule never) (or_read [] never_read) (numbers plain_first) (numbers expr_go)
+    let inner = nested_good by_kind (or_rule never) (or_read [] never_read) plain_first expr_go
     (λ q s h. good_or_plain never never_read q s good_none h) (under_or never) depth in
-    let under = nested_under_all kind_number (or_rule never) (or_read [] never_read) (numbers plain_first) (numbers expr_go)
+    let under = nested_under_all by_kind (or_rule never) (or_read [] never_read) plain_first expr_go
     (λ q s h. good_or_plain never never_read q s good_none h) (under_or never) depth in
     same_reading (depth + 1) ts (good_call q r plain_first inner refl)
-    (good_call expression expression_read plain_first (loosened (numbers plain_first) (numbers expr_go) good_expression refl refl) refl)
+    (good_call expression expression_read plain_first (loosened plain_first expr_go good_expression refl refl) refl)
     (under_call under) (omega (arith, short))
 
 good_maybe_distinct : G maybe_distinct maybe_distinct_read (kind.Word keyword.Distinct ∷ plain_first) expr_go false true

@@ -19,10 +19,9 @@ use Rattle.rsp_written.specs.declared.said.Symbol.TheVariants as symbol
 use Rattle.rsp_written.specs.declared.said.Kind.{Kind}
 use Rattle.rsp_written.specs.declared.said.Kind.TheVariants as kind
 use Rattle.rsp_written.specs.declared.said.Said.{Said}
-use Rattle.rsp_written.specs.Numbers.{number_of}
 use Rattle.rsp_written.specs.Trees.{Expr, Node, Properties, Item, shown, computed, every_name, these, Graph, graph_variable, graph_iri, Element, optional_group, minus_group, union_of, graph_group, window_group, filter, exists, bind, Window, Written}
 use Rattle.rsp_written.specs.Building.{elements_in, groups_in, run, sub_select_of, written_of}
-use Rattle.rsp_written.specs.Grammar.{Rule, kind_number, numbers, one, word, sign, iri_name, call_rule, expression, aggregate_expression, triples_rule, group_of, optional_rule, minus_rule, union_rule, graph_name, graph_rule, window_rule, exists_rule, filter_rule, bind_rule, other, item_of, items_of, projection, select_clause, keys, having, tail, sub_select_rule, piece, body, block, group_rule, group, milliseconds, duration, origin_of_kind, origin, window_size, window_of, window, strategy, profile, tick, reported, policy, stream_operator, registered, windows, query_body, prefix_of_kind, prefix, declared_iri, resolved_as, resolved_by, resolved, query}
+use Rattle.rsp_written.specs.Grammar.{Rule, by_kind, one, word, sign, iri_name, call_rule, expression, aggregate_expression, triples_rule, group_of, optional_rule, minus_rule, union_rule, graph_name, graph_rule, window_rule, exists_rule, filter_rule, bind_rule, other, item_of, items_of, projection, select_clause, keys, having, tail, sub_select_rule, piece, body, block, group_rule, group, milliseconds, duration, origin_of_kind, origin, window_size, window_of, window, strategy, profile, tick, reported, policy, stream_operator, registered, windows, query_body, prefix_of_kind, prefix, declared_iri, resolved_as, resolved_by, resolved, query}
 use Rattle.rsp_written.specs.Readings.{word_kinds, sign_kinds, call_first, call_read, expression_read, aggregate_expression_read}
 use Rattle.rsp_written.specs.TripleReadings.{same_first}
 use Rattle.rsp_written.specs.GroupReadings.{group_of_read, optional_rule_read, minus_rule_read, union_rule_read, graph_name_read, graph_rule_read, window_rule_read, exists_rule_read, filter_rule_read, as_variable_read, bind_rule_read, values_rule_read, other_read, other_first, item_first, item_read, items_of_read, projection_read, select_clause_read, keys_read, having_read, tail_read, maybe_where_read, sub_select_read, piece_read, body_read, group_rule_read, group_read, span_read, origin_read, window_size_read, window_read, strategy_read, profile_read, tick_read, reported_read, policy_read, policy_first, stream_operator_read, registered_read, windows_read, query_body_read, prefix_read, query_read}
@@ -79,7 +78,7 @@ module _ (q : Rule (List Element)) (s : Reader Said (List Element)) (h : Inside 
       (good_both (good_optional (good_one (word_kinds keyword.Not))) (good_both (good_one (word_kinds keyword.Exists)) good_group_of refl) refl)
 
   good_plain_call : G (call_rule expression) (call_read expression_read) call_first [] false true
-  good_plain_call = good_call expression expression_read plain_first (loosened (numbers plain_first) (numbers expr_go) good_expression refl refl) refl
+  good_plain_call = good_call expression expression_read plain_first (loosened plain_first expr_go good_expression refl refl) refl
 
   good_filter_rule : G (filter_rule q) (filter_rule_read s) (word_kinds keyword.Filter) [] false true
   unfolding filter_rule_read
@@ -155,7 +154,7 @@ tail_go = tail_first ++ item_first
 
 good_tail : G tail tail_read tail_first tail_go true true
 unfolding tail_read
-good_tail = listed_as (numbers tail_first) (numbers tail_go) (good_both (good_optional good_keys) (good_optional good_having) refl) refl refl refl
+good_tail = listed_as tail_first tail_go (good_both (good_optional good_keys) (good_optional good_having) refl) refl refl refl
 
 good_where : G (optional (word keyword.Where)) maybe_where_read (word_kinds keyword.Where) (word_kinds keyword.Where) true true
 unfolding maybe_where_read
@@ -167,7 +166,7 @@ module _ (q : Rule (List Element)) (s : Reader Said (List Element)) (h : Inside 
   good_sub_select : G (sub_select_rule q) (sub_select_read s) (word_kinds keyword.Select) tail_go false true
   unfolding sub_select_read
   good_sub_select =
-      listed_as (numbers (word_kinds keyword.Select)) (numbers tail_go)
+      listed_as (word_kinds keyword.Select) tail_go
       (good_mapped sub_select_of (good_both good_select_clause (good_both good_where (good_both (good_group_of q s h) good_tail refl) refl) refl))
       refl refl refl
 
@@ -177,7 +176,7 @@ module _ (q : Rule (List Element)) (s : Reader Said (List Element)) (h : Inside 
   good_piece : G (piece q) (piece_read s) other_first (triples_go ++ (sign_kinds symbol.Dot ++ (same_first ++ word_kinds keyword.Union))) false true
   unfolding piece_read
   good_piece =
-      listed_as (numbers other_first) (numbers (triples_go ++ (sign_kinds symbol.Dot ++ (same_first ++ word_kinds keyword.Union))))
+      listed_as other_first (triples_go ++ (sign_kinds symbol.Dot ++ (same_first ++ word_kinds keyword.Union)))
       (good_mapped (λ (v : Element × (Option Said × Option (List (Node × Properties)))). v.0 ∷ run v.1.1)
       (good_both (good_other q s h) (good_both (good_optional (good_one (sign_kinds symbol.Dot))) (good_optional good_triples) refl) refl))
       refl refl refl
@@ -186,8 +185,8 @@ module _ (q : Rule (List Element)) (s : Reader Said (List Element)) (h : Inside 
       (triples_go ++ (sign_kinds symbol.Dot ++ (same_first ++ (word_kinds keyword.Union ++ other_first)))) true true
   unfolding body_read
   good_body =
-      listed_as (numbers (same_first ++ other_first))
-      (numbers (triples_go ++ (sign_kinds symbol.Dot ++ (same_first ++ (word_kinds keyword.Union ++ other_first)))))
+      listed_as (same_first ++ other_first)
+      (triples_go ++ (sign_kinds symbol.Dot ++ (same_first ++ (word_kinds keyword.Union ++ other_first))))
       (good_mapped (λ (v : Option (List (Node × Properties)) × List (List Element)). run v.0 ++ flat_map (λ found. found) v.1)
       (good_both (good_optional good_triples) (good_many good_piece refl) refl))
       refl refl refl
@@ -195,7 +194,7 @@ module _ (q : Rule (List Element)) (s : Reader Said (List Element)) (h : Inside 
   good_group_rule : G (group_rule q) (group_rule_read s) inside_first [] false true
   unfolding group_rule_read
   good_group_rule =
-      listed_as (numbers inside_first) []
+      listed_as inside_first []
       (good_first_of (good_either good_sub_select good_body refl refl) (good_one (sign_kinds symbol.CloseBrace)) refl) refl refl refl
 
 -- ---- the same on short texts
@@ -256,7 +255,7 @@ good_span = good_mapped (λ said. milliseconds said.text) (good_one (kind.Span �
 abbrev origin_first : List Kind
 origin_first = kind.Integer ∷ kind.String ∷ []
 
-origin_kind : (k : Kind) (text : List ℕ) → IsSome (origin_of_kind k text) → has (numbers (kind.Integer ∷ kind.String ∷ [])) (number_of k) ≡ true
+origin_kind : (k : Kind) (text : List ℕ) → IsSome (origin_of_kind k text) → has by_kind (kind.Integer ∷ kind.String ∷ []) k ≡ true
 origin_kind kind.Integer text h = refl
 origin_kind kind.String text h = refl
 origin_kind _ text h = absurd (true≢false (sym h))
@@ -264,7 +263,7 @@ origin_kind _ text h = absurd (true≢false (sym h))
 good_origin : G origin origin_read (kind.Integer ∷ kind.String ∷ []) [] false false
 unfolding origin_read
 good_origin =
-    good_token kind_number (λ said. origin_of_kind said.kind said.text) (numbers (kind.Integer ∷ kind.String ∷ [])) false
+    good_token by_kind (λ said. origin_of_kind said.kind said.text) (kind.Integer ∷ kind.String ∷ []) false
     (λ said h. origin_kind said.kind said.text h) (λ e. absurd (true≢false (sym e)))
 
 abbrev pub strategy_first : List Kind
@@ -336,11 +335,11 @@ good_windows = good_mapped (λ (v : Window × List Window). v.0 ∷ v.1) (good_b
 good_query_body : G query_body query_body_read (word_kinds keyword.Register) tail_go false true
 unfolding query_body_read
 good_query_body =
-    listed_as (numbers (word_kinds keyword.Register)) (numbers tail_go)
+    listed_as (word_kinds keyword.Register) tail_go
     (good_mapped written_of (good_both good_registered (good_both good_select_clause (good_both good_windows
     (good_both (good_second_of good_where good_group refl) good_tail refl) refl) refl) refl)) refl refl refl
 
-prefix_kind : (k : Kind) (said : Said) → IsSome (prefix_of_kind k said) → has (numbers (kind.Prefixed ∷ [])) (number_of k) ≡ true
+prefix_kind : (k : Kind) (said : Said) → IsSome (prefix_of_kind k said) → has by_kind (kind.Prefixed ∷ []) k ≡ true
 prefix_kind kind.Prefixed said h = refl
 prefix_kind _ said h = absurd (true≢false (sym h))
 
@@ -348,18 +347,18 @@ good_prefix : G prefix prefix_read (word_kinds keyword.Prefix) [] false true
 unfolding prefix_read
 good_prefix =
     good_second_of (good_one (word_kinds keyword.Prefix)) (good_both
-    (good_token kind_number (λ said. prefix_of_kind said.kind said) (numbers (kind.Prefixed ∷ [])) false
+    (good_token by_kind (λ said. prefix_of_kind said.kind said) (kind.Prefixed ∷ []) false
     (λ said h. prefix_kind said.kind said h) (λ e. absurd (true≢false (sym e)))) good_iri refl) refl
 
 -- a token that is read as another keeps its kind, but where it becomes an IRI or can stand nowhere
-kept_as : (kinds : List Kind) (said : Said) (o : Option (List ℕ)) → has (numbers kinds) (number_of kind.Iri) ≡ false → has (numbers kinds) (number_of kind.Nowhere) ≡ false
-    → has (numbers kinds) (kind_number (resolved_as said o)) ≡ true → has (numbers kinds) (kind_number said) ≡ true
+kept_as : (kinds : List Kind) (said : Said) (o : Option (List ℕ)) → has by_kind kinds kind.Iri ≡ false → has by_kind kinds kind.Nowhere ≡ false
+    → has by_kind kinds (resolved_as said o).kind ≡ true → has by_kind kinds said.kind ≡ true
 kept_as kinds said None a b h = absurd (true≢false (sym h ∙ b))
 kept_as kinds said (Some name) a b h = absurd (true≢false (sym h ∙ a))
 
 kept_by : (kinds : List Kind) (prefixes : List (List ℕ × List ℕ)) (k : Kind) (said : Said)
-    → has (numbers kinds) (number_of kind.Iri) ≡ false → has (numbers kinds) (number_of kind.Nowhere) ≡ false
-    → has (numbers kinds) (kind_number (resolved_by prefixes k said)) ≡ true → has (numbers kinds) (kind_number said) ≡ true
+    → has by_kind kinds kind.Iri ≡ false → has by_kind kinds kind.Nowhere ≡ false
+    → has by_kind kinds (resolved_by prefixes k said).kind ≡ true → has by_kind kinds said.kind ≡ true
 kept_by kinds prefixes kind.Prefixed said a b h = kept_as kinds said (declared_iri prefixes said.text) a b h
 kept_by kinds prefixes _ said a b h = h
 
@@ -368,6 +367,6 @@ unfolding query_read
 good_query =
     good_mapped (λ (v : List (List ℕ × List ℕ) × Written). v.1)
     (good_tied (good_many good_prefix refl)
-    (λ prefixes. good_seen (resolved prefixes) (numbers (word_kinds keyword.Register)) (numbers tail_go) good_query_body
+    (λ prefixes. good_seen (resolved prefixes) (word_kinds keyword.Register) tail_go good_query_body
     (λ said. kept_by (word_kinds keyword.Register) prefixes said.kind said refl refl)
     (λ said. kept_by tail_go prefixes said.kind said refl refl)) refl)

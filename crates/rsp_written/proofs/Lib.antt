@@ -4,4 +4,3 @@ pub mod Expressions
 pub mod Triples
 pub mod Groups
 mod ReadingRows
-pub mod Own

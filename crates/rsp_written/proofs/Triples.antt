@@ -21,7 +21,7 @@ use Rattle.rsp_written.specs.declared.said.Kind.TheVariants as kind
 use Rattle.rsp_written.specs.declared.said.Said.{Said}
 use Rattle.rsp_written.specs.Trees.{Way, step, named, along, Node, variable_node, iri_node, constant_node, label_node, blank_node, described, Properties, no_property, values}
 use Rattle.rsp_written.specs.Building.{turned, rdf_type, property_list}
-use Rattle.rsp_written.specs.Grammar.{Rule, kind_number, numbers, sign, way_name, path_part, path_sequence, path_rule, path, verb, subject_name, node_name, no_properties, node, properties_end, object, objects, property, properties_rule, properties, same, triples_rule, value, in_braces, one_column, value_row, name_if_variable, columns, many_columns, block}
+use Rattle.rsp_written.specs.Grammar.{Rule, by_kind, sign, way_name, path_part, path_sequence, path_rule, path, verb, subject_name, node_name, no_properties, node, properties_end, object, objects, property, properties_rule, properties, same, triples_rule, value, in_braces, one_column, value_row, name_if_variable, columns, many_columns, block}
 use Rattle.rsp_written.specs.Readings.{repeated_read, sign_kinds, suffix_first}
 use Rattle.rsp_written.specs.TripleReadings.{name_first, way_name_read, part_read, sequence_row, sequence_read, choice_row, path_rule_read, path_read, verb_read, subject_name_first, subject_name_read, node_name_read, no_properties_read, properties_end_read, bracket_read, node_name_first, object_read, objects_read, property_read, verb_first, properties_rule_read, properties_read, named_same_read, blank_same_read, described_same_read, same_read, same_first, triples_read, value_first, value_read, one_column_read, value_row_read, columns_read, value_rows_read, many_columns_read, block_read}
 use Rattle.rsp_written.proofs.Simple.{G, good_one, good_says, good_second_of, good_first_of, good_both, good_behind, good_in_parens, good_separated, under_second, under_first, under_in_parens, under_separated, good_iri, good_variable, good_literal}
@@ -48,14 +48,14 @@ good_sequence : (q : Rule Way) (s : Reader Said Way) → G q s part_first path_g
     → G (path_sequence q) (sequence_read s) part_first (kind.Sign operator.Divide ∷ []) false true
 unfolding sequence_read
 good_sequence q s h =
-    listed_as (numbers part_first) (numbers (kind.Sign operator.Divide ∷ []))
+    listed_as part_first (kind.Sign operator.Divide ∷ [])
     (good_mapped sequence_row (good_separated (kind.Sign operator.Divide) (good_part q s h) refl)) refl refl refl
 
 good_path_rule : (q : Rule Way) (s : Reader Said Way) → G q s part_first path_go false false
     → G (path_rule q) (path_rule_read s) part_first path_go false true
 unfolding path_rule_read
 good_path_rule q s h =
-    listed_as (numbers part_first) (numbers path_go)
+    listed_as part_first path_go
     (good_mapped choice_row (good_separated (kind.Symbol symbol.Bar) (good_sequence q s h) refl)) refl refl refl
 
 under_part : {n : ℕ} {q q' : Rule Way} → Under n q q' → Under (n + 1) (path_part q) (path_part q')
@@ -105,7 +105,7 @@ abbrev InnerProperties : Rule Properties → Reader Said Properties → Bool →
 InnerProperties q s exact = G q s verb_first properties_go false exact
 
 good_properties_end : {exact : Bool} (q : Rule Properties) (s : Reader Said Properties) → InnerProperties q s exact
-    → Good kind_number (properties_end q) (properties_end_read s) (numbers verb_first) [] false (exact && true)
+    → Good by_kind (properties_end q) (properties_end_read s) verb_first [] false (exact && true)
 unfolding properties_end_read
 good_properties_end q s h = good_mapped described (good_first_of h (good_one (sign_kinds symbol.CloseBracket)) refl)
 
@@ -121,7 +121,7 @@ good_objects : (q : Rule Properties) (s : Reader Said Properties) → InnerPrope
     → G (objects q) (objects_read s) (node_name_first ++ sign_kinds symbol.OpenBracket) property_go false true
 unfolding objects_read
 good_objects q s h =
-    listed_as (numbers (node_name_first ++ sign_kinds symbol.OpenBracket)) (numbers property_go)
+    listed_as (node_name_first ++ sign_kinds symbol.OpenBracket) property_go
     (good_mapped (λ (v : Node × List Node). v.0 ∷ v.1) (good_separated (kind.Symbol symbol.Comma) (good_object q s h) refl)) refl refl refl
 
 good_property : (q : Rule Properties) (s : Reader Said Properties) → InnerProperties q s false
@@ -135,7 +135,7 @@ unfolding properties_rule_read
 good_properties_rule q s h =
     let part = good_property q s h in
     let behind = good_second_of (good_one (sign_kinds symbol.Semicolon)) (good_optional part) refl in
-    listed_as (numbers verb_first) (numbers properties_go)
+    listed_as verb_first properties_go
     (good_mapped property_list (good_both part (good_many behind refl) refl)) refl refl refl
 
 under_object : {n : ℕ} {q q' : Rule Properties} → Under n q q' → Under (n + 1) (object q) (object q')
@@ -169,7 +169,7 @@ good_same_rule =
     let blank_part = good_mapped f (good_both good_no_properties good_properties refl) in
     let described_part = good_mapped g (good_both (good_properties_end properties properties_read good_properties) (good_optional good_properties) refl) in
     good_same (drawn_before f g subject_name (sign symbol.OpenBracket) no_properties (properties_end properties) properties (optional properties))
-    (listed_as (numbers same_first) (numbers same_go)
+    (listed_as same_first same_go
     (good_either named_part (good_behind (sign_kinds symbol.OpenBracket) (good_either blank_part described_part refl refl)) refl refl)
     refl refl refl)
 
@@ -179,7 +179,7 @@ triples_go = same_go ++ (same_first ++ sign_kinds symbol.Dot)
 pub good_triples : G triples_rule triples_read same_first triples_go false true
 unfolding triples_read
 good_triples =
-    listed_as (numbers same_first) (numbers triples_go)
+    listed_as same_first triples_go
     (good_dotted (good_one (sign_kinds symbol.Dot)) good_same_rule refl) refl refl refl
 
 -- ---- VALUES
@@ -193,7 +193,7 @@ good_value =
 abbrev pub values_go : List Kind
 values_go = suffix_first ++ value_first
 
-good_values : Good kind_number (many value) (repeated_read value_first value_read) (numbers value_first) (numbers values_go) true true
+good_values : Good by_kind (many value) (repeated_read value_first value_read) value_first values_go true true
 good_values = good_many good_value refl
 
 good_one_column : G one_column one_column_read (kind.Variable ∷ []) [] false true
@@ -208,9 +208,9 @@ row_first = sign_kinds symbol.CloseParen ++ value_first
 
 good_value_row : (n : ℕ) → G (value_row n) (value_row_read n) row_first [] false false
 unfolding value_row value_row_read
-good_value_row zero = loosened (numbers row_first) [] (good_says (kind.Symbol symbol.CloseParen) []) refl refl
+good_value_row zero = loosened row_first [] (good_says (kind.Symbol symbol.CloseParen) []) refl refl
 good_value_row (suc n) =
-    loosened (numbers row_first) []
+    loosened row_first []
     (good_mapped (λ (v : Option Term × List (Option Term)). v.0 ∷ v.1) (good_both good_value (good_value_row n) refl)) refl refl
 
 good_value_rows : (n : ℕ) → G (in_braces (many (second_of (sign symbol.OpenParen) (value_row n)))) (value_rows_read n) (sign_kinds symbol.OpenBrace) [] false true
@@ -233,15 +233,15 @@ some_name : (b : Bool) (name : List ℕ) → b ≡ true → IsSome (cond b (Some
 some_name true name h = refl
 some_name false name h = absurd (true≢false (sym h))
 
-variable_kind : (said : Said) → IsSome (name_if_variable said) → has (numbers (kind.Variable ∷ [])) (kind_number said) ≡ true
-variable_kind said h = name_some (has (numbers (kind.Variable ∷ [])) (kind_number said)) said.text h
+variable_kind : (said : Said) → IsSome (name_if_variable said) → has by_kind (kind.Variable ∷ []) said.kind ≡ true
+variable_kind said h = name_some (has by_kind (kind.Variable ∷ []) said.kind) said.text h
 
-kind_variable : (said : Said) → has (numbers (kind.Variable ∷ [])) (kind_number said) ≡ true → IsSome (name_if_variable said)
-kind_variable said h = some_name (has (numbers (kind.Variable ∷ [])) (kind_number said)) said.text h
+kind_variable : (said : Said) → has by_kind (kind.Variable ∷ []) said.kind ≡ true → IsSome (name_if_variable said)
+kind_variable said h = some_name (has by_kind (kind.Variable ∷ []) said.kind) said.text h
 
 good_columns : G columns columns_read (kind.Variable ∷ []) (kind.Variable ∷ []) true true
 unfolding columns_read
-good_columns = good_distinct kind_number bytes_eq name_if_variable (numbers (kind.Variable ∷ [])) same_text text_itself variable_kind kind_variable
+good_columns = good_distinct by_kind bytes_eq name_if_variable (kind.Variable ∷ []) same_text text_itself variable_kind kind_variable
 
 good_many_columns : G many_columns many_columns_read (sign_kinds symbol.OpenParen) [] false true
 unfolding many_columns_read

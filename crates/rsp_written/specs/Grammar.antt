@@ -26,7 +26,7 @@ use Rattle.rsp_report.specs.declared.words.Strategy.{Strategy}
 use Rattle.rsp_report.specs.declared.words.Strategy.TheVariants as strategies
 use Rattle.rsp_report.specs.declared.words.PolicyWords.{PolicyWords}
 use Rattle.rsp_report.specs.declared.words.PolicyWords.TheVariants as policies
-use Rattle.rsp_phrases.specs.Languages.{Language, has, among, token, mapped, tied, both, second_of, first_of_both, either}
+use Rattle.rsp_phrases.specs.Languages.{Kinds, Language, has, among, token, mapped, tied, both, second_of, first_of_both, either}
 use Rattle.rsp_phrases.specs.Languages.{optional, many, dotted, distinct, within_itself, seen, listed, never}
 use Rattle.rsp_written.specs.declared.expression.UnaryOperator.{UnaryOperator}
 use Rattle.rsp_written.specs.declared.expression.UnaryOperator.TheVariants as before
@@ -37,7 +37,7 @@ use Rattle.rsp_written.specs.declared.said.Symbol.TheVariants as symbol
 use Rattle.rsp_written.specs.declared.said.Kind.{Kind}
 use Rattle.rsp_written.specs.declared.said.Kind.TheVariants as kind
 use Rattle.rsp_written.specs.declared.said.Said.{Said}
-use Rattle.rsp_written.specs.Numbers.{number_of}
+use Rattle.rsp_written.specs.Same.{kind_eq, kind_same}
 use Rattle.rsp_written.specs.Trees.{Expr, variable, iri, constant, any_of, all_of, sum, product, bound, count_rows}
 use Rattle.rsp_written.specs.Trees.{Way, step, sequence, choice, Verb, named, along, Node, variable_node, iri_node}
 use Rattle.rsp_written.specs.Trees.{constant_node, label_node, blank_node, described, Properties, no_property, Item, shown}
@@ -54,15 +54,13 @@ use Rattle.rsp_written.specs.declared.literals.Suffix.TheVariants.{InLanguage, O
 abbrev pub Rule : Type 0 → Type 1
 Rule A = Language Said A
 
-abbrev pub kind_number : Said → ℕ
-kind_number said = number_of said.kind
-
-abbrev pub numbers : List Kind → List ℕ
-numbers kinds = map number_of kinds
+-- tokens are told by their kinds
+abbrev pub by_kind : Kinds Said
+by_kind = record { Kind = Kind; of = λ said. said.kind; same = kind_eq; alike = kind_same }
 
 -- a token of one of these kinds
 abbrev pub one : List Kind → Rule Said
-one kinds = among kind_number (numbers kinds)
+one kinds = among by_kind kinds
 
 abbrev pub word : Keyword → Rule Said
 word w = one (kind.Word w ∷ [])
@@ -70,13 +68,13 @@ word w = one (kind.Word w ∷ [])
 abbrev pub sign : Symbol → Rule Said
 sign s = one (kind.Symbol s ∷ [])
 
--- whether the token that means this has this number
-abbrev pub has_number : {A : Type 0} → (A → Kind) → ℕ → A → Bool
-has_number spelling number value = number_of (spelling value) == number
+-- whether the token that means this is of this kind
+abbrev pub has_kind : {A : Type 0} → (A → Kind) → Kind → A → Bool
+has_kind spelling k value = kind_eq (spelling value) k
 
 -- a token that means one of these, of which each has a kind of its own; its value is what it means
 abbrev pub meaning : {A : Type 0} → (A → Kind) → List A → Rule A
-meaning spelling all = token (λ said. find (has_number spelling (kind_number said)) all)
+meaning spelling all = token (λ said. find (has_kind spelling said.kind) all)
 
 -- a token of this kind, and what it means here
 abbrev pub says : {A : Type 0} → Kind → A → Rule A
@@ -354,7 +352,7 @@ value_row zero = says (kind.Symbol symbol.CloseParen) []
 value_row (suc n) = mapped (λ (v : Option Term × List (Option Term)). v.0 ∷ v.1) (both value (value_row n))
 
 abbrev pub name_if_variable : Said → Option (List ℕ)
-name_if_variable said = cond (has (numbers (kind.Variable ∷ [])) (kind_number said)) (Some said.text) None
+name_if_variable said = cond (has by_kind (kind.Variable ∷ []) said.kind) (Some said.text) None
 
 -- no variable twice
 abbrev pub columns : Rule (List (List ℕ))

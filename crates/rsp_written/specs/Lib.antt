@@ -3,7 +3,7 @@ pub mod Trees
 pub mod Building
 pub mod Grammar
 -- Words of the way
-pub mod Numbers
+pub mod Same
 pub mod Meanings
 pub mod GroupMeanings
 pub mod Gives

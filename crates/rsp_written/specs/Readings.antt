@@ -28,10 +28,10 @@ use Rattle.rsp_written.specs.Building.{with_operands, Relation, compared_to, one
 use Rattle.rsp_written.specs.Building.{aggregate_of}
 use Rattle.rsp_written.specs.declared.literals.Suffix.{Suffix}
 use Rattle.rsp_written.specs.declared.literals.Suffix.TheVariants.{InLanguage, OfDatatype}
-use Rattle.rsp_written.specs.Grammar.{kind_number, numbers, has_number, text_of, number_kinds, maybe_third, comparisons, folds}
+use Rattle.rsp_written.specs.Grammar.{by_kind, has_kind, text_of, number_kinds, maybe_third, comparisons, folds}
 
 abbrev pub one_read : List Kind → Reader Said Said
-one_read kinds = among_read kind_number (numbers kinds)
+one_read kinds = among_read by_kind kinds
 
 abbrev pub word_read : Keyword → Reader Said Said
 word_read w = one_read (kind.Word w ∷ [])
@@ -41,20 +41,20 @@ sign_read s = one_read (kind.Symbol s ∷ [])
 
 -- the first of these that the next token means
 abbrev pub meaning_read : {A : Type 0} → (A → Kind) → List A → Reader Said A
-meaning_read spelling values = token_read (λ said. find (has_number spelling (kind_number said)) values)
+meaning_read spelling values = token_read (λ said. find (has_kind spelling said.kind) values)
 
 abbrev pub says_read : {A : Type 0} → Kind → A → Reader Said A
 says_read k value = mapped_read (λ said. value) (one_read (k ∷ []))
 
 -- the first where the next token is of one of these kinds
 abbrev pub choice_read : {A : Type 0} → List Kind → Reader Said A → Reader Said A → Reader Said A
-choice_read kinds r s = either_read kind_number (numbers kinds) r s
+choice_read kinds r s = either_read by_kind kinds r s
 
 abbrev pub maybe_read : {A : Type 0} → List Kind → Reader Said A → Reader Said (Option A)
-maybe_read kinds r = optional_read kind_number (numbers kinds) r
+maybe_read kinds r = optional_read by_kind kinds r
 
 abbrev pub repeated_read : {A : Type 0} → List Kind → Reader Said A → Reader Said (List A)
-repeated_read kinds r = many_read kind_number (numbers kinds) r
+repeated_read kinds r = many_read by_kind kinds r
 
 -- the part behind a token that stands between parts
 abbrev pub behind_read : {A : Type 0} → Kind → Reader Said A → Reader Said A
@@ -130,7 +130,7 @@ unfoldable pub expressions_read : Reader Said Expr → Reader Said (List Expr)
 expressions_read s =
     second_read (sign_read symbol.OpenParen)
     (mapped_read (λ (v : _ × _). listed v.0)
-    (closed_read kind_number (numbers (sign_kinds symbol.CloseParen)) (sign_read symbol.CloseParen) (items_read s)))
+    (closed_read by_kind (sign_kinds symbol.CloseParen) (sign_read symbol.CloseParen) (items_read s)))
 
 unfoldable pub bound_read : Reader Said Expr
 bound_read = mapped_read bound (second_read (word_read keyword.Bound) (in_parens_read variable_read))
@@ -165,8 +165,8 @@ simple_read s =
     (mapped_read constant unsigned_literal_read))))
 
 -- `ks`, `x`: the kinds that begin what else may be a Primary, and its reader
-unfoldable pub primary_read : List ℕ → Reader Said Expr → Reader Said Expr → Reader Said Expr
-primary_read ks x s = either_read kind_number ks x (simple_read s)
+unfoldable pub primary_read : List Kind → Reader Said Expr → Reader Said Expr → Reader Said Expr
+primary_read ks x s = either_read by_kind ks x (simple_read s)
 
 abbrev pub minus_kind : Kind
 minus_kind = kind.Sign operator.Subtract
@@ -182,7 +182,7 @@ unary_operator_read =
     choice_read (kind.Symbol symbol.Not ∷ []) (says_read (kind.Symbol symbol.Not) before.Not)
     (choice_read (minus_kind ∷ []) (says_read minus_kind before.Minus) (says_read plus_kind before.Plus))
 
-unfoldable pub unary_read : List ℕ → Reader Said Expr → Reader Said Expr → Reader Said Expr
+unfoldable pub unary_read : List Kind → Reader Said Expr → Reader Said Expr → Reader Said Expr
 unary_read ks x s = mapped_read with_sign (both_read (maybe_read unary_signs unary_operator_read) (primary_read ks x s))
 
 abbrev pub operands_read : List Sign → Reader Said Expr → Reader Said (List (Sign × Expr))
@@ -194,16 +194,16 @@ row_read signs make r = mapped_read (with_operands make) (both_read r (operands_
 abbrev pub product_signs : List Sign
 product_signs = operator.Multiply ∷ operator.Divide ∷ []
 
-unfoldable pub product_read : List ℕ → Reader Said Expr → Reader Said Expr → Reader Said Expr
+unfoldable pub product_read : List Kind → Reader Said Expr → Reader Said Expr → Reader Said Expr
 product_read ks x s = row_read product_signs product (unary_read ks x s)
 
 abbrev pub sum_signs : List Sign
 sum_signs = operator.Add ∷ operator.Subtract ∷ []
 
-unfoldable pub sum_read : List ℕ → Reader Said Expr → Reader Said Expr → Reader Said Expr
+unfoldable pub sum_read : List Kind → Reader Said Expr → Reader Said Expr → Reader Said Expr
 sum_read ks x s = row_read sum_signs sum (product_read ks x s)
 
-unfoldable pub comparison_read : List ℕ → Reader Said Expr → Reader Said Expr → Reader Said Relation
+unfoldable pub comparison_read : List Kind → Reader Said Expr → Reader Said Expr → Reader Said Relation
 comparison_read ks x s =
     mapped_read (λ (v : Sign × Expr). compared_to v.0 v.1) (both_read (meaning_read kind.Sign comparisons) (sum_read ks x s))
 
@@ -219,7 +219,7 @@ comparison_first = map kind.Sign comparisons
 abbrev pub relation_first : List Kind
 relation_first = comparison_first ++ (word_kinds keyword.Not ++ word_kinds keyword.In)
 
-unfoldable pub relation_read : List ℕ → Reader Said Expr → Reader Said Expr → Reader Said Expr
+unfoldable pub relation_read : List Kind → Reader Said Expr → Reader Said Expr → Reader Said Expr
 relation_read ks x s =
     mapped_read related (both_read (sum_read ks x s)
     (maybe_read relation_first (choice_read comparison_first (comparison_read ks x s) (membership_read s))))
@@ -227,13 +227,13 @@ relation_read ks x s =
 abbrev pub all_row : Expr × List Expr → Expr
 all_row = alone_or (λ es. all_of (exprs_in es))
 
-unfoldable pub and_read : List ℕ → Reader Said Expr → Reader Said Expr → Reader Said Expr
+unfoldable pub and_read : List Kind → Reader Said Expr → Reader Said Expr → Reader Said Expr
 and_read ks x s = mapped_read all_row (separated_read (kind.Symbol symbol.And) (relation_read ks x s))
 
 abbrev pub any_row : Expr × List Expr → Expr
 any_row = alone_or (λ es. any_of (exprs_in es))
 
-unfoldable pub or_read : List ℕ → Reader Said Expr → Reader Said Expr → Reader Said Expr
+unfoldable pub or_read : List Kind → Reader Said Expr → Reader Said Expr → Reader Said Expr
 or_read ks x s = mapped_read any_row (separated_read (kind.Symbol symbol.Or) (and_read ks x s))
 
 unfoldable pub expression_read : Reader Said Expr
@@ -262,7 +262,7 @@ aggregate_read =
     (both_read (meaning_read kind.Fold folds) (in_parens_read maybe_distinct_read)))
 
 unfoldable pub aggregate_expression_read : Reader Said Expr
-aggregate_expression_read = within_itself_read (or_read (numbers aggregate_first) aggregate_read)
+aggregate_expression_read = within_itself_read (or_read aggregate_first aggregate_read)
 
 -- ---- by whether aggregates may stand
 
@@ -276,4 +276,4 @@ extra_read false = never_read
 
 -- an expression that holds itself at most so deep
 abbrev pub deep_read : Bool → ℕ → Reader Said Expr
-deep_read wide depth = nested_read (or_read (numbers (extra_first wide)) (extra_read wide)) depth
+deep_read wide depth = nested_read (or_read (extra_first wide) (extra_read wide)) depth

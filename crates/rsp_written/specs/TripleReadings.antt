@@ -14,7 +14,7 @@ use Rattle.rsp_written.specs.declared.said.Said.{Said}
 use Rattle.rsp_written.specs.Trees.{Way, step, sequence, choice, Verb, named, along, Node, variable_node, iri_node}
 use Rattle.rsp_written.specs.Trees.{constant_node, label_node, blank_node, described, Properties, no_property, Element, values}
 use Rattle.rsp_written.specs.Building.{alone_or, ways_in, turned, rdf_type, property_list}
-use Rattle.rsp_written.specs.Grammar.{kind_number, numbers, name_if_variable}
+use Rattle.rsp_written.specs.Grammar.{by_kind, name_if_variable}
 use Rattle.rsp_written.specs.Readings.{one_read, sign_read, choice_read, maybe_read, repeated_read, says_read}
 use Rattle.rsp_written.specs.Readings.{separated_read, word_kinds, sign_kinds, in_parens_read, iri_read, variable_read}
 use Rattle.rsp_written.specs.Readings.{signed_first, literal_read}
@@ -131,7 +131,7 @@ abbrev pub same_first : List Kind
 same_first = subject_name_first ++ sign_kinds symbol.OpenBracket
 
 unfoldable pub triples_read : Reader Said (List (Node × Properties))
-triples_read = dotted_read kind_number (numbers (sign_kinds symbol.Dot)) (numbers same_first) (sign_read symbol.Dot) same_read
+triples_read = dotted_read by_kind (sign_kinds symbol.Dot) same_first (sign_read symbol.Dot) same_read
 
 -- ---- VALUES
 

@@ -3,7 +3,7 @@ ghost use Rattle.std.specs.Prelude.{◌≡◌, IfOk, Some};
 ghost use Rattle.rsp_written.specs.Gives.{Gives};
 ghost use Rattle.rsp_written.specs.Building as building;
 ghost use Rattle.rsp_phrases.specs.Readers.{starts};
-ghost use Rattle.rsp_written.specs.Grammar.{kind_number, number_kinds, numbers};
+ghost use Rattle.rsp_written.specs.Grammar.{by_kind, number_kinds};
 ghost use Rattle.rsp_written.specs.Readings as readings;
 
 use crate::reading::{Halt, first_is, first_is_among, iri, one, sign, word};
@@ -144,14 +144,14 @@ pub fn literal(alloc: Global, tokens: &[Said]) -> Result<(Term, &[Said]), Halt>
 }
 
 fn begins_signed(tokens: &[Said]) -> bool
-    ensures { result ≡ starts kind_number (numbers readings.signed_first) tokens.now }
+    ensures { result ≡ starts by_kind readings.signed_first tokens.now }
 {
     let minus = Kind::Sign(Sign::Subtract);
     first_is_among(&[minus, Kind::Integer, Kind::Decimal, Kind::Double], tokens)
 }
 
 fn begins_number(tokens: &[Said]) -> bool
-    ensures { result ≡ starts kind_number (numbers number_kinds) tokens.now }
+    ensures { result ≡ starts by_kind number_kinds tokens.now }
 {
     first_is_among(&[Kind::Integer, Kind::Decimal, Kind::Double], tokens)
 }

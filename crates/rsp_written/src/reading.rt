@@ -1,10 +1,9 @@
 // Reading tokens: one of some kinds, what it means, names.
 ghost use Rattle.std.specs.Prelude.{◌≡◌, ◌∷◌, [], find, map};
 ghost use Rattle.rsp_phrases.specs.Languages.{has};
-ghost use Rattle.rsp_written.specs.Numbers.{number_of};
 ghost use Rattle.rsp_phrases.specs.Readers.{starts};
 ghost use Rattle.rsp_written.specs.Gives.{Gives};
-ghost use Rattle.rsp_written.specs.Grammar.{has_number, kind_number, numbers};
+ghost use Rattle.rsp_written.specs.Grammar.{has_kind, by_kind};
 ghost use Rattle.rsp_written.specs.Readings.{iri_read, meaning_read, one_read, sign_read, variable_read, word_read};
 ghost use Rattle.rsp_written.specs.declared.said.Kind as kinds;
 ghost use Rattle.rsp_written.specs.declared.said.Kind.TheVariants as variants;
@@ -39,12 +38,12 @@ impl<T: Drop> From<AllocFailed<T>> for Halt {
     }
 }
 
-// whether a kind with this number is among these
-fn is_among(number: u8, kinds: &[Kind]) -> bool
-    ensures { result ≡ has (numbers kinds.now) number }
+// whether this kind is among these
+fn is_among(kind: Kind, kinds: &[Kind]) -> bool
+    ensures { result ≡ has by_kind kinds.now kind }
 {
-    for kind in kinds {
-        if kind.number() == number {
+    for other in kinds {
+        if *other == kind {
             return true;
         }
     }
@@ -53,21 +52,21 @@ fn is_among(number: u8, kinds: &[Kind]) -> bool
 
 /// Whether the next token is of one of these kinds.
 pub fn first_is_among(kinds: &[Kind], tokens: &[Said]) -> bool
-    ensures { result ≡ starts kind_number (numbers kinds.now) tokens.now }
+    ensures { result ≡ starts by_kind kinds.now tokens.now }
 {
     match tokens.first() {
         None => false,
-        Some(said) => is_among(said.kind.number(), kinds),
+        Some(said) => is_among(said.kind, kinds),
     }
 }
 
 /// Whether the next token is of this kind.
 pub fn first_is(kind: Kind, tokens: &[Said]) -> bool
-    ensures { result ≡ starts kind_number (numbers (kind ∷ [])) tokens.now }
+    ensures { result ≡ starts by_kind (kind ∷ []) tokens.now }
 {
     match tokens.first() {
         None => false,
-        Some(said) => kind.number() == said.kind.number(),
+        Some(said) => kind == said.kind,
     }
 }
 
@@ -78,7 +77,7 @@ pub fn one<'a>(kinds: &[Kind], tokens: &'a [Said]) -> Result<(&'a Said, &'a [Sai
     match tokens.split_first() {
         None => Err(Halt::Wrong(0)),
         Some((said, rest)) => {
-            if is_among(said.kind.number(), kinds) {
+            if is_among(said.kind, kinds) {
                 Ok((said, rest))
             } else {
                 Err(Halt::Wrong(tokens.len()))
@@ -135,12 +134,12 @@ impl Spelled for Fold {
     }
 }
 
-// the first of these whose token has this number
-fn meant<M: Spelled>(values: &[M], number: u8) -> Option<M>
-    ensures { result ≡ find (has_number M.spelling number) values.now }
+// the first of these whose token is of this kind
+fn meant<M: Spelled>(values: &[M], kind: Kind) -> Option<M>
+    ensures { result ≡ find (has_kind M.spelling kind) values.now }
 {
     for value in values {
-        if value.kind().number() == number {
+        if value.kind() == kind {
             return Some(*value);
         }
     }
@@ -150,11 +149,11 @@ fn meant<M: Spelled>(values: &[M], number: u8) -> Option<M>
 /// Whether the next token means one of these.
 #[tactic(auto, using(crate::proofs::Simple::found))]
 pub fn begins<M: Spelled>(values: &[M], tokens: &[Said]) -> bool
-    ensures { result ≡ starts kind_number (numbers (map M.spelling values.now)) tokens.now }
+    ensures { result ≡ starts by_kind (map M.spelling values.now) tokens.now }
 {
     match tokens.first() {
         None => false,
-        Some(said) => meant(values, said.kind.number()).is_some(),
+        Some(said) => meant(values, said.kind).is_some(),
     }
 }
 
@@ -165,7 +164,7 @@ pub fn meaning<'a, M: Spelled>(values: &[M], tokens: &'a [Said]) -> Result<(M, &
     let Some((said, rest)) = tokens.split_first() else {
         return Err(Halt::Wrong(0));
     };
-    match meant(values, said.kind.number()) {
+    match meant(values, said.kind) {
         None => Err(Halt::Wrong(tokens.len())),
         Some(value) => Ok((value, rest)),
     }

@@ -1,7 +1,7 @@
 use Rattle.std.proofs.Common.{rules, map, ◌≡◌, suc, ◌+◌, ◌-◌, true, false, sym, ◌∙◌, arith, subst, Err}
 use Rattle.rsp_phrases.proofs.LoopSteps.{more_at, wrong_at, none_at, end_at}
 use Rattle.rsp_written.specs.Gives.{Gives}
-use Rattle.rsp_written.specs.Grammar.{kind_number}
+use Rattle.rsp_written.specs.Grammar.{by_kind}
 use Rattle.rsp_written.specs.Meanings.{expr_of, operand_of}
 use Rattle.rsp_read_expressions.specs.Levels.{inner_read}
 use Rattle.rsp_read_expressions.proofs.ArgumentLaws.{arguments_same}
@@ -14,19 +14,19 @@ pub operands-returns-then-not-begins : goal.operands-returns-then-not-begins
 operands-returns-then-not-begins g t c =
     let off : c.begins.result ≡ false = search rules in
     let next : c.args.most - c.loop.counter ≡ suc (c.args.most - (c.loop.counter + 1)) = omega arith in
-    sym c.loop.invariant ∙ none_at kind_number _ _ _ _ _ _ next (sym c.begins.ensures ∙ off)
+    sym c.loop.invariant ∙ none_at by_kind _ _ _ _ _ _ next (sym c.begins.ensures ∙ off)
 
 pub operands-returns : goal.operands-returns
 operands-returns g t c =
     let none : c.args.most - c.loop.counter ≡ 0 = omega arith in
-    sym c.loop.invariant ∙ end_at kind_number _ _ _ _ _ none
+    sym c.loop.invariant ∙ end_at by_kind _ _ _ _ _ none
 
 pub operands-loop-preserved : goal.operands-loop-preserved
 operands-loop-preserved g t c =
     let on : c.begins.result ≡ true = search rules in
     let next : c.args.most - c.loop.counter ≡ suc (c.args.most - (c.loop.counter + 1)) = omega arith in
     rw c.in_ok-operands.ensures
-    (sym (more_at kind_number _ _ _ _ _ _ _ _ next (sym c.begins.ensures ∙ on)
+    (sym (more_at by_kind _ _ _ _ _ _ _ _ next (sym c.begins.ensures ∙ on)
     (operand_right c.args.level g.P.Primaries.first g.P.Primaries.reading
     (inner_read g.P.Primaries.first g.P.Primaries.reading c.args.depth) (map operand_of c.loop.operands.items) c.loop.rest.now
     _ _ c.in_ok-sign.ensures _ _ c.in_ok-part.ensures)) ∙ c.loop.invariant)
@@ -38,7 +38,7 @@ operands-returns-in_err-part g t c =
     let err : c.from_residual-in_err-part.result ≡ Err c.in_err-part.field-0.0 = search rules in
     rw err (fails_of _ _ _
     (λ left h. sym c.loop.invariant
-    ∙ wrong_at kind_number _ _ _ _ _ left _ next (sym c.begins.ensures ∙ on) (operand_wrong c.args.level g.P.Primaries.first g.P.Primaries.reading
+    ∙ wrong_at by_kind _ _ _ _ _ left _ next (sym c.begins.ensures ∙ on) (operand_wrong c.args.level g.P.Primaries.first g.P.Primaries.reading
     (inner_read g.P.Primaries.first g.P.Primaries.reading c.args.depth) (map operand_of c.loop.operands.items) c.loop.rest.now
     _ _ c.in_ok-sign.ensures left h))
     c.in_err-part.ensures)
@@ -47,19 +47,19 @@ pub others-returns-then-not-first_is : goal.others-returns-then-not-first_is
 others-returns-then-not-first_is g t c =
     let off : c.first_is.result ≡ false = search rules in
     let next : c.args.most - c.loop.counter ≡ suc (c.args.most - (c.loop.counter + 1)) = omega arith in
-    sym c.loop.invariant ∙ none_at kind_number _ _ _ _ _ _ next (sym c.first_is.ensures ∙ off)
+    sym c.loop.invariant ∙ none_at by_kind _ _ _ _ _ _ next (sym c.first_is.ensures ∙ off)
 
 pub others-returns : goal.others-returns
 others-returns g t c =
     let none : c.args.most - c.loop.counter ≡ 0 = omega arith in
-    sym c.loop.invariant ∙ end_at kind_number _ _ _ _ _ none
+    sym c.loop.invariant ∙ end_at by_kind _ _ _ _ _ none
 
 pub others-loop-preserved : goal.others-loop-preserved
 others-loop-preserved g t c =
     let on : c.first_is.result ≡ true = search rules in
     let next : c.args.most - c.loop.counter ≡ suc (c.args.most - (c.loop.counter + 1)) = omega arith in
     rw c.in_ok-list.ensures
-    (sym (more_at kind_number _ _ _ _ _ _ _ _ next (sym c.first_is.ensures ∙ on)
+    (sym (more_at by_kind _ _ _ _ _ _ _ _ next (sym c.first_is.ensures ∙ on)
     (part_right c.args.parts g.P.Primaries.first g.P.Primaries.reading
     (inner_read g.P.Primaries.first g.P.Primaries.reading c.args.depth) (map expr_of c.loop.list.items) c.loop.rest.now
     _ _ c.in_ok-sign.ensures _ _ c.in_ok-part.ensures)) ∙ c.loop.invariant)
@@ -71,7 +71,7 @@ others-returns-in_err-part g t c =
     let err : c.from_residual-in_err-part.result ≡ Err c.in_err-part.field-0.0 = search rules in
     rw err (fails_of _ _ _
     (λ left h. sym c.loop.invariant
-    ∙ wrong_at kind_number _ _ _ _ _ left _ next (sym c.first_is.ensures ∙ on) (part_wrong c.args.parts g.P.Primaries.first g.P.Primaries.reading
+    ∙ wrong_at by_kind _ _ _ _ _ left _ next (sym c.first_is.ensures ∙ on) (part_wrong c.args.parts g.P.Primaries.first g.P.Primaries.reading
     (inner_read g.P.Primaries.first g.P.Primaries.reading c.args.depth) (map expr_of c.loop.list.items) c.loop.rest.now
     _ _ c.in_ok-sign.ensures left h))
     c.in_err-part.ensures)

@@ -1,6 +1,6 @@
 use Rattle.std.proofs.Common.{◌≡◌, ◌+◌, ◌-◌, ◌*◌, ◌∷◌, [], map}
 use Rattle.rsp_phrases.specs.Readers.{at_most_read, with_front}
-use Rattle.rsp_written.specs.Grammar.{kind_number, numbers}
+use Rattle.rsp_written.specs.Grammar.{by_kind}
 use Rattle.rsp_written.specs.Meanings.{expr_of, operand_of}
 use Rattle.rsp_written.specs.Readings.{behind_read}
 use Rattle.rsp_read_expressions.specs.Levels.{inner_read, mark_of, operand_read, operands_at_most, part_read, parts_at_most, sign_marks}
@@ -56,7 +56,7 @@ decreases-list g l = 32 * l.depth + 4
 abbrev pub invariant-others-loop : goal.invariant-others-loop
 invariant-others-loop g l =
     with_front (map expr_of l.list.items)
-    (at_most_read kind_number (numbers (mark_of l.parts ∷ []))
+    (at_most_read by_kind (mark_of l.parts ∷ [])
     (behind_read (mark_of l.parts) (part_read l.parts g.P.Primaries.first g.P.Primaries.reading
     (inner_read g.P.Primaries.first g.P.Primaries.reading l.depth)))
     (l.most - l.counter) l.rest)
@@ -66,7 +66,7 @@ invariant-others-loop g l =
 abbrev pub invariant-operands-loop : goal.invariant-operands-loop
 invariant-operands-loop g l =
     with_front (map operand_of l.operands.items)
-    (at_most_read kind_number (numbers (sign_marks l.level))
+    (at_most_read by_kind (sign_marks l.level)
     (operand_read l.level g.P.Primaries.first g.P.Primaries.reading (inner_read g.P.Primaries.first g.P.Primaries.reading l.depth))
     (l.most - l.counter) l.rest)
     ≡ operands_at_most l.level l.most g.P.Primaries.first g.P.Primaries.reading

@@ -4,7 +4,7 @@ use Rattle.std.specs.formers.vec.Vec.{mapped}
 use Rattle.rsp_phrases.specs.Gathering.{gathered, as_read}
 use Rattle.rsp_phrases.specs.Readers.{second_read, at_most_read}
 use Rattle.rsp_written.specs.declared.said.Keyword.TheVariants as keyword
-use Rattle.rsp_written.specs.Grammar.{kind_number, numbers}
+use Rattle.rsp_written.specs.Grammar.{by_kind}
 use Rattle.rsp_written.specs.GroupMeanings.{element_of}
 use Rattle.rsp_written.specs.GroupReadings.{other_first, piece_read, body_read, group_of_read}
 use Rattle.rsp_written.specs.Readings.{repeated_read, word_kinds, word_read}
@@ -14,13 +14,13 @@ use Rattle.rsp_read_queries.proofs.groups.+groups.Given as goal
 abbrev pub invariant-body-loop : goal.invariant-body-loop
 invariant-body-loop l =
     gathered (flat_map found_together) (map element_of l.elements.items)
-    (at_most_read kind_number (numbers other_first) (piece_read (inside_read l.depth)) (l.end - l.counter) l.rest)
+    (at_most_read by_kind other_first (piece_read (inside_read l.depth)) (l.end - l.counter) l.rest)
     ≡ body_read (inside_read l.depth) l.tokens
 
 abbrev pub invariant-more_groups-loop : goal.invariant-more_groups-loop
 invariant-more_groups-loop l =
     gathered as_read (map (λ branch. branch.items) (map (mapped element_of) l.groups.items))
-    (at_most_read kind_number (numbers (word_kinds keyword.Union)) (second_read (word_read keyword.Union) (group_of_read (inside_read l.depth))) (l.end - l.counter) l.rest)
+    (at_most_read by_kind (word_kinds keyword.Union) (second_read (word_read keyword.Union) (group_of_read (inside_read l.depth))) (l.end - l.counter) l.rest)
     ≡ gathered as_read (map (λ branch. branch.items) (map (mapped element_of) l.fn.before.items))
     (repeated_read (word_kinds keyword.Union) (second_read (word_read keyword.Union) (group_of_read (inside_read l.depth))) l.tokens)
 

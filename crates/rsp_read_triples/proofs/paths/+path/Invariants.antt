@@ -4,7 +4,7 @@ use Rattle.rsp_phrases.specs.Gathering.{gathered, as_read}
 use Rattle.rsp_phrases.specs.Readers.{at_most_read}
 use Rattle.rsp_written.specs.declared.said.Kind.TheVariants as kind
 use Rattle.rsp_written.specs.declared.said.Symbol.TheVariants as symbol
-use Rattle.rsp_written.specs.Grammar.{kind_number, numbers}
+use Rattle.rsp_written.specs.Grammar.{by_kind}
 use Rattle.rsp_written.specs.Meanings.{way_of}
 use Rattle.rsp_written.specs.Readings.{behind_read, repeated_read, sign_kinds}
 use Rattle.rsp_written.specs.TripleReadings.{sequence_read, part_read}
@@ -14,13 +14,13 @@ use Rattle.rsp_read_triples.proofs.paths.+path.Given as goal
 abbrev pub invariant-sequences-loop : goal.invariant-sequences-loop
 invariant-sequences-loop l =
     gathered as_read (map way_of l.paths.items)
-    (at_most_read kind_number (numbers (sign_kinds symbol.Bar)) (behind_read (kind.Symbol symbol.Bar) (sequence_read (path_within l.depth))) (l.end - l.counter) l.rest)
+    (at_most_read by_kind (sign_kinds symbol.Bar) (behind_read (kind.Symbol symbol.Bar) (sequence_read (path_within l.depth))) (l.end - l.counter) l.rest)
     ≡ repeated_read (sign_kinds symbol.Bar) (behind_read (kind.Symbol symbol.Bar) (sequence_read (path_within l.depth))) l.tokens
 
 abbrev pub invariant-parts-loop : goal.invariant-parts-loop
 invariant-parts-loop l =
     gathered as_read (map way_of l.paths.items)
-    (at_most_read kind_number (numbers (kind.Sign operator.Divide ∷ [])) (behind_read (kind.Sign operator.Divide) (part_read (path_within l.depth))) (l.end - l.counter) l.rest)
+    (at_most_read by_kind (kind.Sign operator.Divide ∷ []) (behind_read (kind.Sign operator.Divide) (part_read (path_within l.depth))) (l.end - l.counter) l.rest)
     ≡ repeated_read (kind.Sign operator.Divide ∷ []) (behind_read (kind.Sign operator.Divide) (part_read (path_within l.depth))) l.tokens
 
 abbrev pub decreases-path_at : goal.decreases-path_at

@@ -3,7 +3,7 @@ use Rattle.rsp_phrases.specs.Gathering.{gathered, as_read}
 use Rattle.rsp_phrases.specs.Readers.{second_read, at_most_read}
 use Rattle.rsp_written.specs.declared.said.Symbol.TheVariants as symbol
 use Rattle.rsp_written.specs.TripleReadings.{present}
-use Rattle.rsp_written.specs.Grammar.{kind_number, numbers}
+use Rattle.rsp_written.specs.Grammar.{by_kind}
 use Rattle.rsp_written.specs.Meanings.{node_of, property_of}
 use Rattle.rsp_written.specs.Readings.{repeated_read, sign_kinds, sign_read}
 use Rattle.rsp_written.specs.TripleReadings.{object_read}
@@ -13,13 +13,13 @@ use Rattle.rsp_read_triples.proofs.property_list.+properties.Given as goal
 abbrev pub invariant-more_properties-loop : goal.invariant-more_properties-loop
 invariant-more_properties-loop l =
     gathered present (map property_of l.properties.items)
-    (at_most_read kind_number (numbers (sign_kinds symbol.Semicolon)) (behind_semicolon_read (properties_within l.depth)) (l.end - l.counter) l.rest)
+    (at_most_read by_kind (sign_kinds symbol.Semicolon) (behind_semicolon_read (properties_within l.depth)) (l.end - l.counter) l.rest)
     ≡ gathered present (map property_of l.fn.before.items) (repeated_read (sign_kinds symbol.Semicolon) (behind_semicolon_read (properties_within l.depth)) l.tokens)
 
 abbrev pub invariant-more_objects-loop : goal.invariant-more_objects-loop
 invariant-more_objects-loop l =
     gathered as_read (map node_of l.objects.items)
-    (at_most_read kind_number (numbers (sign_kinds symbol.Comma)) (second_read (sign_read symbol.Comma) (object_read (properties_within l.depth))) (l.end - l.counter) l.rest)
+    (at_most_read by_kind (sign_kinds symbol.Comma) (second_read (sign_read symbol.Comma) (object_read (properties_within l.depth))) (l.end - l.counter) l.rest)
     ≡ gathered as_read (map node_of l.fn.before.items) (repeated_read (sign_kinds symbol.Comma) (second_read (sign_read symbol.Comma) (object_read (properties_within l.depth))) l.tokens)
 
 abbrev pub decreases-properties_at : goal.decreases-properties_at
