@@ -42,10 +42,7 @@ fn counted(alloc: Global, tokens: &[Said]) -> Result<(Expression, &[Said]), Halt
     } else {
         let (aggregated, rest) = argument(alloc, tokens)?;
         let Aggregated { distinct, argument } = aggregated;
-        Ok((
-            aggregate_of(alloc, Fold::Count, distinct, argument)?,
-            rest,
-        ))
+        Ok((aggregate_of(alloc, Fold::Count, distinct, argument)?, rest))
     }
 }
 

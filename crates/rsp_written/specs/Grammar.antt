@@ -84,20 +84,17 @@ says k value = mapped (λ said. value) (one (k ∷ []))
 abbrev pub separated : {A : Type 0} → Kind → Rule A → Rule (A × List A)
 separated k part = both part (many (second_of (one (k ∷ [])) part))
 
-abbrev pub text_of : Said → List ℕ
-text_of said = said.text
-
 abbrev pub in_parens : {A : Type 0} → Rule A → Rule A
 in_parens p = second_of (sign symbol.OpenParen) (first_of_both p (sign symbol.CloseParen))
 
 -- Iri ::= Iri-token | Prefixed                                                                                [136] iri
 -- (a prefixed name whose prefix is declared says the whole IRI)
 abbrev pub iri_name : Rule (List ℕ)
-iri_name = mapped text_of (one (kind.Iri ∷ []))
+iri_name = mapped (λ said. said.text) (one (kind.Iri ∷ []))
 
 -- a Variable, of which the name counts                                                                         [108] Var
 abbrev pub variable_name : Rule (List ℕ)
-variable_name = mapped text_of (one (kind.Variable ∷ []))
+variable_name = mapped (λ said. said.text) (one (kind.Variable ∷ []))
 
 -- Literal ::= String (Tag | '^^' Iri)? | '-'? (Integer | Decimal | Double) | 'TRUE' | 'FALSE'
 --                                                    [129] RDFLiteral, [130] NumericLiteral, [134] BooleanLiteral
@@ -113,9 +110,6 @@ string_literal = mapped string_term (both (one (kind.String ∷ [])) (optional s
 abbrev pub number_kinds : List Kind
 number_kinds = kind.Integer ∷ kind.Decimal ∷ kind.Double ∷ []
 
-abbrev pub unsigned_number : Rule Term
-unsigned_number = mapped number_term (one number_kinds)
-
 abbrev pub signed_number : Rule Term
 signed_number = mapped signed_term (both (optional (one (kind.Sign operator.Subtract ∷ []))) (one number_kinds))
 
@@ -128,7 +122,7 @@ abbrev pub literal : Rule Term
 literal = either string_literal (either signed_number boolean)
 
 abbrev pub unsigned_literal : Rule Term
-unsigned_literal = either string_literal (either unsigned_number boolean)
+unsigned_literal = either string_literal (either (mapped number_term (one number_kinds)) boolean)
 
 -- ---- expressions. `extra`: what else may be a Primary. `inner`: the expression within brackets.
 

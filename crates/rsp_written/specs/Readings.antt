@@ -28,7 +28,7 @@ use Rattle.rsp_written.specs.Building.{with_operands, Relation, compared_to, one
 use Rattle.rsp_written.specs.Building.{aggregate_of}
 use Rattle.rsp_written.specs.declared.literals.Suffix.{Suffix}
 use Rattle.rsp_written.specs.declared.literals.Suffix.TheVariants.{InLanguage, OfDatatype}
-use Rattle.rsp_written.specs.Grammar.{by_kind, has_kind, text_of, number_kinds, maybe_third, comparisons, folds}
+use Rattle.rsp_written.specs.Grammar.{by_kind, has_kind, number_kinds, maybe_third, comparisons, folds}
 
 abbrev pub one_read : List Kind → Reader Said Said
 one_read kinds = among_read by_kind kinds
@@ -71,6 +71,9 @@ sign_kinds s = kind.Symbol s ∷ []
 
 abbrev pub in_parens_read : {A : Type 0} → Reader Said A → Reader Said A
 in_parens_read r = second_read (sign_read symbol.OpenParen) (first_read r (sign_read symbol.CloseParen))
+
+abbrev pub text_of : Said → List ℕ
+text_of said = said.text
 
 unfoldable pub iri_read : Reader Said (List ℕ)
 iri_read = mapped_read text_of (one_read (kind.Iri ∷ []))
