@@ -1,5 +1,5 @@
 -- Tokens with values that are each new.
-use Rattle.std.proofs.Common.{◌≡◌, ℕ, Bool, true, false, true≢false, cond, ◌||◌, List, [], ◌∷◌, ◌++◌, refl, sym, ap, ap₂, ◌∙◌, subst, inl, inr, Option, Some, None, Ok, Err, IsSome, is_some}
+use Rattle.std.proofs.Common.{◌≡◌, Bool, true, false, true≢false, cond, ◌||◌, List, [], ◌∷◌, ◌++◌, refl, sym, ap, ap₂, ◌∙◌, subst, inl, inr, Option, Some, None, Ok, Err, IsSome, is_some}
 use Rattle.std.specs.List.{list_any}
 use Rattle.rsp_phrases.specs.Languages.{Kinds, has, distinct, IsNew, AreNew, SomeNew, CannotGoOn}
 use Rattle.rsp_phrases.specs.Exact.{Reads}

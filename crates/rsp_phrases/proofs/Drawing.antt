@@ -1,5 +1,5 @@
 -- Rules that say the same, and the law that draws a common first part out of two alternatives.
-use Rattle.std.proofs.Common.{ℕ, Bool, List, [], ◌∷◌, ◌++◌, refl, sym, ap, ◌∙◌, append_assoc, inl, inr, Ok, Err, Some, None, subst}
+use Rattle.std.proofs.Common.{Bool, List, [], ◌∷◌, ◌++◌, refl, sym, ap, ◌∙◌, append_assoc, inl, inr, Ok, Err, Some, None, subst}
 use Rattle.rsp_phrases.specs.Languages.{Kinds, Language, mapped, both, second_of, either, optional}
 use Rattle.rsp_phrases.specs.Exact.{Reads}
 use Rattle.rsp_phrases.specs.Readers.{Reading, Reader}

@@ -1,5 +1,5 @@
 -- A rule with its reader, and what one token ahead decides. The laws of the simplest combinators.
-use Rattle.std.proofs.Common.{◌≡◌, ℕ, Bool, true, false, true≢false, cond, List, [], ◌∷◌, ◌++◌, length, refl, sym, ap, ◌∙◌, Option, Some, None, Ok, Err, IsSome, is_some}
+use Rattle.std.proofs.Common.{◌≡◌, Bool, true, false, true≢false, cond, List, [], ◌∷◌, ◌++◌, length, refl, sym, ap, ◌∙◌, Option, Some, None, Ok, Err, IsSome, is_some}
 use Rattle.rsp_phrases.specs.Languages.{Kinds, Language, IsOne, IsOneAtMost, token, among, has, nothing, never, mapped}
 use Rattle.rsp_phrases.specs.Exact.{Reads}
 use Rattle.rsp_phrases.specs.Readers.{Reading, Reader, start, token_read, among_read, nothing_read, never_read, image, mapped_read}

@@ -1,5 +1,5 @@
 -- Lists of kinds, compared by tests that compute.
-use Rattle.std.proofs.Common.{◌≡◌, ℕ, Bool, true, false, true≢false, not, ◌&&◌, ◌||◌, List, [], ◌∷◌, ◌++◌, refl, sym, ap₂, subst, ◌⊎◌, inl, inr, append-nil}
+use Rattle.std.proofs.Common.{◌≡◌, Bool, true, false, true≢false, not, ◌&&◌, ◌||◌, List, [], ◌∷◌, ◌++◌, refl, sym, ap₂, subst, ◌⊎◌, inl, inr, append-nil}
 use Rattle.std.specs.List.{list_all}
 use Rattle.rsp_phrases.specs.Languages.{Kinds, has}
 

@@ -1,5 +1,5 @@
 -- A rule on tokens that are read as others.
-use Rattle.std.proofs.Common.{◌≡◌, ℕ, ◌-◌, Bool, true, false, true≢false, List, [], ◌∷◌, ◌++◌, length, drop, map, refl, sym, ap, ◌∙◌, subst, arith, length-append, Ok, Err}
+use Rattle.std.proofs.Common.{◌≡◌, ◌-◌, Bool, true, false, true≢false, List, [], ◌∷◌, ◌++◌, length, drop, map, refl, sym, ap, ◌∙◌, subst, arith, length-append, Ok, Err}
 use Rattle.std.proofs.lemmas.List.{map-append, length-map, drop_at}
 use Rattle.rsp_phrases.specs.Languages.{Kinds, Language, has, seen, CannotGoOn}
 use Rattle.rsp_phrases.specs.Exact.{Reads}

@@ -1,5 +1,5 @@
 -- One part behind the other is read part by part, where nothing that begins the second goes on the first.
-use Rattle.std.proofs.Common.{◌≡◌, ℕ, Bool, true, false, true≢false, not, ◌&&◌, ◌||◌, List, [], ◌∷◌, ◌++◌, refl, sym, ap, ap₂, ◌∙◌, subst, append_assoc, append-nil, inl, inr, Ok, Err}
+use Rattle.std.proofs.Common.{◌≡◌, Bool, true, false, true≢false, not, ◌&&◌, ◌||◌, List, [], ◌∷◌, ◌++◌, refl, sym, ap, ap₂, ◌∙◌, subst, append_assoc, append-nil, inl, inr, Ok, Err}
 use Rattle.std.proofs.lemmas.Bool.{cases_Bool}
 use Rattle.rsp_phrases.specs.Languages.{Kinds, Language, has, tied, Tied, CannotGoOn}
 use Rattle.rsp_phrases.specs.Exact.{IsRead, Reads}

@@ -1,6 +1,6 @@
 -- Words of the way: what it says of a row of tokens that a reading call gives a value, or stops. From the laws of the grammar's
 -- rules to what a text is.
-use Rattle.std.specs.Prelude.{◌≡◌, ℕ, List, ◌∷◌, ◌++◌, length, Result, Ok, Err}
+use Rattle.std.specs.Prelude.{◌≡◌, ℕ, List, ◌++◌, length, Result, Ok, Err}
 use Rattle.rsp_phrases.specs.Languages.{Language, CannotGoOn}
 
 -- what is read is an expansion with this value, and no expansion passes the next token too

@@ -100,17 +100,19 @@ at_most_read kind kinds r (suc n) =
 abbrev pub many_read : {T A : Type 0} (kind : Kinds T) → List kind.Kind → Reader T A → Reader T (List A)
 many_read kind kinds r ts = at_most_read kind kinds r (length ts) ts
 
-unfoldable pub follows_at_most_read : {T A B : Type 0} (kind : Kinds T) → List kind.Kind → List kind.Kind → Reader T B → Reader T A → ℕ
-    → Reader T (List A)
+unfoldable pub follows_at_most_read : {T A B : Type 0} (kind : Kinds T) → List kind.Kind → List kind.Kind
+    → Reader T B → Reader T A → ℕ → Reader T (List A)
 follows_at_most_read kind marks kinds d r zero = nothing_read []
 follows_at_most_read kind marks kinds d r (suc n) =
     mapped_read follows (optional_read kind marks (second_read d (optional_read kind kinds
     (both_read r (follows_at_most_read kind marks kinds d r n)))))
 
-abbrev pub follows_on_read : {T A B : Type 0} (kind : Kinds T) → List kind.Kind → List kind.Kind → Reader T B → Reader T A → Reader T (List A)
+abbrev pub follows_on_read : {T A B : Type 0} (kind : Kinds T) → List kind.Kind → List kind.Kind
+    → Reader T B → Reader T A → Reader T (List A)
 follows_on_read kind marks kinds d r ts = follows_at_most_read kind marks kinds d r (length ts) ts
 
-abbrev pub dotted_read : {T A B : Type 0} (kind : Kinds T) → List kind.Kind → List kind.Kind → Reader T B → Reader T A → Reader T (List A)
+abbrev pub dotted_read : {T A B : Type 0} (kind : Kinds T) → List kind.Kind → List kind.Kind
+    → Reader T B → Reader T A → Reader T (List A)
 dotted_read kind marks kinds d r = mapped_read (λ (v : _ × _). v.0 ∷ v.1) (both_read r (follows_on_read kind marks kinds d r))
 
 -- maybe one part, then a closing sign, whose kinds are tested

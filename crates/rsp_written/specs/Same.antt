@@ -1,10 +1,9 @@
 -- Words of the way: the derived tests of equality decide identity: what two tokens are to the grammar is the same where it tests
 -- equal.
-use Rattle.std.specs.Prelude.{◌≡◌, Bool, true, List, [], ◌∷◌, find, Option, Some, unwrap_or, Decides, refl}
+use Rattle.std.specs.Prelude.{◌≡◌, Bool, true, List, [], ◌∷◌, find, Some, unwrap_or, Decides, refl}
 use Rattle.std.specs.Cmp.{IsPartialEquivalence, per_alike}
 use Rattle.std.proofs.Common.{ap, sym, subst, ◌∙◌, true≢false}
 use Rattle.rsp_functions.specs.Functions.{functions}
-use Rattle.rsp_functions.specs.declared.function.Function.{Function}
 use Rattle.rsp_functions.specs.declared.function.Function.TheVariants as function
 use Rattle.rsp_functions.specs.declared.function.Sign.{Sign}
 use Rattle.rsp_functions.specs.declared.function.Sign.TheVariants as operator
