@@ -3,6 +3,7 @@ use Rattle.std.proofs.Common.{◌≡◌, ◌<◌, arith, true≢false, ℕ, zero
 use Rattle.std.proofs.lemmas.Bool.{lt-ltb, ltb-true, ltb_from_iff}
 use Rattle.rsp_phrases.specs.Languages.{listed}
 use Rattle.rsp_phrases.specs.Readers.{Reading, Reader, starts, start, image, mapped_read, both_read, first_read, tied_from, beside, before, at_most_read, closed_read}
+use Rattle.rsp_written.specs.declared.said.Kind.{Kind}
 use Rattle.rsp_written.specs.declared.said.Said.{Said}
 use Rattle.rsp_written.specs.declared.said.Symbol.TheVariants as symbol
 use Rattle.rsp_functions.specs.declared.function.Arity.{Arity}

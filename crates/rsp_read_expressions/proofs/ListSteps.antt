@@ -1,6 +1,7 @@
 -- The steps of a list of arguments.
 use Rattle.std.proofs.Common.{◌≡◌, ℕ, List, ◌∷◌, length, sym, ap, ◌∙◌, Ok, Err}
 use Rattle.rsp_phrases.specs.Readers.{Reader}
+use Rattle.rsp_written.specs.declared.said.Kind.{Kind}
 use Rattle.rsp_written.specs.declared.said.Said.{Said}
 use Rattle.rsp_functions.specs.declared.function.Arity.{Arity}
 use Rattle.rsp_written.specs.Trees.{Expr}

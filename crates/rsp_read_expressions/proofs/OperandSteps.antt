@@ -4,6 +4,7 @@ use Rattle.rsp_functions.specs.declared.function.Sign.{Sign}
 use Rattle.rsp_phrases.specs.Fronts.{with_last}
 use Rattle.rsp_phrases.specs.Readers.{Reading, Reader, image, beside, tied_from}
 use Rattle.rsp_written.specs.declared.said.Kind.TheVariants as kind
+use Rattle.rsp_written.specs.declared.said.Kind.{Kind}
 use Rattle.rsp_written.specs.declared.said.Said.{Said}
 use Rattle.rsp_written.specs.Readings.{behind_read, meaning_read, sign_read}
 use Rattle.rsp_written.specs.Trees.{Expr}

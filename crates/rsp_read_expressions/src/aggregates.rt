@@ -12,7 +12,7 @@ use crate::primaries::Primaries;
 use crate::rows;
 use rsp_functions::{Kind as Fold, Sign};
 use rsp_written::{
-    Expression, Halt, Keyword, Kind, Said, Symbol, first_is, first_is_among, one, sign, word,
+    Expression, Halt, Keyword, Kind, Said, Symbol, first_is, first_is_among, meaning, one, sign,
 };
 use std::alloc::Global;
 
