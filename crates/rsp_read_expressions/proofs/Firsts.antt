@@ -11,4 +11,4 @@ past false c h = refl
 pub starts_past : {T : Type 0} (kind : Kinds T) (k : kind.Kind) (ks : List kind.Kind) (ts : List T)
     → starts kind (k ∷ []) ts ≡ false → starts kind ks ts ≡ starts kind (k ∷ ks) ts
 starts_past kind k ks [] h = refl
-starts_past kind k ks (x ∷ ts) h = sym (past (kind.same k (kind.of x)) (has kind ks (kind.of x)) h)
+starts_past kind k ks (x ∷ ts) h = sym (past (kind.same k (kind.of x)) (has by_kind kind ks (kind.of x)) h)

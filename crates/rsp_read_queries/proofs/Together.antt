@@ -19,7 +19,7 @@ each_found = record { none = refl; first = λ a more. refl }
 pub group_is : (ts : List Said) → group_of_read (inside_read (length ts)) ts ≡ group_read ts
 unfolding group_read inside_read
 group_is [] = refl
-group_is (x ∷ rest) = go (cond (has by_kind (sign_kinds symbol.OpenBrace) x.kind) (Some x) None)
+group_is (x ∷ rest) = go (cond (has by_kind by_kind (sign_kinds symbol.OpenBrace) x.kind) (Some x) None)
   where
     go : (o : Option Said)
         → image (λ (v : Said × List Element). v.1) (tied_from (start x rest (length (x ∷ rest)) o) (λ v. nested_read group_rule_read (length (x ∷ rest))))

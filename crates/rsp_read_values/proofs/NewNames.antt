@@ -29,7 +29,7 @@ among_backwards name (x ∷ names) =
     ∙ sym (list_any-append (bytes_eq name) (reverse names) (x ∷ []))
     ∙ ap (list_any (bytes_eq name)) (sym (reverse-append (x ∷ []) names))
 
-pub new_name_is : (names : List (List ℕ)) (said : Said) → has by_kind (kind.Variable ∷ []) said.kind ≡ true
+pub new_name_is : (names : List (List ℕ)) (said : Said) → has by_kind by_kind (kind.Variable ∷ []) said.kind ≡ true
     → not (list_any (bytes_eq said.text) names) ≡ is_new (reverse names) (name_if_variable said)
 new_name_is names said is =
     ap not (among_backwards said.text names) ∙ ap (λ b. is_new (reverse names) (cond b (Some said.text) None)) (sym is)
@@ -37,13 +37,13 @@ new_name_is names said is =
 -- a name that is new is put behind the others of the set
 pub name_inserted : (names : List (List ℕ)) (said : Said) → is_new (reverse names) (name_if_variable said) ≡ true
     → insert_key bytes_eq names said.text ≡ names ++ (said.text ∷ [])
-name_inserted names said new = by (has by_kind (kind.Variable ∷ []) said.kind) refl new
+name_inserted names said new = by (has by_kind by_kind (kind.Variable ∷ []) said.kind) refl new
   where
     put : (c : Bool) → not c ≡ true → cond c names (names ++ (said.text ∷ [])) ≡ names ++ (said.text ∷ [])
     put true h = cc
     put false h = refl
 
-    by : (b : Bool) → has by_kind (kind.Variable ∷ []) said.kind ≡ b
+    by : (b : Bool) → has by_kind by_kind (kind.Variable ∷ []) said.kind ≡ b
         → is_new (reverse names) (cond b (Some said.text) None) ≡ true → insert_key bytes_eq names said.text ≡ names ++ (said.text ∷ [])
     by true is h = put (list_any (bytes_eq said.text) names) (ap not (among_backwards said.text names) ∙ h)
     by false is h = cc
@@ -59,7 +59,7 @@ abbrev names_read : List (List ℕ) → List Said → Reading Said (List (List �
 names_read there = distinct_read bytes_eq name_if_variable there
 
 new_read : (there front : List (List ℕ)) (said : Said) (ts : List Said) (b : Bool)
-    → has by_kind (kind.Variable ∷ []) said.kind ≡ b
+    → has by_kind by_kind (kind.Variable ∷ []) said.kind ≡ b
     → is_new there (cond b (Some said.text) None) ≡ true
     → gathered as_read front (distinct_at bytes_eq there said ts (cond b (Some said.text) None) (λ w. names_read (w ∷ there) ts))
     ≡ gathered as_read (front ++ (said.text ∷ [])) (names_read (said.text ∷ there) ts)
@@ -90,7 +90,7 @@ pub name_more_at : (names : List (List ℕ)) (said : Said) (ts behind : List Sai
 unfolding distinct_read
 name_more_at names said ts behind whole is new before =
     ap (λ there. gathered as_read (names ++ (said.text ∷ [])) (names_read there behind)) (reverse-append names (said.text ∷ []))
-    ∙ sym (new_read (reverse names) names said behind (has by_kind (kind.Variable ∷ []) said.kind) refl new)
+    ∙ sym (new_read (reverse names) names said behind (has by_kind by_kind (kind.Variable ∷ []) said.kind) refl new)
     ∙ ap (λ us. gathered as_read names (names_read (reverse names) us)) (sym is)
     ∙ before
 
@@ -101,7 +101,7 @@ pub name_old_at : (names : List (List ℕ)) (said : Said) (ts behind : List Said
 unfolding distinct_read
 name_old_at names said ts behind whole is old before =
     sym before ∙ ap (λ us. gathered as_read names (names_read (reverse names) us)) is
-    ∙ old_read (reverse names) names said behind (has by_kind (kind.Variable ∷ []) said.kind) old
+    ∙ old_read (reverse names) names said behind (has by_kind by_kind (kind.Variable ∷ []) said.kind) old
     ∙ ap (λ us. Ok (names, us)) (sym is)
 
 pub name_end_at : (names : List (List ℕ)) (ts : List Said) (whole : Reading Said (List (List ℕ)))

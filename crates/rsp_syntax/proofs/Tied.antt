@@ -88,7 +88,7 @@ reads_wrong text ts left f = by (query_read all) (good_query.reads all)
 
 module _ (text : List ℕ) where
   no_query : (ts : List Token) (left : ℕ) → HasTokens text ts → IsFirstWrong (all_said text ts) left → IsText text (Err (wrong text ts left))
-  no_query ts left has by_kind first = at (drop (length ts - left) ts) refl
+  no_query ts left has by_kind by_kind first = at (drop (length ts - left) ts) refl
     where
       made : (fault : SyntaxFault) → wrong text ts left ≡ fault → IsNoQuery text fault
       made fault is = record { ts = ts; has = has; left = left; first = first; is = is }
@@ -103,7 +103,7 @@ module _ (text : List ℕ) where
       at (token ∷ more) is = named token (is_left_out token.kind (text_of text token)) refl (ap (first_wrong text) is)
 
   of_written : (ts : List Token) → HasTokens text ts → (w : Written) → grammar.query.full (all_said text ts) w → IsText text (parse_written w)
-  of_written ts has by_kind w full = by (limit_of w) refl
+  of_written ts has by_kind by_kind w full = by (limit_of w) refl
     where
       by : (name : Option LimitName) → limit_of w ≡ name → IsText text (within w name)
       by None is = record { ts = ts; has = has; written = w; spelled = full; within = is; is = refl }
@@ -116,7 +116,7 @@ module _ (text : List ℕ) where
       all = all_said text ts
 
       by : (r : Result (Written × List Said) ℕ) → Reads grammar.query all r → IsText text (numbered (whole text ts r))
-      by (Ok (w, [])) h = of_written ts has by_kind w (subst (λ us. grammar.query.full us w) (sym (h.whole ∙ append-nil h.used)) h.spelled)
+      by (Ok (w, [])) h = of_written ts has by_kind by_kind w (subst (λ us. grammar.query.full us w) (sym (h.whole ∙ append-nil h.used)) h.spelled)
       by (Ok (w, x ∷ more)) h =
           no_query ts (length (x ∷ more)) has
           (record {
@@ -172,7 +172,7 @@ module _ (text : List ℕ) where
       ∙ ap (λ b. cond b (Err (Limit limit.Nesting)) (numbered (registration_of text ts (all_said text ts)))) has.flat)
 
   with_query : (ts : List Token) → HasTokens text ts → (w : Written) → grammar.query.full (all_said text ts) w → parse text ≡ parse_written w
-  with_query ts has by_kind w full = with_tokens ts has ∙ ap (λ r. numbered (whole text ts r)) (reads_whole (all_said text ts) w full)
+  with_query ts has by_kind by_kind w full = with_tokens ts has ∙ ap (λ r. numbered (whole text ts r)) (reads_whole (all_said text ts) w full)
 
   said_no_query : (fault : SyntaxFault) → IsNoQuery text fault → parse text ≡ Err fault
   said_no_query fault h =
@@ -188,10 +188,10 @@ module _ (text : List ℕ) where
       ∙ (ap (parse_tokens text) h.cut
       ∙ (ap (λ b. cond b (Err (Limit limit.Nesting)) (numbered (registration_of text h.ts (all_said text h.ts)))) h.deep
       ∙ sym (ap (λ n. Err (Limit n)) is)))
-  said_limit name (inr (inr h)) = with_query h.ts h.has by_kind h.written h.spelled ∙ ap (within h.written) h.passed
+  said_limit name (inr (inr h)) = with_query h.ts h.has by_kind by_kind h.written h.spelled ∙ ap (within h.written) h.passed
 
   said : (r : Result Registered SyntaxFault) → IsText text r → parse text ≡ r
-  said (Ok query) h = with_query h.ts h.has by_kind h.written h.spelled ∙ (ap (within h.written) h.within ∙ ap Ok h.is)
+  said (Ok query) h = with_query h.ts h.has by_kind by_kind h.written h.spelled ∙ (ap (within h.written) h.within ∙ ap Ok h.is)
   said (Err (BadToken at)) h = short_text h.0 ∙ ap (parse_tokens text) h.1
   said (Err (Syntax at)) h = said_no_query (Syntax at) h
   said (Err (LeftOut at what)) h = said_no_query (LeftOut at what) h

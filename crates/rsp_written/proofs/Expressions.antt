@@ -58,7 +58,7 @@ expr_go = kind.Symbol symbol.Or ∷ and_go
 -- ---- lists and calls, by an expression within brackets that begins with `first`
 
 module _ (q : Rule Expr) (s : Reader Said Expr) (first : List Kind) (h : G q s first expr_go false false)
-    (closed : apart by_kind (sign_kinds symbol.CloseParen) ((first ++ []) ++ []) ≡ true) where
+    (closed : apart by_kind by_kind (sign_kinds symbol.CloseParen) ((first ++ []) ++ []) ≡ true) where
   good_another : Good by_kind (another q) (another_read s) (sign_kinds symbol.Comma) (expr_go ++ []) false true
   good_another = good_behind (sign_kinds symbol.Comma) h
 
@@ -75,7 +75,7 @@ module _ (q : Rule Expr) (s : Reader Said Expr) (first : List Kind) (h : G q s f
       let none = good_mapped (λ (w : Said). let v : Option (Expr × List Expr) × Said = (None, w) in v) close in
       let part = good_same (closing (both q (many (another q))) (sign symbol.CloseParen) good_items.begun) (good_either none some closed refl) in
       good_second_of (good_one (sign_kinds symbol.OpenParen)) (good_mapped (λ (v : _ × _). listed v.0) part)
-      (apart_none by_kind ((sign_kinds symbol.CloseParen) ++ ((first ++ []) ++ [])))
+      (apart_none by_kind by_kind ((sign_kinds symbol.CloseParen) ++ ((first ++ []) ++ [])))
 
   good_bound : G bound_call bound_read (word_kinds keyword.Bound) [] false true
   unfolding bound_read
@@ -109,12 +109,12 @@ module _ (q : Rule Expr) (s : Reader Said Expr) (first : List Kind) (h : G q s f
 -- ---- rows of signs
 
 good_row : (signs : List Sign) (make : Expr → Operands → Expr) {p : Rule Expr} {r : Reader Said Expr} {bp gp : List Kind}
-    → Good by_kind p r bp gp false true → apart by_kind (map kind.Sign signs) gp ≡ true
+    → Good by_kind p r bp gp false true → apart by_kind by_kind (map kind.Sign signs) gp ≡ true
     → Good by_kind (row signs make p) (row_read signs make r) (bp ++ []) ((gp ++ (map kind.Sign signs)) ++ gp) false true
 good_row signs make {bp = bp} {gp = gp} h a =
     let marks = (map kind.Sign signs) in
-    let part = listed_as marks gp (good_both (good_meaning kind.Sign signs) h (apart_none by_kind bp)) (covered_nil by_kind marks)
-    (covered_by by_kind marks (marks ++ []) (λ k is. has_left by_kind marks [] k is)) (covered_nil by_kind gp) in
+    let part = listed_as marks gp (good_both (good_meaning kind.Sign signs) h (apart_none by_kind by_kind bp)) (covered_nil by_kind by_kind marks)
+    (covered_by by_kind by_kind marks (marks ++ []) (λ k is. has_left by_kind by_kind marks [] k is)) (covered_nil by_kind by_kind gp) in
     good_mapped (with_operands make) (good_both h (good_many part a) a)
 
 good_unary_operator : G unary_operator unary_operator_read unary_signs [] false true

@@ -255,7 +255,7 @@ good_span = good_mapped (λ said. milliseconds said.text) (good_one (kind.Span �
 abbrev origin_first : List Kind
 origin_first = kind.Integer ∷ kind.String ∷ []
 
-origin_kind : (k : Kind) (text : List ℕ) → IsSome (origin_of_kind k text) → has by_kind (kind.Integer ∷ kind.String ∷ []) k ≡ true
+origin_kind : (k : Kind) (text : List ℕ) → IsSome (origin_of_kind k text) → has by_kind by_kind (kind.Integer ∷ kind.String ∷ []) k ≡ true
 origin_kind kind.Integer text h = refl
 origin_kind kind.String text h = refl
 origin_kind _ text h = absurd (true≢false (sym h))
@@ -339,7 +339,7 @@ good_query_body =
     (good_mapped written_of (good_both good_registered (good_both good_select_clause (good_both good_windows
     (good_both (good_second_of good_where good_group refl) good_tail refl) refl) refl) refl)) refl refl refl
 
-prefix_kind : (k : Kind) (said : Said) → IsSome (prefix_of_kind k said) → has by_kind (kind.Prefixed ∷ []) k ≡ true
+prefix_kind : (k : Kind) (said : Said) → IsSome (prefix_of_kind k said) → has by_kind by_kind (kind.Prefixed ∷ []) k ≡ true
 prefix_kind kind.Prefixed said h = refl
 prefix_kind _ said h = absurd (true≢false (sym h))
 
@@ -351,14 +351,14 @@ good_prefix =
     (λ said h. prefix_kind said.kind said h) (λ e. absurd (true≢false (sym e)))) good_iri refl) refl
 
 -- a token that is read as another keeps its kind, but where it becomes an IRI or can stand nowhere
-kept_as : (kinds : List Kind) (said : Said) (o : Option (List ℕ)) → has by_kind kinds kind.Iri ≡ false → has by_kind kinds kind.Nowhere ≡ false
-    → has by_kind kinds (resolved_as said o).kind ≡ true → has by_kind kinds said.kind ≡ true
+kept_as : (kinds : List Kind) (said : Said) (o : Option (List ℕ)) → has by_kind by_kind kinds kind.Iri ≡ false → has by_kind by_kind kinds kind.Nowhere ≡ false
+    → has by_kind by_kind kinds (resolved_as said o).kind ≡ true → has by_kind by_kind kinds said.kind ≡ true
 kept_as kinds said None a b h = absurd (true≢false (sym h ∙ b))
 kept_as kinds said (Some name) a b h = absurd (true≢false (sym h ∙ a))
 
 kept_by : (kinds : List Kind) (prefixes : List (List ℕ × List ℕ)) (k : Kind) (said : Said)
-    → has by_kind kinds kind.Iri ≡ false → has by_kind kinds kind.Nowhere ≡ false
-    → has by_kind kinds (resolved_by prefixes k said).kind ≡ true → has by_kind kinds said.kind ≡ true
+    → has by_kind by_kind kinds kind.Iri ≡ false → has by_kind by_kind kinds kind.Nowhere ≡ false
+    → has by_kind by_kind kinds (resolved_by prefixes k said).kind ≡ true → has by_kind by_kind kinds said.kind ≡ true
 kept_by kinds prefixes kind.Prefixed said a b h = kept_as kinds said (declared_iri prefixes said.text) a b h
 kept_by kinds prefixes _ said a b h = h
 

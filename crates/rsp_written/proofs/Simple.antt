@@ -34,7 +34,7 @@ first_or_later false later v o h = h
 
 -- one of the values is found where they have the kind
 pub found : {A : Type 0} (spelling : A → Kind) (values : List A) (k : Kind)
-    → is_some (find (has_kind spelling k) values) ≡ has by_kind (map spelling values) k
+    → is_some (find (has_kind spelling k) values) ≡ has by_kind by_kind (map spelling values) k
 found spelling [] k = refl
 found spelling (v ∷ more) k = first_or_later (has_kind spelling k v) _ v _ (found spelling more k)
 
@@ -49,19 +49,19 @@ good_says k value = good_mapped (λ said. value) (good_one (k ∷ []))
 
 pub good_second_of : {T A B : Type 0} {k : Kinds T} {p : Language T A} {r : Reader T A} {q : Language T B} {s : Reader T B}
     {bp gp bq gq : List k.Kind} {ep xp eq xq : Bool}
-    → Good k p r bp gp ep xp → Good k q s bq gq eq xq → apart k bq gp ≡ true
+    → Good k p r bp gp ep xp → Good k q s bq gq eq xq → apart by_kind k bq gp ≡ true
     → Good k (second_of p q) (second_read r s) (bp ++ where_so ep bq) (gq ++ where_so eq gp) (ep && eq) (xp && (not ep || xq))
 good_second_of h k a = good_mapped (λ (v : _ × _). v.1) (good_tied h (λ v. k) a)
 
 pub good_first_of : {T A B : Type 0} {k : Kinds T} {p : Language T A} {r : Reader T A} {q : Language T B} {s : Reader T B}
     {bp gp bq gq : List k.Kind} {ep xp eq xq : Bool}
-    → Good k p r bp gp ep xp → Good k q s bq gq eq xq → apart k bq gp ≡ true
+    → Good k p r bp gp ep xp → Good k q s bq gq eq xq → apart by_kind k bq gp ≡ true
     → Good k (first_of_both p q) (first_read r s) (bp ++ where_so ep bq) (gq ++ where_so eq gp) (ep && eq) (xp && (not ep || xq))
 good_first_of h k a = good_mapped (λ (v : _ × _). v.0) (good_tied h (λ v. k) a)
 
 pub good_both : {T A B : Type 0} {k : Kinds T} {p : Language T A} {r : Reader T A} {q : Language T B} {s : Reader T B}
     {bp gp bq gq : List k.Kind} {ep xp eq xq : Bool}
-    → Good k p r bp gp ep xp → Good k q s bq gq eq xq → apart k bq gp ≡ true
+    → Good k p r bp gp ep xp → Good k q s bq gq eq xq → apart by_kind k bq gp ≡ true
     → Good k (both p q) (both_read r s) (bp ++ where_so ep bq) (gq ++ where_so eq gp) (ep && eq) (xp && (not ep || xq))
 good_both h k a = good_tied h (λ v. k) a
 
@@ -69,22 +69,22 @@ good_both h k a = good_tied h (λ v. k) a
 pub good_behind : {A : Type 0} (kinds : List Kind) {q : Rule A} {s : Reader Said A} {bq gq : List Kind} {xq : Bool}
     → Good by_kind q s bq gq false xq
     → Good by_kind (second_of (one kinds) q) (second_read (one_read kinds) s) (kinds ++ []) (gq ++ []) false true
-good_behind kinds {bq = bq} h = good_second_of (good_one kinds) h (apart_none by_kind bq)
+good_behind kinds {bq = bq} h = good_second_of (good_one kinds) h (apart_none by_kind by_kind bq)
 
 pub good_in_parens : {A : Type 0} {p : Rule A} {r : Reader Said A} {bp gp : List Kind} {xp : Bool}
-    → Good by_kind p r bp gp false xp → apart by_kind (sign_kinds symbol.CloseParen) gp ≡ true
+    → Good by_kind p r bp gp false xp → apart by_kind by_kind (sign_kinds symbol.CloseParen) gp ≡ true
     → G (in_parens p) (in_parens_read r) (sign_kinds symbol.OpenParen) [] false true
 good_in_parens {bp = bp} h a =
-    good_second_of (good_one (sign_kinds symbol.OpenParen)) (good_first_of h (good_one (sign_kinds symbol.CloseParen)) a) (apart_none by_kind (bp ++ []))
+    good_second_of (good_one (sign_kinds symbol.OpenParen)) (good_first_of h (good_one (sign_kinds symbol.CloseParen)) a) (apart_none by_kind by_kind (bp ++ []))
 
 -- parts with tokens between
 pub good_separated : {A : Type 0} (k : Kind) {p : Rule A} {r : Reader Said A} {bp gp : List Kind}
-    → Good by_kind p r bp gp false true → apart by_kind (k ∷ []) gp ≡ true
+    → Good by_kind p r bp gp false true → apart by_kind by_kind (k ∷ []) gp ≡ true
     → Good by_kind (separated k p) (separated_read k r) (bp ++ []) ((gp ++ (k ∷ [])) ++ gp) false true
 good_separated k {bp = bp} {gp = gp} h a =
     let marks = (k ∷ []) in
-    let part = listed_as marks gp (good_behind (k ∷ []) h) (covered_nil by_kind marks)
-    (covered_by by_kind marks (marks ++ []) (λ n is. has_left by_kind marks [] n is)) (covered_nil by_kind gp) in
+    let part = listed_as marks gp (good_behind (k ∷ []) h) (covered_nil by_kind by_kind marks)
+    (covered_by by_kind by_kind marks (marks ++ []) (λ n is. has_left by_kind by_kind marks [] n is)) (covered_nil by_kind by_kind gp) in
     good_both h (good_many part a) a
 
 one_void : (kinds : List Kind) (v : Said) → (one kinds).full [] v → ⊥

@@ -233,11 +233,11 @@ some_name : (b : Bool) (name : List ℕ) → b ≡ true → IsSome (cond b (Some
 some_name true name h = refl
 some_name false name h = absurd (true≢false (sym h))
 
-variable_kind : (said : Said) → IsSome (name_if_variable said) → has by_kind (kind.Variable ∷ []) said.kind ≡ true
-variable_kind said h = name_some (has by_kind (kind.Variable ∷ []) said.kind) said.text h
+variable_kind : (said : Said) → IsSome (name_if_variable said) → has by_kind by_kind (kind.Variable ∷ []) said.kind ≡ true
+variable_kind said h = name_some (has by_kind by_kind (kind.Variable ∷ []) said.kind) said.text h
 
-kind_variable : (said : Said) → has by_kind (kind.Variable ∷ []) said.kind ≡ true → IsSome (name_if_variable said)
-kind_variable said h = some_name (has by_kind (kind.Variable ∷ []) said.kind) said.text h
+kind_variable : (said : Said) → has by_kind by_kind (kind.Variable ∷ []) said.kind ≡ true → IsSome (name_if_variable said)
+kind_variable said h = some_name (has by_kind by_kind (kind.Variable ∷ []) said.kind) said.text h
 
 good_columns : G columns columns_read (kind.Variable ∷ []) (kind.Variable ∷ []) true true
 unfolding columns_read

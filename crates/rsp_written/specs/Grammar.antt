@@ -347,7 +347,7 @@ value_row zero = says (kind.Symbol symbol.CloseParen) []
 value_row (suc n) = mapped (λ (v : Option Term × List (Option Term)). v.0 ∷ v.1) (both value (value_row n))
 
 abbrev pub name_if_variable : Said → Option (List ℕ)
-name_if_variable said = cond (has by_kind (kind.Variable ∷ []) said.kind) (Some said.text) None
+name_if_variable said = cond (has by_kind by_kind (kind.Variable ∷ []) said.kind) (Some said.text) None
 
 -- no variable twice
 abbrev pub columns : Rule (List (List ℕ))

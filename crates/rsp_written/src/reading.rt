@@ -40,7 +40,7 @@ impl<T: Drop> From<AllocFailed<T>> for Halt {
 
 // whether this kind is among these
 fn is_among(kind: Kind, kinds: &[Kind]) -> bool
-    ensures { result ≡ has by_kind kinds.now kind }
+    ensures { result ≡ has by_kind by_kind kinds.now kind }
 {
     for other in kinds {
         if *other == kind {

@@ -7,5 +7,5 @@ use Rattle.rsp_read_values.proofs.value_blocks.is_new_name.Goals as goal
 
 pub returns : goal.returns
 returns c =
-    let is : has by_kind (kind.Variable ∷ []) (by_kind c.args.said.now) ≡ true = search rules in
+    let is : has by_kind by_kind (kind.Variable ∷ []) (by_kind c.args.said.now) ≡ true = search rules in
     ap not c.contains.ensures ∙ new_name_is c.args.names.now.keys c.args.said.now is
