@@ -25,6 +25,7 @@ use Rattle.rsp_written.specs.declared.said.Kind.TheVariants as kind
 use Rattle.rsp_written.specs.declared.said.Said.{Said}
 use Rattle.rsp_written.specs.Trees.{Expr, Operands, variable, iri, constant, bound, count_rows, sum, product}
 use Rattle.rsp_written.specs.Building.{with_operands, compared_to, one_of, related, with_sign, call_of, aggregate_of}
+use Rattle.rsp_written.specs.Same.{kind_eq}
 use Rattle.rsp_written.specs.Grammar.{Rule, by_kind, meaning, word, sign, expressions, another, bound_call, maybe_third, call_rule, primary, unary_operator, unary, row, product_rule, sum_rule, comparisons, membership, relation, and_rule, or_rule, expression, maybe_distinct, count_rule, folds, aggregate_rule, aggregate_expression, arguments, function_call}
 use Rattle.rsp_written.specs.Readings.{word_kinds, sign_kinds, suffix_first, another_read, items_read, expressions_read, bound_read, call_names, call_first, call_read, primary_read, simple_read, minus_kind, plus_kind, unary_signs, unary_operator_read, unary_read, row_read, product_signs, product_read, sum_signs, sum_read, comparison_read, membership_read, relation_first, relation_read, all_row, and_read, any_row, or_read, expression_read, flagged, maybe_distinct_read, count_read, aggregate_first, aggregate_read, aggregate_expression_read, arguments_read, function_read}
 use Rattle.rsp_written.proofs.Simple.{G, good_one, good_meaning, good_says, good_second_of, good_both, good_behind, good_in_parens, good_separated, under_second, under_in_parens, under_separated, good_iri, good_variable, unsigned_first, good_unsigned_literal}
@@ -64,11 +65,11 @@ module _ (q : Rule Expr) (s : Reader Said Expr) (first : List Kind) (h : G q s f
 
   good_items : Good by_kind (both q (many (another q))) (items_read s) (first ++ [])
       (((expr_go ++ []) ++ (sign_kinds symbol.Comma)) ++ expr_go) false false
-  unfolding items_read
+  unfolding kind_eq items_read
   good_items = good_both h (good_many good_another refl) refl
 
   pub good_expressions : G (expressions q) (expressions_read s) (sign_kinds symbol.OpenParen) [] false true
-  unfolding expressions_read
+  unfolding kind_eq expressions_read
   good_expressions =
       let close = good_one (sign_kinds symbol.CloseParen) in
       let some = good_mapped (λ (v : (Expr × List Expr) × Said). (Some v.0, v.1)) (good_both good_items close refl) in
@@ -78,11 +79,11 @@ module _ (q : Rule Expr) (s : Reader Said Expr) (first : List Kind) (h : G q s f
       (apart_none by_kind by_kind ((sign_kinds symbol.CloseParen) ++ ((first ++ []) ++ [])))
 
   good_bound : G bound_call bound_read (word_kinds keyword.Bound) [] false true
-  unfolding bound_read
+  unfolding kind_eq bound_read
   good_bound = good_mapped bound (good_second_of (good_one (word_kinds keyword.Bound)) (good_in_parens good_variable refl) refl)
 
   good_arguments : (a : Arity) → G (arguments a q) (arguments_read a s) (sign_kinds symbol.OpenParen) [] false true
-  unfolding arguments_read
+  unfolding kind_eq arguments_read
   good_arguments arity.One = good_mapped (λ e. e ∷ []) (good_in_parens h refl)
   good_arguments arity.Two = good_mapped (λ (v : Expr × Expr). v.0 ∷ v.1 ∷ []) (good_in_parens (good_both h good_another refl) refl)
   good_arguments arity.Three =
@@ -93,15 +94,15 @@ module _ (q : Rule Expr) (s : Reader Said Expr) (first : List Kind) (h : G q s f
   good_arguments arity.Any = good_expressions
 
   good_function : G (function_call q) (function_read s) call_names [] false true
-  unfolding function_read
+  unfolding kind_eq function_read
   good_function = good_mapped call_of (good_tied (good_meaning kind.Call functions) (λ f. good_arguments (row_of f).1) refl)
 
   pub good_call : G (call_rule q) (call_read s) call_first [] false true
-  unfolding call_read
+  unfolding kind_eq call_read
   good_call = good_either good_bound good_function refl refl
 
   good_membership : G (membership q) (membership_read s) (word_kinds keyword.Not ++ word_kinds keyword.In) [] false true
-  unfolding membership_read
+  unfolding kind_eq membership_read
   good_membership =
       good_mapped (λ (v : Option Said × List Expr). one_of (is_some v.0) v.1)
       (good_both (good_optional (good_one (word_kinds keyword.Not))) (good_second_of (good_one (word_kinds keyword.In)) good_expressions refl) refl)
@@ -118,7 +119,7 @@ good_row signs make {bp = bp} {gp = gp} h a =
     good_mapped (with_operands make) (good_both h (good_many part a) a)
 
 good_unary_operator : G unary_operator unary_operator_read unary_signs [] false true
-unfolding unary_operator_read
+unfolding kind_eq unary_operator_read
 good_unary_operator =
     good_either (good_says (kind.Symbol symbol.Not) before.Not)
     (good_either (good_says minus_kind before.Minus) (good_says plus_kind before.Plus) refl refl) refl refl
@@ -127,7 +128,7 @@ good_unary_operator =
 
 good_primary_plain : (e : Rule Expr) (x : Reader Said Expr) (q : Rule Expr) (s : Reader Said Expr) → G e x [] [] false true → G q s plain_first expr_go false false
     → G (primary e q) (primary_read [] x s) ([] ++ primary_first) suffix_first false true
-unfolding primary_read simple_read
+unfolding kind_eq primary_read simple_read
 good_primary_plain e x q s he hq =
     good_either he (good_either (good_in_parens hq refl) (good_either (good_call q s plain_first hq refl)
     (good_either (good_mapped iri good_iri) (good_either (good_mapped variable good_variable)
@@ -135,25 +136,25 @@ good_primary_plain e x q s he hq =
 
 good_unary_plain : (e : Rule Expr) (x : Reader Said Expr) (q : Rule Expr) (s : Reader Said Expr) → G e x [] [] false true → G q s plain_first expr_go false false
     → G (unary e q) (unary_read [] x s) plain_first suffix_first false true
-unfolding unary_read
+unfolding kind_eq unary_read
 good_unary_plain e x q s he hq =
     good_mapped with_sign (good_both (good_optional good_unary_operator) (good_primary_plain e x q s he hq) refl)
 
 good_product_plain : (e : Rule Expr) (x : Reader Said Expr) (q : Rule Expr) (s : Reader Said Expr) → G e x [] [] false true → G q s plain_first expr_go false false
     → G (product_rule e q) (product_read [] x s) plain_first product_go false true
-unfolding product_read
+unfolding kind_eq product_read
 good_product_plain e x q s he hq =
     listed_as plain_first product_go (good_row product_signs product (good_unary_plain e x q s he hq) refl) refl refl refl
 
 good_sum_plain : (e : Rule Expr) (x : Reader Said Expr) (q : Rule Expr) (s : Reader Said Expr) → G e x [] [] false true → G q s plain_first expr_go false false
     → G (sum_rule e q) (sum_read [] x s) plain_first sum_go false true
-unfolding sum_read
+unfolding kind_eq sum_read
 good_sum_plain e x q s he hq =
     listed_as plain_first sum_go (good_row sum_signs sum (good_product_plain e x q s he hq) refl) refl refl refl
 
 good_relation_plain : (e : Rule Expr) (x : Reader Said Expr) (q : Rule Expr) (s : Reader Said Expr) → G e x [] [] false true → G q s plain_first expr_go false false
     → G (relation e q) (relation_read [] x s) plain_first relation_go false true
-unfolding relation_read comparison_read
+unfolding kind_eq relation_read comparison_read
 good_relation_plain e x q s he hq =
     let part = good_sum_plain e x q s he hq in
     let sign_and_sum = good_mapped (λ (v : Sign × Expr). compared_to v.0 v.1) (good_both (good_meaning kind.Sign comparisons) part refl) in
@@ -162,19 +163,19 @@ good_relation_plain e x q s he hq =
 
 good_and_plain : (e : Rule Expr) (x : Reader Said Expr) (q : Rule Expr) (s : Reader Said Expr) → G e x [] [] false true → G q s plain_first expr_go false false
     → G (and_rule e q) (and_read [] x s) plain_first and_go false true
-unfolding and_read
+unfolding kind_eq and_read
 good_and_plain e x q s he hq =
     listed_as plain_first and_go (good_mapped all_row (good_separated (kind.Symbol symbol.And) (good_relation_plain e x q s he hq) refl)) refl refl refl
 
 good_or_plain : (e : Rule Expr) (x : Reader Said Expr) (q : Rule Expr) (s : Reader Said Expr) → G e x [] [] false true → G q s plain_first expr_go false false
     → G (or_rule e q) (or_read [] x s) plain_first expr_go false true
-unfolding or_read
+unfolding kind_eq or_read
 good_or_plain e x q s he hq =
     listed_as plain_first expr_go (good_mapped any_row (good_separated (kind.Symbol symbol.Or) (good_and_plain e x q s he hq) refl)) refl refl refl
 
 good_primary_wide : (e : Rule Expr) (x : Reader Said Expr) (q : Rule Expr) (s : Reader Said Expr) → G e x aggregate_first [] false true → G q s wide_first expr_go false false
     → G (primary e q) (primary_read aggregate_first x s) (aggregate_first ++ primary_first) suffix_first false true
-unfolding primary_read simple_read
+unfolding kind_eq primary_read simple_read
 good_primary_wide e x q s he hq =
     good_either he (good_either (good_in_parens hq refl) (good_either (good_call q s wide_first hq refl)
     (good_either (good_mapped iri good_iri) (good_either (good_mapped variable good_variable)
@@ -182,25 +183,25 @@ good_primary_wide e x q s he hq =
 
 good_unary_wide : (e : Rule Expr) (x : Reader Said Expr) (q : Rule Expr) (s : Reader Said Expr) → G e x aggregate_first [] false true → G q s wide_first expr_go false false
     → G (unary e q) (unary_read aggregate_first x s) wide_first suffix_first false true
-unfolding unary_read
+unfolding kind_eq unary_read
 good_unary_wide e x q s he hq =
     good_mapped with_sign (good_both (good_optional good_unary_operator) (good_primary_wide e x q s he hq) refl)
 
 good_product_wide : (e : Rule Expr) (x : Reader Said Expr) (q : Rule Expr) (s : Reader Said Expr) → G e x aggregate_first [] false true → G q s wide_first expr_go false false
     → G (product_rule e q) (product_read aggregate_first x s) wide_first product_go false true
-unfolding product_read
+unfolding kind_eq product_read
 good_product_wide e x q s he hq =
     listed_as wide_first product_go (good_row product_signs product (good_unary_wide e x q s he hq) refl) refl refl refl
 
 good_sum_wide : (e : Rule Expr) (x : Reader Said Expr) (q : Rule Expr) (s : Reader Said Expr) → G e x aggregate_first [] false true → G q s wide_first expr_go false false
     → G (sum_rule e q) (sum_read aggregate_first x s) wide_first sum_go false true
-unfolding sum_read
+unfolding kind_eq sum_read
 good_sum_wide e x q s he hq =
     listed_as wide_first sum_go (good_row sum_signs sum (good_product_wide e x q s he hq) refl) refl refl refl
 
 good_relation_wide : (e : Rule Expr) (x : Reader Said Expr) (q : Rule Expr) (s : Reader Said Expr) → G e x aggregate_first [] false true → G q s wide_first expr_go false false
     → G (relation e q) (relation_read aggregate_first x s) wide_first relation_go false true
-unfolding relation_read comparison_read
+unfolding kind_eq relation_read comparison_read
 good_relation_wide e x q s he hq =
     let part = good_sum_wide e x q s he hq in
     let sign_and_sum = good_mapped (λ (v : Sign × Expr). compared_to v.0 v.1) (good_both (good_meaning kind.Sign comparisons) part refl) in
@@ -209,13 +210,13 @@ good_relation_wide e x q s he hq =
 
 good_and_wide : (e : Rule Expr) (x : Reader Said Expr) (q : Rule Expr) (s : Reader Said Expr) → G e x aggregate_first [] false true → G q s wide_first expr_go false false
     → G (and_rule e q) (and_read aggregate_first x s) wide_first and_go false true
-unfolding and_read
+unfolding kind_eq and_read
 good_and_wide e x q s he hq =
     listed_as wide_first and_go (good_mapped all_row (good_separated (kind.Symbol symbol.And) (good_relation_wide e x q s he hq) refl)) refl refl refl
 
 good_or_wide : (e : Rule Expr) (x : Reader Said Expr) (q : Rule Expr) (s : Reader Said Expr) → G e x aggregate_first [] false true → G q s wide_first expr_go false false
     → G (or_rule e q) (or_read aggregate_first x s) wide_first expr_go false true
-unfolding or_read
+unfolding kind_eq or_read
 good_or_wide e x q s he hq =
     listed_as wide_first expr_go (good_mapped any_row (good_separated (kind.Symbol symbol.Or) (good_and_wide e x q s he hq) refl)) refl refl refl
 
@@ -279,13 +280,13 @@ good_none : G {A = Expr} never never_read [] [] false true
 good_none = good_never by_kind
 
 pub good_expression : G expression expression_read plain_first expr_go false true
-unfolding expression_read
+unfolding kind_eq expression_read
 good_expression = good_within_itself (λ q s h. good_or_plain never never_read q s good_none h) (under_or never)
 
 -- a call whose arguments hold themselves at most as deep as there are tokens is read as any call
 pub deep_call : (ts : List Said) (depth : ℕ) → length ts < depth
     → call_read (nested_read (or_read [] never_read) depth) ts ≡ call_read expression_read ts
-unfolding expression_read
+unfolding kind_eq expression_read
 deep_call ts depth short =
     let q = nested (or_rule never) depth in
     let r = nested_read (or_read [] never_read) depth in
@@ -298,11 +299,11 @@ deep_call ts depth short =
     (under_call under) (omega (arith, short))
 
 good_maybe_distinct : G maybe_distinct maybe_distinct_read (kind.Word keyword.Distinct ∷ plain_first) expr_go false true
-unfolding maybe_distinct_read
+unfolding kind_eq maybe_distinct_read
 good_maybe_distinct = good_mapped flagged (good_both (good_optional (good_one (word_kinds keyword.Distinct))) good_expression refl)
 
 good_count : G count_rule count_read (kind.Fold fold.Count ∷ []) [] false true
-unfolding count_read
+unfolding kind_eq count_read
 good_count =
     good_second_of (good_one (kind.Fold fold.Count ∷ []))
     (good_in_parens
@@ -310,13 +311,13 @@ good_count =
     (good_mapped (aggregate_of fold.Count) good_maybe_distinct) refl refl) refl) refl
 
 pub good_aggregate : G aggregate_rule aggregate_read aggregate_first [] false true
-unfolding aggregate_read
+unfolding kind_eq aggregate_read
 good_aggregate =
     good_either good_count
     (good_mapped (λ (v : aggregates.Kind × (Bool × Expr)). aggregate_of v.0 v.1)
     (good_both (good_meaning kind.Fold folds) (good_in_parens good_maybe_distinct refl) refl)) refl refl
 
 pub good_aggregate_expression : G aggregate_expression aggregate_expression_read wide_first expr_go false true
-unfolding aggregate_expression_read
+unfolding kind_eq aggregate_expression_read
 good_aggregate_expression =
     good_within_itself (λ q s h. good_or_wide aggregate_rule aggregate_read q s good_aggregate h) (under_or aggregate_rule)

@@ -15,6 +15,7 @@ use Rattle.rsp_written.specs.declared.said.Symbol.TheVariants as symbol
 use Rattle.rsp_written.specs.declared.said.Kind.{Kind}
 use Rattle.rsp_written.specs.declared.said.Kind.TheVariants as kind
 use Rattle.rsp_written.specs.declared.said.Said.{Said}
+use Rattle.rsp_written.specs.Same.{kind_eq}
 use Rattle.rsp_written.specs.Grammar.{Rule, by_kind, one, has_kind, meaning, says, separated, sign, in_parens, iri_name, variable_name, suffix, string_literal, number_kinds, signed_number, boolean, literal, unsigned_literal}
 use Rattle.rsp_written.specs.Building.{string_term, number_term, signed_term}
 use Rattle.rsp_written.specs.declared.literals.Suffix.TheVariants.{InLanguage, OfDatatype}
@@ -109,29 +110,29 @@ under_separated {n = n} k h =
 -- ---- names and literals
 
 pub good_iri : G iri_name iri_read (kind.Iri ∷ []) [] false true
-unfolding iri_read
+unfolding kind_eq iri_read
 good_iri = good_mapped text_of (good_one (kind.Iri ∷ []))
 
 pub good_variable : G variable_name variable_read (kind.Variable ∷ []) [] false true
-unfolding variable_read
+unfolding kind_eq variable_read
 good_variable = good_mapped text_of (good_one (kind.Variable ∷ []))
 
 good_suffix : G suffix suffix_read suffix_first [] false true
-unfolding suffix_read
+unfolding kind_eq suffix_read
 good_suffix =
     good_either (good_mapped (λ tag. InLanguage tag.text) (good_one (kind.Tag ∷ [])))
     (good_second_of (good_one (sign_kinds symbol.Carets)) (good_mapped OfDatatype good_iri) refl) refl refl
 
 good_string_literal : G string_literal string_literal_read (kind.String ∷ []) suffix_first false true
-unfolding string_literal_read
+unfolding kind_eq string_literal_read
 good_string_literal = good_mapped string_term (good_both (good_one (kind.String ∷ [])) (good_optional good_suffix) refl)
 
 good_boolean : G boolean boolean_read (kind.Word keyword.True ∷ kind.Word keyword.False ∷ []) [] false true
-unfolding boolean_read
+unfolding kind_eq boolean_read
 good_boolean = good_either (good_says (kind.Word keyword.True) _) (good_says (kind.Word keyword.False) _) refl refl
 
 good_signed_number : G signed_number signed_number_read signed_first [] false true
-unfolding signed_number_read
+unfolding kind_eq signed_number_read
 good_signed_number =
     good_mapped signed_term (good_both (good_optional (good_one (kind.Sign operator.Subtract ∷ []))) (good_one number_kinds) refl)
 
@@ -139,13 +140,13 @@ abbrev pub literal_first : List Kind
 literal_first = kind.String ∷ kind.Sign operator.Subtract ∷ kind.Integer ∷ kind.Decimal ∷ kind.Double ∷ kind.Word keyword.True ∷ kind.Word keyword.False ∷ []
 
 pub good_literal : G literal literal_read literal_first suffix_first false true
-unfolding literal_read
+unfolding kind_eq literal_read
 good_literal = good_either good_string_literal (good_either good_signed_number good_boolean refl refl) refl refl
 
 abbrev pub unsigned_first : List Kind
 unsigned_first = kind.String ∷ kind.Integer ∷ kind.Decimal ∷ kind.Double ∷ kind.Word keyword.True ∷ kind.Word keyword.False ∷ []
 
 pub good_unsigned_literal : G unsigned_literal unsigned_literal_read unsigned_first suffix_first false true
-unfolding unsigned_literal_read
+unfolding kind_eq unsigned_literal_read
 good_unsigned_literal =
     good_either good_string_literal (good_either (good_mapped number_term (good_one number_kinds)) good_boolean refl refl) refl refl

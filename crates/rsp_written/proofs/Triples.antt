@@ -21,6 +21,7 @@ use Rattle.rsp_written.specs.declared.said.Kind.TheVariants as kind
 use Rattle.rsp_written.specs.declared.said.Said.{Said}
 use Rattle.rsp_written.specs.Trees.{Way, step, named, along, Node, variable_node, iri_node, constant_node, label_node, blank_node, described, Properties, no_property, values}
 use Rattle.rsp_written.specs.Building.{turned, rdf_type, property_list}
+use Rattle.rsp_written.specs.Same.{kind_eq}
 use Rattle.rsp_written.specs.Grammar.{Rule, by_kind, sign, way_name, path_part, path_sequence, path_rule, path, verb, subject_name, node_name, no_properties, node, properties_end, object, objects, property, properties_rule, properties, same, triples_rule, value, in_braces, one_column, value_row, name_if_variable, columns, many_columns, block}
 use Rattle.rsp_written.specs.Readings.{repeated_read, sign_kinds, suffix_first}
 use Rattle.rsp_written.specs.TripleReadings.{name_first, way_name_read, part_read, sequence_row, sequence_read, choice_row, path_rule_read, path_read, verb_read, subject_name_first, subject_name_read, node_name_read, no_properties_read, properties_end_read, bracket_read, node_name_first, object_read, objects_read, property_read, verb_first, properties_rule_read, properties_read, named_same_read, blank_same_read, described_same_read, same_read, same_first, triples_read, value_first, value_read, one_column_read, value_row_read, columns_read, value_rows_read, many_columns_read, block_read}
@@ -35,25 +36,25 @@ abbrev pub path_go : List Kind
 path_go = kind.Sign operator.Divide ∷ kind.Symbol symbol.Bar ∷ []
 
 good_way_name : G way_name way_name_read name_first [] false true
-unfolding way_name_read
+unfolding kind_eq way_name_read
 good_way_name = good_either (good_mapped step good_iri) (good_says (kind.Word keyword.A) (step rdf_type)) refl refl
 
 good_part : (q : Rule Way) (s : Reader Said Way) → G q s part_first path_go false false → G (path_part q) (part_read s) part_first [] false true
-unfolding part_read
+unfolding kind_eq part_read
 good_part q s h =
     good_mapped turned (good_both (good_optional (good_one (sign_kinds symbol.Caret)))
     (good_either good_way_name (good_in_parens h refl) refl refl) refl)
 
 good_sequence : (q : Rule Way) (s : Reader Said Way) → G q s part_first path_go false false
     → G (path_sequence q) (sequence_read s) part_first (kind.Sign operator.Divide ∷ []) false true
-unfolding sequence_read
+unfolding kind_eq sequence_read
 good_sequence q s h =
     listed_as part_first (kind.Sign operator.Divide ∷ [])
     (good_mapped sequence_row (good_separated (kind.Sign operator.Divide) (good_part q s h) refl)) refl refl refl
 
 good_path_rule : (q : Rule Way) (s : Reader Said Way) → G q s part_first path_go false false
     → G (path_rule q) (path_rule_read s) part_first path_go false true
-unfolding path_rule_read
+unfolding kind_eq path_rule_read
 good_path_rule q s h =
     listed_as part_first path_go
     (good_mapped choice_row (good_separated (kind.Symbol symbol.Bar) (good_sequence q s h) refl)) refl refl refl
@@ -72,11 +73,11 @@ under_path_rule n q q' h =
     under_mapped choice_row (under_separated (kind.Symbol symbol.Bar) (under_sequence h))
 
 pub good_path : G path path_read part_first path_go false true
-unfolding path_read
+unfolding kind_eq path_read
 good_path = good_within_itself good_path_rule under_path_rule
 
 pub good_verb : G verb verb_read verb_first path_go false true
-unfolding verb_read
+unfolding kind_eq verb_read
 good_verb = good_either (good_mapped named good_variable) (good_mapped along good_path) refl refl
 
 -- ---- triples
@@ -88,17 +89,17 @@ abbrev pub properties_go : List Kind
 properties_go = property_go ++ (sign_kinds symbol.Semicolon ++ verb_first)
 
 good_subject_name : G subject_name subject_name_read subject_name_first [] false true
-unfolding subject_name_read
+unfolding kind_eq subject_name_read
 good_subject_name =
     good_either (good_mapped variable_node good_variable)
     (good_either (good_mapped iri_node good_iri) (good_mapped (λ said. label_node said.text) (good_one (kind.Label ∷ []))) refl refl) refl refl
 
 good_node_name : G node_name node_name_read node_name_first suffix_first false true
-unfolding node_name_read
+unfolding kind_eq node_name_read
 good_node_name = good_either good_subject_name (good_mapped constant_node good_literal) refl refl
 
 good_no_properties : G no_properties no_properties_read (sign_kinds symbol.CloseBracket) [] false true
-unfolding no_properties_read
+unfolding kind_eq no_properties_read
 good_no_properties = good_says (kind.Symbol symbol.CloseBracket) blank_node
 
 abbrev InnerProperties : Rule Properties → Reader Said Properties → Bool → Type 0
@@ -106,12 +107,12 @@ InnerProperties q s exact = G q s verb_first properties_go false exact
 
 good_properties_end : {exact : Bool} (q : Rule Properties) (s : Reader Said Properties) → InnerProperties q s exact
     → Good by_kind (properties_end q) (properties_end_read s) verb_first [] false (exact && true)
-unfolding properties_end_read
+unfolding kind_eq properties_end_read
 good_properties_end q s h = good_mapped described (good_first_of h (good_one (sign_kinds symbol.CloseBracket)) refl)
 
 good_object : (q : Rule Properties) (s : Reader Said Properties) → InnerProperties q s false
     → G (object q) (object_read s) (node_name_first ++ sign_kinds symbol.OpenBracket) suffix_first false true
-unfolding object_read bracket_read
+unfolding kind_eq object_read bracket_read
 good_object q s h =
     good_same (drawn_out node_name (sign symbol.OpenBracket) no_properties (properties_end q))
     (good_either good_node_name
@@ -119,19 +120,19 @@ good_object q s h =
 
 good_objects : (q : Rule Properties) (s : Reader Said Properties) → InnerProperties q s false
     → G (objects q) (objects_read s) (node_name_first ++ sign_kinds symbol.OpenBracket) property_go false true
-unfolding objects_read
+unfolding kind_eq objects_read
 good_objects q s h =
     listed_as (node_name_first ++ sign_kinds symbol.OpenBracket) property_go
     (good_mapped (λ (v : Node × List Node). v.0 ∷ v.1) (good_separated (kind.Symbol symbol.Comma) (good_object q s h) refl)) refl refl refl
 
 good_property : (q : Rule Properties) (s : Reader Said Properties) → InnerProperties q s false
     → G (property q) (property_read s) verb_first property_go false true
-unfolding property_read
+unfolding kind_eq property_read
 good_property q s h = good_both good_verb (good_objects q s h) refl
 
 good_properties_rule : (q : Rule Properties) (s : Reader Said Properties) → InnerProperties q s false
     → G (properties_rule q) (properties_rule_read s) verb_first properties_go false true
-unfolding properties_rule_read
+unfolding kind_eq properties_rule_read
 good_properties_rule q s h =
     let part = good_property q s h in
     let behind = good_second_of (good_one (sign_kinds symbol.Semicolon)) (good_optional part) refl in
@@ -154,14 +155,14 @@ under_properties_rule n q q' h =
     (under_tied (under_same (n + 1) (sign symbol.Semicolon)) (λ w. under_optional (under_property h))))))
 
 pub good_properties : G properties properties_read verb_first properties_go false true
-unfolding properties_read
+unfolding kind_eq properties_read
 good_properties = good_within_itself good_properties_rule under_properties_rule
 
 abbrev pub same_go : List Kind
 same_go = properties_go
 
 good_same_rule : G same same_read same_first same_go false true
-unfolding same_read named_same_read blank_same_read described_same_read
+unfolding kind_eq same_read named_same_read blank_same_read described_same_read
 good_same_rule =
     let f = λ (v : Node × Properties). v in
     let g : Node × Option Properties → Node × Properties = λ v. (v.0, unwrap_or v.1 no_property) in
@@ -177,7 +178,7 @@ abbrev pub triples_go : List Kind
 triples_go = same_go ++ (same_first ++ sign_kinds symbol.Dot)
 
 pub good_triples : G triples_rule triples_read same_first triples_go false true
-unfolding triples_read
+unfolding kind_eq triples_read
 good_triples =
     listed_as same_first triples_go
     (good_dotted (good_one (sign_kinds symbol.Dot)) good_same_rule refl) refl refl refl
@@ -185,7 +186,7 @@ good_triples =
 -- ---- VALUES
 
 good_value : G value value_read value_first suffix_first false true
-unfolding value_read
+unfolding kind_eq value_read
 good_value =
     good_either (good_mapped (λ name. Some (term.Iri name)) good_iri)
     (good_either (good_mapped Some good_literal) (good_says (kind.Word keyword.Undef) None) refl refl) refl refl
@@ -194,10 +195,11 @@ abbrev pub values_go : List Kind
 values_go = suffix_first ++ value_first
 
 good_values : Good by_kind (many value) (repeated_read value_first value_read) value_first values_go true true
+unfolding kind_eq
 good_values = good_many good_value refl
 
 good_one_column : G one_column one_column_read (kind.Variable ∷ []) [] false true
-unfolding one_column_read
+unfolding kind_eq one_column_read
 good_one_column =
     good_mapped (λ (v : List ℕ × List (Option Term)). values (v.0 ∷ []) (map (λ x. x ∷ []) v.1))
     (good_both good_variable
@@ -207,14 +209,14 @@ abbrev pub row_first : List Kind
 row_first = sign_kinds symbol.CloseParen ++ value_first
 
 good_value_row : (n : ℕ) → G (value_row n) (value_row_read n) row_first [] false false
-unfolding value_row value_row_read
+unfolding kind_eq value_row value_row_read
 good_value_row zero = loosened row_first [] (good_says (kind.Symbol symbol.CloseParen) []) refl refl
 good_value_row (suc n) =
     loosened row_first []
     (good_mapped (λ (v : Option Term × List (Option Term)). v.0 ∷ v.1) (good_both good_value (good_value_row n) refl)) refl refl
 
 good_value_rows : (n : ℕ) → G (in_braces (many (second_of (sign symbol.OpenParen) (value_row n)))) (value_rows_read n) (sign_kinds symbol.OpenBrace) [] false true
-unfolding value_rows_read
+unfolding kind_eq value_rows_read
 good_value_rows n =
     let rows = good_many (good_behind (sign_kinds symbol.OpenParen) (good_value_row n)) refl in
     good_behind (sign_kinds symbol.OpenBrace) (good_first_of rows (good_one (sign_kinds symbol.CloseBrace)) refl)
@@ -240,16 +242,16 @@ kind_variable : (said : Said) → has by_kind by_kind (kind.Variable ∷ []) sai
 kind_variable said h = some_name (has by_kind by_kind (kind.Variable ∷ []) said.kind) said.text h
 
 good_columns : G columns columns_read (kind.Variable ∷ []) (kind.Variable ∷ []) true true
-unfolding columns_read
+unfolding kind_eq columns_read
 good_columns = good_distinct by_kind bytes_eq name_if_variable (kind.Variable ∷ []) same_text text_itself variable_kind kind_variable
 
 good_many_columns : G many_columns many_columns_read (sign_kinds symbol.OpenParen) [] false true
-unfolding many_columns_read
+unfolding kind_eq many_columns_read
 good_many_columns =
     good_mapped (λ (v : List (List ℕ) × List (List (Option Term))). values v.0 v.1)
     (good_second_of (good_one (sign_kinds symbol.OpenParen))
     (good_tied (good_first_of good_columns (good_one (sign_kinds symbol.CloseParen)) refl) (λ names. good_value_rows (length names)) refl) refl)
 
 pub good_block : G block block_read (kind.Variable ∷ sign_kinds symbol.OpenParen) [] false true
-unfolding block_read
+unfolding kind_eq block_read
 good_block = good_either good_one_column good_many_columns refl refl

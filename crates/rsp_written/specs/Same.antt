@@ -27,8 +27,8 @@ use Rattle.rsp_written.specs.contracts.said.SymbolPartialEq.TheImpl.{ghosts as o
 use Rattle.rsp_written.specs.contracts.said.SymbolPartialEq.TheImpl.Laws.{laws-law as symbol_laws}
 use Rattle.rsp_written.specs.contracts.said.KindPartialEq.TheImpl.{ghosts as of_kinds}
 
--- the test that the program computes
-abbrev pub kind_eq : Kind → Kind → Bool
+-- the test that the program computes; not opened where nobody asks for it, since proofs by search would compute it at each step
+unfoldable pub kind_eq : Kind → Kind → Bool
 kind_eq = of_kinds.eq
 
 -- ---- a test decides identity where it finds each value itself in a list of all
@@ -100,6 +100,7 @@ along : {A : Type 0} (make : A → Kind) {b : Bool} {x y : A} → Decides b (x �
 along make same own = (λ h. ap make (same.0 h), λ h. same.1 (own h))
 
 pub kind_same : (j k : Kind) → Decides (kind_eq j k) (j ≡ k)
+unfolding kind_eq
 kind_same kind.Iri kind.Iri = (λ h. refl, λ h. refl)
 kind_same kind.Prefixed kind.Prefixed = (λ h. refl, λ h. refl)
 kind_same kind.Label kind.Label = (λ h. refl, λ h. refl)

@@ -39,6 +39,7 @@ impl<T: Drop> From<AllocFailed<T>> for Halt {
 }
 
 // whether this kind is among these
+#[tactic(auto, unfolding(crate::specs::Same::kind_eq))]
 fn is_among(kind: Kind, kinds: &[Kind]) -> bool
     ensures { result ≡ has by_kind by_kind kinds.now kind }
 {
@@ -61,6 +62,7 @@ pub fn first_is_among(kinds: &[Kind], tokens: &[Said]) -> bool
 }
 
 /// Whether the next token is of this kind.
+#[tactic(auto, unfolding(crate::specs::Same::kind_eq))]
 pub fn first_is(kind: Kind, tokens: &[Said]) -> bool
     ensures { result ≡ starts by_kind (kind ∷ []) tokens.now }
 {
@@ -135,6 +137,7 @@ impl Spelled for Fold {
 }
 
 // the first of these whose token is of this kind
+#[tactic(auto, unfolding(crate::specs::Same::kind_eq))]
 fn meant<M: Spelled>(values: &[M], kind: Kind) -> Option<M>
     ensures { result ≡ find (has_kind M.spelling kind) values.now }
 {
