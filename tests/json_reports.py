@@ -72,15 +72,27 @@ def report(name, time, header, lines):
     return members({b"at": time, b"head": head, b"query": string(name), b"results": results})
 
 
+def graph(name, time, lines):
+    return members({b"at": time, b"graph": array(map(string, lines)), b"query": string(name)})
+
+
 def sayings(tables):
-    """The lines of each thing that is said: those of a report, or the one of a refusal and the like."""
+    """The lines of each thing that is said: those of a report or a graph, or the one of a refusal and the like."""
     lines = tables.split(b"\n")
     assert lines.pop() == b""
     at = 0
     while at < len(lines):
-        behind = at + (2 + int(lines[at].split(b" ")[4]) if lines[at].startswith(b"# report ") else 1)
+        behind = at + lines_from(lines[at])
         yield lines[at:behind]
         at = behind
+
+
+def lines_from(first):
+    """The number of lines of what is said with this first line."""
+    if not first.startswith((b"# report ", b"# graph ")):
+        return 1
+    _, kind, _, _, count = first.split(b" ")
+    return int(count) + (2 if kind == b"report" else 1)
 
 
 def report_rows(tables):
@@ -89,25 +101,29 @@ def report_rows(tables):
 
 
 def line_of(lines):
-    """A report as a line of JSON; each other line stays as it is."""
-    if not lines[0].startswith(b"# report "):
+    """A report or a graph as a line of JSON; each other line stays as it is."""
+    if not lines[0].startswith((b"# report ", b"# graph ")):
         return lines[0]
-    _, _, name, time, _ = lines[0].split(b" ")
-    return report(name, time, lines[1], lines[2:])
+    _, kind, name, time, _ = lines[0].split(b" ")
+    return report(name, time, lines[1], lines[2:]) if kind == b"report" else graph(name, time, lines[1:])
 
 
 def as_json(tables):
-    """The output with its reports as lines of JSON."""
+    """The output with its reports and graphs as lines of JSON."""
     return b"".join(line_of(lines) + b"\n" for lines in sayings(tables))
 
 
 def unread_line(output):
-    """The first line of an output that is neither a refusal, nor an overfull report, nor read as a report by Python's json."""
+    """The first line of an output that is neither a refusal, nor an overfull report, nor read as a report or a graph by Python's
+    json."""
     for line in output.split(b"\n")[:-1]:
         if line.startswith((b"# refused ", b"# overfull ")):
             continue
         try:
             value = json.loads(line)
+            if sorted(value) == ["at", "graph", "query"]:
+                assert all(isinstance(text, str) and text.endswith(" .") for text in value["graph"])
+                continue
             names = set(value["head"]["vars"])
             assert sorted(value) == ["at", "head", "query", "results"]
             assert all(set(bindings) <= names for bindings in value["results"]["bindings"])

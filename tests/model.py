@@ -15,6 +15,7 @@ from policy_model import content, instants, is_due, is_due_on_arrival, is_mixed,
 from query_model import LAST_INSTANT, instant
 from shape_model import fault
 from term_model import XSD_STRING, Blank, Iri, Literal, Tagged, is_absolute, printed
+from value_model import term_of
 
 USAGE = b"usage: rsp events [--json] [--slack N] | run [--json] [--store FILE] QUERY STREAM=FILE.. | check QUERY | gen COUNT\n"
 MOST_BYTES = 16_777_216
@@ -294,10 +295,23 @@ KEYS = {"Limit": ["what"], "Scope": ["variable"]}
 class Query:
     """A live query, with the rows of its last report, as texts with their counts: none before the first."""
 
-    def __init__(self, name, operator, translated, policy, windows, first):
-        self.name, self.operator, self.translated = name, operator, translated
+    def __init__(self, name, operator, template, translated, policy, windows, first):
+        self.name, self.operator, self.template, self.translated = name, operator, template, translated
         self.policy, self.windows, self.first = policy, windows, first
         self.preceding = Counter()
+
+
+def instance(triple, cells):
+    """The line of a template's triple on a row, whose cells are printed terms; None where it isn't a triple."""
+    terms = [cells[slot[1]] if slot[0] == "variable" else printed(term_of(slot[1])) for slot in triple]
+    is_triple = all(terms) and not terms[0].startswith(b'"') and terms[1].startswith(b"<")
+    return b" ".join(terms) + b" ." if is_triple else None
+
+
+def graph_of(template, texts):
+    """The graph that a template makes of rows, which are texts, as lines in the order of their bytes."""
+    made = {instance(triple, text.split(b"\t")) for text in texts for triple in template}
+    return sorted(made - {None})
 
 
 def text_refusal(name, *details):
@@ -370,7 +384,11 @@ class World:
         told = {"RSTREAM": present, "ISTREAM": present - query.preceding, "DSTREAM": query.preceding - present}
         texts = sorted(told[query.operator].elements())
         query.preceding = present
-        lines = [b"# report %s %d %d" % (query.name, at, len(texts)), b"\t".join(b"?" + name for name in names), *texts]
+        if query.template is None:
+            lines = [b"# report %s %d %d" % (query.name, at, len(texts)), b"\t".join(b"?" + name for name in names), *texts]
+        else:
+            graph = graph_of(query.template, texts)
+            lines = [b"# graph %s %d %d" % (query.name, at, len(graph)), *graph]
         return b"".join(line + b"\n" for line in lines)
 
     def pass_to(self, to):
@@ -403,7 +421,7 @@ class World:
         if not has_start(made):
             raise Refused("25 StartOverfull")
         windows = [window_of(clause, words) for clause in query["windows"]]
-        self.queries.append(Query(name, query["operator"], made, policy_of(words), windows, len(self.items)))
+        self.queries.append(Query(name, query["operator"], query["template"], made, policy_of(words), windows, len(self.items)))
 
     def cancel(self, name):
         if name not in self.names():

@@ -163,7 +163,7 @@ KEYWORDS = (
     "EVERY FROM NAMED WINDOW ON RANGE STEP START AS SELECT DISTINCT WHERE GROUP BY HAVING OPTIONAL MINUS UNION "
     "GRAPH FILTER NOT EXISTS BIND VALUES UNDEF TRUE FALSE IN COUNT SUM AVG MIN MAX BOUND IF COALESCE SAMETERM ISIRI "
     "ISURI ISBLANK ISLITERAL ISNUMERIC STR LANG DATATYPE IRI URI STRDT STRLANG STRLEN SUBSTR CONTAINS STRSTARTS "
-    "STRENDS STRBEFORE STRAFTER CONCAT LANGMATCHES ABS CEIL FLOOR ROUND"
+    "STRENDS STRBEFORE STRAFTER CONCAT LANGMATCHES ABS CEIL FLOOR ROUND CONSTRUCT"
 ).split()
 
 
@@ -276,6 +276,12 @@ def kept(place, *rules):
     return mapped(lambda values: values[place], row(*rules))
 
 
+def dotted(rule):
+    """The rule once or more, with dots between and maybe one at the end."""
+    behind = either(nothing([]), kept(1, one_of("."), either(nothing([]), lazy(lambda: dotted(rule)))))
+    return mapped(lambda v: [v[0], *v[1]], row(rule, behind))
+
+
 # ---- names and literals
 
 iri = token(lambda said: said.kind == "Iri", named_value)
@@ -310,7 +316,7 @@ literal = either(unsigned_literal, then(one_of("-"), lambda sign: number("-", at
 ARITIES = {name: {2} for name in "SAMETERM STRDT STRLANG CONTAINS STRSTARTS STRENDS STRBEFORE STRAFTER LANGMATCHES".split()}
 ARITIES.update({"IF": {3}, "SUBSTR": {2, 3}})
 FREE = ("COALESCE", "CONCAT")
-FUNCTIONS = KEYWORDS[KEYWORDS.index("IF"):]
+FUNCTIONS = KEYWORDS[KEYWORDS.index("IF"):KEYWORDS.index("ROUND") + 1]
 
 
 def in_parens(rule):
@@ -397,9 +403,21 @@ same = either(
 
 def triples():
     """Same, with dots between and maybe one at the end."""
-    return mapped(
-        lambda v: [v[0], *(v[1] or [])], row(same, either(nothing([]), kept(1, one_of("."), either(nothing([]), lazy(triples)))))
-    )
+    return dotted(same)
+
+
+# ---- templates
+
+made_name = either(mapped(lambda x: ("variable", x), variable), mapped(lambda x: ("iri", x), iri))
+made_verb = either(made_name, mapped(lambda a: ("iri", Name(RDF_TYPE, at(a))), one_of("a")))
+made = row(made_name, made_verb, either(made_name, literal))
+template = kept(1, one_of("{"), either(nothing([]), dotted(made)), one_of("}"))
+
+
+def names_of(triples):
+    """The names of a template as items of a SELECT: each once, in the order of their first places."""
+    names = [node[1] for triple in triples for node in triple if node[0] == "variable"]
+    return [(None, name) for place, name in enumerate(names) if name not in names[:place]]
 
 
 # ---- VALUES
@@ -446,7 +464,7 @@ tail = row(
 )
 
 
-def select_of(clause, body, behind):
+def select_of(clause, body, behind=((), None)):
     return {"distinct": clause[0], "items": clause[1], "body": body, "keys": behind[0], "having": behind[1]}
 
 
@@ -535,13 +553,20 @@ policy = either(
         row(one_of("REPORT"), listed(strategy, one_of("AND")), one_of("TICK"), one_of("TIME", "TUPLE")),
     ),
 )
+whole_group = row(some(window), maybe(one_of("WHERE")), group())
+shown = mapped(
+    lambda v: {"template": None, "windows": v[1][0], "select": select_of(v[0], v[1][2], v[2])},
+    row(select_clause, whole_group, tail),
+)
+constructed = mapped(
+    lambda v: {"template": v[1], "windows": v[2][0], "select": select_of((False, names_of(v[1])), v[2][2])},
+    row(one_of("CONSTRUCT"), template, whole_group),
+)
 query_body = mapped(
-    lambda v: {
-        "operator": v[1].kind, "output": v[2], "policy": v[3], "windows": v[6], "select": select_of(v[5], v[8], v[9]),
-    },
+    lambda v: {"operator": v[1].kind, "output": v[2], "policy": v[3], **v[5]},
     row(
-        one_of("REGISTER"), one_of("RSTREAM", "ISTREAM", "DSTREAM"), iri, maybe(policy), one_of("AS"), select_clause,
-        some(window), maybe(one_of("WHERE")), group(), tail,
+        one_of("REGISTER"), one_of("RSTREAM", "ISTREAM", "DSTREAM"), iri, maybe(policy), one_of("AS"),
+        either(shown, constructed),
     ),
 )
 
@@ -760,6 +785,14 @@ def numbered_select(numbers, outer, select):
     }
 
 
+def numbered_template(numbers, tree):
+    """The template with the numbers of its variables, which are the first of all, as its names are what is shown."""
+    if tree["template"] is None:
+        return None
+    scopes = [(0, tree["select"])]
+    return [tuple(slot(numbers, scopes, node) for node in triple) for triple in tree["template"]]
+
+
 # ---- limits
 
 
@@ -847,7 +880,7 @@ def counts(tree, numbers, select):
     return [
         ("windows", len(tree["windows"]), 16),
         ("variables", len(numbers.variables) + sum(map(slashes, ways)), 64),
-        ("patterns", sum(map(steps, ways)), 64),
+        ("patterns", sum(map(steps, ways)) + len(tree["template"] or []), 64),
         ("operators", operators_in(tree["select"]), 512),
         ("elements", sum(part[0] != "triple" for part in parts), 256),
         ("rows", sum(len(part[2]) for part in parts if part[0] == "values"), 4096),
@@ -882,7 +915,7 @@ def parse(text):
         raise Refused("Limit", "nesting")
     tree, numbers, select = numbered_tree(text, tokens)
     check_limits(tree, numbers, select)
-    return {**tree, "select": select, "variables": numbers.variables}
+    return {**tree, "select": select, "template": numbered_template(numbers, tree), "variables": numbers.variables}
 
 
 def numbered_tree(text, tokens):
