@@ -10,7 +10,7 @@ from .pages import TOOLS, page_of
 from .places import quoted
 
 # where a variable is named, in words
-SHOWN, TESTED, COMPUTED, KEY = "shown", "tested", "computed with", "a key"
+SHOWN, TESTED, COMPUTED, KEY, MADE = "shown", "tested", "computed with", "a key", "in the template"
 
 
 # ---- what can bind
@@ -56,8 +56,9 @@ def unbound_of_select(query, select):
     row = row_of(query, select) | {v for v, _ in select["keys"]}
     if select["having"]:
         yield from outside(row, variables_in(select["having"]), TESTED)
+    shown = MADE if select is query["select"] and query["template"] is not None else SHOWN
     for variable, e in select["items"]:
-        yield from outside(row, [variable] if e is None else variables_in(e), SHOWN if e is None else COMPUTED)
+        yield from outside(row, [variable] if e is None else variables_in(e), shown if e is None else COMPUTED)
         row = row | ({variable} if e else set())
 
 
@@ -126,6 +127,8 @@ def of_unbound(query, text, variable, use, everywhere):
         if name in others:
             said = f"{said}: the `?{name}` of a select within is another variable, as that select doesn't show it"
             write = f"`?{name}` among what the select within shows"
+    if use == MADE:
+        said = f"{said}; so no triple with it is made"
     return Finding(text.place(variable.start), "unbound", said, f"write {write}", page_of(TOOLS, "unbound"))
 
 

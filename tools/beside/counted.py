@@ -113,7 +113,7 @@ def parts_of(e):
 PLACES = {
     "windows": lambda tree, numbers: each(window["at"] for window in tree["windows"]),
     "variables": lambda tree, numbers: [*each(numbers.places), *along_paths(tree, slashes)],
-    "patterns": lambda tree, numbers: along_paths(tree, steps),
+    "patterns": lambda tree, numbers: [*each(verb[1].start for _, verb, _ in tree["template"] or []), *along_paths(tree, steps)],
     "operators": lambda tree, numbers: each(place for e in expressions(tree) for place in operators(e)),
     "elements": lambda tree, numbers: each(element[0].start for element in elements(tree) if element[0] != "triples"),
     "rows": lambda tree, numbers: each(row.start for element in elements(tree) if element[0] == "values" for row in element[2]),

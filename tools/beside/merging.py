@@ -16,7 +16,8 @@ from .words import WrongWords, named
 
 USAGE = "usage: tools/merge FILE.."
 
-# what a part says: a report, with its rows, a query that is over, or a refusal, with the number of its block, 0 where it has none
+# what a part says: a report, with its rows, or with the lines of its graph where it has no columns at all; a query that is over; or
+# a refusal, with the number of its block, 0 where it has none
 Report = namedtuple("Report", "name time head rows")
 Overfull = namedtuple("Overfull", "name time")
 Refusal = namedtuple("Refusal", "block line")
@@ -24,6 +25,9 @@ Refusal = namedtuple("Refusal", "block line")
 Row = namedtuple("Row", "text bindings")
 
 REPORT = re.compile(rb"# report (\S+) (\d+) (\d+)\n")
+GRAPH = re.compile(rb"# graph (\S+) (\d+) (\d+)\n")
+# what a graph has in the place of columns, in a table and in JSON
+OF_LINES, OF_JSON = "lines", "lines in JSON"
 OVERFULL = re.compile(rb"# overfull (\S+) (\d+)\n")
 REFUSED = re.compile(rb"# refused (?:block (\d+) )?.*\n")
 ESCAPED = str.maketrans({"\t": "\\t", "\n": "\\n", "\r": "\\r", '"': '\\"', "\\": "\\\\"})
@@ -54,22 +58,28 @@ class Part:
             return None
         if not line.endswith(b"\n"):
             raise Ended(f"part {self.number} ended within a line")
-        report, overfull, refused = (form.fullmatch(line) for form in (REPORT, OVERFULL, REFUSED))
+        report, graph, overfull, refused = (form.fullmatch(line) for form in (REPORT, GRAPH, OVERFULL, REFUSED))
         if report:
-            return self.report(*report.groups())
+            head, *rows = self.lines_of(report[1], report[2], 1 + int(report[3]))
+            return Report(report[1], int(report[2]), head, rows)
+        if graph:
+            return Report(graph[1], int(graph[2]), OF_LINES, self.lines_of(*graph.groups()))
         if overfull:
             return Overfull(overfull[1], int(overfull[2]))
         return Refusal(int(refused[1] or 0), line) if refused else self.report_in_json(line)
 
-    def report(self, name, time, count):
-        lines = [next(self.lines, b"") for _ in range(1 + int(count))]
-        if not lines[-1].endswith(b"\n"):
+    def lines_of(self, name, time, count):
+        lines = [next(self.lines, b"") for _ in range(int(count))]
+        if lines and not lines[-1].endswith(b"\n"):
             raise Ended(f"part {self.number} ended within {told_report(name, time)}")
-        return Report(name, int(time), lines[0], lines[1:])
+        return lines
 
     def report_in_json(self, line):
         try:
             said = json.loads(line)
+            if "graph" in said:
+                texts = [text.encode() for text in said["graph"]]
+                return Report(said["query"].encode(), int(said["at"]), OF_JSON, texts)
             names, rows = said["head"]["vars"], said["results"]["bindings"]
             whole = [Row("\t".join(map(cell, map(bindings.get, names))).encode(), bindings) for bindings in rows]
             return Report(said["query"].encode(), int(said["at"]), tuple(names), whole)
@@ -149,18 +159,31 @@ def fault_of_part(part, first):
 
 
 def as_bytes(reports):
-    """One report with the rows of all of them."""
+    """One report with the rows of all of them, or one graph with their triples, each once."""
     name, time, head, _ = reports[0]
-    rows = sorted((row for report in reports for row in report.rows), key=line_of)
+    rows = (row for report in reports for row in report.rows)
+    if head in (OF_LINES, OF_JSON):
+        return graph_as_bytes(name, time, head, sorted(set(rows), key=line_of))
+    rows = sorted(rows, key=line_of)
     if isinstance(head, bytes):
         return b"# report %s %d %d\n%s%s" % (name, time, len(rows), head, b"".join(rows))
-    said = {"at": time, "head": {"vars": head}, "query": name.decode(), "results": {"bindings": [row.bindings for row in rows]}}
+    return as_json(
+        {"at": time, "head": {"vars": head}, "query": name.decode(), "results": {"bindings": [row.bindings for row in rows]}})
+
+
+def graph_as_bytes(name, time, head, lines):
+    if head == OF_LINES:
+        return b"# graph %s %d %d\n%s" % (name, time, len(lines), b"".join(lines))
+    return as_json({"at": time, "graph": [line.decode() for line in lines], "query": name.decode()})
+
+
+def as_json(said):
     return json.dumps(said, ensure_ascii=False, separators=(",", ":")).encode() + b"\n"
 
 
 def line_of(row):
     """What a row is ordered by: its line, whose line feed is no part of it."""
-    return row[:-1] if isinstance(row, bytes) else row.text
+    return row.rstrip(b"\n") if isinstance(row, bytes) else row.text
 
 
 # ---- words

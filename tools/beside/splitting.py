@@ -163,11 +163,12 @@ class Rule:
 
     def of_rows(self):
         select, operator = self.query["select"], self.query["operator"]
+        where = "behind SELECT" if self.query["template"] is None else "in the template"
         if self.variable in projected(self.query, select):
             return
         if operator != "RSTREAM":
             said = f"{operator} compares rows as they are shown, and {self.shown} isn't shown, so two parts may have one row"
-            self.add(5, self.place_of_word(operator), said, f"{self.shown} behind SELECT")
+            self.add(5, self.place_of_word(operator), said, f"{self.shown} {where}")
         if select["distinct"]:
             said = f"DISTINCT takes rows as they are shown, and {self.shown} isn't shown, so two parts may have one row"
             self.add(5, self.place_of_word("DISTINCT"), said, f"{self.shown} behind SELECT")

@@ -47,4 +47,7 @@ def of_restless(query, text, variable):
         "a row is told again each time that number moves"
     )
     write = "write the keys alone after SELECT, and the number in HAVING, if each is to be told once"
+    if query["template"] is not None:
+        said = said.replace("a row is", "its triples are")
+        write = "write no number into the template, and what it has to pass into a FILTER, if each is to be told once"
     return Finding(text.place(start), "restless", said, write, page_of(TOOLS, "restless"))
