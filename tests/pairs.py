@@ -11,5 +11,15 @@ def million_pairs():
     return (QUERY + f"@item <s:a> 1000\n{left}@end\n@item <s:a> 2000\n{right}@end\n@tick 10000\n").encode()
 
 
+def million_pairs_as_graph():
+    """The same log with a query of which each pair makes a triple of its own."""
+    return million_pairs().replace(b"SELECT ?x", b"CONSTRUCT { ?x <p:n> ?z }")
+
+
+def million_triples():
+    names = range(1000, 2000)
+    return b"# graph q 10000 1000000\n" + b"".join(b"<a:%d> <p:n> <b:%d> .\n" % (i, k) for i in names for k in names)
+
+
 def million_rows():
     return b"# report q 10000 1000000\n?x\n" + b"".join(b"<a:%d>\n" % i * 1000 for i in range(1000, 2000))

@@ -367,9 +367,41 @@ class QueryWriter:
             parts += ["{ ?s ?p ?o }", "{ GRAPH ?w { ?s ?p ?o } }"]
         return "SELECT ?w ?s ?p ?o", f"{{ {' UNION '.join(parts)} }}"
 
-    def text(self):
+    # ---- templates
+
+    def made_triple(self, seen):
+        """A triple of a template, mostly of names that are bound; by a slip of nodes that can't stand in it."""
+        name = lambda: "?" + self.name(seen)
+        subject = name() if self.chance(0.7) else self.dice.choice(NODES)
+        verb = name() if self.chance(0.2) else self.dice.choice(PREDICATES)
+        node = name() if self.chance(0.7) else self.dice.choice(OBJECTS)
+        if self.slips():
+            subject = self.dice.choice(["_:b", "[]", '"a"', "-1", "a"])
+        if self.slips():
+            node += self.dice.choice([" , <a:1>", " ; <p:v> ?o", " .", " ."])
+        return f"{subject} {self.path() if self.slips() else verb} {node}"
+
+    def template(self, seen):
+        triples = [self.made_triple(seen) for _ in range(self.dice.choice([0, 1, 1, 1, 2, 2, 3, 5]))]
+        dot = self.dice.choice(["", " ."]) if triples else ""
+        return f"{self.dice.choice(['CONSTRUCT', 'CONSTRUCT', 'construct'])} {{ {' . '.join(triples)}{dot} }}"
+
+    def construction(self, depth):
+        """A template and its group; counts come from a select within."""
+        seen = []
+        body = self.sub(seen, depth, False) if self.chance(0.2) else self.group(seen, depth, False)
+        tail = " GROUP BY ?s" if self.slips() else ""
+        return self.template(seen), f"{self.dice.choice(['WHERE ', ''])}{{ {body} }}{tail}"
+
+    def parts(self):
+        """What stands behind AS, before and behind the windows."""
+        if self.chance(0.3):
+            return self.whole()
         depth = self.dice.choice([0, 1, 1, 1, 2, 2, 3])
-        head, body = self.whole() if self.chance(0.3) else self.parts_of_select(depth, False)[:2]
+        return self.construction(depth) if self.chance(0.25) else self.parts_of_select(depth, False)[:2]
+
+    def text(self):
+        head, body = self.parts()
         operator = self.dice.choice(["RSTREAM", "RSTREAM", "ISTREAM", "DSTREAM"])
         clauses = " ".join(map(self.clause, self.windows))
         if self.slips():
