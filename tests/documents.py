@@ -179,18 +179,18 @@ def fault_of_command(command, wanted, room):
 
 # how an output of a log begins (a report of `query` is one of the mode `run`), how a line begins that is a clause of a query or a
 # frame of it, and how a block begins that changes a query
-OUTPUT = re.compile(r"# (report|overfull|refused block) (?!query )\S+ \d")
-CLAUSE = re.compile(r"(@register|@end|PREFIX|REGISTER|SELECT|FROM|WHERE)\b")
-CHANGE = re.compile(r"(REGISTER|SELECT|WHERE)\b")
+OUTPUT = re.compile(r"# (report|graph|overfull|refused block) (?!query )\S+ \d")
+CLAUSE = re.compile(r"(@register|@end|PREFIX|REGISTER|SELECT|CONSTRUCT|FROM|WHERE)\b")
+CHANGE = re.compile(r"(REGISTER|SELECT|CONSTRUCT|WHERE)\b")
 
 
 def clauses(text):
-    """A query's lines, those that belong together as one, each with its first word."""
+    """A query's lines, those that belong together as one, each with its first word; a template stands where a SELECT does."""
     found = []
     for line in text.splitlines(keepends=True):
         first = CLAUSE.match(line)
         if first:
-            found.append((first[0], line))
+            found.append((first[0].replace("CONSTRUCT", "SELECT"), line))
         else:
             found[-1] = (found[-1][0], found[-1][1] + line)
     return found

@@ -18,7 +18,7 @@ TEXTS, SHAPES, LEFT_OUT = "When a text is refused", "When a query's shape is ref
 Mistake = namedtuple("Mistake", "heading mistake line write text")
 # what a change takes the place of, by how it begins; behind the others it stands as a line of its own
 PLACES = [
-    ("PREFIX ", r"PREFIX .*"), ("REGISTER ", r"REGISTER .*"), ("SELECT ", r"SELECT .*"),
+    ("PREFIX ", r"PREFIX .*"), ("REGISTER ", r"REGISTER .*"), ("SELECT |CONSTRUCT ", r"SELECT .*"),
     (r"REPORT .* AS$", r"REPORT .* AS"), ("REPORT ", r"REPORT .*(?= AS)"),
     (r"\[", r"\[.*\]"), (r"\?s ex:v", r"\?s ex:v \?v"), ("WINDOW ", r"WINDOW ex:w \{.*?\}"),
     ("(FILTER|GRAPH|OPTIONAL|BIND)", r"FILTER\(.*\)(?= )"),
