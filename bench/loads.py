@@ -102,6 +102,11 @@ def matches(size):
     return query + b"".join(graphs) + b"@tick 10000\n"
 
 
+def graph(size):
+    """A graph of so many lines, up to 1,000,000, of half as many rows: two triples of each."""
+    return matches(size // 2).replace(b"SELECT ?x ?z", b"CONSTRUCT { ?x <p:n> ?z . ?z <p:of> ?x }")
+
+
 def by_key(select, body, keys_share, end=""):
     """A query over so many rows, up to 500,000, by their keys: so many rows share a key, and every second key has a mark."""
 
