@@ -24,20 +24,20 @@ use Rattle.rsp_numbering.specs.Numbered.{Numbered, give, ◌>>=◌, making, coun
 -- ---- the words and signs of the grammar; of a token that can't stand there, whichever
 
 abbrev pub sign_of : token.Kind → Sign
-sign_of (kind.Symbol (symbol.Sign s)) = s
+sign_of (kind.Sign s) = s
 sign_of _ = sign.Equal
 
 abbrev pub function_of : token.Kind → Function
-function_of (kind.Word (keyword.Call f)) = f
+function_of (kind.Call f) = f
 function_of _ = function.Str
 
 abbrev pub fold_of : token.Kind → Kind
-fold_of (kind.Word (keyword.Fold k)) = k
+fold_of (kind.Fold k) = k
 fold_of _ = fold.Count
 
 abbrev pub signed_formula : token.Kind → Formula → Formula
-signed_formula (kind.Symbol (symbol.Sign sign.Subtract)) part = formula.opposite part
-signed_formula (kind.Symbol (symbol.Sign sign.Add)) part = formula.plus part
+signed_formula (kind.Sign sign.Subtract) part = formula.opposite part
+signed_formula (kind.Sign sign.Add) part = formula.plus part
 signed_formula _ part = formula.negation part
 
 -- ---- expressions

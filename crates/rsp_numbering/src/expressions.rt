@@ -336,8 +336,8 @@ fn signed(sign: Kind, part: Box<Expression>) -> Expression
     ensures { formula_of result ≡ defined.signed_formula sign (formula_of part.value) }
 {
     match sign {
-        Kind::Symbol(Symbol::Sign(Sign::Subtract)) => Expression::Negate(part),
-        Kind::Symbol(Symbol::Sign(Sign::Add)) => Expression::Plus(part),
+        Kind::Sign(Sign::Subtract) => Expression::Negate(part),
+        Kind::Sign(Sign::Add) => Expression::Plus(part),
         _ => Expression::Not(part),
     }
 }

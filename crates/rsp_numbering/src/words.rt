@@ -9,7 +9,7 @@ pub(crate) fn sign_of(kind: Kind) -> Sign
     ensures { result ≡ written.sign_of kind }
 {
     match kind {
-        Kind::Symbol(Symbol::Sign(sign)) => sign,
+        Kind::Sign(sign) => sign,
         _ => Sign::Equal,
     }
 }
@@ -18,7 +18,7 @@ pub(crate) fn fold_of(kind: Kind) -> Fold
     ensures { result ≡ written.fold_of kind }
 {
     match kind {
-        Kind::Word(Keyword::Fold(kind)) => kind,
+        Kind::Fold(kind) => kind,
         _ => Fold::Count,
     }
 }
@@ -27,7 +27,7 @@ pub(crate) fn function_of(kind: Kind) -> Function
     ensures { result ≡ written.function_of kind }
 {
     match kind {
-        Kind::Word(Keyword::Call(function)) => function,
+        Kind::Call(function) => function,
         _ => Function::Str,
     }
 }

@@ -26,6 +26,6 @@ maybe_word_read w = mapped_read is_some (maybe_read (word_kinds w) (word_read w)
 -- what stands in the parentheses of COUNT
 abbrev pub counted_read : Reader Said Expr
 counted_read =
-    choice_read (sign_kinds (symbol.Sign operator.Multiply))
-    (mapped_read (λ star. count_rows) (sign_read (symbol.Sign operator.Multiply)))
-    (mapped_read (aggregate_of (kind.Word (keyword.Fold fold.Count))) maybe_distinct_read)
+    choice_read (kind.Sign operator.Multiply ∷ [])
+    (mapped_read (λ star. count_rows) (one_read (kind.Sign operator.Multiply ∷ [])))
+    (mapped_read (aggregate_of (kind.Fold fold.Count)) maybe_distinct_read)

@@ -37,8 +37,8 @@ fn argument(alloc: Global, tokens: &[Said]) -> Result<(Aggregated, &[Said]), Hal
 fn counted(alloc: Global, tokens: &[Said]) -> Result<(Expression, &[Said]), Halt>
     ensures { Gives (λ x. (expr_of x.0, x.1.now)) result (counted_read tokens.now) }
 {
-    if first_is(Kind::Symbol(Symbol::Sign(Sign::Multiply)), tokens) {
-        let (_, rest) = sign(Symbol::Sign(Sign::Multiply), tokens)?;
+    if first_is(Kind::Sign(Sign::Multiply), tokens) {
+        let (_, rest) = one(&[Kind::Sign(Sign::Multiply)], tokens)?;
         Ok((Expression::CountRows, rest))
     } else {
         let (aggregated, rest) = argument(alloc, tokens)?;
@@ -46,7 +46,7 @@ fn counted(alloc: Global, tokens: &[Said]) -> Result<(Expression, &[Said]), Halt
         Ok((
             aggregate_of(
                 alloc,
-                Kind::Word(Keyword::Fold(Fold::Count)),
+                Kind::Fold(Fold::Count),
                 distinct,
                 argument,
             )?,
@@ -59,7 +59,7 @@ fn counted(alloc: Global, tokens: &[Said]) -> Result<(Expression, &[Said]), Halt
 fn count(alloc: Global, tokens: &[Said]) -> Result<(Expression, &[Said]), Halt>
     ensures { Gives (λ x. (expr_of x.0, x.1.now)) result (readings.count_read tokens.now) }
 {
-    let (_, rest) = word(Keyword::Fold(Fold::Count), tokens)?;
+    let (_, rest) = one(&[Kind::Fold(Fold::Count)], tokens)?;
     let (_, rest) = sign(Symbol::OpenParen, rest)?;
     let (count, rest) = counted(alloc, rest)?;
     let (_, rest) = sign(Symbol::CloseParen, rest)?;
@@ -67,17 +67,17 @@ fn count(alloc: Global, tokens: &[Said]) -> Result<(Expression, &[Said]), Halt>
 }
 
 const FOLDS: [Kind; 4] = [
-    Kind::Word(Keyword::Fold(Fold::Sum)),
-    Kind::Word(Keyword::Fold(Fold::Avg)),
-    Kind::Word(Keyword::Fold(Fold::Min)),
-    Kind::Word(Keyword::Fold(Fold::Max)),
+    Kind::Fold(Fold::Sum),
+    Kind::Fold(Fold::Avg),
+    Kind::Fold(Fold::Min),
+    Kind::Fold(Fold::Max),
 ];
 
 #[tactic(auto, unfolding(rsp_written::specs::Readings::aggregate_read))]
 fn aggregate(alloc: Global, tokens: &[Said]) -> Result<(Expression, &[Said]), Halt>
     ensures { Gives (λ x. (expr_of x.0, x.1.now)) result (readings.aggregate_read tokens.now) }
 {
-    if first_is(Kind::Word(Keyword::Fold(Fold::Count)), tokens) {
+    if first_is(Kind::Fold(Fold::Count), tokens) {
         return count(alloc, tokens);
     }
     let (name, rest) = one(&FOLDS, tokens)?;
@@ -99,11 +99,11 @@ impl Primaries for Aggregates {
     fn begins(tokens: &[Said]) -> bool {
         first_is_among(
             &[
-                Kind::Word(Keyword::Fold(Fold::Count)),
-                Kind::Word(Keyword::Fold(Fold::Sum)),
-                Kind::Word(Keyword::Fold(Fold::Avg)),
-                Kind::Word(Keyword::Fold(Fold::Min)),
-                Kind::Word(Keyword::Fold(Fold::Max)),
+                Kind::Fold(Fold::Count),
+                Kind::Fold(Fold::Sum),
+                Kind::Fold(Fold::Avg),
+                Kind::Fold(Fold::Min),
+                Kind::Fold(Fold::Max),
             ],
             tokens,
         )

@@ -21,8 +21,8 @@ pub(crate) fn begins_unary(tokens: &[Said]) -> bool
     first_is_among(
         &[
             Kind::Symbol(Symbol::Not),
-            Kind::Symbol(Symbol::Sign(Sign::Subtract)),
-            Kind::Symbol(Symbol::Sign(Sign::Add)),
+            Kind::Sign(Sign::Subtract),
+            Kind::Sign(Sign::Add),
         ],
         tokens,
     )
@@ -34,20 +34,20 @@ pub(crate) fn unary_sign(tokens: &[Said]) -> Result<(&Said, &[Said]), Halt>
     one(
         &[
             Kind::Symbol(Symbol::Not),
-            Kind::Symbol(Symbol::Sign(Sign::Subtract)),
-            Kind::Symbol(Symbol::Sign(Sign::Add)),
+            Kind::Sign(Sign::Subtract),
+            Kind::Sign(Sign::Add),
         ],
         tokens,
     )
 }
 
 const COMPARISONS: [Kind; 6] = [
-    Kind::Symbol(Symbol::Sign(Sign::Equal)),
-    Kind::Symbol(Symbol::Sign(Sign::NotEqual)),
-    Kind::Symbol(Symbol::Sign(Sign::Less)),
-    Kind::Symbol(Symbol::Sign(Sign::Greater)),
-    Kind::Symbol(Symbol::Sign(Sign::LessEqual)),
-    Kind::Symbol(Symbol::Sign(Sign::GreaterEqual)),
+    Kind::Sign(Sign::Equal),
+    Kind::Sign(Sign::NotEqual),
+    Kind::Sign(Sign::Less),
+    Kind::Sign(Sign::Greater),
+    Kind::Sign(Sign::LessEqual),
+    Kind::Sign(Sign::GreaterEqual),
 ];
 
 pub(crate) fn compares(tokens: &[Said]) -> bool
@@ -82,34 +82,34 @@ pub fn maybe_word(keyword: Keyword, tokens: &[Said]) -> Result<(bool, &[Said]), 
 }
 
 const CALL_NAMES: [Kind; 28] = [
-    Kind::Word(Keyword::Call(Function::If)),
-    Kind::Word(Keyword::Call(Function::Coalesce)),
-    Kind::Word(Keyword::Call(Function::SameTerm)),
-    Kind::Word(Keyword::Call(Function::IsIri)),
-    Kind::Word(Keyword::Call(Function::IsUri)),
-    Kind::Word(Keyword::Call(Function::IsBlank)),
-    Kind::Word(Keyword::Call(Function::IsLiteral)),
-    Kind::Word(Keyword::Call(Function::IsNumeric)),
-    Kind::Word(Keyword::Call(Function::Str)),
-    Kind::Word(Keyword::Call(Function::Lang)),
-    Kind::Word(Keyword::Call(Function::Datatype)),
-    Kind::Word(Keyword::Call(Function::Iri)),
-    Kind::Word(Keyword::Call(Function::Uri)),
-    Kind::Word(Keyword::Call(Function::StrDt)),
-    Kind::Word(Keyword::Call(Function::StrLang)),
-    Kind::Word(Keyword::Call(Function::StrLen)),
-    Kind::Word(Keyword::Call(Function::Substr)),
-    Kind::Word(Keyword::Call(Function::Contains)),
-    Kind::Word(Keyword::Call(Function::StrStarts)),
-    Kind::Word(Keyword::Call(Function::StrEnds)),
-    Kind::Word(Keyword::Call(Function::StrBefore)),
-    Kind::Word(Keyword::Call(Function::StrAfter)),
-    Kind::Word(Keyword::Call(Function::Concat)),
-    Kind::Word(Keyword::Call(Function::LangMatches)),
-    Kind::Word(Keyword::Call(Function::Abs)),
-    Kind::Word(Keyword::Call(Function::Ceil)),
-    Kind::Word(Keyword::Call(Function::Floor)),
-    Kind::Word(Keyword::Call(Function::Round)),
+    Kind::Call(Function::If),
+    Kind::Call(Function::Coalesce),
+    Kind::Call(Function::SameTerm),
+    Kind::Call(Function::IsIri),
+    Kind::Call(Function::IsUri),
+    Kind::Call(Function::IsBlank),
+    Kind::Call(Function::IsLiteral),
+    Kind::Call(Function::IsNumeric),
+    Kind::Call(Function::Str),
+    Kind::Call(Function::Lang),
+    Kind::Call(Function::Datatype),
+    Kind::Call(Function::Iri),
+    Kind::Call(Function::Uri),
+    Kind::Call(Function::StrDt),
+    Kind::Call(Function::StrLang),
+    Kind::Call(Function::StrLen),
+    Kind::Call(Function::Substr),
+    Kind::Call(Function::Contains),
+    Kind::Call(Function::StrStarts),
+    Kind::Call(Function::StrEnds),
+    Kind::Call(Function::StrBefore),
+    Kind::Call(Function::StrAfter),
+    Kind::Call(Function::Concat),
+    Kind::Call(Function::LangMatches),
+    Kind::Call(Function::Abs),
+    Kind::Call(Function::Ceil),
+    Kind::Call(Function::Floor),
+    Kind::Call(Function::Round),
 ];
 
 pub fn begins_call(tokens: &[Said]) -> bool

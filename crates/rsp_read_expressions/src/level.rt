@@ -42,12 +42,12 @@ impl Parts {
             Parts::Row(Level::Or) => &[Kind::Symbol(Symbol::Or)],
             Parts::Row(Level::And) => &[Kind::Symbol(Symbol::And)],
             Parts::Row(Level::Sum) => &[
-                Kind::Symbol(Symbol::Sign(Sign::Add)),
-                Kind::Symbol(Symbol::Sign(Sign::Subtract)),
+                Kind::Sign(Sign::Add),
+                Kind::Sign(Sign::Subtract),
             ],
             Parts::Row(Level::Product) => &[
-                Kind::Symbol(Symbol::Sign(Sign::Multiply)),
-                Kind::Symbol(Symbol::Sign(Sign::Divide)),
+                Kind::Sign(Sign::Multiply),
+                Kind::Sign(Sign::Divide),
             ],
             Parts::Arguments => &[Kind::Symbol(Symbol::Comma)],
         }

@@ -143,8 +143,8 @@ fn all_items(wide: bool, alloc: Global, tokens: &[Said]) -> Result<(Vec<Item>, &
 fn projected(alloc: Global, tokens: &[Said]) -> Result<(Projection, &[Said]), Halt>
     ensures { Gives (λ x. (projection_of x.0, x.1.now)) result (readings.projection_read tokens.now) }
 {
-    if first_is(Kind::Symbol(Symbol::Sign(Sign::Multiply)), tokens) {
-        let (_, rest) = sign(Symbol::Sign(Sign::Multiply), tokens)?;
+    if first_is(Kind::Sign(Sign::Multiply), tokens) {
+        let (_, rest) = one(&[Kind::Sign(Sign::Multiply)], tokens)?;
         return Ok((Projection::Every, rest));
     }
     let (items, rest) = all_items(true, alloc, tokens)?;

@@ -60,7 +60,7 @@ pub(crate) fn begins_node_name(tokens: &[Said]) -> bool
             Kind::Iri,
             Kind::Label,
             Kind::String,
-            Kind::Symbol(Symbol::Sign(Sign::Subtract)),
+            Kind::Sign(Sign::Subtract),
             Kind::Integer,
             Kind::Decimal,
             Kind::Double,

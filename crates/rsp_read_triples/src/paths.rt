@@ -151,13 +151,13 @@ fn sequence(depth: usize, alloc: Global, tokens: &[Said]) -> Result<(Path, &[Sai
 #[cycle(path)]
 fn parts(depth: usize, alloc: Global, tokens: &[Said]) -> Result<(Vec<Path>, &[Said]), Halt>
     ensures { Gives (λ x. (map way_of x.0.items, x.1.now)) result
-        (repeated_read (sign_kinds (symbol.Sign operator.Divide))
-        (second_read (sign_read (symbol.Sign operator.Divide)) (readings.part_read (path_within depth))) tokens.now) }
+        (repeated_read (kind.Sign operator.Divide ∷ [])
+        (second_read (one_read (kind.Sign operator.Divide ∷ [])) (readings.part_read (path_within depth))) tokens.now) }
 {
     let mut paths = Vec::new(alloc);
     let mut rest = tokens;
     for _ in 0..tokens.len() {
-        if !first_is(Kind::Symbol(Symbol::Sign(Sign::Divide)), rest) {
+        if !first_is(Kind::Sign(Sign::Divide), rest) {
             return Ok((paths, rest));
         }
         let (more, behind) = another_part(depth, alloc, paths, rest)?;
@@ -176,9 +176,9 @@ fn another_part(
 ) -> Result<(Vec<Path>, &[Said]), Halt>
     ensures { Gives (λ x. (map way_of x.0.items, x.1.now)) result
         (gathered single (map way_of before.items)
-        (second_read (sign_read (symbol.Sign operator.Divide)) (readings.part_read (path_within depth)) tokens.now)) }
+        (second_read (one_read (kind.Sign operator.Divide ∷ [])) (readings.part_read (path_within depth)) tokens.now)) }
 {
-    let (_, rest) = sign(Symbol::Sign(Sign::Divide), tokens)?;
+    let (_, rest) = one(&[Kind::Sign(Sign::Divide)], tokens)?;
     let (path, rest) = part(depth, alloc, rest)?;
     let mut paths = before;
     paths.push(path)?;

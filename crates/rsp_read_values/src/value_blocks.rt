@@ -27,7 +27,7 @@ fn begins_literal(tokens: &[Said]) -> bool
     first_is_among(
         &[
             Kind::String,
-            Kind::Symbol(Symbol::Sign(Sign::Subtract)),
+            Kind::Sign(Sign::Subtract),
             Kind::Integer,
             Kind::Decimal,
             Kind::Double,
@@ -45,7 +45,7 @@ fn begins_value(tokens: &[Said]) -> bool
         &[
             Kind::Iri,
             Kind::String,
-            Kind::Symbol(Symbol::Sign(Sign::Subtract)),
+            Kind::Sign(Sign::Subtract),
             Kind::Integer,
             Kind::Decimal,
             Kind::Double,

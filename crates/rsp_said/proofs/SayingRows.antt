@@ -26,7 +26,7 @@ a_in_another_case : word_kind (codes "A") ≡ kind.Nowhere
 unfolding word_kind
 a_in_another_case = refl
 
-is_iri : word_kind (codes "isIRI") ≡ kind.Word (keyword.Call function.IsIri)
+is_iri : word_kind (codes "isIRI") ≡ kind.Call function.IsIri
 unfolding word_kind
 is_iri = refl
 

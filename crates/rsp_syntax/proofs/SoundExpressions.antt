@@ -55,8 +55,8 @@ mutual
 
 signed_below : (n : ℕ) (s : token.Kind) (part : Formula) → AreBelow n (formula_variables part)
     → AreBelow n (formula_variables (signed_formula s part))
-signed_below n (kind.Symbol (symbol.Sign operator.Subtract)) part below = below
-signed_below n (kind.Symbol (symbol.Sign operator.Add)) part below = below
+signed_below n (kind.Sign operator.Subtract) part below = below
+signed_below n (kind.Sign operator.Add) part below = below
 signed_below n _ part below = below
 
 from_left_below : (n : ℕ) (left : Formula) (others : List (Sign × Formula)) → AreBelow n (formula_variables left)

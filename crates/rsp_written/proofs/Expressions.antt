@@ -1,7 +1,12 @@
 -- Laws of rules: expressions.
-use Rattle.rsp_functions.specs.declared.aggregate.Kind.TheVariants as fold
+use Rattle.std.proofs.Common.{Bool, ◌≡◌, ℕ, ◌+◌, ◌<◌, arith, length, true, false, List, [], ◌∷◌, ◌++◌, map, refl, Option, Some, None, is_some}
+use Rattle.rsp_functions.specs.Functions.{functions, row_of}
+use Rattle.rsp_functions.specs.declared.function.Arity.{Arity}
+use Rattle.rsp_functions.specs.declared.function.Arity.TheVariants as arity
+use Rattle.rsp_functions.specs.declared.function.Sign.{Sign}
 use Rattle.rsp_functions.specs.declared.function.Sign.TheVariants as operator
-use Rattle.std.proofs.Common.{Bool, ◌≡◌, ℕ, ◌+◌, ◌<◌, arith, length, true, false, List, [], ◌∷◌, ◌++◌, refl, Option, Some, None, is_some}
+use Rattle.rsp_functions.specs.declared.aggregate.Kind as aggregates
+use Rattle.rsp_functions.specs.declared.aggregate.Kind.TheVariants as fold
 use Rattle.rsp_phrases.specs.Languages.{both, optional, many, listed, never, nested}
 use Rattle.rsp_phrases.specs.Readers.{Reader, never_read, nested_read}
 use Rattle.rsp_phrases.proofs.Membership.{apart, apart_none, covered_by, covered_nil, has_left}
@@ -11,20 +16,18 @@ use Rattle.rsp_phrases.proofs.EitherLaws.{good_either, good_optional}
 use Rattle.rsp_phrases.proofs.DepthLaws.{good_many, good_within_itself, nested_good, nested_under_all}
 use Rattle.rsp_phrases.proofs.Drawing.{good_same, closing}
 use Rattle.rsp_phrases.proofs.Under.{Under, under_same, under_mapped, under_tied, under_either, under_optional, under_many}
+use Rattle.rsp_phrases.proofs.TiedLaws.{good_tied}
+use Rattle.rsp_written.specs.declared.expression.UnaryOperator.TheVariants as before
 use Rattle.rsp_written.specs.declared.said.Keyword.TheVariants as keyword
 use Rattle.rsp_written.specs.declared.said.Symbol.TheVariants as symbol
 use Rattle.rsp_written.specs.declared.said.Kind.{Kind}
 use Rattle.rsp_written.specs.declared.said.Kind.TheVariants as kind
 use Rattle.rsp_written.specs.declared.said.Said.{Said}
-use Rattle.rsp_functions.specs.declared.function.Arity.{Arity}
-use Rattle.rsp_functions.specs.declared.function.Arity.TheVariants as arity
-use Rattle.rsp_written.specs.Arities.{arity_of}
-use Rattle.rsp_phrases.proofs.TiedLaws.{good_tied}
-use Rattle.rsp_written.specs.Trees.{Expr, variable, iri, constant, bound, count_rows}
-use Rattle.rsp_written.specs.Building.{any_row, all_row, sum_row, product_row, compared_to, one_of, related, with_sign, call_of, aggregate_of, flagged, signed_part}
-use Rattle.rsp_written.specs.Grammar.{Rule, kind_number, numbers, one, word, sign, expressions, another, bound_call, maybe_third, call_rule, primary, unary_signs, unary, row, product_signs, product_rule, sum_signs, sum_rule, comparisons, membership, relation, and_signs, and_rule, or_signs, or_rule, expression, maybe_distinct, count_rule, folds, aggregate_rule, aggregate_expression, arguments, call_names, function_call}
-use Rattle.rsp_written.specs.Readings.{word_kinds, sign_kinds, suffix_first, another_read, items_read, expressions_read, bound_read, call_first, call_read, primary_read, simple_read, unary_read, row_read, product_read, sum_read, comparison_read, membership_read, relation_first, relation_read, and_read, or_read, expression_read, maybe_distinct_read, count_read, aggregate_first, aggregate_read, aggregate_expression_read, arguments_read, function_read}
-use Rattle.rsp_written.proofs.Simple.{G, good_one, good_second_of, good_both, good_behind, good_in_parens, under_second, under_in_parens, good_iri, good_variable, unsigned_first, good_unsigned_literal}
+use Rattle.rsp_written.specs.Trees.{Expr, Operands, variable, iri, constant, bound, count_rows, sum, product}
+use Rattle.rsp_written.specs.Building.{with_operands, compared_to, one_of, related, with_sign, call_of, aggregate_of, flagged}
+use Rattle.rsp_written.specs.Grammar.{Rule, kind_number, numbers, meaning, word, sign, expressions, another, bound_call, maybe_third, call_rule, primary, unary_operator, unary, row, product_rule, sum_rule, comparisons, membership, relation, and_rule, or_rule, expression, maybe_distinct, count_rule, folds, aggregate_rule, aggregate_expression, arguments, function_call}
+use Rattle.rsp_written.specs.Readings.{word_kinds, sign_kinds, suffix_first, another_read, items_read, expressions_read, bound_read, call_names, call_first, call_read, primary_read, simple_read, minus_kind, plus_kind, unary_signs, unary_operator_read, unary_read, row_read, product_signs, product_read, sum_signs, sum_read, comparison_read, membership_read, relation_first, relation_read, all_row, and_read, any_row, or_read, expression_read, maybe_distinct_read, count_read, aggregate_first, aggregate_read, aggregate_expression_read, arguments_read, function_read}
+use Rattle.rsp_written.proofs.Simple.{G, good_one, good_meaning, good_says, good_second_of, good_both, good_behind, good_in_parens, good_separated, under_second, under_in_parens, under_separated, good_iri, good_variable, unsigned_first, good_unsigned_literal}
 
 -- ---- which kinds begin an expression, and by which it goes on
 
@@ -38,19 +41,19 @@ abbrev pub wide_first : List Kind
 wide_first = unary_signs ++ (aggregate_first ++ primary_first)
 
 abbrev pub product_go : List Kind
-product_go = product_signs ++ suffix_first
+product_go = map kind.Sign product_signs ++ suffix_first
 
 abbrev pub sum_go : List Kind
-sum_go = sum_signs ++ product_go
+sum_go = map kind.Sign sum_signs ++ product_go
 
 abbrev pub relation_go : List Kind
 relation_go = relation_first ++ sum_go
 
 abbrev pub and_go : List Kind
-and_go = and_signs ++ relation_go
+and_go = kind.Symbol symbol.And ∷ relation_go
 
 abbrev pub expr_go : List Kind
-expr_go = or_signs ++ and_go
+expr_go = kind.Symbol symbol.Or ∷ and_go
 
 -- ---- lists and calls, by an expression within brackets that begins with `first`
 
@@ -91,7 +94,7 @@ module _ (q : Rule Expr) (s : Reader Said Expr) (first : List Kind) (h : G q s f
 
   good_function : G (function_call q) (function_read s) call_names [] false true
   unfolding function_read
-  good_function = good_mapped call_of (good_tied (good_one call_names) (λ name. good_arguments (arity_of name.kind)) refl)
+  good_function = good_mapped call_of (good_tied (good_meaning kind.Call functions) (λ f. good_arguments (row_of f).1) refl)
 
   pub good_call : G (call_rule q) (call_read s) call_first [] false true
   unfolding call_read
@@ -105,13 +108,20 @@ module _ (q : Rule Expr) (s : Reader Said Expr) (first : List Kind) (h : G q s f
 
 -- ---- rows of signs
 
-good_row : (signs : List Kind) (make : Expr × List (Kind × Expr) → Expr) {p : Rule Expr} {r : Reader Said Expr} {bp gp : List ℕ}
-    → Good kind_number p r bp gp false true → apart (numbers signs) gp ≡ true
-    → Good kind_number (row signs make p) (row_read signs make r) (bp ++ []) ((gp ++ numbers signs) ++ gp) false true
+good_row : (signs : List Sign) (make : Expr → Operands → Expr) {p : Rule Expr} {r : Reader Said Expr} {bp gp : List ℕ}
+    → Good kind_number p r bp gp false true → apart (numbers (map kind.Sign signs)) gp ≡ true
+    → Good kind_number (row signs make p) (row_read signs make r) (bp ++ []) ((gp ++ numbers (map kind.Sign signs)) ++ gp) false true
 good_row signs make {bp = bp} {gp = gp} h a =
-    let part = listed_as (numbers signs) gp (good_mapped signed_part (good_both (good_one signs) h (apart_none bp))) (covered_nil (numbers signs))
-    (covered_by (numbers signs) (numbers signs ++ []) (λ k is. has_left (numbers signs) [] k is)) (covered_nil gp) in
-    good_mapped make (good_both h (good_many part a) a)
+    let marks = numbers (map kind.Sign signs) in
+    let part = listed_as marks gp (good_both (good_meaning kind.Sign signs) h (apart_none bp)) (covered_nil marks)
+    (covered_by marks (marks ++ []) (λ k is. has_left marks [] k is)) (covered_nil gp) in
+    good_mapped (with_operands make) (good_both h (good_many part a) a)
+
+good_unary_operator : G unary_operator unary_operator_read unary_signs [] false true
+unfolding unary_operator_read
+good_unary_operator =
+    good_either (good_says (kind.Symbol symbol.Not) before.Not)
+    (good_either (good_says minus_kind before.Minus) (good_says plus_kind before.Plus) refl refl) refl refl
 
 -- ---- the levels, without and with aggregates
 
@@ -127,26 +137,26 @@ good_unary_plain : (e : Rule Expr) (x : Reader Said Expr) (q : Rule Expr) (s : R
     → G (unary e q) (unary_read (numbers []) x s) plain_first suffix_first false true
 unfolding unary_read
 good_unary_plain e x q s he hq =
-    good_mapped with_sign (good_both (good_optional (good_one unary_signs)) (good_primary_plain e x q s he hq) refl)
+    good_mapped with_sign (good_both (good_optional good_unary_operator) (good_primary_plain e x q s he hq) refl)
 
 good_product_plain : (e : Rule Expr) (x : Reader Said Expr) (q : Rule Expr) (s : Reader Said Expr) → G e x [] [] false true → G q s plain_first expr_go false false
     → G (product_rule e q) (product_read (numbers []) x s) plain_first product_go false true
 unfolding product_read
 good_product_plain e x q s he hq =
-    listed_as (numbers plain_first) (numbers product_go) (good_row product_signs product_row (good_unary_plain e x q s he hq) refl) refl refl refl
+    listed_as (numbers plain_first) (numbers product_go) (good_row product_signs product (good_unary_plain e x q s he hq) refl) refl refl refl
 
 good_sum_plain : (e : Rule Expr) (x : Reader Said Expr) (q : Rule Expr) (s : Reader Said Expr) → G e x [] [] false true → G q s plain_first expr_go false false
     → G (sum_rule e q) (sum_read (numbers []) x s) plain_first sum_go false true
 unfolding sum_read
 good_sum_plain e x q s he hq =
-    listed_as (numbers plain_first) (numbers sum_go) (good_row sum_signs sum_row (good_product_plain e x q s he hq) refl) refl refl refl
+    listed_as (numbers plain_first) (numbers sum_go) (good_row sum_signs sum (good_product_plain e x q s he hq) refl) refl refl refl
 
 good_relation_plain : (e : Rule Expr) (x : Reader Said Expr) (q : Rule Expr) (s : Reader Said Expr) → G e x [] [] false true → G q s plain_first expr_go false false
     → G (relation e q) (relation_read (numbers []) x s) plain_first relation_go false true
 unfolding relation_read comparison_read
 good_relation_plain e x q s he hq =
     let part = good_sum_plain e x q s he hq in
-    let sign_and_sum = good_mapped (λ (v : Said × Expr). compared_to v.0.kind v.1) (good_both (good_one comparisons) part refl) in
+    let sign_and_sum = good_mapped (λ (v : Sign × Expr). compared_to v.0 v.1) (good_both (good_meaning kind.Sign comparisons) part refl) in
     listed_as (numbers plain_first) (numbers relation_go)
     (good_mapped related (good_both part (good_optional (good_either sign_and_sum (good_membership q s plain_first hq refl) refl refl)) refl)) refl refl refl
 
@@ -154,13 +164,13 @@ good_and_plain : (e : Rule Expr) (x : Reader Said Expr) (q : Rule Expr) (s : Rea
     → G (and_rule e q) (and_read (numbers []) x s) plain_first and_go false true
 unfolding and_read
 good_and_plain e x q s he hq =
-    listed_as (numbers plain_first) (numbers and_go) (good_row and_signs all_row (good_relation_plain e x q s he hq) refl) refl refl refl
+    listed_as (numbers plain_first) (numbers and_go) (good_mapped all_row (good_separated (kind.Symbol symbol.And) (good_relation_plain e x q s he hq) refl)) refl refl refl
 
 good_or_plain : (e : Rule Expr) (x : Reader Said Expr) (q : Rule Expr) (s : Reader Said Expr) → G e x [] [] false true → G q s plain_first expr_go false false
     → G (or_rule e q) (or_read (numbers []) x s) plain_first expr_go false true
 unfolding or_read
 good_or_plain e x q s he hq =
-    listed_as (numbers plain_first) (numbers expr_go) (good_row or_signs any_row (good_and_plain e x q s he hq) refl) refl refl refl
+    listed_as (numbers plain_first) (numbers expr_go) (good_mapped any_row (good_separated (kind.Symbol symbol.Or) (good_and_plain e x q s he hq) refl)) refl refl refl
 
 good_primary_wide : (e : Rule Expr) (x : Reader Said Expr) (q : Rule Expr) (s : Reader Said Expr) → G e x aggregate_first [] false true → G q s wide_first expr_go false false
     → G (primary e q) (primary_read (numbers aggregate_first) x s) (aggregate_first ++ primary_first) suffix_first false true
@@ -174,26 +184,26 @@ good_unary_wide : (e : Rule Expr) (x : Reader Said Expr) (q : Rule Expr) (s : Re
     → G (unary e q) (unary_read (numbers aggregate_first) x s) wide_first suffix_first false true
 unfolding unary_read
 good_unary_wide e x q s he hq =
-    good_mapped with_sign (good_both (good_optional (good_one unary_signs)) (good_primary_wide e x q s he hq) refl)
+    good_mapped with_sign (good_both (good_optional good_unary_operator) (good_primary_wide e x q s he hq) refl)
 
 good_product_wide : (e : Rule Expr) (x : Reader Said Expr) (q : Rule Expr) (s : Reader Said Expr) → G e x aggregate_first [] false true → G q s wide_first expr_go false false
     → G (product_rule e q) (product_read (numbers aggregate_first) x s) wide_first product_go false true
 unfolding product_read
 good_product_wide e x q s he hq =
-    listed_as (numbers wide_first) (numbers product_go) (good_row product_signs product_row (good_unary_wide e x q s he hq) refl) refl refl refl
+    listed_as (numbers wide_first) (numbers product_go) (good_row product_signs product (good_unary_wide e x q s he hq) refl) refl refl refl
 
 good_sum_wide : (e : Rule Expr) (x : Reader Said Expr) (q : Rule Expr) (s : Reader Said Expr) → G e x aggregate_first [] false true → G q s wide_first expr_go false false
     → G (sum_rule e q) (sum_read (numbers aggregate_first) x s) wide_first sum_go false true
 unfolding sum_read
 good_sum_wide e x q s he hq =
-    listed_as (numbers wide_first) (numbers sum_go) (good_row sum_signs sum_row (good_product_wide e x q s he hq) refl) refl refl refl
+    listed_as (numbers wide_first) (numbers sum_go) (good_row sum_signs sum (good_product_wide e x q s he hq) refl) refl refl refl
 
 good_relation_wide : (e : Rule Expr) (x : Reader Said Expr) (q : Rule Expr) (s : Reader Said Expr) → G e x aggregate_first [] false true → G q s wide_first expr_go false false
     → G (relation e q) (relation_read (numbers aggregate_first) x s) wide_first relation_go false true
 unfolding relation_read comparison_read
 good_relation_wide e x q s he hq =
     let part = good_sum_wide e x q s he hq in
-    let sign_and_sum = good_mapped (λ (v : Said × Expr). compared_to v.0.kind v.1) (good_both (good_one comparisons) part refl) in
+    let sign_and_sum = good_mapped (λ (v : Sign × Expr). compared_to v.0 v.1) (good_both (good_meaning kind.Sign comparisons) part refl) in
     listed_as (numbers wide_first) (numbers relation_go)
     (good_mapped related (good_both part (good_optional (good_either sign_and_sum (good_membership q s wide_first hq refl) refl refl)) refl)) refl refl refl
 
@@ -201,21 +211,20 @@ good_and_wide : (e : Rule Expr) (x : Reader Said Expr) (q : Rule Expr) (s : Read
     → G (and_rule e q) (and_read (numbers aggregate_first) x s) wide_first and_go false true
 unfolding and_read
 good_and_wide e x q s he hq =
-    listed_as (numbers wide_first) (numbers and_go) (good_row and_signs all_row (good_relation_wide e x q s he hq) refl) refl refl refl
+    listed_as (numbers wide_first) (numbers and_go) (good_mapped all_row (good_separated (kind.Symbol symbol.And) (good_relation_wide e x q s he hq) refl)) refl refl refl
 
 good_or_wide : (e : Rule Expr) (x : Reader Said Expr) (q : Rule Expr) (s : Reader Said Expr) → G e x aggregate_first [] false true → G q s wide_first expr_go false false
     → G (or_rule e q) (or_read (numbers aggregate_first) x s) wide_first expr_go false true
 unfolding or_read
 good_or_wide e x q s he hq =
-    listed_as (numbers wide_first) (numbers expr_go) (good_row or_signs any_row (good_and_wide e x q s he hq) refl) refl refl refl
+    listed_as (numbers wide_first) (numbers expr_go) (good_mapped any_row (good_separated (kind.Symbol symbol.Or) (good_and_wide e x q s he hq) refl)) refl refl refl
 
 -- ---- the same on short texts
 
 under_expressions : {n : ℕ} {q q' : Rule Expr} → Under n q q' → Under (n + 1) (expressions q) (expressions q')
 under_expressions {n = n} h =
     under_second (sign_kinds symbol.OpenParen) (under_mapped (λ (v : _ × _). listed v.0)
-    (under_tied (under_optional (under_tied h (λ v. under_many (under_mapped (λ (w : _ × _). w.1)
-    (under_tied (under_same n (sign symbol.Comma)) (λ w. h)))))) (λ v. under_same n (sign symbol.CloseParen))))
+    (under_tied (under_optional (under_separated (kind.Symbol symbol.Comma) h)) (λ v. under_same n (sign symbol.CloseParen))))
 
 under_another : {n : ℕ} {q q' : Rule Expr} → Under n q q' → Under n (another q) (another q')
 under_another {n = n} h = under_mapped (λ (v : _ × _). v.1) (under_tied (under_same n (sign symbol.Comma)) (λ v. h))
@@ -233,12 +242,12 @@ under_arguments arity.Any h = under_expressions h
 pub under_call : {n : ℕ} {q q' : Rule Expr} → Under n q q' → Under (n + 1) (call_rule q) (call_rule q')
 under_call {n = n} h =
     under_either (under_same (n + 1) bound_call)
-    (under_mapped call_of (under_tied (under_same (n + 1) (one call_names)) (λ name. under_arguments (arity_of name.kind) h)))
+    (under_mapped call_of (under_tied (under_same (n + 1) (meaning kind.Call functions)) (λ f. under_arguments (row_of f).1 h)))
 
-under_row : {n : ℕ} (signs : List Kind) (make : Expr × List (Kind × Expr) → Expr) {p p' : Rule Expr} → Under n p p'
+under_row : {n : ℕ} (signs : List Sign) (make : Expr → Operands → Expr) {p p' : Rule Expr} → Under n p p'
     → Under n (row signs make p) (row signs make p')
 under_row {n = n} signs make h =
-    under_mapped make (under_tied h (λ v. under_many (under_mapped signed_part (under_tied (under_same n (one signs)) (λ w. h)))))
+    under_mapped (with_operands make) (under_tied h (λ v. under_many (under_tied (under_same n (meaning kind.Sign signs)) (λ w. h))))
 
 under_primary : {n : ℕ} (e : Rule Expr) {q q' : Rule Expr} → Under n q q' → Under (n + 1) (primary e q) (primary e q')
 under_primary {n = n} e h =
@@ -246,8 +255,8 @@ under_primary {n = n} e h =
 
 under_sum : {n : ℕ} (e : Rule Expr) {q q' : Rule Expr} → Under n q q' → Under (n + 1) (sum_rule e q) (sum_rule e q')
 under_sum {n = n} e h =
-    under_row sum_signs sum_row (under_row product_signs product_row
-    (under_mapped with_sign (under_tied (under_same (n + 1) (optional (one unary_signs))) (λ v. under_primary e h))))
+    under_row sum_signs sum (under_row product_signs product
+    (under_mapped with_sign (under_tied (under_same (n + 1) (optional unary_operator)) (λ v. under_primary e h))))
 
 under_membership : {n : ℕ} {q q' : Rule Expr} → Under n q q' → Under (n + 1) (membership q) (membership q')
 under_membership {n = n} h =
@@ -257,11 +266,12 @@ under_membership {n = n} h =
 
 under_or : (e : Rule Expr) (n : ℕ) (q q' : Rule Expr) → Under n q q' → Under (n + 1) (or_rule e q) (or_rule e q')
 under_or e n q q' h =
-    under_row or_signs any_row (under_row and_signs all_row
+    under_mapped any_row (under_separated (kind.Symbol symbol.Or) (under_mapped all_row (under_separated (kind.Symbol symbol.And)
     (under_mapped related (under_tied (under_sum e h)
     (λ v. under_optional (under_either
-    (under_mapped (λ (w : Said × Expr). compared_to w.0.kind w.1) (under_tied (under_same (n + 1) (one comparisons)) (λ w. under_sum e h)))
-    (under_membership h))))))
+    (under_mapped (λ (w : Sign × Expr). compared_to w.0 w.1)
+    (under_tied (under_same (n + 1) (meaning kind.Sign comparisons)) (λ w. under_sum e h)))
+    (under_membership h))))))))
 
 -- ---- expressions
 
@@ -291,20 +301,20 @@ good_maybe_distinct : G maybe_distinct maybe_distinct_read (kind.Word keyword.Di
 unfolding maybe_distinct_read
 good_maybe_distinct = good_mapped flagged (good_both (good_optional (good_one (word_kinds keyword.Distinct))) good_expression refl)
 
-good_count : G count_rule count_read (word_kinds (keyword.Fold fold.Count)) [] false true
+good_count : G count_rule count_read (kind.Fold fold.Count ∷ []) [] false true
 unfolding count_read
 good_count =
-    good_second_of (good_one (word_kinds (keyword.Fold fold.Count)))
+    good_second_of (good_one (kind.Fold fold.Count ∷ []))
     (good_in_parens
-    (good_either (good_mapped (λ star. count_rows) (good_one (sign_kinds (symbol.Sign operator.Multiply))))
-    (good_mapped (aggregate_of (kind.Word (keyword.Fold fold.Count))) good_maybe_distinct) refl refl) refl) refl
+    (good_either (good_says (kind.Sign operator.Multiply) count_rows)
+    (good_mapped (aggregate_of fold.Count) good_maybe_distinct) refl refl) refl) refl
 
 pub good_aggregate : G aggregate_rule aggregate_read aggregate_first [] false true
 unfolding aggregate_read
 good_aggregate =
     good_either good_count
-    (good_mapped (λ (v : Said × (Bool × Expr)). aggregate_of v.0.kind v.1)
-    (good_both (good_one folds) (good_in_parens good_maybe_distinct refl) refl)) refl refl
+    (good_mapped (λ (v : aggregates.Kind × (Bool × Expr)). aggregate_of v.0 v.1)
+    (good_both (good_meaning kind.Fold folds) (good_in_parens good_maybe_distinct refl) refl)) refl refl
 
 pub good_aggregate_expression : G aggregate_expression aggregate_expression_read wide_first expr_go false true
 unfolding aggregate_expression_read

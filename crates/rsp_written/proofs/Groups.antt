@@ -1,7 +1,11 @@
 -- Laws of rules: groups, selects, and the query.
 use Rattle.rsp_functions.specs.declared.function.Sign.TheVariants as operator
-use Rattle.std.proofs.Common.{◌≡◌, ℕ, ◌+◌, true, false, true≢false, List, [], ◌∷◌, ◌++◌, refl, sym, ◌∙◌, Option, Some, None, IsSome, is_some}
+use Rattle.std.proofs.Common.{Bool, ◌≡◌, ℕ, ◌+◌, true, false, true≢false, List, [], ◌∷◌, ◌++◌, map, refl, sym, ◌∙◌, Option, Some, None, IsSome, is_some}
 use Rattle.std.specs.List.{flat_map}
+use Rattle.rsp_report.specs.declared.operator.Operator.TheVariants as stream
+use Rattle.rsp_report.specs.declared.words.Strategy.{Strategy}
+use Rattle.rsp_report.specs.declared.words.Strategy.TheVariants as when
+use Rattle.rsp_report.specs.declared.words.PolicyWords.TheVariants as policies
 use Rattle.rsp_phrases.specs.Languages.{has, both, second_of, either, optional}
 use Rattle.rsp_phrases.specs.Readers.{Reader}
 use Rattle.rsp_phrases.proofs.Good.{good_token, good_mapped, listed_as, loosened}
@@ -16,13 +20,13 @@ use Rattle.rsp_written.specs.declared.said.Kind.{Kind}
 use Rattle.rsp_written.specs.declared.said.Kind.TheVariants as kind
 use Rattle.rsp_written.specs.declared.said.Said.{Said}
 use Rattle.rsp_written.specs.Numbers.{number_of}
-use Rattle.rsp_written.specs.Trees.{Expr, Node, Properties, Item, shown, computed, every_name, these, Graph, graph_variable, graph_iri, Element, optional_group, minus_group, union_of, graph_group, window_group, filter, exists, bind, Strategy, profile, reporting, Window, Written}
+use Rattle.rsp_written.specs.Trees.{Expr, Node, Properties, Item, shown, computed, every_name, these, Graph, graph_variable, graph_iri, Element, optional_group, minus_group, union_of, graph_group, window_group, filter, exists, bind, Window, Written}
 use Rattle.rsp_written.specs.Building.{elements_in, groups_in, run, sub_select_of, written_of}
-use Rattle.rsp_written.specs.Grammar.{Rule, kind_number, numbers, one, word, sign, text_of, iri_name, call_rule, expression, aggregate_expression, triples_rule, group_of, optional_rule, minus_rule, union_rule, graph_name, graph_rule, window_rule, exists_rule, filter_rule, bind_rule, values_rule, other, item_of, items_of, projection, select_clause, keys, having, tail, sub_select_rule, piece, body, group_rule, group, span_text, origin_of_kind, origin, window_size, window_of, window, plain_strategies, strategy, profiles, ticks, reported, policy, operators, registered, windows, query_body, prefix_of_kind, prefix, declared_iri, resolved_as, resolved_by, resolved, query}
+use Rattle.rsp_written.specs.Grammar.{Rule, kind_number, numbers, one, word, sign, iri_name, call_rule, expression, aggregate_expression, triples_rule, group_of, optional_rule, minus_rule, union_rule, graph_name, graph_rule, window_rule, exists_rule, filter_rule, bind_rule, other, item_of, items_of, projection, select_clause, keys, having, tail, sub_select_rule, piece, body, block, group_rule, group, milliseconds, duration, origin_of_kind, origin, window_size, window_of, window, strategy, profile, tick, reported, policy, stream_operator, registered, windows, query_body, prefix_of_kind, prefix, declared_iri, resolved_as, resolved_by, resolved, query}
 use Rattle.rsp_written.specs.Readings.{word_kinds, sign_kinds, call_first, call_read, expression_read, aggregate_expression_read}
 use Rattle.rsp_written.specs.TripleReadings.{same_first}
-use Rattle.rsp_written.specs.GroupReadings.{group_of_read, optional_rule_read, minus_rule_read, union_rule_read, graph_name_read, graph_rule_read, window_rule_read, exists_rule_read, filter_rule_read, as_variable_read, bind_rule_read, values_rule_read, other_read, other_first, item_first, item_read, items_of_read, projection_read, select_clause_read, keys_read, having_read, tail_read, maybe_where_read, sub_select_read, piece_read, body_read, group_rule_read, group_read, span_read, origin_read, window_size_read, window_read, strategy_of, every_strategy, strategy_read, reported_read, policy_read, policy_first, registered_read, windows_read, query_body_read, prefix_read, query_read}
-use Rattle.rsp_written.proofs.Simple.{G, good_one, good_second_of, good_first_of, good_both, good_behind, good_in_parens, under_second, under_first, good_iri, good_variable}
+use Rattle.rsp_written.specs.GroupReadings.{group_of_read, optional_rule_read, minus_rule_read, union_rule_read, graph_name_read, graph_rule_read, window_rule_read, exists_rule_read, filter_rule_read, as_variable_read, bind_rule_read, values_rule_read, other_read, other_first, item_first, item_read, items_of_read, projection_read, select_clause_read, keys_read, having_read, tail_read, maybe_where_read, sub_select_read, piece_read, body_read, group_rule_read, group_read, span_read, origin_read, window_size_read, window_read, strategy_read, profile_read, tick_read, reported_read, policy_read, policy_first, stream_operator_read, registered_read, windows_read, query_body_read, prefix_read, query_read}
+use Rattle.rsp_written.proofs.Simple.{G, good_one, good_says, good_second_of, good_first_of, good_both, good_behind, good_in_parens, good_separated, under_second, under_first, under_separated, good_iri, good_variable}
 use Rattle.rsp_written.proofs.Expressions.{plain_first, expr_go, good_expression, good_aggregate_expression, good_call}
 use Rattle.rsp_written.proofs.Triples.{triples_go, good_triples, good_block}
 
@@ -50,7 +54,7 @@ module _ (q : Rule (List Element)) (s : Reader Said (List Element)) (h : Inside 
   unfolding union_rule_read
   good_union_rule =
       good_mapped (λ (v : List Element × List (List Element)). union_of (groups_in (v.0 ∷ v.1)))
-      (good_both good_group_of (good_many (good_behind (word_kinds keyword.Union) good_group_of) refl) refl)
+      (good_separated (kind.Word keyword.Union) good_group_of refl)
 
   good_graph_name : G graph_name graph_name_read (kind.Variable ∷ kind.Iri ∷ []) [] false true
   unfolding graph_name_read
@@ -91,7 +95,7 @@ module _ (q : Rule (List Element)) (s : Reader Said (List Element)) (h : Inside 
       (good_second_of (good_one (word_kinds keyword.Bind))
       (good_in_parens (good_both good_expression (good_second_of (good_one (word_kinds keyword.As)) good_variable refl) refl) refl) refl)
 
-  good_values_rule : G values_rule values_rule_read (word_kinds keyword.Values) [] false true
+  good_values_rule : G (second_of (word keyword.Values) block) values_rule_read (word_kinds keyword.Values) [] false true
   unfolding values_rule_read
   good_values_rule = good_second_of (good_one (word_kinds keyword.Values)) good_block refl
 
@@ -126,9 +130,9 @@ good_items_plain : G (items_of expression) (items_of_read expression_read) item_
 unfolding items_of_read
 good_items_plain = good_mapped (λ (v : Item × List Item). v.0 ∷ v.1) (good_both good_item_plain (good_many good_item_plain refl) refl)
 
-good_projection : G projection projection_read (kind.Symbol (symbol.Sign operator.Multiply) ∷ item_first) item_first false true
+good_projection : G projection projection_read (kind.Sign operator.Multiply ∷ item_first) item_first false true
 unfolding projection_read
-good_projection = good_either (good_mapped (λ star. every_name) (good_one (sign_kinds (symbol.Sign operator.Multiply)))) (good_mapped these good_items_wide) refl refl
+good_projection = good_either (good_says (kind.Sign operator.Multiply) every_name) (good_mapped these good_items_wide) refl refl
 
 good_select_clause : G select_clause select_clause_read (word_kinds keyword.Select) item_first false true
 unfolding select_clause_read
@@ -216,12 +220,12 @@ under_other {n = n} h =
     under_either (under_mapped (λ g. optional_group (elements_in g)) (under_behind_word (word_kinds keyword.Optional) (under_group_of h)))
     (under_either (under_mapped (λ g. minus_group (elements_in g)) (under_behind_word (word_kinds keyword.Minus) (under_group_of h)))
     (under_either (under_mapped (λ (v : List Element × List (List Element)). union_of (groups_in (v.0 ∷ v.1)))
-    (under_tied (under_group_of h) (λ v. under_many (under_behind_word (word_kinds keyword.Union) (under_group_of h)))))
+    (under_separated (kind.Word keyword.Union) (under_group_of h)))
     (under_either (under_mapped (λ (v : Said × (Graph × List Element)). graph_group v.1.0 v.0.at (elements_in v.1.1))
     (under_word (word_kinds keyword.Graph) (under_tied (under_same (n + 1) graph_name) (λ v. under_group_of h))))
     (under_either (under_mapped (λ (v : Said × (List ℕ × List Element)). window_group v.1.0 v.0.at (elements_in v.1.1))
     (under_word (word_kinds keyword.Window) (under_tied (under_same (n + 1) iri_name) (λ v. under_group_of h))))
-    (under_either (under_filter h) (under_same (n + 1) (either bind_rule values_rule)))))))
+    (under_either (under_filter h) (under_same (n + 1) (either bind_rule (second_of (word keyword.Values) block))))))))
 
 under_body : {n : ℕ} {q q' : Rule (List Element)} → Under n q q' → Under (n + 1) (body q) (body q')
 under_body {n = n} h =
@@ -245,9 +249,9 @@ good_group =
 
 -- ---- the query
 
-good_span : G span_text span_read (kind.Span ∷ []) [] false true
+good_span : G duration span_read (kind.Span ∷ []) [] false true
 unfolding span_read
-good_span = good_mapped text_of (good_one (kind.Span ∷ []))
+good_span = good_mapped (λ said. milliseconds said.text) (good_one (kind.Span ∷ []))
 
 abbrev origin_first : List Kind
 origin_first = kind.Integer ∷ kind.String ∷ []
@@ -262,6 +266,12 @@ unfolding origin_read
 good_origin =
     good_token kind_number (λ said. origin_of_kind said.kind said.text) (numbers (kind.Integer ∷ kind.String ∷ [])) false
     (λ said h. origin_kind said.kind said.text h) (λ e. absurd (true≢false (sym e)))
+
+abbrev pub strategy_first : List Kind
+strategy_first = map kind.Word (keyword.Close ∷ keyword.Change ∷ keyword.NonEmpty ∷ keyword.Every ∷ [])
+
+abbrev pub operator_first : List Kind
+operator_first = map kind.Word (keyword.Rstream ∷ keyword.Istream ∷ keyword.Dstream ∷ [])
 
 good_window_size : G window_size window_size_read (sign_kinds symbol.OpenBracket) [] false true
 unfolding window_size_read
@@ -278,30 +288,45 @@ good_window =
     (good_second_of (good_one (word_kinds keyword.Window)) (good_both good_iri
     (good_second_of (good_one (word_kinds keyword.On)) (good_both good_iri good_window_size refl) refl) refl) refl) refl) refl)
 
-good_strategy : G strategy strategy_read (plain_strategies ++ word_kinds keyword.Every) [] false true
+good_strategy : G strategy strategy_read strategy_first [] false true
 unfolding strategy_read
 good_strategy =
-    good_either (good_mapped strategy_of (good_one plain_strategies))
-    (good_mapped every_strategy (good_second_of (good_one (word_kinds keyword.Every)) good_span refl)) refl refl
+    good_either (good_says (kind.Word keyword.Close) when.Close) (good_either (good_says (kind.Word keyword.Change) when.Change)
+    (good_either (good_says (kind.Word keyword.NonEmpty) when.NonEmpty)
+    (good_mapped when.Every (good_second_of (good_one (word_kinds keyword.Every)) good_span refl)) refl refl) refl refl) refl refl
+
+good_profile : G profile profile_read (kind.Word keyword.Csparql ∷ kind.Word keyword.Cqels ∷ []) [] false true
+unfolding profile_read
+good_profile =
+    good_either (good_says (kind.Word keyword.Csparql) policies.Csparql) (good_says (kind.Word keyword.Cqels) policies.Cqels) refl refl
+
+good_tick : G tick tick_read (kind.Word keyword.Time ∷ kind.Word keyword.Tuple ∷ []) [] false true
+unfolding tick_read
+good_tick = good_either (good_says (kind.Word keyword.Time) false) (good_says (kind.Word keyword.Tuple) true) refl refl
 
 good_reported : G reported reported_read (word_kinds keyword.Report) [] false true
 unfolding reported_read
 good_reported =
-    let more = good_many (good_second_of (good_one (word_kinds keyword.And)) good_strategy refl) refl in
-    let tick = good_second_of (good_one (word_kinds keyword.Tick)) (good_one ticks) refl in
-    good_mapped (λ (v : (Strategy × List Strategy) × Said). reporting (v.0.0 ∷ v.0.1) v.1.kind)
-    (good_second_of (good_one (word_kinds keyword.Report)) (good_both (good_both good_strategy more refl) tick refl) refl)
+    let behind = good_second_of (good_one (word_kinds keyword.Tick)) good_tick refl in
+    good_mapped (λ (v : (Strategy × List Strategy) × Bool). policies.Listed (v.0.0 ∷ v.0.1) v.1)
+    (good_second_of (good_one (word_kinds keyword.Report))
+    (good_both (good_separated (kind.Word keyword.And) good_strategy refl) behind refl) refl)
 
 good_policy : G policy policy_read policy_first [] false true
 unfolding policy_read
-good_policy =
-    good_either (good_mapped (λ said. profile said.kind) (good_second_of (good_one (word_kinds keyword.Under)) (good_one profiles) refl))
-    good_reported refl refl
+good_policy = good_either (good_second_of (good_one (word_kinds keyword.Under)) good_profile refl) good_reported refl refl
+
+good_stream_operator : G stream_operator stream_operator_read operator_first [] false true
+unfolding stream_operator_read
+good_stream_operator =
+    good_either (good_says (kind.Word keyword.Rstream) stream.Rstream)
+    (good_either (good_says (kind.Word keyword.Istream) stream.Istream) (good_says (kind.Word keyword.Dstream) stream.Dstream) refl refl)
+    refl refl
 
 good_registered : G registered registered_read (word_kinds keyword.Register) [] false true
 unfolding registered_read
 good_registered =
-    good_second_of (good_one (word_kinds keyword.Register)) (good_both (good_one operators)
+    good_second_of (good_one (word_kinds keyword.Register)) (good_both good_stream_operator
     (good_both good_iri (good_first_of (good_optional good_policy) (good_one (word_kinds keyword.As)) refl) refl) refl) refl
 
 good_windows : G windows windows_read (word_kinds keyword.From) (word_kinds keyword.From) false true

@@ -22,22 +22,27 @@ simple =
 
 abbrev keywords : List Keyword
 keywords =
-    (keyword.Prefix ∷ keyword.Register ∷ keyword.Rstream ∷ keyword.Istream ∷ keyword.Dstream ∷ keyword.Under
+    keyword.Prefix ∷ keyword.Register ∷ keyword.Rstream ∷ keyword.Istream ∷ keyword.Dstream ∷ keyword.Under
     ∷ keyword.Csparql ∷ keyword.Cqels ∷ keyword.Report ∷ keyword.And ∷ keyword.Tick ∷ keyword.Time ∷ keyword.Tuple
     ∷ keyword.Close ∷ keyword.Change ∷ keyword.NonEmpty ∷ keyword.Every ∷ keyword.From ∷ keyword.Named ∷ keyword.Window
     ∷ keyword.On ∷ keyword.Range ∷ keyword.Step ∷ keyword.Start ∷ keyword.As ∷ keyword.Select ∷ keyword.Distinct
     ∷ keyword.Where ∷ keyword.Group ∷ keyword.By ∷ keyword.Having ∷ keyword.Optional ∷ keyword.Minus ∷ keyword.Union
     ∷ keyword.Graph ∷ keyword.Filter ∷ keyword.Not ∷ keyword.Exists ∷ keyword.Bind ∷ keyword.Values ∷ keyword.Undef
-    ∷ keyword.True ∷ keyword.False ∷ keyword.In ∷ keyword.A ∷ keyword.Bound ∷ [])
-    ++ (map keyword.Call functions ++ map keyword.Fold (fold.Count ∷ fold.Sum ∷ fold.Avg ∷ fold.Min ∷ fold.Max ∷ []))
+    ∷ keyword.True ∷ keyword.False ∷ keyword.In ∷ keyword.A ∷ keyword.Bound ∷ []
 
 abbrev symbols : List Symbol
 symbols =
-    (symbol.OpenBrace ∷ symbol.CloseBrace ∷ symbol.OpenParen ∷ symbol.CloseParen ∷ symbol.OpenBracket ∷ symbol.CloseBracket
+    symbol.OpenBrace ∷ symbol.CloseBrace ∷ symbol.OpenParen ∷ symbol.CloseParen ∷ symbol.OpenBracket ∷ symbol.CloseBracket
     ∷ symbol.Dot ∷ symbol.Semicolon ∷ symbol.Comma ∷ symbol.Bar ∷ symbol.Or ∷ symbol.And ∷ symbol.Not ∷ symbol.Caret
-    ∷ symbol.Carets ∷ symbol.Question ∷ [])
-    ++ map symbol.Sign (operator.Equal ∷ operator.NotEqual ∷ operator.Less ∷ operator.Greater ∷ operator.LessEqual
-    ∷ operator.GreaterEqual ∷ operator.Add ∷ operator.Subtract ∷ operator.Multiply ∷ operator.Divide ∷ [])
+    ∷ symbol.Carets ∷ symbol.Question ∷ []
+
+abbrev signs : List Sign
+signs =
+    operator.Equal ∷ operator.NotEqual ∷ operator.Less ∷ operator.Greater ∷ operator.LessEqual ∷ operator.GreaterEqual
+    ∷ operator.Add ∷ operator.Subtract ∷ operator.Multiply ∷ operator.Divide ∷ []
+
+abbrev folds : List aggregate.Kind
+folds = fold.Count ∷ fold.Sum ∷ fold.Avg ∷ fold.Min ∷ fold.Max ∷ []
 
 -- numbers that no kind has
 abbrev none : ℕ → List Kind
@@ -45,37 +50,41 @@ none zero = []
 none (suc n) = kind.Nowhere ∷ none n
 
 abbrev kinds : List Kind
-kinds = simple ++ (none 9 ++ (map kind.Word keywords ++ (none 21 ++ map kind.Symbol symbols)))
+kinds =
+    simple ++ (none 9 ++ (map kind.Word keywords ++ (map kind.Call functions ++ (map kind.Fold folds ++ (none 1
+    ++ (map kind.Symbol symbols ++ (none 4 ++ map kind.Sign signs)))))))
 
 abbrev at : List Kind → ℕ → Kind
 at [] n = kind.Nowhere
 at (k ∷ more) zero = k
 at (k ∷ more) (suc n) = at more n
 
-back_call : (f : Function) → at kinds (20 + (46 + place_of_function f)) ≡ kind.Word (keyword.Call f)
+back_call : (f : Function) → at kinds (66 + place_of_function f) ≡ kind.Call f
 back_call function.If = refl
 back_call _ = refl
 
-back_fold : (k : aggregate.Kind) → at kinds (20 + (74 + place_of_fold k)) ≡ kind.Word (keyword.Fold k)
+back_fold : (k : aggregate.Kind) → at kinds (94 + place_of_fold k) ≡ kind.Fold k
 back_fold fold.Count = refl
 back_fold _ = refl
 
-back_sign : (s : Sign) → at kinds (120 + (16 + place_of_sign s)) ≡ kind.Symbol (symbol.Sign s)
+back_sign : (s : Sign) → at kinds (120 + place_of_sign s) ≡ kind.Sign s
 back_sign operator.Equal = refl
 back_sign _ = refl
 
 back_word : (w : Keyword) → at kinds (20 + place_of_keyword w) ≡ kind.Word w
-back_word (keyword.Call f) = back_call f
-back_word (keyword.Fold k) = back_fold k
+back_word keyword.Prefix = refl
 back_word _ = refl
 
-back_symbol : (s : Symbol) → at kinds (120 + place_of_symbol s) ≡ kind.Symbol s
-back_symbol (symbol.Sign s) = back_sign s
+back_symbol : (s : Symbol) → at kinds (100 + place_of_symbol s) ≡ kind.Symbol s
+back_symbol symbol.OpenBrace = refl
 back_symbol _ = refl
 
 back : (k : Kind) → at kinds (number_of k) ≡ k
 back (kind.Word w) = back_word w
+back (kind.Call f) = back_call f
+back (kind.Fold k) = back_fold k
 back (kind.Symbol s) = back_symbol s
+back (kind.Sign s) = back_sign s
 back _ = refl
 
 pub own : (j k : Kind) → number_of j ≡ number_of k → j ≡ k

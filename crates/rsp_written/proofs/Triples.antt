@@ -1,6 +1,6 @@
 -- Laws of rules: paths, triples, VALUES.
 use Rattle.rsp_functions.specs.declared.function.Sign.TheVariants as operator
-use Rattle.std.proofs.Common.{◌≡◌, ℕ, zero, suc, ◌+◌, Bool, true, false, true≢false, List, [], ◌∷◌, ◌++◌, ◌&&◌, cond, map, length, refl, sym, Option, Some, None, IsSome}
+use Rattle.std.proofs.Common.{◌≡◌, ℕ, zero, suc, ◌+◌, Bool, true, false, true≢false, List, [], ◌∷◌, ◌++◌, ◌&&◌, cond, map, length, refl, sym, Option, Some, None, IsSome, unwrap_or}
 use Rattle.std.specs.Str.{bytes_eq}
 use Rattle.std.proofs.lemmas.Slice.Eq.{bytes_eq-Decides}
 use Rattle.rsp_phrases.specs.Languages.{has, second_of, optional, many}
@@ -19,12 +19,12 @@ use Rattle.rsp_written.specs.declared.said.Symbol.TheVariants as symbol
 use Rattle.rsp_written.specs.declared.said.Kind.{Kind}
 use Rattle.rsp_written.specs.declared.said.Kind.TheVariants as kind
 use Rattle.rsp_written.specs.declared.said.Said.{Said}
-use Rattle.rsp_written.specs.Trees.{Way, step, named, along, Node, variable_node, iri_node, constant_node, label_node, blank_node, described, Properties, values}
-use Rattle.rsp_written.specs.Building.{sequence_row, choice_row, turned, rdf_type, property_list, some_properties}
+use Rattle.rsp_written.specs.Trees.{Way, step, named, along, Node, variable_node, iri_node, constant_node, label_node, blank_node, described, Properties, no_property, values}
+use Rattle.rsp_written.specs.Building.{turned, rdf_type, property_list}
 use Rattle.rsp_written.specs.Grammar.{Rule, kind_number, numbers, sign, way_name, path_part, path_sequence, path_rule, path, verb, subject_name, node_name, no_properties, node, properties_end, object, objects, property, properties_rule, properties, same, triples_rule, value, in_braces, one_column, value_row, name_if_variable, columns, many_columns, block}
 use Rattle.rsp_written.specs.Readings.{repeated_read, word_kinds, sign_kinds, suffix_first}
-use Rattle.rsp_written.specs.TripleReadings.{name_first, way_name_read, part_read, sequence_read, path_rule_read, path_read, verb_read, subject_name_first, subject_name_read, node_name_read, no_properties_read, properties_end_read, bracket_read, node_name_first, object_read, objects_read, property_read, verb_first, properties_rule_read, properties_read, named_same_read, blank_same_read, described_same_read, same_read, same_first, triples_read, value_first, value_read, one_column_read, value_row_read, columns_read, value_rows_read, many_columns_read, block_read}
-use Rattle.rsp_written.proofs.Simple.{G, good_one, good_second_of, good_first_of, good_both, good_behind, good_in_parens, under_second, under_first, under_in_parens, good_iri, good_variable, good_literal}
+use Rattle.rsp_written.specs.TripleReadings.{name_first, way_name_read, part_read, sequence_row, sequence_read, choice_row, path_rule_read, path_read, verb_read, subject_name_first, subject_name_read, node_name_read, no_properties_read, properties_end_read, bracket_read, node_name_first, object_read, objects_read, property_read, verb_first, properties_rule_read, properties_read, named_same_read, blank_same_read, described_same_read, same_read, same_first, triples_read, value_first, value_read, one_column_read, value_row_read, columns_read, value_rows_read, many_columns_read, block_read}
+use Rattle.rsp_written.proofs.Simple.{G, good_one, good_says, good_second_of, good_first_of, good_both, good_behind, good_in_parens, good_separated, under_second, under_first, under_in_parens, under_separated, good_iri, good_variable, good_literal}
 
 -- ---- paths
 
@@ -32,11 +32,11 @@ abbrev pub part_first : List Kind
 part_first = kind.Symbol symbol.Caret ∷ (name_first ++ sign_kinds symbol.OpenParen)
 
 abbrev pub path_go : List Kind
-path_go = kind.Symbol (symbol.Sign operator.Divide) ∷ kind.Symbol symbol.Bar ∷ []
+path_go = kind.Sign operator.Divide ∷ kind.Symbol symbol.Bar ∷ []
 
 good_way_name : G way_name way_name_read name_first [] false true
 unfolding way_name_read
-good_way_name = good_either (good_mapped step good_iri) (good_mapped (λ w. step rdf_type) (good_one (word_kinds keyword.A))) refl refl
+good_way_name = good_either (good_mapped step good_iri) (good_says (kind.Word keyword.A) (step rdf_type)) refl refl
 
 good_part : (q : Rule Way) (s : Reader Said Way) → G q s part_first path_go false false → G (path_part q) (part_read s) part_first [] false true
 unfolding part_read
@@ -45,20 +45,18 @@ good_part q s h =
     (good_either good_way_name (good_in_parens h refl) refl refl) refl)
 
 good_sequence : (q : Rule Way) (s : Reader Said Way) → G q s part_first path_go false false
-    → G (path_sequence q) (sequence_read s) part_first (sign_kinds (symbol.Sign operator.Divide)) false true
+    → G (path_sequence q) (sequence_read s) part_first (kind.Sign operator.Divide ∷ []) false true
 unfolding sequence_read
 good_sequence q s h =
-    let part = good_part q s h in
-    let more = good_many (good_behind (sign_kinds (symbol.Sign operator.Divide)) part) refl in
-    listed_as (numbers part_first) (numbers (sign_kinds (symbol.Sign operator.Divide))) (good_mapped sequence_row (good_both part more refl)) refl refl refl
+    listed_as (numbers part_first) (numbers (kind.Sign operator.Divide ∷ []))
+    (good_mapped sequence_row (good_separated (kind.Sign operator.Divide) (good_part q s h) refl)) refl refl refl
 
 good_path_rule : (q : Rule Way) (s : Reader Said Way) → G q s part_first path_go false false
     → G (path_rule q) (path_rule_read s) part_first path_go false true
 unfolding path_rule_read
 good_path_rule q s h =
-    let part = good_sequence q s h in
-    let more = good_many (good_behind (sign_kinds symbol.Bar) part) refl in
-    listed_as (numbers part_first) (numbers path_go) (good_mapped choice_row (good_both part more refl)) refl refl refl
+    listed_as (numbers part_first) (numbers path_go)
+    (good_mapped choice_row (good_separated (kind.Symbol symbol.Bar) (good_sequence q s h) refl)) refl refl refl
 
 under_part : {n : ℕ} {q q' : Rule Way} → Under n q q' → Under (n + 1) (path_part q) (path_part q')
 under_part {n = n} h =
@@ -67,13 +65,11 @@ under_part {n = n} h =
 
 under_sequence : {n : ℕ} {q q' : Rule Way} → Under n q q' → Under (n + 1) (path_sequence q) (path_sequence q')
 under_sequence {n = n} h =
-    under_mapped sequence_row (under_tied (under_part h) (λ v. under_many (under_mapped (λ (w : _ × _). w.1)
-    (under_tied (under_same (n + 1) (sign (symbol.Sign operator.Divide))) (λ w. under_part h)))))
+    under_mapped sequence_row (under_separated (kind.Sign operator.Divide) (under_part h))
 
 under_path_rule : (n : ℕ) (q q' : Rule Way) → Under n q q' → Under (n + 1) (path_rule q) (path_rule q')
 under_path_rule n q q' h =
-    under_mapped choice_row (under_tied (under_sequence h) (λ v. under_many (under_mapped (λ (w : _ × _). w.1)
-    (under_tied (under_same (n + 1) (sign symbol.Bar)) (λ w. under_sequence h)))))
+    under_mapped choice_row (under_separated (kind.Symbol symbol.Bar) (under_sequence h))
 
 pub good_path : G path path_read part_first path_go false true
 unfolding path_read
@@ -103,7 +99,7 @@ good_node_name = good_either good_subject_name (good_mapped constant_node good_l
 
 good_no_properties : G no_properties no_properties_read (sign_kinds symbol.CloseBracket) [] false true
 unfolding no_properties_read
-good_no_properties = good_mapped (λ close. blank_node) (good_one (sign_kinds symbol.CloseBracket))
+good_no_properties = good_says (kind.Symbol symbol.CloseBracket) blank_node
 
 abbrev InnerProperties : Rule Properties → Reader Said Properties → Bool → Type 0
 InnerProperties q s exact = G q s verb_first properties_go false exact
@@ -125,10 +121,8 @@ good_objects : (q : Rule Properties) (s : Reader Said Properties) → InnerPrope
     → G (objects q) (objects_read s) (node_name_first ++ sign_kinds symbol.OpenBracket) property_go false true
 unfolding objects_read
 good_objects q s h =
-    let part = good_object q s h in
-    let more = good_many (good_behind (sign_kinds symbol.Comma) part) refl in
     listed_as (numbers (node_name_first ++ sign_kinds symbol.OpenBracket)) (numbers property_go)
-    (good_mapped (λ (v : Node × List Node). v.0 ∷ v.1) (good_both part more refl)) refl refl refl
+    (good_mapped (λ (v : Node × List Node). v.0 ∷ v.1) (good_separated (kind.Symbol symbol.Comma) (good_object q s h) refl)) refl refl refl
 
 good_property : (q : Rule Properties) (s : Reader Said Properties) → InnerProperties q s false
     → G (property q) (property_read s) verb_first property_go false true
@@ -152,8 +146,7 @@ under_object {n = n} h =
 under_property : {n : ℕ} {q q' : Rule Properties} → Under n q q' → Under (n + 1) (property q) (property q')
 under_property {n = n} h =
     under_tied (under_same (n + 1) verb) (λ v. under_mapped (λ (w : Node × List Node). w.0 ∷ w.1)
-    (under_tied (under_object h) (λ w. under_many (under_mapped (λ (u : _ × _). u.1)
-    (under_tied (under_same (n + 1) (sign symbol.Comma)) (λ u. under_object h))))))
+    (under_separated (kind.Symbol symbol.Comma) (under_object h)))
 
 under_properties_rule : (n : ℕ) (q q' : Rule Properties) → Under n q q' → Under (n + 1) (properties_rule q) (properties_rule q')
 under_properties_rule n q q' h =
@@ -171,7 +164,7 @@ good_same_rule : G same same_read same_first same_go false true
 unfolding same_read named_same_read blank_same_read described_same_read
 good_same_rule =
     let f = λ (v : Node × Properties). v in
-    let g : Node × Option Properties → Node × Properties = λ v. (v.0, some_properties v.1) in
+    let g : Node × Option Properties → Node × Properties = λ v. (v.0, unwrap_or v.1 no_property) in
     let named_part = good_mapped f (good_both good_subject_name good_properties refl) in
     let blank_part = good_mapped f (good_both good_no_properties good_properties refl) in
     let described_part = good_mapped g (good_both (good_properties_end properties properties_read good_properties) (good_optional good_properties) refl) in
@@ -195,7 +188,7 @@ good_value : G value value_read value_first suffix_first false true
 unfolding value_read
 good_value =
     good_either (good_mapped (λ name. Some (term.Iri name)) good_iri)
-    (good_either (good_mapped Some good_literal) (good_mapped (λ w. None) (good_one (word_kinds keyword.Undef))) refl refl) refl refl
+    (good_either (good_mapped Some good_literal) (good_says (kind.Word keyword.Undef) None) refl refl) refl refl
 
 abbrev pub values_go : List Kind
 values_go = suffix_first ++ value_first
@@ -215,7 +208,7 @@ row_first = sign_kinds symbol.CloseParen ++ value_first
 
 good_value_row : (n : ℕ) → G (value_row n) (value_row_read n) row_first [] false false
 unfolding value_row value_row_read
-good_value_row zero = loosened (numbers row_first) [] (good_mapped (λ close. []) (good_one (sign_kinds symbol.CloseParen))) refl refl
+good_value_row zero = loosened (numbers row_first) [] (good_says (kind.Symbol symbol.CloseParen) []) refl refl
 good_value_row (suc n) =
     loosened (numbers row_first) []
     (good_mapped (λ (v : Option Term × List (Option Term)). v.0 ∷ v.1) (good_both good_value (good_value_row n) refl)) refl refl

@@ -3,20 +3,33 @@
 -- the end the order is that of the grammar. Tokens are what they say: words in any case, IRIs absolute with prefixes
 -- replaced, strings without escapes. What is left out of SPARQL: paths `*` `+` `?` `!`, collections, SERVICE, queries of
 -- other forms, solution modifiers but grouping, and functions named by IRIs.
-use Rattle.rsp_functions.specs.declared.function.Sign.TheVariants as operator
-use Rattle.rsp_functions.specs.Functions.{functions}
-use Rattle.rsp_functions.specs.declared.aggregate.Kind.TheVariants as fold
-use Rattle.std.specs.Prelude.{Bool, ℕ, zero, suc, List, [], ◌∷◌, ◌++◌, cond, map, length, Option, None, Some, is_some, codes}
-use Rattle.std.specs.Prelude.{nat_le}
-use Rattle.std.specs.List.{flat_map}
+use Rattle.std.specs.Prelude.{Bool, ℕ, true, false, zero, suc, List, [], ◌∷◌, ◌++◌, ◌==◌, cond, find, flat_map, map, length}
+use Rattle.std.specs.Prelude.{Option, None, Some, is_some, unwrap_or, codes, nat_le}
+use Rattle.std.specs.Option.{option_or}
 use Rattle.std.specs.Str.{bytes_eq}
 use Rattle.std.specs.Str.Parse.{digits_value}
 use Rattle.rsp_spec.specs.Limits.{last_instant}
 use Rattle.rsp_text.specs.Instants.{instant}
+use Rattle.rsp_text.specs.Spans.{span}
 use Rattle.rsp_terms.specs.declared.term.Term.TheVariants as term
 use Rattle.rsp_terms.specs.declared.term.Term.{Term}
+use Rattle.rsp_functions.specs.Functions.{functions, row_of}
+use Rattle.rsp_functions.specs.declared.function.Arity.{Arity}
+use Rattle.rsp_functions.specs.declared.function.Arity.TheVariants as arity
+use Rattle.rsp_functions.specs.declared.function.Sign.{Sign}
+use Rattle.rsp_functions.specs.declared.function.Sign.TheVariants as operator
+use Rattle.rsp_functions.specs.declared.aggregate.Kind as aggregates
+use Rattle.rsp_functions.specs.declared.aggregate.Kind.TheVariants as fold
+use Rattle.rsp_report.specs.declared.operator.Operator.{Operator}
+use Rattle.rsp_report.specs.declared.operator.Operator.TheVariants as stream
+use Rattle.rsp_report.specs.declared.words.Strategy.{Strategy}
+use Rattle.rsp_report.specs.declared.words.Strategy.TheVariants as when
+use Rattle.rsp_report.specs.declared.words.PolicyWords.{PolicyWords}
+use Rattle.rsp_report.specs.declared.words.PolicyWords.TheVariants as policies
 use Rattle.rsp_phrases.specs.Languages.{Language, has, among, token, mapped, tied, both, second_of, first_of_both, either}
 use Rattle.rsp_phrases.specs.Languages.{optional, many, dotted, distinct, within_itself, seen, listed, never}
+use Rattle.rsp_written.specs.declared.expression.UnaryOperator.{UnaryOperator}
+use Rattle.rsp_written.specs.declared.expression.UnaryOperator.TheVariants as before
 use Rattle.rsp_written.specs.declared.said.Keyword.{Keyword}
 use Rattle.rsp_written.specs.declared.said.Keyword.TheVariants as keyword
 use Rattle.rsp_written.specs.declared.said.Symbol.{Symbol}
@@ -24,19 +37,17 @@ use Rattle.rsp_written.specs.declared.said.Symbol.TheVariants as symbol
 use Rattle.rsp_written.specs.declared.said.Kind.{Kind}
 use Rattle.rsp_written.specs.declared.said.Kind.TheVariants as kind
 use Rattle.rsp_written.specs.declared.said.Said.{Said}
-use Rattle.rsp_functions.specs.declared.function.Arity.{Arity}
-use Rattle.rsp_functions.specs.declared.function.Arity.TheVariants as arity
 use Rattle.rsp_written.specs.Numbers.{number_of}
-use Rattle.rsp_written.specs.Arities.{arity_of}
-use Rattle.rsp_written.specs.Trees.{Expr, variable, iri, constant, bound, count_rows, Way, step, Verb, named, along, Node}
-use Rattle.rsp_written.specs.Trees.{variable_node, iri_node, constant_node, label_node, blank_node, described, Properties, Item}
-use Rattle.rsp_written.specs.Trees.{shown, computed, Projection, every_name, these, Graph, graph_variable, graph_iri, Element}
-use Rattle.rsp_written.specs.Trees.{optional_group, minus_group, union_of, graph_group, window_group, filter, exists, bind}
-use Rattle.rsp_written.specs.Trees.{values, Strategy, Policy, profile, reporting, Window, Written}
-use Rattle.rsp_written.specs.Building.{string_term, number_term, signed_term, boolean_term, signed_part, any_row, all_row}
-use Rattle.rsp_written.specs.Building.{sum_row, product_row, Relation, compared_to, one_of, related, with_sign, call_of}
-use Rattle.rsp_written.specs.Building.{aggregate_of, flagged, sequence_row, choice_row, turned, rdf_type, property_list}
-use Rattle.rsp_written.specs.Building.{some_properties, elements_in, groups_in, run, sub_select_of, written_of, later, is_nil}
+use Rattle.rsp_written.specs.Trees.{Expr, variable, iri, constant, any_of, all_of, sum, product, bound, count_rows, aggregate}
+use Rattle.rsp_written.specs.Trees.{Way, step, sequence, choice, Verb, named, along, Node, variable_node, iri_node}
+use Rattle.rsp_written.specs.Trees.{constant_node, label_node, blank_node, described, Properties, no_property, Item, shown}
+use Rattle.rsp_written.specs.Trees.{computed, Operands, Projection, every_name, these, Graph, graph_variable, graph_iri}
+use Rattle.rsp_written.specs.Trees.{Element, optional_group, minus_group, union_of, graph_group, window_group, filter, exists}
+use Rattle.rsp_written.specs.Trees.{bind, values, Window, Written}
+use Rattle.rsp_written.specs.Building.{string_term, number_term, signed_term, boolean_term, alone_or, exprs_in, with_operands}
+use Rattle.rsp_written.specs.Building.{Relation, compared_to, one_of, related, with_sign, call_of, aggregate_of, flagged}
+use Rattle.rsp_written.specs.Building.{ways_in, turned, rdf_type, property_list, elements_in, groups_in, run, sub_select_of}
+use Rattle.rsp_written.specs.Building.{written_of}
 use Rattle.rsp_written.specs.declared.literals.Suffix.{Suffix}
 use Rattle.rsp_written.specs.declared.literals.Suffix.TheVariants.{InLanguage, OfDatatype}
 
@@ -58,6 +69,22 @@ word w = one (kind.Word w ∷ [])
 
 abbrev pub sign : Symbol → Rule Said
 sign s = one (kind.Symbol s ∷ [])
+
+-- whether the token that means this has this number
+abbrev pub has_number : {A : Type 0} → (A → Kind) → ℕ → A → Bool
+has_number spelling number value = number_of (spelling value) == number
+
+-- a token that means one of these, of which each has a kind of its own; its value is what it means
+abbrev pub meaning : {A : Type 0} → (A → Kind) → List A → Rule A
+meaning spelling values = token (λ said. find (has_number spelling (kind_number said)) values)
+
+-- a token of this kind, and what it means here
+abbrev pub says : {A : Type 0} → Kind → A → Rule A
+says k value = mapped (λ said. value) (one (k ∷ []))
+
+-- parts with tokens of this kind between
+abbrev pub separated : {A : Type 0} → Kind → Rule A → Rule (A × List A)
+separated k part = both part (many (second_of (one (k ∷ [])) part))
 
 abbrev pub text_of : Said → List ℕ
 text_of said = said.text
@@ -92,12 +119,12 @@ abbrev pub unsigned_number : Rule Term
 unsigned_number = mapped number_term (one number_kinds)
 
 abbrev pub signed_number : Rule Term
-signed_number = mapped signed_term (both (optional (sign (symbol.Sign operator.Subtract))) (one number_kinds))
+signed_number = mapped signed_term (both (optional (one (kind.Sign operator.Subtract ∷ []))) (one number_kinds))
 
 abbrev pub boolean : Rule Term
 boolean =
-    either (mapped (λ w. boolean_term (codes "true")) (word keyword.True))
-    (mapped (λ w. boolean_term (codes "false")) (word keyword.False))
+    either (says (kind.Word keyword.True) (boolean_term (codes "true")))
+    (says (kind.Word keyword.False) (boolean_term (codes "false")))
 
 abbrev pub literal : Rule Term
 literal = either string_literal (either signed_number boolean)
@@ -112,7 +139,7 @@ abbrev pub expressions : Rule Expr → Rule (List Expr)
 expressions inner =
     second_of (sign symbol.OpenParen)
     (mapped (λ (v : _ × _). listed v.0)
-    (both (optional (both inner (many (second_of (sign symbol.Comma) inner)))) (sign symbol.CloseParen)))
+    (both (optional (separated (kind.Symbol symbol.Comma) inner)) (sign symbol.CloseParen)))
 
 -- Call ::= a name, '(' arguments separated by ',' ')'                                                [121] BuiltInCall
 -- (each name with its numbers of arguments; BOUND has a variable)
@@ -132,14 +159,11 @@ arguments arity.Three inner =
 arguments arity.TwoOrThree inner = mapped maybe_third (in_parens (both inner (both (another inner) (optional (another inner)))))
 arguments arity.Any inner = expressions inner
 
-abbrev pub call_names : List Kind
-call_names = map (λ f. kind.Word (keyword.Call f)) functions
-
 abbrev pub bound_call : Rule Expr
 bound_call = mapped bound (second_of (word keyword.Bound) (in_parens variable_name))
 
 abbrev pub function_call : Rule Expr → Rule Expr
-function_call inner = mapped call_of (tied (one call_names) (λ name. arguments (arity_of name.kind) inner))
+function_call inner = mapped call_of (tied (meaning kind.Call functions) (λ f. arguments (row_of f).1 inner))
 
 abbrev pub call_rule : Rule Expr → Rule Expr
 call_rule inner = either bound_call (function_call inner)
@@ -151,38 +175,35 @@ primary extra inner =
     (either (mapped iri iri_name) (either (mapped variable variable_name) (mapped constant unsigned_literal)))))
 
 -- Unary ::= ('!' | '-' | '+')? Primary                                                           [118] UnaryExpression
-abbrev pub unary_signs : List Kind
-unary_signs = map kind.Symbol (symbol.Not ∷ map symbol.Sign (operator.Subtract ∷ operator.Add ∷ []))
+abbrev pub unary_operator : Rule UnaryOperator
+unary_operator =
+    either (says (kind.Symbol symbol.Not) before.Not)
+    (either (says (kind.Sign operator.Subtract) before.Minus) (says (kind.Sign operator.Add) before.Plus))
 
 abbrev pub unary : Rule Expr → Rule Expr → Rule Expr
-unary extra inner = mapped with_sign (both (optional (one unary_signs)) (primary extra inner))
+unary extra inner = mapped with_sign (both (optional unary_operator) (primary extra inner))
 
 -- parts with signs between
-abbrev pub row : List Kind → (Expr × List (Kind × Expr) → Expr) → Rule Expr → Rule Expr
-row signs make part = mapped make (both part (many (mapped signed_part (both (one signs) part))))
+abbrev pub row : List Sign → (Expr → Operands → Expr) → Rule Expr → Rule Expr
+row signs make part = mapped (with_operands make) (both part (many (both (meaning kind.Sign signs) part)))
 
 -- Product ::= Unary (('*' | '/') Unary)*                                                [117] MultiplicativeExpression
-abbrev pub product_signs : List Kind
-product_signs = map kind.Symbol (map symbol.Sign (operator.Multiply ∷ operator.Divide ∷ []))
-
 abbrev pub product_rule : Rule Expr → Rule Expr → Rule Expr
-product_rule extra inner = row product_signs product_row (unary extra inner)
+product_rule extra inner = row (operator.Multiply ∷ operator.Divide ∷ []) product (unary extra inner)
 
 -- Sum ::= Product (('+' | '-') Product)*                                                      [116] AdditiveExpression
-abbrev pub sum_signs : List Kind
-sum_signs = map kind.Symbol (map symbol.Sign (operator.Add ∷ operator.Subtract ∷ []))
-
 abbrev pub sum_rule : Rule Expr → Rule Expr → Rule Expr
-sum_rule extra inner = row sum_signs sum_row (product_rule extra inner)
+sum_rule extra inner = row (operator.Add ∷ operator.Subtract ∷ []) sum (product_rule extra inner)
 
 -- Rel ::= Sum (('=' | '!=' | '<' | '>' | '<=' | '>=') Sum | 'NOT'? 'IN' '(' (Expr (',' Expr)*)? ')')?
 --                                                                                           [114] RelationalExpression
-abbrev pub comparisons : List Kind
-comparisons = map kind.Symbol (map symbol.Sign
-    (operator.Equal ∷ operator.NotEqual ∷ operator.Less ∷ operator.Greater ∷ operator.LessEqual ∷ operator.GreaterEqual ∷ []))
+abbrev pub comparisons : List Sign
+comparisons =
+    operator.Equal ∷ operator.NotEqual ∷ operator.Less ∷ operator.Greater ∷ operator.LessEqual ∷ operator.GreaterEqual ∷ []
 
 abbrev pub comparison : Rule Expr → Rule Expr → Rule Relation
-comparison extra inner = mapped (λ (v : Said × Expr). compared_to v.0.kind v.1) (both (one comparisons) (sum_rule extra inner))
+comparison extra inner =
+    mapped (λ (v : Sign × Expr). compared_to v.0 v.1) (both (meaning kind.Sign comparisons) (sum_rule extra inner))
 
 abbrev pub membership : Rule Expr → Rule Relation
 membership inner =
@@ -194,18 +215,12 @@ relation extra inner =
     mapped related (both (sum_rule extra inner) (optional (either (comparison extra inner) (membership inner))))
 
 -- And ::= Rel ('&&' Rel)*                                                             [112] ConditionalAndExpression
-abbrev pub and_signs : List Kind
-and_signs = kind.Symbol symbol.And ∷ []
-
 abbrev pub and_rule : Rule Expr → Rule Expr → Rule Expr
-and_rule extra inner = row and_signs all_row (relation extra inner)
+and_rule extra inner = mapped (alone_or (λ es. all_of (exprs_in es))) (separated (kind.Symbol symbol.And) (relation extra inner))
 
 -- Expr ::= And ('||' And)*                                                              [111] ConditionalOrExpression
-abbrev pub or_signs : List Kind
-or_signs = kind.Symbol symbol.Or ∷ []
-
 abbrev pub or_rule : Rule Expr → Rule Expr → Rule Expr
-or_rule extra inner = row or_signs any_row (and_rule extra inner)
+or_rule extra inner = mapped (alone_or (λ es. any_of (exprs_in es))) (separated (kind.Symbol symbol.Or) (and_rule extra inner))
 
 abbrev pub expression : Rule Expr
 expression = within_itself (or_rule never)
@@ -217,17 +232,17 @@ maybe_distinct = mapped flagged (both (optional (word keyword.Distinct)) express
 
 abbrev pub count_rule : Rule Expr
 count_rule =
-    second_of (word (keyword.Fold fold.Count)) (in_parens
-    (either (mapped (λ star. count_rows) (sign (symbol.Sign operator.Multiply)))
-    (mapped (aggregate_of (kind.Word (keyword.Fold fold.Count))) maybe_distinct)))
+    second_of (one (kind.Fold fold.Count ∷ [])) (in_parens
+    (either (says (kind.Sign operator.Multiply) count_rows)
+    (mapped (aggregate_of fold.Count) maybe_distinct)))
 
-abbrev pub folds : List Kind
-folds = map kind.Word (map keyword.Fold (fold.Sum ∷ fold.Avg ∷ fold.Min ∷ fold.Max ∷ []))
+abbrev pub folds : List aggregates.Kind
+folds = fold.Sum ∷ fold.Avg ∷ fold.Min ∷ fold.Max ∷ []
 
 abbrev pub aggregate_rule : Rule Expr
 aggregate_rule =
     either count_rule
-    (mapped (λ (v : Said × (Bool × Expr)). aggregate_of v.0.kind v.1) (both (one folds) (in_parens maybe_distinct)))
+    (mapped (λ (v : aggregates.Kind × (Bool × Expr)). aggregate_of v.0 v.1) (both (meaning kind.Fold folds) (in_parens maybe_distinct)))
 
 -- AggExpr ::= Expr in which Primary may also be an Aggregate
 abbrev pub aggregate_expression : Rule Expr
@@ -237,19 +252,18 @@ aggregate_expression = within_itself (or_rule aggregate_rule)
 
 -- Part ::= '^'? (Iri | 'a' | '(' Path ')')                                 [92] PathEltOrInverse, [94] PathPrimary
 abbrev pub way_name : Rule Way
-way_name = either (mapped step iri_name) (mapped (λ w. step rdf_type) (word keyword.A))
+way_name = either (mapped step iri_name) (says (kind.Word keyword.A) (step rdf_type))
 
 abbrev pub path_part : Rule Way → Rule Way
 path_part inner = mapped turned (both (optional (sign symbol.Caret)) (either way_name (in_parens inner)))
 
 -- Sequence ::= Part ('/' Part)*                                                                    [90] PathSequence
 abbrev pub path_sequence : Rule Way → Rule Way
-path_sequence inner =
-    mapped sequence_row (both (path_part inner) (many (second_of (sign (symbol.Sign operator.Divide)) (path_part inner))))
+path_sequence inner = mapped (alone_or (λ ws. sequence (ways_in ws))) (separated (kind.Sign operator.Divide) (path_part inner))
 
 -- Path ::= Sequence ('|' Sequence)*                                                             [89] PathAlternative
 abbrev pub path_rule : Rule Way → Rule Way
-path_rule inner = mapped choice_row (both (path_sequence inner) (many (second_of (sign symbol.Bar) (path_sequence inner))))
+path_rule inner = mapped (alone_or (λ ws. choice (ways_in ws))) (separated (kind.Symbol symbol.Bar) (path_sequence inner))
 
 abbrev pub path : Rule Way
 path = within_itself path_rule
@@ -270,7 +284,7 @@ abbrev pub node_name : Rule Node
 node_name = either subject_name (mapped constant_node literal)
 
 abbrev pub no_properties : Rule Node
-no_properties = mapped (λ close. blank_node) (sign symbol.CloseBracket)
+no_properties = says (kind.Symbol symbol.CloseBracket) blank_node
 
 abbrev pub blank : Rule Node
 blank = second_of (sign symbol.OpenBracket) no_properties
@@ -295,7 +309,7 @@ object inner = either node (bracketed inner)
 
 abbrev pub objects : Rule Properties → Rule (List Node)
 objects inner =
-    mapped (λ (v : Node × List Node). v.0 ∷ v.1) (both (object inner) (many (second_of (sign symbol.Comma) (object inner))))
+    mapped (λ (v : Node × List Node). v.0 ∷ v.1) (separated (kind.Symbol symbol.Comma) (object inner))
 
 -- Properties ::= Verb Objects (';' (Verb Objects)?)*                                    [83] PropertyListPathNotEmpty
 abbrev pub property : Rule Properties → Rule (Verb × List Node)
@@ -312,7 +326,7 @@ properties = within_itself properties_rule
 abbrev pub same : Rule (Node × Properties)
 same =
     either (mapped (λ (v : Node × Properties). v) (both subject properties))
-    (mapped (λ (v : Node × Option Properties). (v.0, some_properties v.1)) (both (bracketed properties) (optional properties)))
+    (mapped (λ (v : Node × Option Properties). (v.0, unwrap_or v.1 no_property)) (both (bracketed properties) (optional properties)))
 
 -- Triples ::= Same ('.' Triples?)?                                                                  [55] TriplesBlock
 abbrev pub triples_rule : Rule (List (Node × Properties))
@@ -324,7 +338,7 @@ triples_rule = dotted (sign symbol.Dot) same
 abbrev pub value : Rule (Option Term)
 value =
     either (mapped (λ name. Some (term.Iri name)) iri_name)
-    (either (mapped Some literal) (mapped (λ w. None) (word keyword.Undef)))
+    (either (mapped Some literal) (says (kind.Word keyword.Undef) None))
 
 abbrev pub in_braces : {A : Type 0} → Rule A → Rule A
 in_braces p = second_of (sign symbol.OpenBrace) (first_of_both p (sign symbol.CloseBrace))
@@ -336,7 +350,7 @@ one_column =
 
 -- as many values, and then ')'
 unfoldable pub value_row : ℕ → Rule (List (Option Term))
-value_row zero = mapped (λ close. []) (sign symbol.CloseParen)
+value_row zero = says (kind.Symbol symbol.CloseParen) []
 value_row (suc n) = mapped (λ (v : Option Term × List (Option Term)). v.0 ∷ v.1) (both value (value_row n))
 
 abbrev pub name_if_variable : Said → Option (List ℕ)
@@ -372,7 +386,7 @@ minus_rule inner = mapped (λ g. minus_group (elements_in g)) (second_of (word k
 abbrev pub union_rule : Rule (List Element) → Rule Element
 union_rule inner =
     mapped (λ (v : List Element × List (List Element)). union_of (groups_in (v.0 ∷ v.1)))
-    (both (group_of inner) (many (second_of (word keyword.Union) (group_of inner))))
+    (separated (kind.Word keyword.Union) (group_of inner))
 
 abbrev pub graph_name : Rule Graph
 graph_name = either (mapped graph_variable variable_name) (mapped graph_iri iri_name)
@@ -403,9 +417,6 @@ as_variable e = in_parens (both e (second_of (word keyword.As) variable_name))
 abbrev pub bind_rule : Rule Element
 bind_rule = mapped (λ (v : Expr × List ℕ). bind v.0 v.1) (second_of (word keyword.Bind) (as_variable expression))
 
-abbrev pub values_rule : Rule Element
-values_rule = second_of (word keyword.Values) block
-
 -- Other ::= 'OPTIONAL' Group | 'MINUS' Group | Group ('UNION' Group)* | 'GRAPH' (Variable | Iri) Group
 --    | 'WINDOW' Iri Group | 'FILTER' ('(' Expr ')' | Call | 'NOT'? 'EXISTS' Group) | 'BIND' '(' Expr 'AS' Variable ')'
 --    | 'VALUES' Block                                                                       [56] GraphPatternNotTriples
@@ -413,7 +424,7 @@ values_rule = second_of (word keyword.Values) block
 abbrev pub other : Rule (List Element) → Rule Element
 other inner =
     either (optional_rule inner) (either (minus_rule inner) (either (union_rule inner) (either (graph_rule inner)
-    (either (window_rule inner) (either (filter_rule inner) (either bind_rule values_rule))))))
+    (either (window_rule inner) (either (filter_rule inner) (either bind_rule (second_of (word keyword.Values) block)))))))
 
 -- Select ::= 'SELECT' 'DISTINCT'? ('*' | (Variable | '(' AggExpr 'AS' Variable ')')+)                  [9] SelectClause
 abbrev pub item_of : Rule Expr → Rule Item
@@ -424,7 +435,7 @@ items_of e = mapped (λ (v : Item × List Item). v.0 ∷ v.1) (both (item_of e) 
 
 abbrev pub projection : Rule Projection
 projection =
-    either (mapped (λ star. every_name) (sign (symbol.Sign operator.Multiply))) (mapped these (items_of aggregate_expression))
+    either (says (kind.Sign operator.Multiply) every_name) (mapped these (items_of aggregate_expression))
 
 abbrev pub select_clause : Rule (Option Said × Projection)
 select_clause = second_of (word keyword.Select) (both (optional (word keyword.Distinct)) projection)
@@ -464,8 +475,12 @@ group = group_of (within_itself group_rule)
 
 -- ---- the query
 
-abbrev pub span_text : Rule (List ℕ)
-span_text = mapped text_of (one (kind.Span ∷ []))
+-- the milliseconds of a span of time; 0 where there are too many
+abbrev pub milliseconds : List ℕ → ℕ
+milliseconds text = unwrap_or (span text) 0
+
+abbrev pub duration : Rule ℕ
+duration = mapped (λ said. milliseconds said.text) (one (kind.Span ∷ []))
 
 -- Window ::= 'FROM' 'NAMED' 'WINDOW' Iri 'ON' Iri '[' 'RANGE' Span ('STEP' Span)? ('START' (Integer | String))? ']'
 --                                                                     (in place of [13] DatasetClause; of RSP-QL)
@@ -478,14 +493,14 @@ origin_of_kind _ text = None
 abbrev pub origin : Rule ℕ
 origin = token (λ said. origin_of_kind said.kind said.text)
 
-abbrev pub window_size : Rule (List ℕ × (Option (List ℕ) × Option ℕ))
+abbrev pub window_size : Rule (ℕ × (Option ℕ × Option ℕ))
 window_size =
     second_of (sign symbol.OpenBracket) (first_of_both
-    (second_of (word keyword.Range) (both span_text
-    (both (optional (second_of (word keyword.Step) span_text)) (optional (second_of (word keyword.Start) origin)))))
+    (second_of (word keyword.Range) (both duration
+    (both (optional (second_of (word keyword.Step) duration)) (optional (second_of (word keyword.Start) origin)))))
     (sign symbol.CloseBracket))
 
-abbrev pub window_of : Said × (List ℕ × (List ℕ × (List ℕ × (Option (List ℕ) × Option ℕ)))) → Window
+abbrev pub window_of : Said × (List ℕ × (List ℕ × (ℕ × (Option ℕ × Option ℕ)))) → Window
 window_of v = record { at = v.0.at; name = v.1.0; stream = v.1.1.0; range = v.1.1.1.0; slide = v.1.1.1.1.0; origin = v.1.1.1.1.1 }
 
 abbrev pub window : Rule Window
@@ -494,38 +509,38 @@ window =
     (both iri_name (second_of (word keyword.On) (both iri_name window_size))))))
 
 -- Strategy ::= 'CLOSE' | 'CHANGE' | 'NONEMPTY' | 'EVERY' Span                                       (of this profile)
-abbrev pub plain_strategies : List Kind
-plain_strategies = map kind.Word (keyword.Close ∷ keyword.Change ∷ keyword.NonEmpty ∷ [])
-
 abbrev pub strategy : Rule Strategy
 strategy =
-    either (mapped (λ said. record { kind = said.kind; period = None }) (one plain_strategies))
-    (mapped (λ text. record { kind = kind.Word keyword.Every; period = Some text }) (second_of (word keyword.Every) span_text))
+    either (says (kind.Word keyword.Close) when.Close) (either (says (kind.Word keyword.Change) when.Change)
+    (either (says (kind.Word keyword.NonEmpty) when.NonEmpty) (mapped when.Every (second_of (word keyword.Every) duration))))
 
 -- Policy ::= 'UNDER' ('CSPARQL' | 'CQELS') | 'REPORT' Strategy ('AND' Strategy)* 'TICK' ('TIME' | 'TUPLE')
-abbrev pub profiles : List Kind
-profiles = map kind.Word (keyword.Csparql ∷ keyword.Cqels ∷ [])
+abbrev pub profile : Rule PolicyWords
+profile = either (says (kind.Word keyword.Csparql) policies.Csparql) (says (kind.Word keyword.Cqels) policies.Cqels)
 
-abbrev pub ticks : List Kind
-ticks = map kind.Word (keyword.Time ∷ keyword.Tuple ∷ [])
+-- whether it is TUPLE
+abbrev pub tick : Rule Bool
+tick = either (says (kind.Word keyword.Time) false) (says (kind.Word keyword.Tuple) true)
 
-abbrev pub reported : Rule Policy
+abbrev pub reported : Rule PolicyWords
 reported =
-    mapped (λ (v : (Strategy × List Strategy) × Said). reporting (v.0.0 ∷ v.0.1) v.1.kind)
-    (second_of (word keyword.Report)
-    (both (both strategy (many (second_of (word keyword.And) strategy))) (second_of (word keyword.Tick) (one ticks))))
+    mapped (λ (v : (Strategy × List Strategy) × Bool). policies.Listed (v.0.0 ∷ v.0.1) v.1)
+    (second_of (word keyword.Report) (both (separated (kind.Word keyword.And) strategy) (second_of (word keyword.Tick) tick)))
 
-abbrev pub policy : Rule Policy
-policy = either (mapped (λ said. profile said.kind) (second_of (word keyword.Under) (one profiles))) reported
+abbrev pub policy : Rule PolicyWords
+policy = either (second_of (word keyword.Under) profile) reported
 
 -- Operator ::= 'RSTREAM' | 'ISTREAM' | 'DSTREAM'
-abbrev pub operators : List Kind
-operators = map kind.Word (keyword.Rstream ∷ keyword.Istream ∷ keyword.Dstream ∷ [])
+abbrev pub stream_operator : Rule Operator
+stream_operator =
+    either (says (kind.Word keyword.Rstream) stream.Rstream)
+    (either (says (kind.Word keyword.Istream) stream.Istream) (says (kind.Word keyword.Dstream) stream.Dstream))
 
 -- Query ::= Prefix* 'REGISTER' Operator Iri Policy? 'AS' Select Window+ 'WHERE'? Group Tail           [7] SelectQuery
-abbrev pub registered : Rule (Said × (List ℕ × Option Policy))
+abbrev pub registered : Rule (Operator × (List ℕ × Option PolicyWords))
 registered =
-    second_of (word keyword.Register) (both (one operators) (both iri_name (first_of_both (optional policy) (word keyword.As))))
+    second_of (word keyword.Register)
+    (both stream_operator (both iri_name (first_of_both (optional policy) (word keyword.As))))
 
 abbrev pub windows : Rule (List Window)
 windows = mapped (λ (v : Window × List Window). v.0 ∷ v.1) (both window (many window))
@@ -537,7 +552,7 @@ query_body =
 
 -- Prefix ::= 'PREFIX' Prefixed-with-empty-local Iri-token                                               [6] PrefixDecl
 abbrev pub prefix_of_kind : Kind → Said → Option (List ℕ)
-prefix_of_kind kind.Prefixed said = cond (is_nil said.local) (Some said.text) None
+prefix_of_kind kind.Prefixed said = cond (bytes_eq said.local []) (Some said.text) None
 prefix_of_kind _ said = None
 
 abbrev pub prefix : Rule (List ℕ × List ℕ)
@@ -547,7 +562,7 @@ prefix =
 -- what a token says under these prefixes, of which a later one counts: a prefixed name is an IRI, or can stand nowhere
 abbrev pub declared_iri : List (List ℕ × List ℕ) → List ℕ → Option (List ℕ)
 declared_iri [] name = None
-declared_iri (p ∷ more) name = later (declared_iri more name) (cond (bytes_eq p.0 name) (Some p.1) None)
+declared_iri (p ∷ more) name = option_or (declared_iri more name) (cond (bytes_eq p.0 name) (Some p.1) None)
 
 abbrev pub resolved_as : Said → Option (List ℕ) → Said
 resolved_as said None = record { kind = kind.Nowhere; text = said.text; local = said.local; at = said.at }

@@ -14,15 +14,12 @@ use Rattle.rsp_written.specs.declared.group.Select.{Select}
 use Rattle.rsp_written.specs.declared.group.Element.TheOpen.{Element-F, Select-F}
 use Rattle.rsp_written.specs.declared.group.Element.TheOpen as layer
 use Rattle.rsp_written.specs.declared.group.Element.TheFolds.{fold-Element, fold-Select}
-use Rattle.rsp_written.specs.declared.registration.Strategy.{Strategy}
-use Rattle.rsp_written.specs.declared.registration.Policy.{Policy}
-use Rattle.rsp_written.specs.declared.registration.Policy.TheVariants as policy
 use Rattle.rsp_written.specs.declared.registration.Window.{Window}
 use Rattle.rsp_written.specs.declared.registration.Registration.{Registration}
 use Rattle.rsp_written.specs.Trees as trees
 use Rattle.rsp_written.specs.Trees.{Expr, shown, computed, every_name, these, graph_variable, graph_iri, optional_group}
 use Rattle.rsp_written.specs.Trees.{minus_group, union_of, graph_group, window_group, filter, exists, bind, values, Selected}
-use Rattle.rsp_written.specs.Trees.{selected, sub_select, no_policy, profile, reporting, Written}
+use Rattle.rsp_written.specs.Trees.{selected, sub_select, Written}
 use Rattle.rsp_written.specs.Building.{elements_in, groups_in, triples_of}
 use Rattle.rsp_written.specs.Meanings.{expr_of, subject_of}
 
@@ -73,17 +70,6 @@ select_of = fold-Select trees.Element Selected element_step select_step
 
 -- ---- registrations
 
-abbrev pub strategy_of : Strategy → trees.Strategy
-strategy_of strategy = record { kind = strategy.kind; period = strategy.period }
-
-abbrev pub policy_of : Policy → trees.Policy
-policy_of (policy.Profile kind) = profile kind
-policy_of (policy.Reporting strategies tick) = reporting (map strategy_of strategies.items) tick
-
-abbrev pub maybe_policy : Option Policy → trees.Policy
-maybe_policy None = no_policy
-maybe_policy (Some policy) = policy_of policy
-
 abbrev pub window_of : Window → trees.Window
 window_of window = record {
   at = window.at;
@@ -98,7 +84,7 @@ abbrev pub written_of : Registration → Written
 written_of text = record {
   operator = text.operator;
   output = text.output;
-  policy = maybe_policy text.policy;
+  policy = text.policy;
   windows = map window_of text.windows.items;
   select = select_of text.select;
 }

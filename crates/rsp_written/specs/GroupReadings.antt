@@ -1,7 +1,13 @@
 -- Words of the way: readings of groups, selects and the query.
 use Rattle.rsp_functions.specs.declared.function.Sign.TheVariants as operator
-use Rattle.std.specs.Prelude.{ℕ, List, [], ◌∷◌, ◌++◌, Option, None, Some, is_some}
+use Rattle.std.specs.Prelude.{ℕ, Bool, true, false, List, [], ◌∷◌, ◌++◌, Option, is_some}
 use Rattle.std.specs.List.{flat_map}
+use Rattle.rsp_report.specs.declared.operator.Operator.{Operator}
+use Rattle.rsp_report.specs.declared.operator.Operator.TheVariants as stream
+use Rattle.rsp_report.specs.declared.words.Strategy.{Strategy}
+use Rattle.rsp_report.specs.declared.words.Strategy.TheVariants as when
+use Rattle.rsp_report.specs.declared.words.PolicyWords.{PolicyWords}
+use Rattle.rsp_report.specs.declared.words.PolicyWords.TheVariants as policies
 use Rattle.rsp_phrases.specs.Readers.{Reader, token_read, mapped_read, tied_read, both_read, second_read, first_read}
 use Rattle.rsp_phrases.specs.Readers.{within_itself_read, seen_read}
 use Rattle.rsp_written.specs.declared.said.Keyword.TheVariants as keyword
@@ -11,13 +17,12 @@ use Rattle.rsp_written.specs.declared.said.Kind.TheVariants as kind
 use Rattle.rsp_written.specs.declared.said.Said.{Said}
 use Rattle.rsp_written.specs.Trees.{Expr, Node, Properties, Item, shown, computed, Projection, every_name, these, Graph}
 use Rattle.rsp_written.specs.Trees.{graph_variable, graph_iri, Element, optional_group, minus_group, union_of, graph_group}
-use Rattle.rsp_written.specs.Trees.{window_group, filter, exists, bind, Strategy, Policy, profile, reporting, Window, Written}
+use Rattle.rsp_written.specs.Trees.{window_group, filter, exists, bind, Window, Written}
 use Rattle.rsp_written.specs.Building.{elements_in, groups_in, run, sub_select_of, written_of}
-use Rattle.rsp_written.specs.Grammar.{text_of, window_of, origin_of_kind, plain_strategies, profiles, ticks, operators}
-use Rattle.rsp_written.specs.Grammar.{prefix_of_kind, resolved}
-use Rattle.rsp_written.specs.Readings.{one_read, word_read, sign_read, choice_read, maybe_read, repeated_read, word_kinds}
-use Rattle.rsp_written.specs.Readings.{sign_kinds, in_parens_read, iri_read, variable_read, call_first, call_read}
-use Rattle.rsp_written.specs.Readings.{expression_read, aggregate_expression_read}
+use Rattle.rsp_written.specs.Grammar.{milliseconds, window_of, origin_of_kind, prefix_of_kind, resolved}
+use Rattle.rsp_written.specs.Readings.{one_read, word_read, sign_read, choice_read, maybe_read, repeated_read, says_read}
+use Rattle.rsp_written.specs.Readings.{separated_read, word_kinds, sign_kinds, in_parens_read, iri_read, variable_read}
+use Rattle.rsp_written.specs.Readings.{call_first, call_read, expression_read, aggregate_expression_read}
 use Rattle.rsp_written.specs.TripleReadings.{same_first, triples_read, block_read}
 
 abbrev pub group_of_read : Reader Said (List Element) → Reader Said (List Element)
@@ -33,8 +38,7 @@ minus_rule_read s = mapped_read (λ g. minus_group (elements_in g)) (second_read
 unfoldable pub union_rule_read : Reader Said (List Element) → Reader Said Element
 union_rule_read s =
     mapped_read (λ (v : List Element × List (List Element)). union_of (groups_in (v.0 ∷ v.1)))
-    (both_read (group_of_read s)
-    (repeated_read (word_kinds keyword.Union) (second_read (word_read keyword.Union) (group_of_read s))))
+    (separated_read (kind.Word keyword.Union) (group_of_read s))
 
 unfoldable pub graph_name_read : Reader Said Graph
 graph_name_read = choice_read (kind.Variable ∷ []) (mapped_read graph_variable variable_read) (mapped_read graph_iri iri_read)
@@ -98,8 +102,7 @@ items_of_read r =
 
 unfoldable pub projection_read : Reader Said Projection
 projection_read =
-    choice_read (sign_kinds (symbol.Sign operator.Multiply))
-    (mapped_read (λ star. every_name) (sign_read (symbol.Sign operator.Multiply)))
+    choice_read (kind.Sign operator.Multiply ∷ []) (says_read (kind.Sign operator.Multiply) every_name)
     (mapped_read these (items_of_read aggregate_expression_read))
 
 unfoldable pub select_clause_read : Reader Said (Option Said × Projection)
@@ -143,13 +146,13 @@ group_read = group_of_read (within_itself_read group_rule_read)
 
 -- ---- the query
 
-unfoldable pub span_read : Reader Said (List ℕ)
-span_read = mapped_read text_of (one_read (kind.Span ∷ []))
+unfoldable pub span_read : Reader Said ℕ
+span_read = mapped_read (λ said. milliseconds said.text) (one_read (kind.Span ∷ []))
 
 unfoldable pub origin_read : Reader Said ℕ
 origin_read = token_read (λ said. origin_of_kind said.kind said.text)
 
-unfoldable pub window_size_read : Reader Said (List ℕ × (Option (List ℕ) × Option ℕ))
+unfoldable pub window_size_read : Reader Said (ℕ × (Option ℕ × Option ℕ))
 window_size_read =
     second_read (sign_read symbol.OpenBracket) (first_read
     (second_read (word_read keyword.Range) (both_read span_read
@@ -163,38 +166,44 @@ window_read =
     (second_read (word_read keyword.Window)
     (both_read iri_read (second_read (word_read keyword.On) (both_read iri_read window_size_read))))))
 
-abbrev pub strategy_of : Said → Strategy
-strategy_of said = record { kind = said.kind; period = None }
-
-abbrev pub every_strategy : List ℕ → Strategy
-every_strategy text = record { kind = kind.Word keyword.Every; period = Some text }
-
 unfoldable pub strategy_read : Reader Said Strategy
 strategy_read =
-    choice_read plain_strategies (mapped_read strategy_of (one_read plain_strategies))
-    (mapped_read every_strategy (second_read (word_read keyword.Every) span_read))
+    choice_read (word_kinds keyword.Close) (says_read (kind.Word keyword.Close) when.Close)
+    (choice_read (word_kinds keyword.Change) (says_read (kind.Word keyword.Change) when.Change)
+    (choice_read (word_kinds keyword.NonEmpty) (says_read (kind.Word keyword.NonEmpty) when.NonEmpty)
+    (mapped_read when.Every (second_read (word_read keyword.Every) span_read))))
 
-unfoldable pub reported_read : Reader Said Policy
+unfoldable pub profile_read : Reader Said PolicyWords
+profile_read =
+    choice_read (word_kinds keyword.Csparql) (says_read (kind.Word keyword.Csparql) policies.Csparql)
+    (says_read (kind.Word keyword.Cqels) policies.Cqels)
+
+unfoldable pub tick_read : Reader Said Bool
+tick_read =
+    choice_read (word_kinds keyword.Time) (says_read (kind.Word keyword.Time) false) (says_read (kind.Word keyword.Tuple) true)
+
+unfoldable pub reported_read : Reader Said PolicyWords
 reported_read =
-    mapped_read (λ (v : (Strategy × List Strategy) × Said). reporting (v.0.0 ∷ v.0.1) v.1.kind)
+    mapped_read (λ (v : (Strategy × List Strategy) × Bool). policies.Listed (v.0.0 ∷ v.0.1) v.1)
     (second_read (word_read keyword.Report)
-    (both_read (both_read strategy_read
-    (repeated_read (word_kinds keyword.And) (second_read (word_read keyword.And) strategy_read)))
-    (second_read (word_read keyword.Tick) (one_read ticks))))
+    (both_read (separated_read (kind.Word keyword.And) strategy_read) (second_read (word_read keyword.Tick) tick_read)))
 
-unfoldable pub policy_read : Reader Said Policy
-policy_read =
-    choice_read (word_kinds keyword.Under)
-    (mapped_read (λ said. profile said.kind) (second_read (word_read keyword.Under) (one_read profiles)))
-    reported_read
+unfoldable pub policy_read : Reader Said PolicyWords
+policy_read = choice_read (word_kinds keyword.Under) (second_read (word_read keyword.Under) profile_read) reported_read
 
 abbrev pub policy_first : List Kind
 policy_first = word_kinds keyword.Under ++ word_kinds keyword.Report
 
-unfoldable pub registered_read : Reader Said (Said × (List ℕ × Option Policy))
+unfoldable pub stream_operator_read : Reader Said Operator
+stream_operator_read =
+    choice_read (word_kinds keyword.Rstream) (says_read (kind.Word keyword.Rstream) stream.Rstream)
+    (choice_read (word_kinds keyword.Istream) (says_read (kind.Word keyword.Istream) stream.Istream)
+    (says_read (kind.Word keyword.Dstream) stream.Dstream))
+
+unfoldable pub registered_read : Reader Said (Operator × (List ℕ × Option PolicyWords))
 registered_read =
     second_read (word_read keyword.Register)
-    (both_read (one_read operators)
+    (both_read stream_operator_read
     (both_read iri_read (first_read (maybe_read policy_first policy_read) (word_read keyword.As))))
 
 unfoldable pub windows_read : Reader Said (List Window)

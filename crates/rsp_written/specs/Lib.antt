@@ -1,5 +1,4 @@
 -- Definitions
-pub mod Arities
 pub mod Trees
 pub mod Building
 pub mod Grammar

@@ -1,6 +1,6 @@
 -- Words of the way: what the code's trees say, between the calls that read them and those that number them.
 use Rattle.std.specs.Prelude.{List, map}
-use Rattle.rsp_written.specs.declared.said.Kind.{Kind}
+use Rattle.rsp_functions.specs.declared.function.Sign.{Sign}
 use Rattle.rsp_written.specs.declared.expression.Expression.{Expression}
 use Rattle.rsp_written.specs.declared.expression.Operand.{Operand}
 use Rattle.rsp_written.specs.declared.expression.Expression.TheOpen.{Expression-F, Operand-F}
@@ -25,7 +25,7 @@ use Rattle.rsp_written.specs.Trees.{variable_node, iri_node, constant_node, labe
 use Rattle.rsp_written.specs.Building.{exprs_in, operands_in, ways_in, properties_in}
 
 -- a node of the code's tree whose parts are trees already
-abbrev pub expr_step : Expression-F Expr (Kind × Expr) → Expr
+abbrev pub expr_step : Expression-F Expr (Sign × Expr) → Expr
 expr_step (layer.Variable name) = variable name
 expr_step (layer.Iri name) = iri name
 expr_step (layer.Constant term) = constant term
@@ -35,21 +35,21 @@ expr_step (layer.Compared sign left right) = compared sign left.value right.valu
 expr_step (layer.Member negated item list) = member negated item.value (exprs_in list.items)
 expr_step (layer.Sum first rest) = sum first.value (operands_in rest.items)
 expr_step (layer.Product first rest) = product first.value (operands_in rest.items)
-expr_step (layer.Signed sign part) = signed sign part.value
+expr_step (layer.Signed operator part) = signed operator part.value
 expr_step (layer.Bound name) = bound name
 expr_step (layer.Call function arguments) = call function (exprs_in arguments.items)
 expr_step layer.CountRows = count_rows
 expr_step (layer.Aggregate kind distinct argument) = aggregate kind distinct argument.value
 
-abbrev pub operand_step : Operand-F Expr (Kind × Expr) → Kind × Expr
+abbrev pub operand_step : Operand-F Expr (Sign × Expr) → Sign × Expr
 operand_step operand = (operand.sign, operand.part)
 
 -- the tree that an expression of the code is
 abbrev pub expr_of : Expression → Expr
-expr_of = fold-Expression Expr (Kind × Expr) expr_step operand_step
+expr_of = fold-Expression Expr (Sign × Expr) expr_step operand_step
 
-abbrev pub operand_of : Operand → Kind × Expr
-operand_of = fold-Operand Expr (Kind × Expr) expr_step operand_step
+abbrev pub operand_of : Operand → Sign × Expr
+operand_of = fold-Operand Expr (Sign × Expr) expr_step operand_step
 
 -- ---- paths
 

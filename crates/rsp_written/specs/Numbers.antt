@@ -110,8 +110,6 @@ place_of_keyword keyword.False = 42
 place_of_keyword keyword.In = 43
 place_of_keyword keyword.A = 44
 place_of_keyword keyword.Bound = 45
-place_of_keyword (keyword.Call f) = 46 + place_of_function f
-place_of_keyword (keyword.Fold k) = 74 + place_of_fold k
 
 abbrev pub place_of_symbol : Symbol → ℕ
 place_of_symbol symbol.OpenBrace = 0
@@ -130,7 +128,6 @@ place_of_symbol symbol.Not = 12
 place_of_symbol symbol.Caret = 13
 place_of_symbol symbol.Carets = 14
 place_of_symbol symbol.Question = 15
-place_of_symbol (symbol.Sign s) = 16 + place_of_sign s
 
 abbrev pub number_of : Kind → ℕ
 number_of kind.Iri = 0
@@ -145,4 +142,7 @@ number_of kind.Integer = 8
 number_of kind.String = 9
 number_of kind.Nowhere = 10
 number_of (kind.Word w) = 20 + place_of_keyword w
-number_of (kind.Symbol s) = 120 + place_of_symbol s
+number_of (kind.Call f) = 66 + place_of_function f
+number_of (kind.Fold k) = 94 + place_of_fold k
+number_of (kind.Symbol s) = 100 + place_of_symbol s
+number_of (kind.Sign s) = 120 + place_of_sign s

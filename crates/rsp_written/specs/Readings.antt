@@ -1,12 +1,20 @@
 -- Words of the way: for each rule the function on rows of tokens that reads it. The readers' code is proved against these.
-use Rattle.rsp_functions.specs.declared.aggregate.Kind.TheVariants as fold
+use Rattle.std.specs.Prelude.{ℕ, List, [], ◌∷◌, ◌++◌, find, map, Option, is_some, codes, true, false, Bool}
+use Rattle.rsp_functions.specs.Functions.{functions, row_of}
+use Rattle.rsp_functions.specs.declared.function.Arity.{Arity}
+use Rattle.rsp_functions.specs.declared.function.Arity.TheVariants as arity
+use Rattle.rsp_functions.specs.declared.function.Sign.{Sign}
 use Rattle.rsp_functions.specs.declared.function.Sign.TheVariants as operator
-use Rattle.std.specs.Prelude.{ℕ, List, [], ◌∷◌, ◌++◌, Option, is_some, codes, true, false, Bool}
+use Rattle.rsp_functions.specs.declared.aggregate.Kind as aggregates
+use Rattle.rsp_functions.specs.declared.aggregate.Kind.TheVariants as fold
 use Rattle.rsp_terms.specs.declared.term.Term.{Term}
+use Rattle.rsp_terms.specs.declared.term.Term.TheVariants as term
 use Rattle.rsp_phrases.specs.Languages.{listed}
-use Rattle.rsp_phrases.specs.Readers.{Reader, among_read, mapped_read, tied_read, both_read, second_read, first_read}
-use Rattle.rsp_phrases.specs.Readers.{either_read, optional_read, many_read, within_itself_read, never_read, closed_read}
-use Rattle.rsp_phrases.specs.Readers.{nested_read}
+use Rattle.rsp_phrases.specs.Readers.{Reader, among_read, token_read, mapped_read, tied_read, both_read, second_read}
+use Rattle.rsp_phrases.specs.Readers.{first_read, either_read, optional_read, many_read, within_itself_read, never_read}
+use Rattle.rsp_phrases.specs.Readers.{closed_read, nested_read}
+use Rattle.rsp_written.specs.declared.expression.UnaryOperator.{UnaryOperator}
+use Rattle.rsp_written.specs.declared.expression.UnaryOperator.TheVariants as before
 use Rattle.rsp_written.specs.declared.said.Keyword.{Keyword}
 use Rattle.rsp_written.specs.declared.said.Keyword.TheVariants as keyword
 use Rattle.rsp_written.specs.declared.said.Symbol.{Symbol}
@@ -14,17 +22,13 @@ use Rattle.rsp_written.specs.declared.said.Symbol.TheVariants as symbol
 use Rattle.rsp_written.specs.declared.said.Kind.{Kind}
 use Rattle.rsp_written.specs.declared.said.Kind.TheVariants as kind
 use Rattle.rsp_written.specs.declared.said.Said.{Said}
-use Rattle.rsp_functions.specs.declared.function.Arity.{Arity}
-use Rattle.rsp_functions.specs.declared.function.Arity.TheVariants as arity
-use Rattle.rsp_written.specs.Arities.{arity_of}
-use Rattle.rsp_written.specs.Trees.{Expr, variable, iri, constant, bound, count_rows}
-use Rattle.rsp_written.specs.Building.{string_term, number_term, signed_term, boolean_term, signed_part, any_row, all_row}
-use Rattle.rsp_written.specs.Building.{sum_row, product_row, Relation, compared_to, one_of, related, with_sign, call_of}
+use Rattle.rsp_written.specs.Trees.{Expr, Operands, variable, iri, constant, any_of, all_of, sum, product, bound, count_rows}
+use Rattle.rsp_written.specs.Building.{string_term, number_type, number_term, signed_term, boolean_term, alone_or, exprs_in}
+use Rattle.rsp_written.specs.Building.{with_operands, Relation, compared_to, one_of, related, with_sign, call_of}
 use Rattle.rsp_written.specs.Building.{aggregate_of, flagged}
 use Rattle.rsp_written.specs.declared.literals.Suffix.{Suffix}
 use Rattle.rsp_written.specs.declared.literals.Suffix.TheVariants.{InLanguage, OfDatatype}
-use Rattle.rsp_written.specs.Grammar.{kind_number, numbers, text_of, number_kinds, maybe_third, call_names, unary_signs}
-use Rattle.rsp_written.specs.Grammar.{product_signs, sum_signs, comparisons, and_signs, or_signs, folds}
+use Rattle.rsp_written.specs.Grammar.{kind_number, numbers, has_number, text_of, number_kinds, maybe_third, comparisons, folds}
 
 abbrev pub one_read : List Kind → Reader Said Said
 one_read kinds = among_read kind_number (numbers kinds)
@@ -35,6 +39,13 @@ word_read w = one_read (kind.Word w ∷ [])
 abbrev pub sign_read : Symbol → Reader Said Said
 sign_read s = one_read (kind.Symbol s ∷ [])
 
+-- the first of these that the next token means
+abbrev pub meaning_read : {A : Type 0} → (A → Kind) → List A → Reader Said A
+meaning_read spelling values = token_read (λ said. find (has_number spelling (kind_number said)) values)
+
+abbrev pub says_read : {A : Type 0} → Kind → A → Reader Said A
+says_read k value = mapped_read (λ said. value) (one_read (k ∷ []))
+
 -- the first where the next token is of one of these kinds
 abbrev pub choice_read : {A : Type 0} → List Kind → Reader Said A → Reader Said A → Reader Said A
 choice_read kinds r s = either_read kind_number (numbers kinds) r s
@@ -44,6 +55,13 @@ maybe_read kinds r = optional_read kind_number (numbers kinds) r
 
 abbrev pub repeated_read : {A : Type 0} → List Kind → Reader Said A → Reader Said (List A)
 repeated_read kinds r = many_read kind_number (numbers kinds) r
+
+-- the part behind a token that stands between parts
+abbrev pub behind_read : {A : Type 0} → Kind → Reader Said A → Reader Said A
+behind_read k r = second_read (one_read (k ∷ [])) r
+
+abbrev pub separated_read : {A : Type 0} → Kind → Reader Said A → Reader Said (A × List A)
+separated_read k r = both_read r (repeated_read (k ∷ []) (behind_read k r))
 
 abbrev pub word_kinds : Keyword → List Kind
 word_kinds w = kind.Word w ∷ []
@@ -73,11 +91,15 @@ string_literal_read = mapped_read string_term (both_read (one_read (kind.String 
 
 unfoldable pub boolean_read : Reader Said Term
 boolean_read =
-    choice_read (word_kinds keyword.True) (mapped_read (λ w. boolean_term (codes "true")) (word_read keyword.True))
-    (mapped_read (λ w. boolean_term (codes "false")) (word_read keyword.False))
+    choice_read (word_kinds keyword.True) (says_read (kind.Word keyword.True) (boolean_term (codes "true")))
+    (says_read (kind.Word keyword.False) (boolean_term (codes "false")))
+
+-- a number with a `-` in its lexical form
+abbrev pub negative_term : Said → Term
+negative_term said = term.Literal (45 ∷ said.text) (number_type said.kind)
 
 abbrev pub signed_first : List Kind
-signed_first = kind.Symbol (symbol.Sign operator.Subtract) ∷ number_kinds
+signed_first = kind.Sign operator.Subtract ∷ number_kinds
 
 abbrev pub unsigned_number_read : Reader Said Term
 unsigned_number_read = mapped_read number_term (one_read number_kinds)
@@ -85,7 +107,7 @@ unsigned_number_read = mapped_read number_term (one_read number_kinds)
 unfoldable pub signed_number_read : Reader Said Term
 signed_number_read =
     mapped_read signed_term
-    (both_read (maybe_read (sign_kinds (symbol.Sign operator.Subtract)) (sign_read (symbol.Sign operator.Subtract)))
+    (both_read (maybe_read (kind.Sign operator.Subtract ∷ []) (one_read (kind.Sign operator.Subtract ∷ [])))
     (one_read number_kinds))
 
 unfoldable pub literal_read : Reader Said Term
@@ -102,7 +124,7 @@ another_read s = second_read (sign_read symbol.Comma) s
 
 -- an expression and those behind commas
 unfoldable pub items_read : Reader Said Expr → Reader Said (Expr × List Expr)
-items_read s = both_read s (repeated_read (sign_kinds symbol.Comma) (another_read s))
+items_read s = separated_read (kind.Symbol symbol.Comma) s
 
 unfoldable pub expressions_read : Reader Said Expr → Reader Said (List Expr)
 expressions_read s =
@@ -125,7 +147,10 @@ arguments_read arity.TwoOrThree s =
 arguments_read arity.Any s = expressions_read s
 
 unfoldable pub function_read : Reader Said Expr → Reader Said Expr
-function_read s = mapped_read call_of (tied_read (one_read call_names) (λ name. arguments_read (arity_of name.kind) s))
+function_read s = mapped_read call_of (tied_read (meaning_read kind.Call functions) (λ f. arguments_read (row_of f).1 s))
+
+abbrev pub call_names : List Kind
+call_names = map kind.Call functions
 
 abbrev pub call_first : List Kind
 call_first = word_kinds keyword.Bound ++ call_names
@@ -143,24 +168,44 @@ simple_read s =
 unfoldable pub primary_read : List ℕ → Reader Said Expr → Reader Said Expr → Reader Said Expr
 primary_read ks x s = either_read kind_number ks x (simple_read s)
 
+abbrev pub minus_kind : Kind
+minus_kind = kind.Sign operator.Subtract
+
+abbrev pub plus_kind : Kind
+plus_kind = kind.Sign operator.Add
+
+abbrev pub unary_signs : List Kind
+unary_signs = kind.Symbol symbol.Not ∷ minus_kind ∷ plus_kind ∷ []
+
+unfoldable pub unary_operator_read : Reader Said UnaryOperator
+unary_operator_read =
+    choice_read (kind.Symbol symbol.Not ∷ []) (says_read (kind.Symbol symbol.Not) before.Not)
+    (choice_read (minus_kind ∷ []) (says_read minus_kind before.Minus) (says_read plus_kind before.Plus))
+
 unfoldable pub unary_read : List ℕ → Reader Said Expr → Reader Said Expr → Reader Said Expr
-unary_read ks x s = mapped_read with_sign (both_read (maybe_read unary_signs (one_read unary_signs)) (primary_read ks x s))
+unary_read ks x s = mapped_read with_sign (both_read (maybe_read unary_signs unary_operator_read) (primary_read ks x s))
 
-abbrev pub operands_read : List Kind → Reader Said Expr → Reader Said (List (Kind × Expr))
-operands_read signs r = repeated_read signs (mapped_read signed_part (both_read (one_read signs) r))
+abbrev pub operands_read : List Sign → Reader Said Expr → Reader Said (List (Sign × Expr))
+operands_read signs r = repeated_read (map kind.Sign signs) (both_read (meaning_read kind.Sign signs) r)
 
-abbrev pub row_read : List Kind → (Expr × List (Kind × Expr) → Expr) → Reader Said Expr → Reader Said Expr
-row_read signs make r = mapped_read make (both_read r (operands_read signs r))
+abbrev pub row_read : List Sign → (Expr → Operands → Expr) → Reader Said Expr → Reader Said Expr
+row_read signs make r = mapped_read (with_operands make) (both_read r (operands_read signs r))
+
+abbrev pub product_signs : List Sign
+product_signs = operator.Multiply ∷ operator.Divide ∷ []
 
 unfoldable pub product_read : List ℕ → Reader Said Expr → Reader Said Expr → Reader Said Expr
-product_read ks x s = row_read product_signs product_row (unary_read ks x s)
+product_read ks x s = row_read product_signs product (unary_read ks x s)
+
+abbrev pub sum_signs : List Sign
+sum_signs = operator.Add ∷ operator.Subtract ∷ []
 
 unfoldable pub sum_read : List ℕ → Reader Said Expr → Reader Said Expr → Reader Said Expr
-sum_read ks x s = row_read sum_signs sum_row (product_read ks x s)
+sum_read ks x s = row_read sum_signs sum (product_read ks x s)
 
 unfoldable pub comparison_read : List ℕ → Reader Said Expr → Reader Said Expr → Reader Said Relation
 comparison_read ks x s =
-    mapped_read (λ (v : Said × Expr). compared_to v.0.kind v.1) (both_read (one_read comparisons) (sum_read ks x s))
+    mapped_read (λ (v : Sign × Expr). compared_to v.0 v.1) (both_read (meaning_read kind.Sign comparisons) (sum_read ks x s))
 
 unfoldable pub membership_read : Reader Said Expr → Reader Said Relation
 membership_read s =
@@ -168,19 +213,28 @@ membership_read s =
     (both_read (maybe_read (word_kinds keyword.Not) (word_read keyword.Not))
     (second_read (word_read keyword.In) (expressions_read s)))
 
+abbrev pub comparison_first : List Kind
+comparison_first = map kind.Sign comparisons
+
 abbrev pub relation_first : List Kind
-relation_first = comparisons ++ (word_kinds keyword.Not ++ word_kinds keyword.In)
+relation_first = comparison_first ++ (word_kinds keyword.Not ++ word_kinds keyword.In)
 
 unfoldable pub relation_read : List ℕ → Reader Said Expr → Reader Said Expr → Reader Said Expr
 relation_read ks x s =
     mapped_read related (both_read (sum_read ks x s)
-    (maybe_read relation_first (choice_read comparisons (comparison_read ks x s) (membership_read s))))
+    (maybe_read relation_first (choice_read comparison_first (comparison_read ks x s) (membership_read s))))
+
+abbrev pub all_row : Expr × List Expr → Expr
+all_row = alone_or (λ es. all_of (exprs_in es))
 
 unfoldable pub and_read : List ℕ → Reader Said Expr → Reader Said Expr → Reader Said Expr
-and_read ks x s = row_read and_signs all_row (relation_read ks x s)
+and_read ks x s = mapped_read all_row (separated_read (kind.Symbol symbol.And) (relation_read ks x s))
+
+abbrev pub any_row : Expr × List Expr → Expr
+any_row = alone_or (λ es. any_of (exprs_in es))
 
 unfoldable pub or_read : List ℕ → Reader Said Expr → Reader Said Expr → Reader Said Expr
-or_read ks x s = row_read or_signs any_row (and_read ks x s)
+or_read ks x s = mapped_read any_row (separated_read (kind.Symbol symbol.Or) (and_read ks x s))
 
 unfoldable pub expression_read : Reader Said Expr
 expression_read = within_itself_read (or_read [] never_read)
@@ -191,19 +245,18 @@ maybe_distinct_read =
 
 unfoldable pub count_read : Reader Said Expr
 count_read =
-    second_read (word_read (keyword.Fold fold.Count)) (in_parens_read
-    (choice_read (sign_kinds (symbol.Sign operator.Multiply))
-    (mapped_read (λ star. count_rows) (sign_read (symbol.Sign operator.Multiply)))
-    (mapped_read (aggregate_of (kind.Word (keyword.Fold fold.Count))) maybe_distinct_read)))
+    second_read (one_read (kind.Fold fold.Count ∷ [])) (in_parens_read
+    (choice_read (kind.Sign operator.Multiply ∷ []) (says_read (kind.Sign operator.Multiply) count_rows)
+    (mapped_read (aggregate_of fold.Count) maybe_distinct_read)))
 
 abbrev pub aggregate_first : List Kind
-aggregate_first = word_kinds (keyword.Fold fold.Count) ++ folds
+aggregate_first = kind.Fold fold.Count ∷ map kind.Fold folds
 
 unfoldable pub aggregate_read : Reader Said Expr
 aggregate_read =
-    choice_read (word_kinds (keyword.Fold fold.Count)) count_read
-    (mapped_read (λ (v : Said × (Bool × Expr)). aggregate_of v.0.kind v.1)
-    (both_read (one_read folds) (in_parens_read maybe_distinct_read)))
+    choice_read (kind.Fold fold.Count ∷ []) count_read
+    (mapped_read (λ (v : aggregates.Kind × (Bool × Expr)). aggregate_of v.0 v.1)
+    (both_read (meaning_read kind.Fold folds) (in_parens_read maybe_distinct_read)))
 
 unfoldable pub aggregate_expression_read : Reader Said Expr
 aggregate_expression_read = within_itself_read (or_read (numbers aggregate_first) aggregate_read)

@@ -1,9 +1,14 @@
 -- Definitions: the tree of a query as it is written. A name or an IRI is its characters.
 use Rattle.std.specs.Prelude.{ℕ, Bool, List, Option}
 use Rattle.rsp_terms.specs.declared.term.Term.{Term}
-use Rattle.rsp_written.specs.declared.said.Kind.{Kind}
+use Rattle.rsp_functions.specs.declared.function.Function.{Function}
+use Rattle.rsp_functions.specs.declared.function.Sign.{Sign}
+use Rattle.rsp_functions.specs.declared.aggregate.Kind.{Kind}
+use Rattle.rsp_report.specs.declared.operator.Operator.{Operator}
+use Rattle.rsp_report.specs.declared.words.PolicyWords.{PolicyWords}
+use Rattle.rsp_written.specs.declared.expression.UnaryOperator.{UnaryOperator}
 
--- ---- expressions; a sign, a function and an aggregate are named by the kind of their token
+-- ---- expressions
 
 mutual
   pub data Expr : Type 0 where
@@ -12,13 +17,13 @@ mutual
     constant : Term → Expr
     any_of : Exprs → Expr
     all_of : Exprs → Expr
-    compared : Kind → Expr → Expr → Expr
+    compared : Sign → Expr → Expr → Expr
     member : Bool → Expr → Exprs → Expr
     sum : Expr → Operands → Expr
     product : Expr → Operands → Expr
-    signed : Kind → Expr → Expr
+    signed : UnaryOperator → Expr → Expr
     bound : List ℕ → Expr
-    call : Kind → Exprs → Expr
+    call : Function → Exprs → Expr
     count_rows : Expr
     aggregate : Kind → Bool → Expr → Expr
 
@@ -29,7 +34,7 @@ mutual
   -- a sign and what it joins, in order
   pub data Operands : Type 0 where
     no_operand : Operands
-    operand_then : Kind → Expr → Operands → Operands
+    operand_then : Sign → Expr → Operands → Operands
 
 -- ---- property paths
 
@@ -109,28 +114,19 @@ mutual
   pub data Selected : Type 0 where
     selected : Bool → Projection → Elements → List Item → Option Expr → Selected
 
--- ---- the whole query
-
-pub record Strategy : Type 0 where
-  pub kind : Kind
-  pub period : Option (List ℕ)
-
-pub data Policy : Type 0 where
-  no_policy : Policy
-  profile : Kind → Policy
-  reporting : List Strategy → Kind → Policy
+-- ---- the whole query; spans of time are in milliseconds
 
 pub record Window : Type 0 where
   pub at : ℕ
   pub name : List ℕ
   pub stream : List ℕ
-  pub range : List ℕ
-  pub slide : Option (List ℕ)
+  pub range : ℕ
+  pub slide : Option ℕ
   pub origin : Option ℕ
 
 pub record Written : Type 0 where
-  pub operator : Kind
+  pub operator : Operator
   pub output : List ℕ
-  pub policy : Policy
+  pub policy : PolicyWords
   pub windows : List Window
   pub select : Selected

@@ -1,6 +1,6 @@
 -- Words of the way: readings of paths, triples and VALUES.
 use Rattle.rsp_functions.specs.declared.function.Sign.TheVariants as operator
-use Rattle.std.specs.Prelude.{ℕ, zero, suc, List, [], ◌∷◌, ◌++◌, map, length, Option, None, Some}
+use Rattle.std.specs.Prelude.{ℕ, zero, suc, List, [], ◌∷◌, ◌++◌, filter_map, map, length, Option, None, Some, unwrap_or}
 use Rattle.std.specs.Str.{bytes_eq}
 use Rattle.rsp_terms.specs.declared.term.Term.{Term}
 use Rattle.rsp_terms.specs.declared.term.Term.TheVariants as term
@@ -11,12 +11,13 @@ use Rattle.rsp_written.specs.declared.said.Symbol.TheVariants as symbol
 use Rattle.rsp_written.specs.declared.said.Kind.{Kind}
 use Rattle.rsp_written.specs.declared.said.Kind.TheVariants as kind
 use Rattle.rsp_written.specs.declared.said.Said.{Said}
-use Rattle.rsp_written.specs.Trees.{Way, step, Verb, named, along, Node, variable_node, iri_node, constant_node, label_node}
-use Rattle.rsp_written.specs.Trees.{blank_node, described, Properties, Element, values}
-use Rattle.rsp_written.specs.Building.{sequence_row, choice_row, turned, rdf_type, property_list, some_properties}
+use Rattle.rsp_written.specs.Trees.{Way, step, sequence, choice, Verb, named, along, Node, variable_node, iri_node}
+use Rattle.rsp_written.specs.Trees.{constant_node, label_node, blank_node, described, Properties, no_property, Element, values}
+use Rattle.rsp_written.specs.Building.{alone_or, ways_in, turned, rdf_type, property_list}
 use Rattle.rsp_written.specs.Grammar.{kind_number, numbers, name_if_variable}
-use Rattle.rsp_written.specs.Readings.{one_read, word_read, sign_read, choice_read, maybe_read, repeated_read, word_kinds}
-use Rattle.rsp_written.specs.Readings.{sign_kinds, in_parens_read, iri_read, variable_read, signed_first, literal_read}
+use Rattle.rsp_written.specs.Readings.{one_read, word_read, sign_read, choice_read, maybe_read, repeated_read, says_read}
+use Rattle.rsp_written.specs.Readings.{separated_read, word_kinds, sign_kinds, in_parens_read, iri_read, variable_read}
+use Rattle.rsp_written.specs.Readings.{signed_first, literal_read}
 
 -- ---- paths
 
@@ -25,23 +26,24 @@ name_first = kind.Iri ∷ kind.Word keyword.A ∷ []
 
 unfoldable pub way_name_read : Reader Said Way
 way_name_read =
-    choice_read (kind.Iri ∷ []) (mapped_read step iri_read) (mapped_read (λ w. step rdf_type) (word_read keyword.A))
+    choice_read (kind.Iri ∷ []) (mapped_read step iri_read) (says_read (kind.Word keyword.A) (step rdf_type))
 
 unfoldable pub part_read : Reader Said Way → Reader Said Way
 part_read s =
     mapped_read turned (both_read (maybe_read (sign_kinds symbol.Caret) (sign_read symbol.Caret))
     (choice_read name_first way_name_read (in_parens_read s)))
 
+abbrev pub sequence_row : Way × List Way → Way
+sequence_row = alone_or (λ ws. sequence (ways_in ws))
+
 unfoldable pub sequence_read : Reader Said Way → Reader Said Way
-sequence_read s =
-    mapped_read sequence_row (both_read (part_read s)
-    (repeated_read (sign_kinds (symbol.Sign operator.Divide))
-    (second_read (sign_read (symbol.Sign operator.Divide)) (part_read s))))
+sequence_read s = mapped_read sequence_row (separated_read (kind.Sign operator.Divide) (part_read s))
+
+abbrev pub choice_row : Way × List Way → Way
+choice_row = alone_or (λ ws. choice (ways_in ws))
 
 unfoldable pub path_rule_read : Reader Said Way → Reader Said Way
-path_rule_read s =
-    mapped_read choice_row (both_read (sequence_read s)
-    (repeated_read (sign_kinds symbol.Bar) (second_read (sign_read symbol.Bar) (sequence_read s))))
+path_rule_read s = mapped_read choice_row (separated_read (kind.Symbol symbol.Bar) (sequence_read s))
 
 unfoldable pub path_read : Reader Said Way
 path_read = within_itself_read path_rule_read
@@ -67,7 +69,7 @@ unfoldable pub node_name_read : Reader Said Node
 node_name_read = choice_read subject_name_first subject_name_read (mapped_read constant_node literal_read)
 
 unfoldable pub no_properties_read : Reader Said Node
-no_properties_read = mapped_read (λ close. blank_node) (sign_read symbol.CloseBracket)
+no_properties_read = says_read (kind.Symbol symbol.CloseBracket) blank_node
 
 unfoldable pub properties_end_read : Reader Said Properties → Reader Said Node
 properties_end_read s = mapped_read described (first_read s (sign_read symbol.CloseBracket))
@@ -87,8 +89,11 @@ object_read s = choice_read node_name_first node_name_read (second_read (sign_re
 
 unfoldable pub objects_read : Reader Said Properties → Reader Said (List Node)
 objects_read s =
-    mapped_read (λ (v : Node × List Node). v.0 ∷ v.1) (both_read (object_read s)
-    (repeated_read (sign_kinds symbol.Comma) (second_read (sign_read symbol.Comma) (object_read s))))
+    mapped_read (λ (v : Node × List Node). v.0 ∷ v.1) (separated_read (kind.Symbol symbol.Comma) (object_read s))
+
+-- those that are there
+abbrev pub present : {A : Type 0} → List (Option A) → List A
+present = filter_map (λ found. found)
 
 unfoldable pub property_read : Reader Said Properties → Reader Said (Verb × List Node)
 property_read s = both_read verb_read (objects_read s)
@@ -113,7 +118,7 @@ blank_same_read = mapped_read (λ (v : Node × Properties). v) (both_read no_pro
 
 unfoldable pub described_same_read : Reader Said (Node × Properties)
 described_same_read =
-    mapped_read (λ (v : Node × Option Properties). (v.0, some_properties v.1))
+    mapped_read (λ (v : Node × Option Properties). (v.0, unwrap_or v.1 no_property))
     (both_read (properties_end_read properties_read) (maybe_read verb_first properties_read))
 
 unfoldable pub same_read : Reader Said (Node × Properties)
@@ -136,7 +141,7 @@ value_first = kind.Iri ∷ (literal_first ++ word_kinds keyword.Undef)
 unfoldable pub value_read : Reader Said (Option Term)
 value_read =
     choice_read (kind.Iri ∷ []) (mapped_read (λ name. Some (term.Iri name)) iri_read)
-    (choice_read literal_first (mapped_read Some literal_read) (mapped_read (λ w. None) (word_read keyword.Undef)))
+    (choice_read literal_first (mapped_read Some literal_read) (says_read (kind.Word keyword.Undef) None))
 
 abbrev pub in_braces_read : {A : Type 0} → Reader Said A → Reader Said A
 in_braces_read r = second_read (sign_read symbol.OpenBrace) (first_read r (sign_read symbol.CloseBrace))
@@ -147,7 +152,7 @@ one_column_read =
     (both_read variable_read (in_braces_read (repeated_read value_first value_read)))
 
 unfoldable pub value_row_read : ℕ → Reader Said (List (Option Term))
-value_row_read zero = mapped_read (λ close. []) (sign_read symbol.CloseParen)
+value_row_read zero = says_read (kind.Symbol symbol.CloseParen) []
 value_row_read (suc n) =
     mapped_read (λ (v : Option Term × List (Option Term)). v.0 ∷ v.1) (both_read value_read (value_row_read n))
 

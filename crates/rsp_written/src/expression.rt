@@ -1,9 +1,19 @@
 // Expressions as they are written.
-use crate::Kind;
+use rsp_functions::{Function, Kind, Sign};
 use rsp_terms::{Term, Text};
 
-/// An expression as it is written. A row of signs is one list, so that its length is no depth. Signs, functions and
-/// aggregates are named by the kind of their token.
+/// An operator before an expression (SPARQL 1.1 Query, section 17.3).
+#[derive(Clone, Copy, PartialEq, Eq, Drop)]
+pub enum UnaryOperator {
+    /// `!`
+    Not,
+    /// `-`
+    Minus,
+    /// `+`
+    Plus,
+}
+
+/// An expression as it is written. A row of signs is one list, so that its length is no depth.
 #[cycle(expression)]
 #[derive(Drop)]
 pub enum Expression {
@@ -14,8 +24,9 @@ pub enum Expression {
     AnyOf(Vec<Expression>),
     /// Parts with `&&` between.
     AllOf(Vec<Expression>),
+    /// One of the six signs that compare between two parts.
     Compared {
-        sign: Kind,
+        sign: Sign,
         left: Box<Expression>,
         right: Box<Expression>,
     },
@@ -34,14 +45,13 @@ pub enum Expression {
         first: Box<Expression>,
         rest: Vec<Operand>,
     },
-    /// `!`, `-` or `+` before a part.
     Signed {
-        sign: Kind,
+        operator: UnaryOperator,
         part: Box<Expression>,
     },
     Bound(Text),
     Call {
-        function: Kind,
+        function: Function,
         arguments: Vec<Expression>,
     },
     /// COUNT(*).
@@ -57,6 +67,6 @@ pub enum Expression {
 #[cycle(expression)]
 #[derive(Drop)]
 pub struct Operand {
-    pub sign: Kind,
+    pub sign: Sign,
     pub part: Expression,
 }

@@ -35,10 +35,10 @@ fn suffix_at(tokens: &[Said]) -> Result<(Suffix, &[Said]), Halt>
     }
 }
 
-fn with_suffix(text: &Text, suffix: Suffix) -> Result<Term, AllocError>
-    ensures { IfOk result (λ term. term ≡ building.suffixed text.now (Some suffix)) }
+fn with_suffix(said: &Said, suffix: Suffix) -> Result<Term, AllocError>
+    ensures { IfOk result (λ term. term ≡ building.string_term (said.now, Some suffix)) }
 {
-    let lexical = text.share()?;
+    let lexical = said.text.share()?;
     match suffix {
         Suffix::InLanguage(language) => Ok(Term::Tagged { lexical, language }),
         Suffix::OfDatatype(datatype) => Ok(Term::Literal { lexical, datatype }),
@@ -52,7 +52,7 @@ fn string_literal(alloc: Global, tokens: &[Said]) -> Result<(Term, &[Said]), Hal
     let (said, rest) = one(&[Kind::String], tokens)?;
     if first_is_among(&[Kind::Tag, Kind::Symbol(Symbol::Carets)], rest) {
         let (suffix, rest) = suffix_at(rest)?;
-        Ok((with_suffix(&said.text, suffix)?, rest))
+        Ok((with_suffix(said, suffix)?, rest))
     } else {
         let lexical = said.text.share()?;
         let datatype = Text::new(alloc, XSD_STRING)?;
@@ -87,7 +87,7 @@ fn unsigned_number(alloc: Global, tokens: &[Said]) -> Result<(Term, &[Said]), Ha
 
 // with the sign in the lexical form
 fn negative(alloc: Global, said: &Said) -> Result<Term, AllocError>
-    ensures { IfOk result (λ term. term ≡ building.negative_term said.now) }
+    ensures { IfOk result (λ term. term ≡ readings.negative_term said.now) }
 {
     let written = format!(in alloc; "-{}", said.text.as_str())?;
     let lexical = Text::new(alloc, written.as_str())?;
@@ -99,8 +99,8 @@ fn negative(alloc: Global, said: &Said) -> Result<Term, AllocError>
 fn signed_number(alloc: Global, tokens: &[Said]) -> Result<(Term, &[Said]), Halt>
     ensures { Gives (λ x. (x.0, x.1.now)) result (readings.signed_number_read tokens.now) }
 {
-    if first_is(Kind::Symbol(Symbol::Sign(Sign::Subtract)), tokens) {
-        let (_, rest) = sign(Symbol::Sign(Sign::Subtract), tokens)?;
+    if first_is(Kind::Sign(Sign::Subtract), tokens) {
+        let (_, rest) = one(&[Kind::Sign(Sign::Subtract)], tokens)?;
         let (said, rest) = number(rest)?;
         Ok((negative(alloc, said)?, rest))
     } else {
@@ -146,7 +146,7 @@ pub fn literal(alloc: Global, tokens: &[Said]) -> Result<(Term, &[Said]), Halt>
 fn begins_signed(tokens: &[Said]) -> bool
     ensures { result ≡ starts kind_number (numbers readings.signed_first) tokens.now }
 {
-    let minus = Kind::Symbol(Symbol::Sign(Sign::Subtract));
+    let minus = Kind::Sign(Sign::Subtract);
     first_is_among(&[minus, Kind::Integer, Kind::Decimal, Kind::Double], tokens)
 }
 

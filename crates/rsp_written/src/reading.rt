@@ -1,14 +1,17 @@
-// Reading tokens: one of some kinds, names, literals.
-ghost use Rattle.std.specs.Prelude.{◌≡◌, ◌∷◌, []};
+// Reading tokens: one of some kinds, what it means, names.
+ghost use Rattle.std.specs.Prelude.{◌≡◌, ◌∷◌, [], find, map};
 ghost use Rattle.rsp_phrases.specs.Languages.{has};
 ghost use Rattle.rsp_written.specs.Numbers.{number_of};
 ghost use Rattle.rsp_phrases.specs.Readers.{starts};
 ghost use Rattle.rsp_written.specs.Gives.{Gives};
-ghost use Rattle.rsp_written.specs.Grammar.{kind_number, numbers};
-ghost use Rattle.rsp_written.specs.Readings.{iri_read, one_read, sign_read, variable_read, word_read};
+ghost use Rattle.rsp_written.specs.Grammar.{has_number, kind_number, numbers};
+ghost use Rattle.rsp_written.specs.Readings.{iri_read, meaning_read, one_read, sign_read, variable_read, word_read};
+ghost use Rattle.rsp_written.specs.declared.said.Kind as kinds;
+ghost use Rattle.rsp_written.specs.declared.said.Kind.TheVariants as kind;
 ghost use Rattle.rsp_written.specs.declared.reading.Halt.TheVariants.{OutOfMemory};
 
 use crate::{Keyword, Kind, Said, Symbol};
+use rsp_functions::{Function, Kind as Fold, Sign};
 use rsp_terms::Text;
 use std::alloc::{AllocError, AllocFailed};
 
@@ -96,6 +99,75 @@ pub fn sign<'a>(symbol: Symbol, tokens: &'a [Said]) -> Result<(&'a Said, &'a [Sa
     ensures { Gives (λ x. (x.0.now, x.1.now)) result (sign_read symbol tokens.now) }
 {
     one(&[Kind::Symbol(symbol)], tokens)
+}
+
+/// What one token means.
+pub trait Spelled: Copy {
+    /// The kind of its token.
+    ghost spelling: { Self → kinds.Kind };
+
+    /// The kind of its token.
+    fn kind(self) -> Kind
+        ensures { result ≡ spelling self };
+}
+
+impl Spelled for Sign {
+    ghost spelling = { kind.Sign };
+
+    fn kind(self) -> Kind {
+        Kind::Sign(self)
+    }
+}
+
+impl Spelled for Function {
+    ghost spelling = { kind.Call };
+
+    fn kind(self) -> Kind {
+        Kind::Call(self)
+    }
+}
+
+impl Spelled for Fold {
+    ghost spelling = { kind.Fold };
+
+    fn kind(self) -> Kind {
+        Kind::Fold(self)
+    }
+}
+
+// the first of these whose token has this number
+fn meant<M: Spelled>(values: &[M], number: u8) -> Option<M>
+    ensures { result ≡ find (has_number M.spelling number) values.now }
+{
+    for value in values {
+        if value.kind().number() == number {
+            return Some(*value);
+        }
+    }
+    None
+}
+
+/// Whether the next token means one of these.
+pub fn begins<M: Spelled>(values: &[M], tokens: &[Said]) -> bool
+    ensures { result ≡ starts kind_number (numbers (map M.spelling values.now)) tokens.now }
+{
+    match tokens.first() {
+        None => false,
+        Some(said) => meant(values, said.kind.number()).is_some(),
+    }
+}
+
+/// Which of these the next token means.
+pub fn meaning<'a, M: Spelled>(values: &[M], tokens: &'a [Said]) -> Result<(M, &'a [Said]), Halt>
+    ensures { Gives (λ x. (x.0, x.1.now)) result (meaning_read M.spelling values.now tokens.now) }
+{
+    let Some((said, rest)) = tokens.split_first() else {
+        return Err(Halt::Wrong(0));
+    };
+    match meant(values, said.kind.number()) {
+        None => Err(Halt::Wrong(tokens.len())),
+        Some(value) => Ok((value, rest)),
+    }
 }
 
 /// The characters of an IRI.

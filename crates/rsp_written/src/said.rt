@@ -1,9 +1,8 @@
 // What a token says.
 ghost use Rattle.std.specs.Prelude.{◌≡◌, ◌<◌};
-ghost use Rattle.rsp_written.specs.Arities as kinds;
 ghost use Rattle.rsp_written.specs.Numbers as numbers;
 
-use rsp_functions::{Arity, Function, Kind as Fold, Sign};
+use rsp_functions::{Function, Kind as Fold, Sign};
 use rsp_terms::Text;
 
 /// A word of the grammar. A token says it in any case, but `a` only as written.
@@ -55,10 +54,6 @@ pub enum Keyword {
     In,
     A,
     Bound,
-    /// The name of a function.
-    Call(Function),
-    /// The name of an aggregate.
-    Fold(Fold),
 }
 
 /// A symbol of the grammar.
@@ -96,8 +91,6 @@ pub enum Symbol {
     Carets,
     /// `?`
     Question,
-    /// `=`, `!=`, `<`, `>`, `<=`, `>=`, `+`, `-`, `*`, `/`
-    Sign(Sign),
 }
 
 /// What a token is to the grammar.
@@ -126,7 +119,13 @@ pub enum Kind {
     /// What can stand nowhere: an IRI that isn't absolute, a word that the grammar hasn't.
     Nowhere,
     Word(Keyword),
+    /// The name of a function.
+    Call(Function),
+    /// The name of an aggregate.
+    Fold(Fold),
     Symbol(Symbol),
+    /// `=`, `!=`, `<`, `>`, `<=`, `>=`, `+`, `-`, `*`, `/`
+    Sign(Sign),
 }
 
 /// What a token says. The grammar speaks of this alone, never of the token's bytes.
@@ -144,7 +143,7 @@ impl Keyword {
     /// The keyword's place among them, from 0.
     pub fn place(self) -> u8
         ensures value { result ≡ numbers.place_of_keyword self }
-        ensures bound { result < 100 }
+        ensures bound { result < 46 }
     {
         match self {
             Keyword::Prefix => 0,
@@ -193,8 +192,6 @@ impl Keyword {
             Keyword::In => 43,
             Keyword::A => 44,
             Keyword::Bound => 45,
-            Keyword::Call(function) => 46 + function as u8,
-            Keyword::Fold(kind) => 74 + kind as u8,
         }
     }
 }
@@ -203,7 +200,7 @@ impl Symbol {
     /// The symbol's place among them, from 0.
     pub fn place(self) -> u8
         ensures value { result ≡ numbers.place_of_symbol self }
-        ensures bound { result < 30 }
+        ensures bound { result < 16 }
     {
         match self {
             Symbol::OpenBrace => 0,
@@ -222,22 +219,11 @@ impl Symbol {
             Symbol::Caret => 13,
             Symbol::Carets => 14,
             Symbol::Question => 15,
-            Symbol::Sign(sign) => 16 + sign as u8,
         }
     }
 }
 
 impl Kind {
-    /// How many arguments a call by this name has; of a kind that names no function it says nothing.
-    pub fn arity(self) -> Arity
-        ensures { result ≡ kinds.arity_of self }
-    {
-        match self {
-            Kind::Word(Keyword::Call(function)) => function.arity(),
-            _ => Arity::One,
-        }
-    }
-
     /// A number of its own for each kind.
     #[tactic(auto, using(crate::proofs::Own::own))]
     pub fn number(self) -> u8
@@ -264,7 +250,10 @@ impl Kind {
             Kind::String => 9,
             Kind::Nowhere => 10,
             Kind::Word(keyword) => 20 + keyword.place(),
-            Kind::Symbol(symbol) => 120 + symbol.place(),
+            Kind::Call(function) => 66 + function as u8,
+            Kind::Fold(kind) => 94 + kind as u8,
+            Kind::Symbol(symbol) => 100 + symbol.place(),
+            Kind::Sign(sign) => 120 + sign as u8,
         }
     }
 }

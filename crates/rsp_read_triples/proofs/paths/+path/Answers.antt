@@ -14,23 +14,23 @@ use Rattle.rsp_read_triples.proofs.paths.+path.Goals as goal
 
 pub parts-returns-then-not-first_is : goal.parts-returns-then-not-first_is
 parts-returns-then-not-first_is t c =
-    let is : starts kind_number (numbers (sign_kinds (symbol.Sign operator.Divide))) c.loop.rest.now ≡ false = search rules in
-    none_at each kind_number (numbers (sign_kinds (symbol.Sign operator.Divide))) (second_read (sign_read (symbol.Sign operator.Divide)) (part_read (path_within c.args.depth))) _ c.loop.counter _ _ _ c.loop-test.true is c.loop.invariant
+    let is : starts kind_number (numbers (kind.Sign operator.Divide ∷ [])) c.loop.rest.now ≡ false = search rules in
+    none_at each kind_number (numbers (kind.Sign operator.Divide ∷ [])) (second_read (one_read (kind.Sign operator.Divide ∷ [])) (part_read (path_within c.args.depth))) _ c.loop.counter _ _ _ c.loop-test.true is c.loop.invariant
 
 pub parts-returns-in_err-more : goal.parts-returns-in_err-more
 parts-returns-in_err-more t c =
     let p = err_from_is_err_and c.from_residual.result c.from_residual.ensures.1 in
-    let is : starts kind_number (numbers (sign_kinds (symbol.Sign operator.Divide))) c.loop.rest.now ≡ true = search rules in
-    rw (p.1, p.2) (fails_at single as_read kind_number (numbers (sign_kinds (symbol.Sign operator.Divide))) (second_read (sign_read (symbol.Sign operator.Divide)) (part_read (path_within c.args.depth))) _ c.loop.counter _ _ _ c.in_err-more.field-0.0 c.loop-test.true is c.in_err-more.ensures c.loop.invariant)
+    let is : starts kind_number (numbers (kind.Sign operator.Divide ∷ [])) c.loop.rest.now ≡ true = search rules in
+    rw (p.1, p.2) (fails_at single as_read kind_number (numbers (kind.Sign operator.Divide ∷ [])) (second_read (one_read (kind.Sign operator.Divide ∷ [])) (part_read (path_within c.args.depth))) _ c.loop.counter _ _ _ c.in_err-more.field-0.0 c.loop-test.true is c.in_err-more.ensures c.loop.invariant)
 
 pub parts-loop-preserved : goal.parts-loop-preserved
 parts-loop-preserved t c =
-    let is : starts kind_number (numbers (sign_kinds (symbol.Sign operator.Divide))) c.loop.rest.now ≡ true = search rules in
-    more_at each kind_number (numbers (sign_kinds (symbol.Sign operator.Divide))) (second_read (sign_read (symbol.Sign operator.Divide)) (part_read (path_within c.args.depth))) _ c.loop.counter _ _ _ _ _ c.loop-test.true is c.in_ok-more.ensures c.loop.invariant
+    let is : starts kind_number (numbers (kind.Sign operator.Divide ∷ [])) c.loop.rest.now ≡ true = search rules in
+    more_at each kind_number (numbers (kind.Sign operator.Divide ∷ [])) (second_read (one_read (kind.Sign operator.Divide ∷ [])) (part_read (path_within c.args.depth))) _ c.loop.counter _ _ _ _ _ c.loop-test.true is c.in_ok-more.ensures c.loop.invariant
 
 pub parts-returns : goal.parts-returns
 parts-returns t c =
-    end_at each kind_number (numbers (sign_kinds (symbol.Sign operator.Divide))) (second_read (sign_read (symbol.Sign operator.Divide)) (part_read (path_within c.args.depth))) _ c.loop.counter _ _ _ c.loop-test.false c.loop.invariant
+    end_at each kind_number (numbers (kind.Sign operator.Divide ∷ [])) (second_read (one_read (kind.Sign operator.Divide ∷ [])) (part_read (path_within c.args.depth))) _ c.loop.counter _ _ _ c.loop-test.false c.loop.invariant
 
 pub sequences-returns-then-not-first_is : goal.sequences-returns-then-not-first_is
 sequences-returns-then-not-first_is t c =

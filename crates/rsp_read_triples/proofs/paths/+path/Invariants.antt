@@ -19,8 +19,8 @@ invariant-sequences-loop l =
 abbrev pub invariant-parts-loop : goal.invariant-parts-loop
 invariant-parts-loop l =
     gathered as_read (map way_of l.paths.items)
-    (at_most_read kind_number (numbers (sign_kinds (symbol.Sign operator.Divide))) (second_read (sign_read (symbol.Sign operator.Divide)) (part_read (path_within l.depth))) (l.end - l.counter) l.rest)
-    ≡ repeated_read (sign_kinds (symbol.Sign operator.Divide)) (second_read (sign_read (symbol.Sign operator.Divide)) (part_read (path_within l.depth))) l.tokens
+    (at_most_read kind_number (numbers (kind.Sign operator.Divide ∷ [])) (second_read (one_read (kind.Sign operator.Divide ∷ [])) (part_read (path_within l.depth))) (l.end - l.counter) l.rest)
+    ≡ repeated_read (kind.Sign operator.Divide ∷ []) (second_read (one_read (kind.Sign operator.Divide ∷ [])) (part_read (path_within l.depth))) l.tokens
 
 abbrev pub decreases-path_at : goal.decreases-path_at
 decreases-path_at l = 32 * l.depth
