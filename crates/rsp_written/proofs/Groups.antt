@@ -21,14 +21,14 @@ use Rattle.rsp_written.specs.declared.said.Kind.TheVariants as kind
 use Rattle.rsp_written.specs.declared.said.Said.{Said}
 use Rattle.rsp_written.specs.Numbers.{number_of}
 use Rattle.rsp_written.specs.Trees.{Expr, Node, Properties, Item, shown, computed, every_name, these, Graph, graph_variable, graph_iri, Element, optional_group, minus_group, union_of, graph_group, window_group, filter, exists, bind, Window, Written}
-use Rattle.rsp_written.specs.Building.{elements_in, groups_in, run, sub_select_of, written_of}
-use Rattle.rsp_written.specs.Grammar.{Rule, kind_number, numbers, one, word, sign, iri_name, call_rule, expression, aggregate_expression, triples_rule, group_of, optional_rule, minus_rule, union_rule, graph_name, graph_rule, window_rule, exists_rule, filter_rule, bind_rule, other, item_of, items_of, projection, select_clause, keys, having, tail, sub_select_rule, piece, body, block, group_rule, group, milliseconds, duration, origin_of_kind, origin, window_size, window_of, window, strategy, profile, tick, reported, policy, stream_operator, registered, windows, query_body, prefix_of_kind, prefix, declared_iri, resolved_as, resolved_by, resolved, query}
+use Rattle.rsp_written.specs.Building.{elements_in, groups_in, run, sub_select_of, shown_of, constructed_of, written_of}
+use Rattle.rsp_written.specs.Grammar.{Rule, kind_number, numbers, one, word, sign, iri_name, call_rule, expression, aggregate_expression, triples_rule, group_of, optional_rule, minus_rule, union_rule, graph_name, graph_rule, window_rule, exists_rule, filter_rule, bind_rule, other, item_of, items_of, projection, select_clause, keys, having, tail, sub_select_rule, piece, body, block, group_rule, group, milliseconds, duration, origin_of_kind, origin, window_size, window_of, window, strategy, profile, tick, reported, policy, stream_operator, registered, windows, where_group, shown_rule, constructed_rule, query_body, prefix_of_kind, prefix, declared_iri, resolved_as, resolved_by, resolved, query}
 use Rattle.rsp_written.specs.Readings.{word_kinds, sign_kinds, call_first, call_read, expression_read, aggregate_expression_read}
 use Rattle.rsp_written.specs.TripleReadings.{same_first}
-use Rattle.rsp_written.specs.GroupReadings.{group_of_read, optional_rule_read, minus_rule_read, union_rule_read, graph_name_read, graph_rule_read, window_rule_read, exists_rule_read, filter_rule_read, as_variable_read, bind_rule_read, values_rule_read, other_read, other_first, item_first, item_read, items_of_read, projection_read, select_clause_read, keys_read, having_read, tail_read, maybe_where_read, sub_select_read, piece_read, body_read, group_rule_read, group_read, span_read, origin_read, window_size_read, window_read, strategy_read, profile_read, tick_read, reported_read, policy_read, policy_first, stream_operator_read, registered_read, windows_read, query_body_read, prefix_read, query_read}
+use Rattle.rsp_written.specs.GroupReadings.{group_of_read, optional_rule_read, minus_rule_read, union_rule_read, graph_name_read, graph_rule_read, window_rule_read, exists_rule_read, filter_rule_read, as_variable_read, bind_rule_read, values_rule_read, other_read, other_first, item_first, item_read, items_of_read, projection_read, select_clause_read, keys_read, having_read, tail_read, maybe_where_read, sub_select_read, piece_read, body_read, group_rule_read, group_read, span_read, origin_read, window_size_read, window_read, strategy_read, profile_read, tick_read, reported_read, policy_read, policy_first, stream_operator_read, registered_read, windows_read, where_group_read, shown_read, constructed_read, asked_read, query_body_read, prefix_read, query_read}
 use Rattle.rsp_written.proofs.Simple.{G, good_one, good_says, good_second_of, good_first_of, good_both, good_behind, good_in_parens, good_separated, under_second, under_first, under_separated, good_iri, good_variable}
 use Rattle.rsp_written.proofs.Expressions.{plain_first, expr_go, good_expression, good_aggregate_expression, good_call}
-use Rattle.rsp_written.proofs.Triples.{triples_go, good_triples, good_block}
+use Rattle.rsp_written.proofs.Triples.{triples_go, good_triples, good_block, good_template}
 
 -- ---- the parts of a group. What stands behind a '{' may begin with many kinds, none of which is tested.
 
@@ -333,12 +333,39 @@ good_windows : G windows windows_read (word_kinds keyword.From) (word_kinds keyw
 unfolding windows_read
 good_windows = good_mapped (λ (v : Window × List Window). v.0 ∷ v.1) (good_both good_window (good_many good_window refl) refl)
 
+abbrev pub where_first : List Kind
+where_first = word_kinds keyword.Where ++ sign_kinds symbol.OpenBrace
+
+good_where_group : G where_group where_group_read where_first [] false true
+unfolding where_group_read
+good_where_group =
+    listed_as (numbers where_first) [] (good_second_of good_where good_group refl) refl refl refl
+
+good_shown : G shown_rule shown_read (word_kinds keyword.Select) tail_go false true
+unfolding shown_read
+good_shown =
+    listed_as (numbers (word_kinds keyword.Select)) (numbers tail_go)
+    (good_mapped shown_of (good_both good_select_clause (good_both good_windows (good_both good_where_group good_tail refl) refl) refl))
+    refl refl refl
+
+good_constructed : G constructed_rule constructed_read (word_kinds keyword.Construct) [] false true
+unfolding constructed_read
+good_constructed =
+    listed_as (numbers (word_kinds keyword.Construct)) []
+    (good_mapped constructed_of (good_second_of (good_one (word_kinds keyword.Construct))
+    (good_both good_template (good_both good_windows good_where_group refl) refl) refl)) refl refl refl
+
+good_asked : G (either shown_rule constructed_rule) asked_read (word_kinds keyword.Select ++ word_kinds keyword.Construct) tail_go false true
+unfolding asked_read
+good_asked =
+    listed_as (numbers (word_kinds keyword.Select ++ word_kinds keyword.Construct)) (numbers tail_go)
+    (good_either good_shown good_constructed refl refl) refl refl refl
+
 good_query_body : G query_body query_body_read (word_kinds keyword.Register) tail_go false true
 unfolding query_body_read
 good_query_body =
     listed_as (numbers (word_kinds keyword.Register)) (numbers tail_go)
-    (good_mapped written_of (good_both good_registered (good_both good_select_clause (good_both good_windows
-    (good_both (good_second_of good_where good_group refl) good_tail refl) refl) refl) refl)) refl refl refl
+    (good_mapped written_of (good_both good_registered good_asked refl)) refl refl refl
 
 prefix_kind : (k : Kind) (said : Said) → IsSome (prefix_of_kind k said) → has (numbers (kind.Prefixed ∷ [])) (number_of k) ≡ true
 prefix_kind kind.Prefixed said h = refl

@@ -51,7 +51,7 @@ none (suc n) = kind.Nowhere ∷ none n
 
 abbrev kinds : List Kind
 kinds =
-    simple ++ (none 9 ++ (map kind.Word keywords ++ (map kind.Call functions ++ (map kind.Fold folds ++ (none 1
+    simple ++ (none 9 ++ (map kind.Word keywords ++ (map kind.Call functions ++ (map kind.Fold folds ++ (kind.Word keyword.Construct ∷ []
     ++ (map kind.Symbol symbols ++ (none 4 ++ map kind.Sign signs)))))))
 
 abbrev at : List Kind → ℕ → Kind

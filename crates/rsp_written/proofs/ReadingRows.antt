@@ -18,10 +18,12 @@ use Rattle.rsp_written.specs.declared.said.Kind.{Kind}
 use Rattle.rsp_written.specs.declared.said.Kind.TheVariants as kind
 use Rattle.rsp_written.specs.declared.said.Said.{Said}
 use Rattle.rsp_written.specs.Trees.{step, sequence, along, Node, variable_node, blank_node, described, no_node, node_then, no_property, property_then, no_element, values, way_then, no_way, every_name, selected, variable, constant, bound, sum, product, call, no_expr, expr_then, no_operand, operand_then, any_of}
-use Rattle.rsp_written.specs.Building.{number_term}
+use Rattle.rsp_written.specs.Building.{number_term, rdf_type, names_in}
+use Rattle.rsp_terms.specs.declared.term.Term.TheVariants as term
+use Rattle.rsp_written.specs.declared.template.Part.TheVariants as part
 use Rattle.rsp_written.specs.Readings.{iri_read, variable_read, suffix_read, string_literal_read, boolean_read, signed_number_read, literal_read, unsigned_literal_read, items_read, expressions_read, bound_read, arguments_read, function_read, call_read, simple_read, primary_read, unary_operator_read, unary_read, product_read, sum_read, comparison_read, membership_read, relation_read, and_read, or_read, expression_read, maybe_distinct_read, count_read, aggregate_read, aggregate_expression_read}
-use Rattle.rsp_written.specs.TripleReadings.{way_name_read, part_read, sequence_read, path_rule_read, path_read, verb_read, subject_name_read, node_name_read, no_properties_read, properties_end_read, bracket_read, object_read, objects_read, property_read, properties_rule_read, properties_read, named_same_read, blank_same_read, described_same_read, same_read, triples_read, value_read, one_column_read, value_row_read, columns_read, value_rows_read, many_columns_read, block_read}
-use Rattle.rsp_written.specs.GroupReadings.{optional_rule_read, minus_rule_read, union_rule_read, graph_name_read, graph_rule_read, window_rule_read, exists_rule_read, filter_rule_read, as_variable_read, bind_rule_read, values_rule_read, other_read, item_read, items_of_read, projection_read, select_clause_read, keys_read, having_read, tail_read, maybe_where_read, sub_select_read, piece_read, body_read, group_rule_read, group_read, span_read, origin_read, window_size_read, window_read, strategy_read, profile_read, tick_read, reported_read, policy_read, stream_operator_read, registered_read, windows_read, query_body_read, prefix_read, query_read}
+use Rattle.rsp_written.specs.TripleReadings.{way_name_read, part_read, sequence_read, path_rule_read, path_read, verb_read, subject_name_read, node_name_read, no_properties_read, properties_end_read, bracket_read, object_read, objects_read, property_read, properties_rule_read, properties_read, named_same_read, blank_same_read, described_same_read, same_read, triples_read, value_read, one_column_read, value_row_read, columns_read, value_rows_read, many_columns_read, block_read, made_name_read, made_verb_read, made_object_read, made_read, all_made_read, template_read}
+use Rattle.rsp_written.specs.GroupReadings.{optional_rule_read, minus_rule_read, union_rule_read, graph_name_read, graph_rule_read, window_rule_read, exists_rule_read, filter_rule_read, as_variable_read, bind_rule_read, values_rule_read, other_read, item_read, items_of_read, projection_read, select_clause_read, keys_read, having_read, tail_read, maybe_where_read, sub_select_read, piece_read, body_read, group_rule_read, group_read, span_read, origin_read, window_size_read, window_read, strategy_read, profile_read, tick_read, reported_read, policy_read, stream_operator_read, registered_read, windows_read, where_group_read, shown_read, constructed_read, asked_read, query_body_read, prefix_read, query_read}
 
 said : Kind → List ℕ → Said
 said kind text = record { kind = kind; text = text; local = []; at = 0 }
@@ -117,7 +119,7 @@ unfolding said w s sign call_of x one i p y iri_read variable_read suffix_read s
 literal_subject = refl
 
 two_dots : group_read (s symbol.OpenBrace ∷ x ∷ p ∷ y ∷ s symbol.Dot ∷ s symbol.Dot ∷ s symbol.CloseBrace ∷ []) ≡ Err 2
-unfolding said w s sign call_of x one i p y iri_read variable_read suffix_read string_literal_read boolean_read signed_number_read literal_read unsigned_literal_read items_read expressions_read bound_read arguments_read function_read call_read simple_read primary_read unary_operator_read unary_read product_read sum_read comparison_read membership_read relation_read and_read or_read expression_read nested_read at_most_read follows_at_most_read distinct_read value_row_read way_name_read part_read sequence_read path_rule_read path_read verb_read subject_name_read node_name_read no_properties_read properties_end_read bracket_read object_read objects_read property_read properties_rule_read properties_read named_same_read blank_same_read described_same_read same_read triples_read value_read one_column_read columns_read value_rows_read many_columns_read block_read maybe_distinct_read count_read aggregate_read aggregate_expression_read instant span clock seconds optional_rule_read minus_rule_read union_rule_read graph_name_read graph_rule_read window_rule_read exists_rule_read filter_rule_read as_variable_read bind_rule_read values_rule_read other_read item_read items_of_read projection_read select_clause_read keys_read having_read tail_read maybe_where_read sub_select_read piece_read body_read group_rule_read group_read span_read origin_read window_size_read window_read strategy_read profile_read tick_read reported_read policy_read stream_operator_read registered_read windows_read query_body_read prefix_read query_read
+unfolding said w s sign call_of x one i p y iri_read variable_read suffix_read string_literal_read boolean_read signed_number_read literal_read unsigned_literal_read items_read expressions_read bound_read arguments_read function_read call_read simple_read primary_read unary_operator_read unary_read product_read sum_read comparison_read membership_read relation_read and_read or_read expression_read nested_read at_most_read follows_at_most_read distinct_read value_row_read way_name_read part_read sequence_read path_rule_read path_read verb_read subject_name_read node_name_read no_properties_read properties_end_read bracket_read object_read objects_read property_read properties_rule_read properties_read named_same_read blank_same_read described_same_read same_read triples_read value_read one_column_read columns_read value_rows_read many_columns_read block_read maybe_distinct_read count_read aggregate_read aggregate_expression_read instant span clock seconds optional_rule_read minus_rule_read union_rule_read graph_name_read graph_rule_read window_rule_read exists_rule_read filter_rule_read as_variable_read bind_rule_read values_rule_read other_read item_read items_of_read projection_read select_clause_read keys_read having_read tail_read maybe_where_read sub_select_read piece_read body_read group_rule_read group_read span_read origin_read window_size_read window_read strategy_read profile_read tick_read reported_read policy_read stream_operator_read registered_read windows_read where_group_read shown_read constructed_read asked_read query_body_read prefix_read query_read
 two_dots = refl
 
 -- ---- VALUES
@@ -172,20 +174,46 @@ a_query : query_read (declaration ++ (head ++ (s symbol.OpenBrace ∷ s symbol.C
         operator = stream.Rstream;
         output = codes "q:o";
         policy = policies.Absent;
+        template = None;
         windows = record { at = 0; name = codes "q:o"; stream = codes "q:o"; range = 1000; slide = None; origin = None } ∷ [];
         select = selected false every_name no_element [] None;
       },
       [],
     )
-unfolding said w s sign call_of x one i p y iri_read variable_read suffix_read string_literal_read boolean_read signed_number_read literal_read unsigned_literal_read items_read expressions_read bound_read arguments_read function_read call_read simple_read primary_read unary_operator_read unary_read product_read sum_read comparison_read membership_read relation_read and_read or_read expression_read nested_read at_most_read follows_at_most_read distinct_read value_row_read way_name_read part_read sequence_read path_rule_read path_read verb_read subject_name_read node_name_read no_properties_read properties_end_read bracket_read object_read objects_read property_read properties_rule_read properties_read named_same_read blank_same_read described_same_read same_read triples_read value_read one_column_read columns_read value_rows_read many_columns_read block_read maybe_distinct_read count_read aggregate_read aggregate_expression_read instant span clock seconds optional_rule_read minus_rule_read union_rule_read graph_name_read graph_rule_read window_rule_read exists_rule_read filter_rule_read as_variable_read bind_rule_read values_rule_read other_read item_read items_of_read projection_read select_clause_read keys_read having_read tail_read maybe_where_read sub_select_read piece_read body_read group_rule_read group_read span_read origin_read window_size_read window_read strategy_read profile_read tick_read reported_read policy_read stream_operator_read registered_read windows_read query_body_read prefix_read query_read q declaration head
+unfolding said w s sign call_of x one i p y iri_read variable_read suffix_read string_literal_read boolean_read signed_number_read literal_read unsigned_literal_read items_read expressions_read bound_read arguments_read function_read call_read simple_read primary_read unary_operator_read unary_read product_read sum_read comparison_read membership_read relation_read and_read or_read expression_read nested_read at_most_read follows_at_most_read distinct_read value_row_read way_name_read part_read sequence_read path_rule_read path_read verb_read subject_name_read node_name_read no_properties_read properties_end_read bracket_read object_read objects_read property_read properties_rule_read properties_read named_same_read blank_same_read described_same_read same_read triples_read value_read one_column_read columns_read value_rows_read many_columns_read block_read maybe_distinct_read count_read aggregate_read aggregate_expression_read instant span clock seconds optional_rule_read minus_rule_read union_rule_read graph_name_read graph_rule_read window_rule_read exists_rule_read filter_rule_read as_variable_read bind_rule_read values_rule_read other_read item_read items_of_read projection_read select_clause_read keys_read having_read tail_read maybe_where_read sub_select_read piece_read body_read group_rule_read group_read span_read origin_read window_size_read window_read strategy_read profile_read tick_read reported_read policy_read stream_operator_read registered_read windows_read where_group_read shown_read constructed_read asked_read query_body_read prefix_read query_read q declaration head
 a_query = refl
 
 -- without its declaration the first prefixed name can't stand
 undeclared : query_read (head ++ (s symbol.OpenBrace ∷ s symbol.CloseBrace ∷ [])) ≡ Err 16
-unfolding said w s sign call_of x one i p y iri_read variable_read suffix_read string_literal_read boolean_read signed_number_read literal_read unsigned_literal_read items_read expressions_read bound_read arguments_read function_read call_read simple_read primary_read unary_operator_read unary_read product_read sum_read comparison_read membership_read relation_read and_read or_read expression_read nested_read at_most_read follows_at_most_read distinct_read value_row_read way_name_read part_read sequence_read path_rule_read path_read verb_read subject_name_read node_name_read no_properties_read properties_end_read bracket_read object_read objects_read property_read properties_rule_read properties_read named_same_read blank_same_read described_same_read same_read triples_read value_read one_column_read columns_read value_rows_read many_columns_read block_read maybe_distinct_read count_read aggregate_read aggregate_expression_read instant span clock seconds optional_rule_read minus_rule_read union_rule_read graph_name_read graph_rule_read window_rule_read exists_rule_read filter_rule_read as_variable_read bind_rule_read values_rule_read other_read item_read items_of_read projection_read select_clause_read keys_read having_read tail_read maybe_where_read sub_select_read piece_read body_read group_rule_read group_read span_read origin_read window_size_read window_read strategy_read profile_read tick_read reported_read policy_read stream_operator_read registered_read windows_read query_body_read prefix_read query_read q head
+unfolding said w s sign call_of x one i p y iri_read variable_read suffix_read string_literal_read boolean_read signed_number_read literal_read unsigned_literal_read items_read expressions_read bound_read arguments_read function_read call_read simple_read primary_read unary_operator_read unary_read product_read sum_read comparison_read membership_read relation_read and_read or_read expression_read nested_read at_most_read follows_at_most_read distinct_read value_row_read way_name_read part_read sequence_read path_rule_read path_read verb_read subject_name_read node_name_read no_properties_read properties_end_read bracket_read object_read objects_read property_read properties_rule_read properties_read named_same_read blank_same_read described_same_read same_read triples_read value_read one_column_read columns_read value_rows_read many_columns_read block_read maybe_distinct_read count_read aggregate_read aggregate_expression_read instant span clock seconds optional_rule_read minus_rule_read union_rule_read graph_name_read graph_rule_read window_rule_read exists_rule_read filter_rule_read as_variable_read bind_rule_read values_rule_read other_read item_read items_of_read projection_read select_clause_read keys_read having_read tail_read maybe_where_read sub_select_read piece_read body_read group_rule_read group_read span_read origin_read window_size_read window_read strategy_read profile_read tick_read reported_read policy_read stream_operator_read registered_read windows_read where_group_read shown_read constructed_read asked_read query_body_read prefix_read query_read q head
 undeclared = refl
 
 -- an unfinished text stops at its end
 unfinished_query : query_read (declaration ++ (head ++ (s symbol.OpenBrace ∷ []))) ≡ Err 0
-unfolding said w s sign call_of x one i p y iri_read variable_read suffix_read string_literal_read boolean_read signed_number_read literal_read unsigned_literal_read items_read expressions_read bound_read arguments_read function_read call_read simple_read primary_read unary_operator_read unary_read product_read sum_read comparison_read membership_read relation_read and_read or_read expression_read nested_read at_most_read follows_at_most_read distinct_read value_row_read way_name_read part_read sequence_read path_rule_read path_read verb_read subject_name_read node_name_read no_properties_read properties_end_read bracket_read object_read objects_read property_read properties_rule_read properties_read named_same_read blank_same_read described_same_read same_read triples_read value_read one_column_read columns_read value_rows_read many_columns_read block_read maybe_distinct_read count_read aggregate_read aggregate_expression_read instant span clock seconds optional_rule_read minus_rule_read union_rule_read graph_name_read graph_rule_read window_rule_read exists_rule_read filter_rule_read as_variable_read bind_rule_read values_rule_read other_read item_read items_of_read projection_read select_clause_read keys_read having_read tail_read maybe_where_read sub_select_read piece_read body_read group_rule_read group_read span_read origin_read window_size_read window_read strategy_read profile_read tick_read reported_read policy_read stream_operator_read registered_read windows_read query_body_read prefix_read query_read q declaration head
+unfolding said w s sign call_of x one i p y iri_read variable_read suffix_read string_literal_read boolean_read signed_number_read literal_read unsigned_literal_read items_read expressions_read bound_read arguments_read function_read call_read simple_read primary_read unary_operator_read unary_read product_read sum_read comparison_read membership_read relation_read and_read or_read expression_read nested_read at_most_read follows_at_most_read distinct_read value_row_read way_name_read part_read sequence_read path_rule_read path_read verb_read subject_name_read node_name_read no_properties_read properties_end_read bracket_read object_read objects_read property_read properties_rule_read properties_read named_same_read blank_same_read described_same_read same_read triples_read value_read one_column_read columns_read value_rows_read many_columns_read block_read maybe_distinct_read count_read aggregate_read aggregate_expression_read instant span clock seconds optional_rule_read minus_rule_read union_rule_read graph_name_read graph_rule_read window_rule_read exists_rule_read filter_rule_read as_variable_read bind_rule_read values_rule_read other_read item_read items_of_read projection_read select_clause_read keys_read having_read tail_read maybe_where_read sub_select_read piece_read body_read group_rule_read group_read span_read origin_read window_size_read window_read strategy_read profile_read tick_read reported_read policy_read stream_operator_read registered_read windows_read where_group_read shown_read constructed_read asked_read query_body_read prefix_read query_read q declaration head
 unfinished_query = refl
+
+-- ---- templates
+
+-- { x a 1 . }
+a_template : template_read (s symbol.OpenBrace ∷ x ∷ w keyword.A ∷ one ∷ s symbol.Dot ∷ s symbol.CloseBrace ∷ [])
+    ≡ Ok (record { subject = part.Variable (codes "x"); predicate = part.Constant (term.Iri rdf_type); object = part.Constant (number_term one) } ∷ [], [])
+unfolding said w s x one iri_read variable_read suffix_read string_literal_read boolean_read signed_number_read literal_read made_name_read made_verb_read made_object_read made_read all_made_read template_read follows_at_most_read
+a_template = refl
+
+-- { }
+empty_template : template_read (s symbol.OpenBrace ∷ s symbol.CloseBrace ∷ []) ≡ Ok ([], [])
+unfolding said s template_read
+empty_template = refl
+
+-- { x a 1 . . }
+two_dots : template_read (s symbol.OpenBrace ∷ x ∷ w keyword.A ∷ one ∷ s symbol.Dot ∷ s symbol.Dot ∷ s symbol.CloseBrace ∷ []) ≡ Err 2
+unfolding said w s x one iri_read variable_read suffix_read string_literal_read boolean_read signed_number_read literal_read made_name_read made_verb_read made_object_read made_read all_made_read template_read follows_at_most_read
+two_dots = refl
+
+-- the names of { x p y . y x x }, each once
+names_once : names_in
+    (record { subject = part.Variable (codes "x"); predicate = part.Constant (term.Iri (codes "p")); object = part.Variable (codes "y") }
+    ∷ record { subject = part.Variable (codes "y"); predicate = part.Variable (codes "x"); object = part.Variable (codes "x") } ∷ [])
+    ≡ codes "x" ∷ codes "y" ∷ []
+names_once = refl

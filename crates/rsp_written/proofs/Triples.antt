@@ -3,7 +3,7 @@ use Rattle.rsp_functions.specs.declared.function.Sign.TheVariants as operator
 use Rattle.std.proofs.Common.{◌≡◌, ℕ, zero, suc, ◌+◌, Bool, true, false, true≢false, List, [], ◌∷◌, ◌++◌, ◌&&◌, cond, map, length, refl, sym, Option, Some, None, IsSome, unwrap_or}
 use Rattle.std.specs.Str.{bytes_eq}
 use Rattle.std.proofs.lemmas.Slice.Eq.{bytes_eq-Decides}
-use Rattle.rsp_phrases.specs.Languages.{has, second_of, optional, many}
+use Rattle.rsp_phrases.specs.Languages.{has, second_of, optional, many, dotted}
 use Rattle.rsp_phrases.specs.Readers.{Reader}
 use Rattle.rsp_phrases.proofs.Good.{Good, good_mapped, listed_as, loosened}
 use Rattle.rsp_phrases.proofs.TiedLaws.{good_tied}
@@ -20,11 +20,12 @@ use Rattle.rsp_written.specs.declared.said.Kind.{Kind}
 use Rattle.rsp_written.specs.declared.said.Kind.TheVariants as kind
 use Rattle.rsp_written.specs.declared.said.Said.{Said}
 use Rattle.rsp_written.specs.Trees.{Way, step, named, along, Node, variable_node, iri_node, constant_node, label_node, blank_node, described, Properties, no_property, values}
-use Rattle.rsp_written.specs.Building.{turned, rdf_type, property_list}
-use Rattle.rsp_written.specs.Grammar.{Rule, kind_number, numbers, sign, way_name, path_part, path_sequence, path_rule, path, verb, subject_name, node_name, no_properties, node, properties_end, object, objects, property, properties_rule, properties, same, triples_rule, value, in_braces, one_column, value_row, name_if_variable, columns, many_columns, block}
+use Rattle.rsp_written.specs.Building.{turned, rdf_type, property_list, made_of}
+use Rattle.rsp_written.specs.declared.template.Part.TheVariants as part
+use Rattle.rsp_written.specs.Grammar.{Rule, kind_number, numbers, sign, way_name, path_part, path_sequence, path_rule, path, verb, subject_name, node_name, no_properties, node, properties_end, object, objects, property, properties_rule, properties, same, triples_rule, value, in_braces, one_column, value_row, name_if_variable, columns, many_columns, block, made_name, made_verb, made_object, made, template}
 use Rattle.rsp_written.specs.Readings.{repeated_read, word_kinds, sign_kinds, suffix_first}
-use Rattle.rsp_written.specs.TripleReadings.{name_first, way_name_read, part_read, sequence_row, sequence_read, choice_row, path_rule_read, path_read, verb_read, subject_name_first, subject_name_read, node_name_read, no_properties_read, properties_end_read, bracket_read, node_name_first, object_read, objects_read, property_read, verb_first, properties_rule_read, properties_read, named_same_read, blank_same_read, described_same_read, same_read, same_first, triples_read, value_first, value_read, one_column_read, value_row_read, columns_read, value_rows_read, many_columns_read, block_read}
-use Rattle.rsp_written.proofs.Simple.{G, good_one, good_says, good_second_of, good_first_of, good_both, good_behind, good_in_parens, good_separated, under_second, under_first, under_in_parens, under_separated, good_iri, good_variable, good_literal}
+use Rattle.rsp_written.specs.TripleReadings.{name_first, way_name_read, part_read, sequence_row, sequence_read, choice_row, path_rule_read, path_read, verb_read, subject_name_first, subject_name_read, node_name_read, no_properties_read, properties_end_read, bracket_read, node_name_first, object_read, objects_read, property_read, verb_first, properties_rule_read, properties_read, named_same_read, blank_same_read, described_same_read, same_read, same_first, triples_read, value_first, value_read, one_column_read, value_row_read, columns_read, value_rows_read, many_columns_read, block_read, made_first, made_name_read, made_verb_read, made_object_read, made_read, all_made_read, template_read}
+use Rattle.rsp_written.proofs.Simple.{G, good_one, good_says, good_second_of, good_first_of, good_both, good_behind, good_in_parens, good_separated, under_second, under_first, under_in_parens, under_separated, good_iri, good_variable, literal_first, good_literal}
 
 -- ---- paths
 
@@ -253,3 +254,39 @@ good_many_columns =
 pub good_block : G block block_read (kind.Variable ∷ sign_kinds symbol.OpenParen) [] false true
 unfolding block_read
 good_block = good_either good_one_column good_many_columns refl refl
+
+-- ---- templates
+
+good_made_name : G made_name made_name_read made_first [] false true
+unfolding made_name_read
+good_made_name = good_either (good_mapped part.Variable good_variable) (good_mapped (λ name. part.Constant (term.Iri name)) good_iri) refl refl
+
+good_made_verb : G made_verb made_verb_read (made_first ++ word_kinds keyword.A) [] false true
+unfolding made_verb_read
+good_made_verb = good_either good_made_name (good_says (kind.Word keyword.A) (part.Constant (term.Iri rdf_type))) refl refl
+
+abbrev pub made_object_first : List Kind
+made_object_first = made_first ++ literal_first
+
+good_made_object : G made_object made_object_read made_object_first suffix_first false true
+unfolding made_object_read
+good_made_object = good_either good_made_name (good_mapped part.Constant good_literal) refl refl
+
+good_made : G made made_read made_first suffix_first false true
+unfolding made_read
+good_made = good_mapped made_of (good_both good_made_name (good_both good_made_verb good_made_object refl) refl)
+
+abbrev pub made_go : List Kind
+made_go = suffix_first ++ (made_first ++ sign_kinds symbol.Dot)
+
+good_all_made : G (dotted (sign symbol.Dot) made) all_made_read made_first made_go false true
+unfolding all_made_read
+good_all_made =
+    listed_as (numbers made_first) (numbers made_go)
+    (good_dotted (good_one (sign_kinds symbol.Dot)) good_made refl) refl refl refl
+
+pub good_template : G template template_read (sign_kinds symbol.OpenBrace) [] false true
+unfolding template_read
+good_template =
+    good_behind (sign_kinds symbol.OpenBrace)
+    (good_first_of (good_mapped (λ found. unwrap_or found []) (good_optional good_all_made)) (good_one (sign_kinds symbol.CloseBrace)) refl)

@@ -1,5 +1,8 @@
 -- Definitions: how the parts of a rule make its tree.
-use Rattle.std.specs.Prelude.{ℕ, ◌∷◌, ◌++◌, Bool, List, [], Option, None, Some, codes, filter_map, map, is_some, unwrap_or}
+use Rattle.std.specs.Prelude.{ℕ, ◌∷◌, ◌++◌, Bool, false, List, [], Option, None, Some, codes, filter_map, flat_map, map, is_some}
+use Rattle.std.specs.Prelude.{unwrap_or}
+use Rattle.std.specs.Str.{bytes_eq}
+use Rattle.rsp_multiset.specs.RowLists.{each_once}
 use Rattle.rsp_functions.specs.declared.function.Function.{Function}
 use Rattle.rsp_functions.specs.declared.function.Sign.{Sign}
 use Rattle.rsp_functions.specs.declared.aggregate.Kind as fold
@@ -15,11 +18,14 @@ use Rattle.rsp_written.specs.declared.said.Kind.TheVariants as kind
 use Rattle.rsp_written.specs.declared.said.Said.{Said}
 use Rattle.rsp_written.specs.declared.literals.Suffix.{Suffix}
 use Rattle.rsp_written.specs.declared.literals.Suffix.TheVariants.{InLanguage, OfDatatype}
+use Rattle.rsp_written.specs.declared.template.Made.{Made}
+use Rattle.rsp_written.specs.declared.template.Part.{Part}
+use Rattle.rsp_written.specs.declared.template.Part.TheVariants as part
 use Rattle.rsp_written.specs.Trees.{Expr, Exprs, Operands, compared, member, signed, call, aggregate, no_expr, expr_then}
 use Rattle.rsp_written.specs.Trees.{no_operand, operand_then, Way, Ways, inverse, no_way, way_then, Verb, Node, Nodes}
 use Rattle.rsp_written.specs.Trees.{Properties, no_node, node_then, no_property, property_then, Element, Elements, Groups}
-use Rattle.rsp_written.specs.Trees.{no_element, element_then, no_group, group_then, triples, Item, Projection, sub_select}
-use Rattle.rsp_written.specs.Trees.{selected, Window, Written}
+use Rattle.rsp_written.specs.Trees.{no_element, element_then, no_group, group_then, triples, Item, shown, Projection, these}
+use Rattle.rsp_written.specs.Trees.{sub_select, Selected, selected, Window, Written}
 
 -- ---- literals
 
@@ -143,14 +149,43 @@ abbrev pub sub_select_of : (Option Said × Projection) × (Option Said × (List 
 sub_select_of v =
     sub_select (selected (is_some v.0.0) v.0.1 (elements_in v.1.1.0) (unwrap_or v.1.1.1.0 []) v.1.1.1.1) ∷ []
 
+-- ---- templates
+
+abbrev pub made_of : Part × (Part × Part) → Made
+made_of v = record { subject = v.0; predicate = v.1.0; object = v.1.1 }
+
+abbrev pub name_of : Part → Option (List ℕ)
+name_of (part.Variable name) = Some name
+name_of (part.Constant term) = None
+
+abbrev pub parts_of : Made → List Part
+parts_of made = made.subject ∷ made.predicate ∷ made.object ∷ []
+
+-- its names, each once, in the order of their first places
+abbrev pub names_in : List Made → List (List ℕ)
+names_in template = each_once bytes_eq (filter_map name_of (flat_map parts_of template))
+
 -- ---- the query
 
-abbrev pub written_of : (Operator × (List ℕ × Option PolicyWords))
-    × ((Option Said × Projection) × (List Window × (List Element × (Option (List Item) × Option Expr)))) → Written
+-- what stands behind AS: a template or none, windows, and a SELECT
+abbrev pub Asked : Type 0
+Asked = Option (List Made) × (List Window × Selected)
+
+abbrev pub shown_of : (Option Said × Projection) × (List Window × (List Element × (Option (List Item) × Option Expr))) → Asked
+shown_of v =
+    (None, (v.1.0, selected (is_some v.0.0) v.0.1 (elements_in v.1.1.0) (unwrap_or v.1.1.1.0 []) v.1.1.1.1))
+
+-- its SELECT shows the names of the template
+abbrev pub constructed_of : List Made × (List Window × List Element) → Asked
+constructed_of v =
+    (Some v.0, (v.1.0, selected false (these (map shown (names_in v.0))) (elements_in v.1.1) [] None))
+
+abbrev pub written_of : (Operator × (List ℕ × Option PolicyWords)) × Asked → Written
 written_of v = record {
   operator = v.0.0;
   output = v.0.1.0;
   policy = unwrap_or v.0.1.1 policies.Absent;
+  template = v.1.0;
   windows = v.1.1.0;
-  select = selected (is_some v.1.0.0) v.1.0.1 (elements_in v.1.1.1.0) (unwrap_or v.1.1.1.1.0 []) v.1.1.1.1.1;
+  select = v.1.1.1;
 }

@@ -1,8 +1,8 @@
 -- Definitions: the grammar of queries. Each rule has its line of the grammar, the production of SPARQL 1.1 Query
 -- (section 19.8) that it follows, and how this profile differs. A rule stands behind the rules that it names; read from
 -- the end the order is that of the grammar. Tokens are what they say: words in any case, IRIs absolute with prefixes
--- replaced, strings without escapes. What is left out of SPARQL: paths `*` `+` `?` `!`, collections, SERVICE, queries of
--- other forms, solution modifiers but grouping, and functions named by IRIs.
+-- replaced, strings without escapes. What is left out of SPARQL: paths `*` `+` `?` `!`, collections, SERVICE, ASK, DESCRIBE,
+-- labels and `;` and `,` in templates, solution modifiers but grouping, and functions named by IRIs.
 use Rattle.std.specs.Prelude.{Bool, ℕ, true, false, zero, suc, List, [], ◌∷◌, ◌++◌, ◌==◌, cond, find, flat_map, map, length}
 use Rattle.std.specs.Prelude.{Option, None, Some, is_some, unwrap_or, codes, nat_le}
 use Rattle.std.specs.Option.{option_or}
@@ -47,9 +47,12 @@ use Rattle.rsp_written.specs.Trees.{bind, values, Window, Written}
 use Rattle.rsp_written.specs.Building.{string_term, number_term, signed_term, boolean_term, alone_or, exprs_in, with_operands}
 use Rattle.rsp_written.specs.Building.{Relation, compared_to, one_of, related, with_sign, call_of, aggregate_of, flagged}
 use Rattle.rsp_written.specs.Building.{ways_in, turned, rdf_type, property_list, elements_in, groups_in, run, sub_select_of}
-use Rattle.rsp_written.specs.Building.{written_of}
+use Rattle.rsp_written.specs.Building.{made_of, Asked, shown_of, constructed_of, written_of}
 use Rattle.rsp_written.specs.declared.literals.Suffix.{Suffix}
 use Rattle.rsp_written.specs.declared.literals.Suffix.TheVariants.{InLanguage, OfDatatype}
+use Rattle.rsp_written.specs.declared.template.Made.{Made}
+use Rattle.rsp_written.specs.declared.template.Part.{Part}
+use Rattle.rsp_written.specs.declared.template.Part.TheVariants as part
 
 abbrev pub Rule : Type 0 → Type 1
 Rule A = Language Said A
@@ -473,6 +476,26 @@ group_rule inner = first_of_both (either (sub_select_rule inner) (body inner)) (
 abbrev pub group : Rule (List Element)
 group = group_of (within_itself group_rule)
 
+-- ---- templates
+
+-- Made ::= (Variable | Iri) (Variable | Iri | 'a') (Variable | Iri | Literal)                     [75] TriplesSameSubject
+-- (one triple alone, without labels and brackets)
+abbrev pub made_name : Rule Part
+made_name = either (mapped part.Variable variable_name) (mapped (λ name. part.Constant (term.Iri name)) iri_name)
+
+abbrev pub made_verb : Rule Part
+made_verb = either made_name (says (kind.Word keyword.A) (part.Constant (term.Iri rdf_type)))
+
+abbrev pub made_object : Rule Part
+made_object = either made_name (mapped part.Constant literal)
+
+abbrev pub made : Rule Made
+made = mapped made_of (both made_name (both made_verb made_object))
+
+-- Template ::= '{' (Made ('.' Made)* '.'?)? '}'                           [73] ConstructTemplate, [74] ConstructTriples
+abbrev pub template : Rule (List Made)
+template = in_braces (mapped (λ found. unwrap_or found []) (optional (dotted (sign symbol.Dot) made)))
+
 -- ---- the query
 
 -- the milliseconds of a span of time; 0 where there are too many
@@ -536,7 +559,6 @@ stream_operator =
     either (says (kind.Word keyword.Rstream) stream.Rstream)
     (either (says (kind.Word keyword.Istream) stream.Istream) (says (kind.Word keyword.Dstream) stream.Dstream))
 
--- Query ::= Prefix* 'REGISTER' Operator Iri Policy? 'AS' Select Window+ 'WHERE'? Group Tail           [7] SelectQuery
 abbrev pub registered : Rule (Operator × (List ℕ × Option PolicyWords))
 registered =
     second_of (word keyword.Register)
@@ -545,10 +567,21 @@ registered =
 abbrev pub windows : Rule (List Window)
 windows = mapped (λ (v : Window × List Window). v.0 ∷ v.1) (both window (many window))
 
+abbrev pub where_group : Rule (List Element)
+where_group = second_of (optional (word keyword.Where)) group
+
+-- Shown ::= Select Window+ 'WHERE'? Group Tail                                                         [7] SelectQuery
+abbrev pub shown_rule : Rule Asked
+shown_rule = mapped shown_of (both select_clause (both windows (both where_group tail)))
+
+-- Constructed ::= 'CONSTRUCT' Template Window+ 'WHERE'? Group                                      [10] ConstructQuery
+-- (nothing behind the group; no CONSTRUCT WHERE)
+abbrev pub constructed_rule : Rule Asked
+constructed_rule = mapped constructed_of (second_of (word keyword.Construct) (both template (both windows where_group)))
+
+-- Query ::= Prefix* 'REGISTER' Operator Iri Policy? 'AS' (Shown | Constructed)                               [2] Query
 abbrev pub query_body : Rule Written
-query_body =
-    mapped written_of (both registered (both select_clause (both windows
-    (both (second_of (optional (word keyword.Where)) group) tail))))
+query_body = mapped written_of (both registered (either shown_rule constructed_rule))
 
 -- Prefix ::= 'PREFIX' Prefixed-with-empty-local Iri-token                                               [6] PrefixDecl
 abbrev pub prefix_of_kind : Kind → Said → Option (List ℕ)

@@ -1,6 +1,7 @@
 -- Words of the way: what the code's trees of groups, selects and registrations say, between the calls that read them and those
 -- that number them.
-use Rattle.std.specs.Prelude.{map, Option, None, Some}
+use Rattle.std.specs.Prelude.{map, List, Option, None, Some}
+use Rattle.std.specs.Global.{Vec}
 use Rattle.rsp_written.specs.declared.expression.Expression.{Expression}
 use Rattle.rsp_written.specs.declared.group.Item.{Item}
 use Rattle.rsp_written.specs.declared.group.Item.TheVariants as item
@@ -14,6 +15,7 @@ use Rattle.rsp_written.specs.declared.group.Select.{Select}
 use Rattle.rsp_written.specs.declared.group.Element.TheOpen.{Element-F, Select-F}
 use Rattle.rsp_written.specs.declared.group.Element.TheOpen as layer
 use Rattle.rsp_written.specs.declared.group.Element.TheFolds.{fold-Element, fold-Select}
+use Rattle.rsp_written.specs.declared.template.Made.{Made}
 use Rattle.rsp_written.specs.declared.registration.Window.{Window}
 use Rattle.rsp_written.specs.declared.registration.Registration.{Registration}
 use Rattle.rsp_written.specs.Trees as trees
@@ -80,11 +82,16 @@ window_of window = record {
   origin = window.origin;
 }
 
+abbrev pub template_of : Option (Vec Made) → Option (List Made)
+template_of None = None
+template_of (Some template) = Some template.items
+
 abbrev pub written_of : Registration → Written
 written_of text = record {
   operator = text.operator;
   output = text.output;
   policy = text.policy;
+  template = template_of text.template;
   windows = map window_of text.windows.items;
   select = select_of text.select;
 }

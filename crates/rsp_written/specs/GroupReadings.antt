@@ -18,12 +18,12 @@ use Rattle.rsp_written.specs.declared.said.Said.{Said}
 use Rattle.rsp_written.specs.Trees.{Expr, Node, Properties, Item, shown, computed, Projection, every_name, these, Graph}
 use Rattle.rsp_written.specs.Trees.{graph_variable, graph_iri, Element, optional_group, minus_group, union_of, graph_group}
 use Rattle.rsp_written.specs.Trees.{window_group, filter, exists, bind, Window, Written}
-use Rattle.rsp_written.specs.Building.{elements_in, groups_in, run, sub_select_of, written_of}
+use Rattle.rsp_written.specs.Building.{elements_in, groups_in, run, sub_select_of, Asked, shown_of, constructed_of, written_of}
 use Rattle.rsp_written.specs.Grammar.{milliseconds, window_of, origin_of_kind, prefix_of_kind, resolved}
 use Rattle.rsp_written.specs.Readings.{one_read, word_read, sign_read, choice_read, maybe_read, repeated_read, says_read}
 use Rattle.rsp_written.specs.Readings.{separated_read, word_kinds, sign_kinds, in_parens_read, iri_read, variable_read}
 use Rattle.rsp_written.specs.Readings.{call_first, call_read, expression_read, aggregate_expression_read}
-use Rattle.rsp_written.specs.TripleReadings.{same_first, triples_read, block_read}
+use Rattle.rsp_written.specs.TripleReadings.{same_first, triples_read, block_read, template_read}
 
 abbrev pub group_of_read : Reader Said (List Element) → Reader Said (List Element)
 group_of_read s = second_read (sign_read symbol.OpenBrace) s
@@ -211,10 +211,23 @@ windows_read =
     mapped_read (λ (v : Window × List Window). v.0 ∷ v.1)
     (both_read window_read (repeated_read (word_kinds keyword.From) window_read))
 
+unfoldable pub where_group_read : Reader Said (List Element)
+where_group_read = second_read maybe_where_read group_read
+
+unfoldable pub shown_read : Reader Said Asked
+shown_read =
+    mapped_read shown_of (both_read select_clause_read (both_read windows_read (both_read where_group_read tail_read)))
+
+unfoldable pub constructed_read : Reader Said Asked
+constructed_read =
+    mapped_read constructed_of
+    (second_read (word_read keyword.Construct) (both_read template_read (both_read windows_read where_group_read)))
+
+unfoldable pub asked_read : Reader Said Asked
+asked_read = choice_read (word_kinds keyword.Select) shown_read constructed_read
+
 unfoldable pub query_body_read : Reader Said Written
-query_body_read =
-    mapped_read written_of (both_read registered_read (both_read select_clause_read (both_read windows_read
-    (both_read (second_read maybe_where_read group_read) tail_read))))
+query_body_read = mapped_read written_of (both_read registered_read asked_read)
 
 unfoldable pub prefix_read : Reader Said (List ℕ × List ℕ)
 prefix_read = second_read (word_read keyword.Prefix) (both_read (token_read (λ said. prefix_of_kind said.kind said)) iri_read)

@@ -110,6 +110,7 @@ place_of_keyword keyword.False = 42
 place_of_keyword keyword.In = 43
 place_of_keyword keyword.A = 44
 place_of_keyword keyword.Bound = 45
+place_of_keyword keyword.Construct = 79
 
 abbrev pub place_of_symbol : Symbol → ℕ
 place_of_symbol symbol.OpenBrace = 0

@@ -7,6 +7,7 @@ use Rattle.rsp_functions.specs.declared.aggregate.Kind.{Kind}
 use Rattle.rsp_report.specs.declared.operator.Operator.{Operator}
 use Rattle.rsp_report.specs.declared.words.PolicyWords.{PolicyWords}
 use Rattle.rsp_written.specs.declared.expression.UnaryOperator.{UnaryOperator}
+use Rattle.rsp_written.specs.declared.template.Made.{Made}
 
 -- ---- expressions
 
@@ -124,9 +125,11 @@ pub record Window : Type 0 where
   pub slide : Option ℕ
   pub origin : Option ℕ
 
+-- where there is a template, the SELECT shows its names
 pub record Written : Type 0 where
   pub operator : Operator
   pub output : List ℕ
   pub policy : PolicyWords
+  pub template : Option (List Made)
   pub windows : List Window
   pub select : Selected

@@ -13,7 +13,10 @@ use Rattle.rsp_written.specs.declared.said.Kind.TheVariants as kind
 use Rattle.rsp_written.specs.declared.said.Said.{Said}
 use Rattle.rsp_written.specs.Trees.{Way, step, sequence, choice, Verb, named, along, Node, variable_node, iri_node}
 use Rattle.rsp_written.specs.Trees.{constant_node, label_node, blank_node, described, Properties, no_property, Element, values}
-use Rattle.rsp_written.specs.Building.{alone_or, ways_in, turned, rdf_type, property_list}
+use Rattle.rsp_written.specs.Building.{alone_or, ways_in, turned, rdf_type, property_list, made_of}
+use Rattle.rsp_written.specs.declared.template.Made.{Made}
+use Rattle.rsp_written.specs.declared.template.Part.{Part}
+use Rattle.rsp_written.specs.declared.template.Part.TheVariants as part
 use Rattle.rsp_written.specs.Grammar.{kind_number, numbers, name_if_variable}
 use Rattle.rsp_written.specs.Readings.{one_read, word_read, sign_read, choice_read, maybe_read, repeated_read, says_read}
 use Rattle.rsp_written.specs.Readings.{separated_read, word_kinds, sign_kinds, in_parens_read, iri_read, variable_read}
@@ -171,3 +174,29 @@ many_columns_read =
 
 unfoldable pub block_read : Reader Said Element
 block_read = choice_read (kind.Variable ∷ []) one_column_read many_columns_read
+
+-- ---- templates
+
+abbrev pub made_first : List Kind
+made_first = kind.Variable ∷ kind.Iri ∷ []
+
+unfoldable pub made_name_read : Reader Said Part
+made_name_read =
+    choice_read (kind.Variable ∷ []) (mapped_read part.Variable variable_read)
+    (mapped_read (λ name. part.Constant (term.Iri name)) iri_read)
+
+unfoldable pub made_verb_read : Reader Said Part
+made_verb_read =
+    choice_read made_first made_name_read (says_read (kind.Word keyword.A) (part.Constant (term.Iri rdf_type)))
+
+unfoldable pub made_object_read : Reader Said Part
+made_object_read = choice_read made_first made_name_read (mapped_read part.Constant literal_read)
+
+unfoldable pub made_read : Reader Said Made
+made_read = mapped_read made_of (both_read made_name_read (both_read made_verb_read made_object_read))
+
+unfoldable pub all_made_read : Reader Said (List Made)
+all_made_read = dotted_read kind_number (numbers (sign_kinds symbol.Dot)) (numbers made_first) (sign_read symbol.Dot) made_read
+
+unfoldable pub template_read : Reader Said (List Made)
+template_read = in_braces_read (mapped_read (λ found. unwrap_or found []) (maybe_read made_first all_made_read))

@@ -15,6 +15,7 @@ mod path;
 mod reading;
 mod registration;
 mod said;
+mod template;
 
 pub use expression::{Expression, Operand, UnaryOperator};
 pub use group::{Element, GraphName, Item, Projection, Select, Values};
@@ -27,3 +28,4 @@ pub use reading::{
 pub use registration::{Registration, Window};
 pub use rsp_functions::Arity;
 pub use said::{Keyword, Kind, Said, Symbol};
+pub use template::{Made, Part};

@@ -1,5 +1,5 @@
 // Registrations as they are written.
-use crate::Select;
+use crate::{Made, Select};
 use rsp_report::{Operator, PolicyWords};
 use rsp_terms::Text;
 
@@ -25,6 +25,8 @@ pub struct Registration {
     pub output: Text,
     /// The period of an EVERY is in milliseconds; one of too many is 0.
     pub policy: PolicyWords,
+    /// What its rows are made into where it constructs; its SELECT then shows the names that stand in it.
+    pub template: Option<Vec<Made>>,
     pub windows: Vec<Window>,
     pub select: Select,
 }

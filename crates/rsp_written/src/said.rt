@@ -54,6 +54,7 @@ pub enum Keyword {
     In,
     A,
     Bound,
+    Construct,
 }
 
 /// A symbol of the grammar.
@@ -140,10 +141,10 @@ pub struct Said {
 }
 
 impl Keyword {
-    /// The keyword's place among them, from 0.
+    /// The keyword's place, from 0; the later ones stand behind those of the functions and the aggregates.
     pub fn place(self) -> u8
         ensures value { result ≡ numbers.place_of_keyword self }
-        ensures bound { result < 46 }
+        ensures bound { result < 80 }
     {
         match self {
             Keyword::Prefix => 0,
@@ -192,6 +193,7 @@ impl Keyword {
             Keyword::In => 43,
             Keyword::A => 44,
             Keyword::Bound => 45,
+            Keyword::Construct => 79,
         }
     }
 }
