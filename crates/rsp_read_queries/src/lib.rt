@@ -7,6 +7,7 @@
 
 mod elements;
 mod groups;
+mod names;
 mod queries;
 mod selects;
 

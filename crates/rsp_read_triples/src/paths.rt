@@ -21,7 +21,7 @@ use rsp_written::{
 };
 use std::alloc::{AllocError, Global};
 
-fn rdf_type(alloc: Global) -> Result<Text, AllocError>
+pub(crate) fn rdf_type(alloc: Global) -> Result<Text, AllocError>
     ensures { IfOk result (λ name. name ≡ rdf_type) }
 {
     Text::new(alloc, "http://www.w3.org/1999/02/22-rdf-syntax-ns#type")

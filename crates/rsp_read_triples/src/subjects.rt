@@ -80,7 +80,7 @@ pub fn begins_triples(tokens: &[Said]) -> bool
 }
 
 // a `.`, where one stands here, and the tokens behind it
-fn dot(tokens: &[Said]) -> Option<(&Said, &[Said])>
+pub(crate) fn dot(tokens: &[Said]) -> Option<(&Said, &[Said])>
     ensures there { is_some result ≡ starts kind_number (numbers (sign_kinds symbol.Dot)) tokens.now }
     ensures read { IfSome result (λ x. sign_read symbol.Dot tokens.now ≡ Ok (x.0.now, x.1.now)) }
 {
