@@ -7,7 +7,6 @@ use Rattle.rsp_query.specs.Groups.{Selection}
 use Rattle.rsp_written.specs.Trees.{Written}
 use Rattle.rsp_numbering.specs.Naming.{Before, nothing, variable_text}
 use Rattle.rsp_numbering.specs.SelectionSteps.{behind_selected, selected_of}
-use Rattle.rsp_numbering.specs.Clauses.{operator_of}
 use Rattle.rsp_numbering.specs.Counting.{passed_as_written, variables_of}
 use Rattle.rsp_numbering.specs.Operators.{select_operators}
 use Rattle.rsp_numbering.specs.Results.{limit_behind, query_behind}
@@ -17,12 +16,3 @@ pub limit_is : (w : Written) (variables signs : ℕ) (name : Option LimitName) �
     → signs ≡ select_operators w.select → name ≡ passed_as_written variables w.select signs → limit_behind w ≡ name
 limit_is w variables signs name count marks is =
     rw (is, count, marks) refl
-
-pub query_is : (w : Written) (policy : PolicyWords) (windows : List WindowClause) (operator : Operator) (output : List ℕ)
-    (made : Selection) (variables : List (List ℕ)) (before after : Before)
-    → before ≡ nothing → made ≡ selected_of [] before w.select → after ≡ behind_selected [] before w.select
-    → operator ≡ operator_of w.operator → output ≡ w.output → variables ≡ map variable_text after.variables
-    → record { operator = operator; output = output; policy = policy; windows = windows; selection = made; variables = variables }
-    ≡ query_behind w policy windows
-query_is w policy windows operator output made variables before after start chosen behind turn name texts =
-    rw (texts, turn, name, chosen, behind, start) refl

@@ -6,7 +6,7 @@ use Rattle.rsp_written.specs.Trees.{Expr, variable, iri, constant, any_of, all_o
 use Rattle.rsp_numbering.specs.Naming.{Scope, Before, behind}
 use Rattle.rsp_numbering.specs.Naming as naming
 use Rattle.rsp_numbering.specs.Numbered.{State}
-use Rattle.rsp_numbering.specs.Expressions.{expression, expressions, how_many, row, sign_of}
+use Rattle.rsp_numbering.specs.Expressions.{expression, expressions, how_many, row}
 use Rattle.rsp_numbering.specs.ExpressionSteps.{behind_expr, behind_exprs, behind_operands, from_left, numbered_expr, numbered_exprs, numbered_operands, with_aggregates, with_aggregates_of_all, with_aggregates_of_row}
 use Rattle.rsp_numbering.specs.Operators.{operators, operators_among, operators_behind}
 
@@ -97,5 +97,5 @@ mutual
   row_made at left no_operand state = again _ state _ _ (omega arith)
   row_made at left (operand_then s e others) state =
       rw (expression_made at e (more state 1))
-      (rw (row_made at (formula.arithmetic (sign_of s) left (numbered_expr at state.before e)) others (past_expr at (more state 1) e))
+      (rw (row_made at (formula.arithmetic s left (numbered_expr at state.before e)) others (past_expr at (more state 1) e))
       (again _ (past_row at (past_expr at state e) others) _ _ (omega arith)))

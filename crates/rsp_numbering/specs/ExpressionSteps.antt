@@ -12,7 +12,7 @@ use Rattle.rsp_written.specs.Trees.{bound, call, count_rows, aggregate, Exprs, n
 use Rattle.rsp_written.specs.Trees.{operand_then}
 use Rattle.rsp_numbering.specs.Naming.{Scope, Before, number, behind, named}
 use Rattle.rsp_numbering.specs.Naming as naming
-use Rattle.rsp_numbering.specs.Expressions.{sign_of, function_of, fold_of, signed_formula}
+use Rattle.rsp_numbering.specs.Expressions.{signed_formula}
 
 -- ---- what stands before the place behind an expression. An aggregate comes before its argument.
 
@@ -56,7 +56,7 @@ abbrev mutual
   numbered_expr at before (any_of parts) = formula.disjunction (formulas_in (numbered_exprs at before parts))
   numbered_expr at before (all_of parts) = formula.conjunction (formulas_in (numbered_exprs at before parts))
   numbered_expr at before (compared s left right) =
-      formula.comparison (sign_of s) (numbered_expr at before left) (numbered_expr at (behind_expr at before left) right)
+      formula.comparison s (numbered_expr at before left) (numbered_expr at (behind_expr at before left) right)
   numbered_expr at before (member negated item items) =
       formula.membership negated (numbered_expr at before item)
       (formulas_in (numbered_exprs at (behind_expr at before item) items))
@@ -66,7 +66,7 @@ abbrev mutual
       from_left (numbered_expr at before first) (numbered_operands at (behind_expr at before first) others)
   numbered_expr at before (signed s part) = signed_formula s (numbered_expr at before part)
   numbered_expr at before (bound x) = formula.bound (number before (named at x))
-  numbered_expr at before (call f arguments) = formula.call (function_of f) (formulas_in (numbered_exprs at before arguments))
+  numbered_expr at before (call f arguments) = formula.call f (formulas_in (numbered_exprs at before arguments))
   numbered_expr at before count_rows = formula.variable (number before (naming.aggregate before))
   numbered_expr at before (aggregate k distinct argument) = formula.variable (number before (naming.aggregate before))
 
@@ -78,7 +78,7 @@ abbrev mutual
   pub numbered_operands : List Scope → Before → Operands → List (Sign × Formula)
   numbered_operands at before no_operand = []
   numbered_operands at before (operand_then s e more) =
-      (sign_of s, numbered_expr at before e) ∷ numbered_operands at (behind_expr at before e) more
+      (s, numbered_expr at before e) ∷ numbered_operands at (behind_expr at before e) more
 
 -- ---- the aggregates so far, and behind them those of an expression, each with its variable
 
@@ -108,7 +108,7 @@ abbrev mutual
   with_aggregates at before those (aggregate k distinct argument) =
       those
       ++ (
-      numbered_aggregate (number before (naming.aggregate before)) (fold_of k) distinct
+      numbered_aggregate (number before (naming.aggregate before)) k distinct
       (Some (numbered_expr at (behind before (naming.aggregate before)) argument))
       ∷ []
       )

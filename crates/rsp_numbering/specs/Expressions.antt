@@ -4,16 +4,10 @@ use Rattle.std.specs.Prelude.{ℕ, suc, ◌-◌, Bool, false, List, Option, None
 use Rattle.rsp_terms.specs.declared.term.Term.TheVariants as term
 use Rattle.rsp_expr.specs.Formulas.{Formula, Formulas, no_formula, formula_then}
 use Rattle.rsp_expr.specs.Formulas as formula
-use Rattle.rsp_functions.specs.declared.function.Sign.{Sign}
-use Rattle.rsp_functions.specs.declared.function.Sign.TheVariants as sign
-use Rattle.rsp_functions.specs.declared.function.Function.{Function}
-use Rattle.rsp_functions.specs.declared.function.Function.TheVariants as function
 use Rattle.rsp_functions.specs.declared.aggregate.Kind.{Kind}
 use Rattle.rsp_functions.specs.declared.aggregate.Kind.TheVariants as fold
-use Rattle.rsp_written.specs.declared.said.Keyword.TheVariants as keyword
-use Rattle.rsp_written.specs.declared.said.Symbol.TheVariants as symbol
-use Rattle.rsp_written.specs.declared.said.Kind.TheVariants as kind
-use Rattle.rsp_written.specs.declared.said.Kind as token
+use Rattle.rsp_written.specs.declared.expression.UnaryOperator.{UnaryOperator}
+use Rattle.rsp_written.specs.declared.expression.UnaryOperator.TheVariants as operator
 use Rattle.rsp_written.specs.Trees.{Expr, variable, iri, constant, any_of, all_of, compared, member, sum, product, signed}
 use Rattle.rsp_written.specs.Trees.{bound, call, count_rows, aggregate, Exprs, no_expr, expr_then, Operands, no_operand}
 use Rattle.rsp_written.specs.Trees.{operand_then}
@@ -21,24 +15,10 @@ use Rattle.rsp_numbering.specs.Naming.{Scope}
 use Rattle.rsp_numbering.specs.Naming as naming
 use Rattle.rsp_numbering.specs.Numbered.{Numbered, give, ◌>>=◌, making, counting, numbered, numbered_name, apart, put_aggregate}
 
--- ---- the words and signs of the grammar; of a token that can't stand there, whichever
-
-abbrev pub sign_of : token.Kind → Sign
-sign_of (kind.Sign s) = s
-sign_of _ = sign.Equal
-
-abbrev pub function_of : token.Kind → Function
-function_of (kind.Call f) = f
-function_of _ = function.Str
-
-abbrev pub fold_of : token.Kind → Kind
-fold_of (kind.Fold k) = k
-fold_of _ = fold.Count
-
-abbrev pub signed_formula : token.Kind → Formula → Formula
-signed_formula (kind.Sign sign.Subtract) part = formula.opposite part
-signed_formula (kind.Sign sign.Add) part = formula.plus part
-signed_formula _ part = formula.negation part
+abbrev pub signed_formula : UnaryOperator → Formula → Formula
+signed_formula operator.Not part = formula.negation part
+signed_formula operator.Minus part = formula.opposite part
+signed_formula operator.Plus part = formula.plus part
 
 -- ---- expressions
 
@@ -60,16 +40,16 @@ abbrev mutual
   expression at (any_of parts) = counting (how_many parts - 1) (making formula.disjunction (expressions at parts))
   expression at (all_of parts) = counting (how_many parts - 1) (making formula.conjunction (expressions at parts))
   expression at (compared s left right) =
-      counting 1 (expression at left >>= λ first. making (formula.comparison (sign_of s) first) (expression at right))
+      counting 1 (expression at left >>= λ first. making (formula.comparison s first) (expression at right))
   expression at (member negated item items) =
       counting 1 (expression at item >>= λ first. making (formula.membership negated first) (expressions at items))
   expression at (sum first others) = expression at first >>= λ left. row at left others
   expression at (product first others) = expression at first >>= λ left. row at left others
   expression at (signed s part) = counting 1 (making (signed_formula s) (expression at part))
   expression at (bound x) = counting 1 (making formula.bound (numbered_name at x))
-  expression at (call f arguments) = counting 1 (making (formula.call (function_of f)) (expressions at arguments))
+  expression at (call f arguments) = counting 1 (making (formula.call f) (expressions at arguments))
   expression at count_rows = folded fold.Count false (give None)
-  expression at (aggregate k distinct argument) = folded (fold_of k) distinct (making Some (expression at argument))
+  expression at (aggregate k distinct argument) = folded k distinct (making Some (expression at argument))
 
   pub expressions : List Scope → Exprs → Numbered Formulas
   expressions at no_expr = give no_formula
@@ -79,4 +59,4 @@ abbrev mutual
   pub row : List Scope → Formula → Operands → Numbered Formula
   row at left no_operand = give left
   row at left (operand_then s e more) =
-      counting 1 (expression at e) >>= λ right. row at (formula.arithmetic (sign_of s) left right) more
+      counting 1 (expression at e) >>= λ right. row at (formula.arithmetic s left right) more

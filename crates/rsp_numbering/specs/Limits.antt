@@ -8,9 +8,13 @@ use Rattle.rsp_query.specs.Paths as path
 use Rattle.rsp_query.specs.Groups as query
 use Rattle.rsp_query.specs.Groups.{Part, Parts, Selection}
 use Rattle.rsp_query.specs.Walks.{counted, slashes_in}
+use Rattle.rsp_report.specs.declared.words.Strategy.{Strategy}
+use Rattle.rsp_report.specs.declared.words.Strategy.TheVariants as strategy
+use Rattle.rsp_report.specs.declared.words.PolicyWords.{PolicyWords}
+use Rattle.rsp_report.specs.declared.words.PolicyWords.TheVariants as policy
 use Rattle.rsp_written.specs.Trees as written
 use Rattle.rsp_written.specs.Trees.{Written}
-use Rattle.rsp_numbering.specs.Clauses.{made_of, milliseconds}
+use Rattle.rsp_numbering.specs.Clauses.{made_of}
 use Rattle.rsp_numbering.specs.declared.limit.LimitName.{LimitName}
 use Rattle.rsp_numbering.specs.declared.limit.LimitName.TheVariants as limit
 
@@ -43,24 +47,19 @@ own_rows _ = 0
 -- ---- spans and instants
 
 -- a span from 1 ms to the last instant
-abbrev pub is_span : List ℕ → Bool
-is_span text = nat_lt 0 (milliseconds text)
+abbrev pub is_span : ℕ → Bool
+is_span ms = nat_lt 0 ms && nat_le ms last_instant
 
-abbrev pub is_span_or_none : Option (List ℕ) → Bool
-is_span_or_none None = true
-is_span_or_none (Some text) = is_span text
-
--- the grammar has no START past the last instant
 abbrev pub is_within : written.Window → Bool
-is_within w = is_span w.range && (is_span_or_none w.slide && nat_le (unwrap_or w.origin 0) last_instant)
+is_within w = is_span w.range && (is_span (unwrap_or w.slide 1) && nat_le (unwrap_or w.origin 0) last_instant)
 
-abbrev pub is_periodic : written.Strategy → Bool
-is_periodic s = is_span_or_none s.period
+abbrev pub is_periodic : Strategy → Bool
+is_periodic (strategy.Every period) = is_span period
+is_periodic _ = true
 
-abbrev pub has_periods : written.Policy → Bool
-has_periods written.no_policy = true
-has_periods (written.profile name) = true
-has_periods (written.reporting strategies tick) = list_all is_periodic strategies
+abbrev pub has_periods : PolicyWords → Bool
+has_periods (policy.Listed strategies tuple) = list_all is_periodic strategies
+has_periods _ = true
 
 abbrev pub has_spans : Written → Bool
 has_spans w = has_periods w.policy && list_all is_within w.windows

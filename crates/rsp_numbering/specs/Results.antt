@@ -10,7 +10,7 @@ use Rattle.rsp_query.specs.Meanings.{registered}
 use Rattle.rsp_written.specs.Trees.{Written}
 use Rattle.rsp_numbering.specs.Naming.{nothing, variable_text}
 use Rattle.rsp_numbering.specs.SelectionSteps.{behind_selected, selected_of}
-use Rattle.rsp_numbering.specs.Clauses.{clause_of, operator_of, policy_of, query_of}
+use Rattle.rsp_numbering.specs.Clauses.{clause_of, query_of}
 use Rattle.rsp_numbering.specs.Counting.{passed_as_written, variables_of}
 use Rattle.rsp_numbering.specs.Limits.{has_spans, limit_of, over}
 use Rattle.rsp_numbering.specs.Operators.{select_operators}
@@ -28,7 +28,7 @@ limit_behind w = passed_as_written (variables_of w.select) w.select (select_oper
 
 abbrev pub query_behind : Written → PolicyWords → List WindowClause → Registered
 query_behind w policy windows = record {
-  operator = operator_of w.operator;
+  operator = w.operator;
   output = w.output;
   policy = policy;
   windows = windows;
@@ -45,7 +45,7 @@ abbrev pub limit_by : Written → Option LimitName
 limit_by w = over most_windows (length w.windows) limit.Windows (cond (has_spans w) (limit_behind w) (Some limit.Span))
 
 abbrev pub query_by : Written → Registered
-query_by w = query_behind w (policy_of w.policy) (map (clause_of (policy_of w.policy)) w.windows)
+query_by w = query_behind w w.policy (map (clause_of w.policy) w.windows)
 
 abbrev pub IsNumberedBy : Written → Result Query LimitName → Type 0
 IsNumberedBy w (Ok query) = (limit_by w ≡ None) × (registered query ≡ query_by w)

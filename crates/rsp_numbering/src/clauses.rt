@@ -1,107 +1,19 @@
-// What stands before the group of a query: stream operator, policy and windows.
-ghost use Rattle.std.specs.Prelude.{◌≡◌, IfOk, MatchOption, false, true, map};
+// The windows of a query, and the limits of its spans.
+ghost use Rattle.std.specs.Prelude.{◌≡◌, IfOk, MatchOption, false, map, true, unwrap_or};
 ghost use Rattle.std.specs.List.{list_all};
 ghost use Rattle.rsp_written.specs.GroupMeanings as written;
 ghost use Rattle.rsp_numbering.specs.Clauses as numbered;
 ghost use Rattle.rsp_numbering.specs.Limits as limits;
 
-use rsp_query::{Operator, PolicyWords, Strategy, Window, WindowClause};
+use rsp_query::{PolicyWords, Strategy, Window, WindowClause};
 use rsp_spec::limits::LAST_INSTANT;
-use rsp_terms::{Listed, Text};
-use rsp_text::span;
-use rsp_written::{Keyword, Kind, Policy};
 use std::alloc::{AllocError, Global};
 
-fn milliseconds(text: &Text) -> u64
-    ensures { result ≡ numbered.milliseconds text.now }
-{
-    span(text.as_str().as_bytes()).unwrap_or(0)
-}
-
-pub(crate) fn operator_of(kind: Kind) -> Operator
-    ensures { result ≡ numbered.operator_of kind }
-{
-    match kind {
-        Kind::Word(Keyword::Istream) => Operator::Istream,
-        Kind::Word(Keyword::Dstream) => Operator::Dstream,
-        _ => Operator::Rstream,
-    }
-}
-
-// ---- policies
-
-fn period_of(period: &Option<Text>) -> u64
-    ensures { result ≡ numbered.period_of period.now }
-{
-    match period {
-        None => 0,
-        Some(text) => milliseconds(text),
-    }
-}
-
-fn strategy_of(strategy: &rsp_written::Strategy) -> Strategy
-    ensures { result ≡ numbered.strategy_of (written.strategy_of strategy.now) }
-{
-    let period = period_of(&strategy.period);
-    match strategy.kind {
-        Kind::Word(Keyword::Change) => Strategy::Change,
-        Kind::Word(Keyword::NonEmpty) => Strategy::NonEmpty,
-        Kind::Word(Keyword::Every) => Strategy::Every(period),
-        _ => Strategy::Close,
-    }
-}
-
-fn strategies_of(
-    alloc: Global,
-    strategies: &[rsp_written::Strategy],
-) -> Result<Listed<Strategy>, AllocError>
-    ensures { IfOk result (λ made. made ≡ map numbered.strategy_of (map written.strategy_of strategies.now)) }
-{
-    let mut made = Listed::new(alloc);
-    for strategy in strategies {
-        made.push(strategy_of(strategy))?;
-    }
-    Ok(made)
-}
-
-fn is_tuple(kind: Kind) -> bool
-    ensures { result ≡ numbered.is_tuple kind }
-{
-    match kind {
-        Kind::Word(Keyword::Tuple) => true,
-        _ => false,
-    }
-}
-
-fn profile_of(kind: Kind) -> PolicyWords
-    ensures { result ≡ numbered.profile_of kind }
-{
-    match kind {
-        Kind::Word(Keyword::Cqels) => PolicyWords::Cqels,
-        _ => PolicyWords::Csparql,
-    }
-}
-
-pub(crate) fn policy_of(alloc: Global, policy: &Option<Policy>) -> Result<PolicyWords, AllocError>
-    ensures { IfOk result (λ words. words ≡ numbered.policy_of (written.maybe_policy policy.now)) }
-{
-    match policy {
-        None => Ok(PolicyWords::Absent),
-        Some(Policy::Profile(kind)) => Ok(profile_of(*kind)),
-        Some(Policy::Reporting { strategies, tick }) => Ok(PolicyWords::Listed {
-            strategies: strategies_of(alloc, strategies)?,
-            tuple: is_tuple(*tick),
-        }),
-    }
-}
-
-// ---- windows
-
-fn slide_of(words: &PolicyWords, width: u64, slide: &Option<Text>) -> u64
-    ensures { result ≡ numbered.slide_of words.now width slide.now }
+fn slide_of(words: &PolicyWords, width: u64, slide: Option<u64>) -> u64
+    ensures { result ≡ unwrap_or slide (numbered.default_slide words.now width) }
 {
     match slide {
-        Some(text) => milliseconds(text),
+        Some(slide) => slide,
         None => default_slide(words, width),
     }
 }
@@ -123,9 +35,8 @@ fn shape_of(words: &PolicyWords, window: &rsp_written::Window) -> Option<Window>
     if !is_within(window) {
         return None;
     }
-    let width = milliseconds(&window.range);
-    let slide = slide_of(words, width, &window.slide);
-    match Window::new(width, slide, window.origin.unwrap_or(0)) {
+    let slide = slide_of(words, window.range, window.slide);
+    match Window::new(window.range, slide, window.origin.unwrap_or(0)) {
         None => unreachable!(),
         Some(shape) => Some(shape),
     }
@@ -158,48 +69,48 @@ pub(crate) fn windows_of(
 
 // ---- limits
 
-fn is_span(text: &Text) -> bool
-    ensures { result ≡ limits.is_span text.now }
+fn is_span(ms: u64) -> bool
+    ensures { result ≡ limits.is_span ms }
 {
-    0 < milliseconds(text)
-}
-
-fn is_span_or_none(text: &Option<Text>) -> bool
-    ensures { result ≡ limits.is_span_or_none text.now }
-{
-    match text {
-        None => true,
-        Some(text) => is_span(text),
-    }
+    0 < ms && ms <= LAST_INSTANT
 }
 
 fn is_within(window: &rsp_written::Window) -> bool
     ensures { result ≡ limits.is_within (written.window_of window.now) }
 {
-    if !is_span(&window.range) {
+    if !is_span(window.range) {
         return false;
     }
-    if !is_span_or_none(&window.slide) {
+    if !is_span(window.slide.unwrap_or(1)) {
         return false;
     }
     window.origin.unwrap_or(0) <= LAST_INSTANT
 }
 
 /// Whether each period of a policy is within the limits.
-pub(crate) fn has_periods(policy: &Option<Policy>) -> bool
-    ensures { result ≡ limits.has_periods (written.maybe_policy policy.now) }
+pub(crate) fn has_periods(policy: &PolicyWords) -> bool
+    ensures { result ≡ limits.has_periods policy.now }
 {
     match policy {
-        Some(Policy::Reporting { strategies, .. }) => are_periodic(strategies),
+        PolicyWords::Listed { strategies, .. } => are_periodic(strategies.as_slice()),
         _ => true,
     }
 }
 
-fn are_periodic(strategies: &[rsp_written::Strategy]) -> bool
-    ensures { result ≡ list_all limits.is_periodic (map written.strategy_of strategies.now) }
+fn is_periodic(strategy: Strategy) -> bool
+    ensures { result ≡ limits.is_periodic strategy }
+{
+    match strategy {
+        Strategy::Every(period) => is_span(period),
+        _ => true,
+    }
+}
+
+fn are_periodic(strategies: &[Strategy]) -> bool
+    ensures { result ≡ list_all limits.is_periodic strategies.now }
 {
     for strategy in strategies {
-        if !is_span_or_none(&strategy.period) {
+        if !is_periodic(*strategy) {
             return false;
         }
     }

@@ -12,10 +12,9 @@ ghost use Rattle.rsp_numbering.specs.Seeing.{aggregations_of, scopes_of, signed_
 
 use crate::Before;
 use crate::scopes::{Scope, number_of};
-use crate::words::{fold_of, function_of, sign_of};
-use rsp_expr::{Aggregate, Expression, Kind as Fold, Sign};
+use rsp_expr::{Aggregate, Expression, Function, Kind as Fold, Sign};
 use rsp_terms::Term;
-use rsp_written::{Expression as Written, Kind, Operand, Symbol};
+use rsp_written::{Expression as Written, Operand, UnaryOperator};
 use std::alloc::{AllocError, Global};
 
 /// The expression with numbers in place of names; its aggregates are put behind those that are there. Fails only where
@@ -61,7 +60,9 @@ pub(crate) fn numbered(
             let first = numbered(alloc, at, before, aggregates, first)?;
             row(alloc, at, before, aggregates, rest, first)
         }
-        Written::Signed { sign, part } => prefixed(alloc, at, before, aggregates, *sign, part),
+        Written::Signed { operator, part } => {
+            prefixed(alloc, at, before, aggregates, *operator, part)
+        }
         Written::Bound(name) => Ok(Expression::Bound(number_of(at, before, name)?)),
         Written::Call {
             function,
@@ -84,18 +85,17 @@ fn compared(
     before: &mut Before,
     aggregates: &mut Vec<(usize, Aggregate)>,
     right: &Written,
-    sign: Kind,
+    sign: Sign,
     left: Box<Expression>,
 ) -> Result<Expression, AllocError>
     ensures formula { IfOk result (λ e. formula_of e
-        ≡ comparison (defined.sign_of sign) (formula_of left.value)
+        ≡ comparison sign (formula_of left.value)
         (numbered.numbered_expr (scopes_of at.now) before.old (expr_of right.now))) }
     ensures behind { OnOk result (before.new ≡ numbered.behind_expr (scopes_of at.now) before.old (expr_of right.now)) }
     ensures aggregates { OnOk result (aggregations_of aggregates.new.items
         ≡ numbered.with_aggregates (scopes_of at.now) before.old (aggregations_of aggregates.old.items) (expr_of right.now)) }
 {
     let right = boxed(alloc, at, before, aggregates, right)?;
-    let sign = sign_of(sign);
     Ok(Expression::Compare { sign, left, right })
 }
 
@@ -157,17 +157,17 @@ fn prefixed(
     at: &[Scope],
     before: &mut Before,
     aggregates: &mut Vec<(usize, Aggregate)>,
-    sign: Kind,
+    operator: UnaryOperator,
     part: &Written,
 ) -> Result<Expression, AllocError>
     ensures formula { IfOk result (λ e. formula_of e
-        ≡ defined.signed_formula sign (numbered.numbered_expr (scopes_of at.now) before.old (expr_of part.now))) }
+        ≡ defined.signed_formula operator (numbered.numbered_expr (scopes_of at.now) before.old (expr_of part.now))) }
     ensures behind { OnOk result (before.new ≡ numbered.behind_expr (scopes_of at.now) before.old (expr_of part.now)) }
     ensures aggregates { OnOk result (aggregations_of aggregates.new.items
         ≡ numbered.with_aggregates (scopes_of at.now) before.old (aggregations_of aggregates.old.items) (expr_of part.now)) }
 {
     let part = boxed(alloc, at, before, aggregates, part)?;
-    Ok(signed(sign, part))
+    Ok(signed(operator, part))
 }
 
 #[cycle(numbering)]
@@ -176,11 +176,11 @@ fn called(
     at: &[Scope],
     before: &mut Before,
     aggregates: &mut Vec<(usize, Aggregate)>,
-    function: Kind,
+    function: Function,
     arguments: &[Written],
 ) -> Result<Expression, AllocError>
     ensures formula { IfOk result (λ e. formula_of e
-        ≡ call (defined.function_of function)
+        ≡ call function
         (formulas_in (numbered.numbered_exprs (scopes_of at.now) before.old (exprs_in (map expr_of arguments.now))))) }
     ensures behind { OnOk result (before.new
         ≡ numbered.behind_exprs (scopes_of at.now) before.old (exprs_in (map expr_of arguments.now))) }
@@ -188,7 +188,6 @@ fn called(
         ≡ numbered.with_aggregates_of_all (scopes_of at.now) before.old (aggregations_of aggregates.old.items)
         (exprs_in (map expr_of arguments.now))) }
 {
-    let function = function_of(function);
     let arguments = all(alloc, at, before, aggregates, arguments)?;
     Ok(Expression::Call {
         function,
@@ -203,7 +202,7 @@ fn aggregated(
     at: &[Scope],
     before: &mut Before,
     aggregates: &mut Vec<(usize, Aggregate)>,
-    kind: Kind,
+    kind: Fold,
     distinct: bool,
     argument: &Written,
 ) -> Result<Expression, AllocError>
@@ -218,7 +217,7 @@ fn aggregated(
     let number = before.aggregate()?;
     let mut within = Vec::new(alloc);
     let argument = numbered(alloc, at, before, &mut within, argument)?;
-    put_aggregate(aggregates, number, fold_of(kind), distinct, Some(argument))?;
+    put_aggregate(aggregates, number, kind, distinct, Some(argument))?;
     Ok(Expression::Variable(number))
 }
 
@@ -299,7 +298,7 @@ fn operands(
     let mut made = Vec::new(alloc);
     for operand in written {
         let part = numbered(alloc, at, before, aggregates, &operand.part)?;
-        made.push((sign_of(operand.sign), part))?;
+        made.push((operand.sign, part))?;
     }
     Ok(made)
 }
@@ -332,13 +331,13 @@ fn joined(
     Ok(Expression::Arithmetic { sign, left, right })
 }
 
-fn signed(sign: Kind, part: Box<Expression>) -> Expression
-    ensures { formula_of result ≡ defined.signed_formula sign (formula_of part.value) }
+fn signed(operator: UnaryOperator, part: Box<Expression>) -> Expression
+    ensures { formula_of result ≡ defined.signed_formula operator (formula_of part.value) }
 {
-    match sign {
-        Kind::Sign(Sign::Subtract) => Expression::Negate(part),
-        Kind::Sign(Sign::Add) => Expression::Plus(part),
-        _ => Expression::Not(part),
+    match operator {
+        UnaryOperator::Not => Expression::Not(part),
+        UnaryOperator::Minus => Expression::Negate(part),
+        UnaryOperator::Plus => Expression::Plus(part),
     }
 }
 

@@ -21,7 +21,6 @@ mod query;
 mod scopes;
 mod triples;
 mod variable;
-mod words;
 
 pub use before::Before;
 pub use limit::LimitName;

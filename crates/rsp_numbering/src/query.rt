@@ -7,7 +7,7 @@ ghost use Rattle.rsp_numbering.specs.Naming.{nothing, variable_text};
 ghost use Rattle.rsp_numbering.specs.Results.{IsNumbered, IsNumberedBehind, IsNumberedBy, query_behind};
 ghost use Rattle.rsp_numbering.specs.SelectionSteps.{behind_selected, selected_of};
 
-use crate::clauses::{has_periods, operator_of, policy_of, windows_of};
+use crate::clauses::{has_periods, windows_of};
 use crate::counts::{Count, in_select};
 use crate::groups::select;
 use crate::names::variables_of;
@@ -40,7 +40,7 @@ fn query_or_limit(
     if !has_periods(&text.policy) {
         return Ok(Err(LimitName::Span));
     }
-    let policy = policy_of(alloc, &text.policy)?;
+    let policy = text.policy.share(alloc)?;
     match windows_of(alloc, &policy, &text.windows)? {
         None => Ok(Err(LimitName::Span)),
         Some(windows) => query_behind_windows(alloc, text, policy, windows),
@@ -74,7 +74,7 @@ fn numbered(
 {
     let (output, select, variables) = named(alloc, text)?;
     Ok(Query {
-        operator: operator_of(text.operator),
+        operator: text.operator,
         output,
         policy,
         windows,

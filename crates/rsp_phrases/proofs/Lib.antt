@@ -12,5 +12,4 @@ pub mod Loops
 pub mod Gathering
 pub mod Dots
 pub mod LoopSteps
-pub mod Mapping
 pub mod Agreeing

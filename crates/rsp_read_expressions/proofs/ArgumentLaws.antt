@@ -3,17 +3,14 @@ use Rattle.std.proofs.Common.{◌≡◌, ◌<◌, arith, true≢false, ℕ, zero
 use Rattle.std.proofs.lemmas.Bool.{lt-ltb, ltb-true, ltb_from_iff}
 use Rattle.rsp_phrases.specs.Languages.{listed}
 use Rattle.rsp_phrases.specs.Readers.{Reading, Reader, starts, start, image, mapped_read, both_read, first_read, tied_from, beside, before, at_most_read, closed_read}
-use Rattle.rsp_phrases.proofs.Mapping.{at_most_mapped}
-use Rattle.rsp_written.specs.declared.said.Kind.{Kind}
 use Rattle.rsp_written.specs.declared.said.Said.{Said}
 use Rattle.rsp_written.specs.declared.said.Symbol.TheVariants as symbol
 use Rattle.rsp_functions.specs.declared.function.Arity.{Arity}
 use Rattle.rsp_functions.specs.declared.function.Arity.TheVariants as arity
 use Rattle.rsp_written.specs.Trees.{Expr}
-use Rattle.rsp_written.specs.Building.{parts_of, signed_part}
 use Rattle.rsp_written.specs.Grammar.{kind_number, numbers, maybe_third}
 use Rattle.rsp_written.specs.Readings.{sign_read, sign_kinds, maybe_read, in_parens_read, another_read, items_read, expressions_read, arguments_read}
-use Rattle.rsp_read_expressions.specs.Levels.{operand_read, operands_at_most}
+use Rattle.rsp_read_expressions.specs.Levels.{parts_at_most}
 use Rattle.rsp_read_expressions.specs.Lists.{needed_of, most_of, checked, list_from, list_read, closed_list_read, bracketed_list_read}
 use Rattle.rsp_read_expressions.specs.declared.level.Parts.TheVariants.{Arguments}
 
@@ -54,24 +51,11 @@ module _ (ks : List ℕ) (x s : Reader Said Expr) where
   commas : List Said → Bool
   commas ts = starts kind_number (numbers (sign_kinds symbol.Comma)) ts
 
-  behind_sign : (b : Reading Said (Said × Expr)) → image (λ (v : Said × Expr). v.1) b ≡ image (λ (o : Kind × Expr). o.1) (image signed_part b)
-  behind_sign (Ok z) = refl
-  behind_sign (Err left) = refl
-
-  another_is : (ts : List Said) → another_read s ts ≡ image (λ (o : Kind × Expr). o.1) (operand_read Arguments ks x s ts)
-  another_is ts = behind_sign (both_read (sign_read symbol.Comma) s ts)
-
-  more_is : (n : ℕ) (ts : List Said) → more n ts ≡ image parts_of (operands_at_most Arguments n ks x s ts)
-  unfolding more
-  more_is n ts =
-      at_most_mapped kind_number (numbers (sign_kinds symbol.Comma)) (operand_read Arguments ks x s) (another_read s) (λ (o : Kind × Expr). o.1) parts_of
-      refl (λ o os. refl) another_is n ts
-
-  checked_is : (n : ℕ) (first : Expr) (c : Reading Said (List (Kind × Expr))) → checked n first c ≡ before first (filled n (image parts_of c))
+  checked_is : (n : ℕ) (first : Expr) (c : Reading Said (List Expr)) → checked n first c ≡ before first (filled n c)
   unfolding filled
   checked_is n first (Ok z) =
-      ap (λ b. cond b (Ok (first ∷ parts_of z.0, z.1)) (Err (length z.1))) (reaches_is n first (parts_of z.0))
-      ∙ put_before first (parts_of z.0) z.1 (reaches n (parts_of z.0))
+      ap (λ b. cond b (Ok (first ∷ z.0, z.1)) (Err (length z.1))) (reaches_is n first z.0)
+      ∙ put_before first z.0 z.1 (reaches n z.0)
   checked_is n first (Err left) = refl
 
   from_first : Arity → Reading Said Expr → Reading Said (List Expr)
@@ -79,10 +63,8 @@ module _ (ks : List ℕ) (x s : Reader Said Expr) where
   from_first a (Err left) = Err left
 
   list_is : (a : Arity) (c : Reading Said Expr) → from_first a c ≡ list_from a ks x s c
-  unfolding from_first
-  list_is a (Ok v) =
-      ap (λ r. before v.0 (filled (needed_of a) r)) (more_is (most_of a (length v.1)) v.1)
-      ∙ sym (checked_is (needed_of a) v.0 (operands_at_most Arguments (most_of a (length v.1)) ks x s v.1))
+  unfolding from_first more
+  list_is a (Ok v) = sym (checked_is (needed_of a) v.0 (parts_at_most Arguments (most_of a (length v.1)) ks x s v.1))
   list_is a (Err left) = refl
 
   -- ---- one more that is needed

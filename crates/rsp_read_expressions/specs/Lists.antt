@@ -3,14 +3,12 @@ use Rattle.std.specs.Prelude.{ℕ, Bool, true, false, ◌&&◌, List, [], ◌∷
 use Rattle.rsp_phrases.specs.Readers.{Reader, Reading, starts, mapped_read, second_read, first_read}
 use Rattle.rsp_functions.specs.declared.function.Arity.{Arity}
 use Rattle.rsp_functions.specs.declared.function.Arity.TheVariants as arity
-use Rattle.rsp_written.specs.declared.said.Kind.{Kind}
 use Rattle.rsp_written.specs.declared.said.Said.{Said}
 use Rattle.rsp_written.specs.declared.said.Symbol.TheVariants as symbol
 use Rattle.rsp_written.specs.Trees.{Expr}
-use Rattle.rsp_written.specs.Building.{parts_of}
 use Rattle.rsp_written.specs.Grammar.{kind_number, numbers}
 use Rattle.rsp_written.specs.Readings.{sign_read, sign_kinds}
-use Rattle.rsp_read_expressions.specs.Levels.{operands_at_most}
+use Rattle.rsp_read_expressions.specs.Levels.{parts_at_most}
 use Rattle.rsp_read_expressions.specs.declared.level.Parts.TheVariants.{Arguments}
 
 -- how many arguments must follow the first
@@ -37,12 +35,12 @@ is_any _ = false
 abbrev pub enough : ℕ → List Expr → List Said → Reading Said (List Expr)
 enough needed list rest = cond (nat_lt needed (length list)) (Ok (list, rest)) (Err (length rest))
 
-abbrev pub checked : ℕ → Expr → Reading Said (List (Kind × Expr)) → Reading Said (List Expr)
-checked needed first (Ok x) = enough needed (first ∷ parts_of x.0) x.1
+abbrev pub checked : ℕ → Expr → Reading Said (List Expr) → Reading Said (List Expr)
+checked needed first (Ok x) = enough needed (first ∷ x.0) x.1
 checked needed first (Err left) = Err left
 
 abbrev pub list_from : Arity → List ℕ → Reader Said Expr → Reader Said Expr → Reading Said Expr → Reading Said (List Expr)
-list_from a ks x s (Ok v) = checked (needed_of a) v.0 (operands_at_most Arguments (most_of a (length v.1)) ks x s v.1)
+list_from a ks x s (Ok v) = checked (needed_of a) v.0 (parts_at_most Arguments (most_of a (length v.1)) ks x s v.1)
 list_from a ks x s (Err left) = Err left
 
 -- the arguments without brackets

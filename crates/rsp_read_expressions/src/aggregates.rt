@@ -44,12 +44,7 @@ fn counted(alloc: Global, tokens: &[Said]) -> Result<(Expression, &[Said]), Halt
         let (aggregated, rest) = argument(alloc, tokens)?;
         let Aggregated { distinct, argument } = aggregated;
         Ok((
-            aggregate_of(
-                alloc,
-                Kind::Fold(Fold::Count),
-                distinct,
-                argument,
-            )?,
+            aggregate_of(alloc, Fold::Count, distinct, argument)?,
             rest,
         ))
     }
@@ -66,12 +61,7 @@ fn count(alloc: Global, tokens: &[Said]) -> Result<(Expression, &[Said]), Halt>
     Ok((count, rest))
 }
 
-const FOLDS: [Kind; 4] = [
-    Kind::Fold(Fold::Sum),
-    Kind::Fold(Fold::Avg),
-    Kind::Fold(Fold::Min),
-    Kind::Fold(Fold::Max),
-];
+const FOLDS: [Fold; 4] = [Fold::Sum, Fold::Avg, Fold::Min, Fold::Max];
 
 #[tactic(auto, unfolding(rsp_written::specs::Readings::aggregate_read))]
 fn aggregate(alloc: Global, tokens: &[Said]) -> Result<(Expression, &[Said]), Halt>
@@ -80,12 +70,12 @@ fn aggregate(alloc: Global, tokens: &[Said]) -> Result<(Expression, &[Said]), Ha
     if first_is(Kind::Fold(Fold::Count), tokens) {
         return count(alloc, tokens);
     }
-    let (name, rest) = one(&FOLDS, tokens)?;
+    let (kind, rest) = meaning(&FOLDS, tokens)?;
     let (_, rest) = sign(Symbol::OpenParen, rest)?;
     let (aggregated, rest) = argument(alloc, rest)?;
     let (_, rest) = sign(Symbol::CloseParen, rest)?;
     let Aggregated { distinct, argument } = aggregated;
-    Ok((aggregate_of(alloc, name.kind, distinct, argument)?, rest))
+    Ok((aggregate_of(alloc, kind, distinct, argument)?, rest))
 }
 
 /// Aggregates.

@@ -1,22 +1,24 @@
 // What is read without an expression within it.
 ghost use Rattle.std.specs.Prelude.{◌≡◌};
+ghost use Rattle.rsp_functions.specs.Functions.{functions};
 ghost use Rattle.rsp_phrases.specs.Readers.{starts};
 ghost use Rattle.rsp_read_expressions.specs.Leaves.{leaf_read, maybe_word_read};
 ghost use Rattle.rsp_read_expressions.specs.Lists as lists;
 ghost use Rattle.rsp_written.specs.Gives.{Gives};
-ghost use Rattle.rsp_written.specs.Grammar.{call_names, comparisons, kind_number, numbers, unary_signs};
+ghost use Rattle.rsp_written.specs.Grammar.{comparisons, kind_number, numbers};
 ghost use Rattle.rsp_written.specs.Meanings.{expr_of};
 ghost use Rattle.rsp_written.specs.Readings as readings;
+ghost use Rattle.rsp_written.specs.declared.said.Kind.TheVariants as kind;
 
 use rsp_functions::{Function, Sign};
 use rsp_written::{
-    Arity, Expression, Halt, Keyword, Kind, Said, Symbol, first_is, first_is_among, iri, one, sign,
-    unsigned_literal, variable, word,
+    Arity, Expression, Halt, Keyword, Kind, Said, Symbol, UnaryOperator, begins, first_is,
+    first_is_among, iri, meaning, one, sign, unsigned_literal, variable, word,
 };
 use std::alloc::Global;
 
 pub(crate) fn begins_unary(tokens: &[Said]) -> bool
-    ensures { result ≡ starts kind_number (numbers unary_signs) tokens.now }
+    ensures { result ≡ starts kind_number (numbers readings.unary_signs) tokens.now }
 {
     first_is_among(
         &[
@@ -28,38 +30,41 @@ pub(crate) fn begins_unary(tokens: &[Said]) -> bool
     )
 }
 
-pub(crate) fn unary_sign(tokens: &[Said]) -> Result<(&Said, &[Said]), Halt>
-    ensures { Gives (λ x. (x.0.now, x.1.now)) result (readings.one_read unary_signs tokens.now) }
+#[tactic(auto, unfolding(rsp_written::specs::Readings::unary_operator_read))]
+pub(crate) fn unary_operator(tokens: &[Said]) -> Result<(UnaryOperator, &[Said]), Halt>
+    ensures { Gives (λ x. (x.0, x.1.now)) result (readings.unary_operator_read tokens.now) }
 {
-    one(
-        &[
-            Kind::Symbol(Symbol::Not),
-            Kind::Sign(Sign::Subtract),
-            Kind::Sign(Sign::Add),
-        ],
-        tokens,
-    )
+    if first_is(Kind::Symbol(Symbol::Not), tokens) {
+        let (_, rest) = sign(Symbol::Not, tokens)?;
+        Ok((UnaryOperator::Not, rest))
+    } else if first_is(Kind::Sign(Sign::Subtract), tokens) {
+        let (_, rest) = one(&[Kind::Sign(Sign::Subtract)], tokens)?;
+        Ok((UnaryOperator::Minus, rest))
+    } else {
+        let (_, rest) = one(&[Kind::Sign(Sign::Add)], tokens)?;
+        Ok((UnaryOperator::Plus, rest))
+    }
 }
 
-const COMPARISONS: [Kind; 6] = [
-    Kind::Sign(Sign::Equal),
-    Kind::Sign(Sign::NotEqual),
-    Kind::Sign(Sign::Less),
-    Kind::Sign(Sign::Greater),
-    Kind::Sign(Sign::LessEqual),
-    Kind::Sign(Sign::GreaterEqual),
+const COMPARISONS: [Sign; 6] = [
+    Sign::Equal,
+    Sign::NotEqual,
+    Sign::Less,
+    Sign::Greater,
+    Sign::LessEqual,
+    Sign::GreaterEqual,
 ];
 
 pub(crate) fn compares(tokens: &[Said]) -> bool
-    ensures { result ≡ starts kind_number (numbers comparisons) tokens.now }
+    ensures { result ≡ starts kind_number (numbers readings.comparison_first) tokens.now }
 {
-    first_is_among(&COMPARISONS, tokens)
+    begins(&COMPARISONS, tokens)
 }
 
-pub(crate) fn comparison_sign(tokens: &[Said]) -> Result<(&Said, &[Said]), Halt>
-    ensures { Gives (λ x. (x.0.now, x.1.now)) result (readings.one_read comparisons tokens.now) }
+pub(crate) fn comparison_sign(tokens: &[Said]) -> Result<(Sign, &[Said]), Halt>
+    ensures { Gives (λ x. (x.0, x.1.now)) result (readings.meaning_read kind.Sign comparisons tokens.now) }
 {
-    one(&COMPARISONS, tokens)
+    meaning(&COMPARISONS, tokens)
 }
 
 /// Whether a comparison, IN or NOT IN is next.
@@ -81,47 +86,47 @@ pub fn maybe_word(keyword: Keyword, tokens: &[Said]) -> Result<(bool, &[Said]), 
     }
 }
 
-const CALL_NAMES: [Kind; 28] = [
-    Kind::Call(Function::If),
-    Kind::Call(Function::Coalesce),
-    Kind::Call(Function::SameTerm),
-    Kind::Call(Function::IsIri),
-    Kind::Call(Function::IsUri),
-    Kind::Call(Function::IsBlank),
-    Kind::Call(Function::IsLiteral),
-    Kind::Call(Function::IsNumeric),
-    Kind::Call(Function::Str),
-    Kind::Call(Function::Lang),
-    Kind::Call(Function::Datatype),
-    Kind::Call(Function::Iri),
-    Kind::Call(Function::Uri),
-    Kind::Call(Function::StrDt),
-    Kind::Call(Function::StrLang),
-    Kind::Call(Function::StrLen),
-    Kind::Call(Function::Substr),
-    Kind::Call(Function::Contains),
-    Kind::Call(Function::StrStarts),
-    Kind::Call(Function::StrEnds),
-    Kind::Call(Function::StrBefore),
-    Kind::Call(Function::StrAfter),
-    Kind::Call(Function::Concat),
-    Kind::Call(Function::LangMatches),
-    Kind::Call(Function::Abs),
-    Kind::Call(Function::Ceil),
-    Kind::Call(Function::Floor),
-    Kind::Call(Function::Round),
+const FUNCTIONS: [Function; 28] = [
+    Function::If,
+    Function::Coalesce,
+    Function::SameTerm,
+    Function::IsIri,
+    Function::IsUri,
+    Function::IsBlank,
+    Function::IsLiteral,
+    Function::IsNumeric,
+    Function::Str,
+    Function::Lang,
+    Function::Datatype,
+    Function::Iri,
+    Function::Uri,
+    Function::StrDt,
+    Function::StrLang,
+    Function::StrLen,
+    Function::Substr,
+    Function::Contains,
+    Function::StrStarts,
+    Function::StrEnds,
+    Function::StrBefore,
+    Function::StrAfter,
+    Function::Concat,
+    Function::LangMatches,
+    Function::Abs,
+    Function::Ceil,
+    Function::Floor,
+    Function::Round,
 ];
 
 pub fn begins_call(tokens: &[Said]) -> bool
     ensures { result ≡ starts kind_number (numbers readings.call_first) tokens.now }
 {
-    first_is(Kind::Word(Keyword::Bound), tokens) || first_is_among(&CALL_NAMES, tokens)
+    first_is(Kind::Word(Keyword::Bound), tokens) || begins(&FUNCTIONS, tokens)
 }
 
-pub(crate) fn call_name(tokens: &[Said]) -> Result<(&Said, &[Said]), Halt>
-    ensures { Gives (λ x. (x.0.now, x.1.now)) result (readings.one_read call_names tokens.now) }
+pub(crate) fn function(tokens: &[Said]) -> Result<(Function, &[Said]), Halt>
+    ensures { Gives (λ x. (x.0, x.1.now)) result (readings.meaning_read kind.Call functions tokens.now) }
 {
-    one(&CALL_NAMES, tokens)
+    meaning(&FUNCTIONS, tokens)
 }
 
 #[tactic(auto, unfolding(rsp_written::specs::Readings::bound_read))]

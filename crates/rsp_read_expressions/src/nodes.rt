@@ -1,18 +1,19 @@
 // Nodes of the tree as written, and lists of arguments.
 ghost use Rattle.std.specs.Prelude.{◌≡◌, IfOk, map, ◌++◌, ◌∷◌, []};
 ghost use Rattle.rsp_read_expressions.specs.Lists.{enough, most_of, needed_of};
-ghost use Rattle.rsp_written.specs.Building.{exprs_in, parts_of};
+ghost use Rattle.rsp_written.specs.Building.{exprs_in};
 ghost use Rattle.rsp_written.specs.Gives.{Gives};
 ghost use Rattle.rsp_written.specs.Meanings.{expr_of, operand_of};
 ghost use Rattle.rsp_written.specs.Trees.{aggregate, compared, member, signed};
 
-use crate::level::unsigned;
-use rsp_written::{Arity, Expression, Halt, Kind, Operand, Said};
+use crate::level::every;
+use rsp_functions::{Kind as Fold, Sign};
+use rsp_written::{Arity, Expression, Halt, Operand, Said, UnaryOperator};
 use std::alloc::{AllocError, Global};
 
 pub(crate) fn comparison(
     alloc: Global,
-    sign: Kind,
+    sign: Sign,
     left: Expression,
     right: Expression,
 ) -> Result<Expression, AllocError>
@@ -41,18 +42,18 @@ pub(crate) fn membership(
 
 pub(crate) fn with_sign(
     alloc: Global,
-    sign: Kind,
+    operator: UnaryOperator,
     part: Expression,
 ) -> Result<Expression, AllocError>
-    ensures { IfOk result (λ e. expr_of e ≡ signed sign (expr_of part)) }
+    ensures { IfOk result (λ e. expr_of e ≡ signed operator (expr_of part)) }
 {
     let part = Box::new(alloc, part)?;
-    Ok(Expression::Signed { sign, part })
+    Ok(Expression::Signed { operator, part })
 }
 
 pub(crate) fn aggregate_of(
     alloc: Global,
-    kind: Kind,
+    kind: Fold,
     distinct: bool,
     argument: Expression,
 ) -> Result<Expression, AllocError>
@@ -68,7 +69,7 @@ pub(crate) fn aggregate_of(
 
 pub(crate) fn one_more(
     operands: Vec<Operand>,
-    sign: Kind,
+    sign: Sign,
     part: Expression,
 ) -> Result<Vec<Operand>, AllocError>
     ensures { IfOk result (λ more. map operand_of more.items ≡ map operand_of operands.items ++ ((sign, expr_of part) ∷ [])) }
@@ -76,6 +77,17 @@ pub(crate) fn one_more(
     let mut operands = operands;
     operands.push(Operand { sign, part })?;
     Ok(operands)
+}
+
+pub(crate) fn pushed(
+    parts: Vec<Expression>,
+    part: Expression,
+) -> Result<Vec<Expression>, AllocError>
+    ensures { IfOk result (λ more. map expr_of more.items ≡ map expr_of parts.items ++ (expr_of part ∷ [])) }
+{
+    let mut parts = parts;
+    parts.push(part)?;
+    Ok(parts)
 }
 
 // how many arguments must follow the first
@@ -103,16 +115,15 @@ pub(crate) fn most(arity: Arity, left: usize) -> usize
 
 /// The list of the arguments, where there are enough of them.
 pub(crate) fn checked(
-    alloc: Global,
     arity: Arity,
     first: Expression,
-    others: Vec<Operand>,
+    others: Vec<Expression>,
     tokens: &[Said],
 ) -> Result<(Vec<Expression>, &[Said]), Halt>
     ensures { Gives (λ x. (map expr_of x.0.items, x.1.now)) result
-        (enough (needed_of arity) (expr_of first ∷ parts_of (map operand_of others.items)) tokens.now) }
+        (enough (needed_of arity) (expr_of first ∷ map expr_of others.items) tokens.now) }
 {
-    let list = unsigned(alloc, first, others)?;
+    let list = every(first, others)?;
     if needed(arity) < list.len() {
         Ok((list, tokens))
     } else {

@@ -2,21 +2,24 @@
 // depth falls at each bracket.
 ghost use Rattle.std.specs.Prelude.{◌≡◌, map};
 ghost use Rattle.rsp_read_expressions.specs.Lists.{bracketed_list_read, list_read};
-ghost use Rattle.rsp_read_expressions.specs.Levels.{inner_read, level_read, operand_read, operands_at_most, part_read};
+ghost use Rattle.rsp_read_expressions.specs.Levels.{chain_read, inner_read, level_read, operand_part_read, operands_at_most};
+ghost use Rattle.rsp_read_expressions.specs.Levels.{part_read, parts_at_most};
 ghost use Rattle.rsp_written.specs.Building.{compared_to, one_of};
 ghost use Rattle.rsp_written.specs.Gives.{Gives};
 ghost use Rattle.rsp_written.specs.Meanings.{expr_of, operand_of};
 ghost use Rattle.rsp_written.specs.Readings as readings;
 
 use crate::leaves::{
-    begins_call, begins_relation, begins_unary, bound, call_name, compares, comparison_sign,
-    ends_empty, leaf, maybe_word, unary_sign,
+    begins_call, begins_relation, begins_unary, bound, compares, comparison_sign, ends_empty,
+    function, leaf, maybe_word, unary_operator,
 };
-use crate::level::{Level, Parts, joined};
-use crate::nodes::{checked, comparison, membership, most, one_more, with_sign};
+use crate::level::{Chain, Level, Parts, joined, signed_row};
+use crate::nodes::{checked, comparison, membership, most, one_more, pushed, with_sign};
 use crate::primaries::Primaries;
+use rsp_functions::Sign;
 use rsp_written::{
-    Arity, Expression, Halt, Keyword, Kind, Operand, Said, Symbol, first_is, sign, word,
+    Arity, Expression, Halt, Keyword, Kind, Operand, Said, Symbol, begins, first_is, meaning, sign,
+    word,
 };
 use std::alloc::Global;
 
@@ -33,7 +36,68 @@ pub fn expression<P: Primaries>(
     if depth == 0 {
         return Err(Halt::Wrong(tokens.len()));
     }
-    row::<P>(Level::Or, depth - 1, alloc, tokens)
+    chain::<P>(Chain::Or, depth - 1, alloc, tokens)
+}
+
+#[cycle(rows)]
+fn chain<P: Primaries>(
+    chain: Chain,
+    depth: usize,
+    alloc: Global,
+    tokens: &[Said],
+) -> Result<(Expression, &[Said]), Halt>
+    ensures { Gives (λ x. (expr_of x.0, x.1.now)) result
+        (chain_read chain P.first P.reading (inner_read P.first P.reading depth) tokens.now) }
+{
+    let parts = Parts::Chain(chain);
+    let (first, rest) = part::<P>(parts, depth, alloc, tokens)?;
+    let (others, rest) = others::<P>(parts, rest.len(), depth, alloc, rest)?;
+    Ok((joined(chain, first, others)?, rest))
+}
+
+// what stands between two symbols
+#[cycle(rows)]
+#[tactic(auto, unfolding(rsp_written::specs::Readings::and_read))]
+fn part<P: Primaries>(
+    parts: Parts,
+    depth: usize,
+    alloc: Global,
+    tokens: &[Said],
+) -> Result<(Expression, &[Said]), Halt>
+    ensures { Gives (λ x. (expr_of x.0, x.1.now)) result
+        (part_read parts P.first P.reading (inner_read P.first P.reading depth) tokens.now) }
+{
+    match parts {
+        Parts::Chain(Chain::Or) => chain::<P>(Chain::And, depth, alloc, tokens),
+        Parts::Chain(Chain::And) => relation::<P>(depth, alloc, tokens),
+        Parts::Arguments => expression::<P>(depth, alloc, tokens),
+    }
+}
+
+// the parts behind symbols, at most so many
+#[cycle(rows)]
+fn others<P: Primaries>(
+    parts: Parts,
+    most: usize,
+    depth: usize,
+    alloc: Global,
+    tokens: &[Said],
+) -> Result<(Vec<Expression>, &[Said]), Halt>
+    ensures { Gives (λ x. (map expr_of x.0.items, x.1.now)) result
+        (parts_at_most parts most P.first P.reading (inner_read P.first P.reading depth) tokens.now) }
+{
+    let mut list = Vec::new(alloc);
+    let mut rest = tokens;
+    for _ in 0..most {
+        if !first_is(Kind::Symbol(parts.symbol()), rest) {
+            return Ok((list, rest));
+        }
+        let (_, behind) = sign(parts.symbol(), rest)?;
+        let (part, behind) = part::<P>(parts, depth, alloc, behind)?;
+        list = pushed(list, part)?;
+        rest = behind;
+    }
+    Ok((list, rest))
 }
 
 #[cycle(rows)]
@@ -46,61 +110,57 @@ fn row<P: Primaries>(
     ensures { Gives (λ x. (expr_of x.0, x.1.now)) result
         (level_read level P.first P.reading (inner_read P.first P.reading depth) tokens.now) }
 {
-    let parts = Parts::Row(level);
-    let (first, rest) = part::<P>(parts, depth, alloc, tokens)?;
-    let (operands, rest) = operands::<P>(parts, rest.len(), depth, alloc, rest)?;
-    Ok((joined(level, alloc, first, operands)?, rest))
+    let (first, rest) = operand::<P>(level, depth, alloc, tokens)?;
+    let (operands, rest) = operands::<P>(level, rest.len(), depth, alloc, rest)?;
+    Ok((signed_row(level, alloc, first, operands)?, rest))
 }
 
-// what stands between signs
+// what stands between two signs
 #[cycle(rows)]
-#[tactic(auto, unfolding(rsp_written::specs::Readings::and_read, rsp_written::specs::Readings::product_read, rsp_written::specs::Readings::unary_read))]
-fn part<P: Primaries>(
-    parts: Parts,
+#[tactic(auto, unfolding(rsp_written::specs::Readings::product_read, rsp_written::specs::Readings::unary_read))]
+fn operand<P: Primaries>(
+    level: Level,
     depth: usize,
     alloc: Global,
     tokens: &[Said],
 ) -> Result<(Expression, &[Said]), Halt>
     ensures { Gives (λ x. (expr_of x.0, x.1.now)) result
-        (part_read parts P.first P.reading (inner_read P.first P.reading depth) tokens.now) }
+        (operand_part_read level P.first P.reading (inner_read P.first P.reading depth) tokens.now) }
 {
-    match parts {
-        Parts::Row(Level::Or) => row::<P>(Level::And, depth, alloc, tokens),
-        Parts::Row(Level::And) => relation::<P>(depth, alloc, tokens),
-        Parts::Row(Level::Sum) => row::<P>(Level::Product, depth, alloc, tokens),
-        Parts::Row(Level::Product) => {
+    match level {
+        Level::Sum => row::<P>(Level::Product, depth, alloc, tokens),
+        Level::Product => {
             if !begins_unary(tokens) {
                 return primary::<P>(depth, alloc, tokens);
             }
-            let (sign, rest) = unary_sign(tokens)?;
+            let (operator, rest) = unary_operator(tokens)?;
             let (part, rest) = primary::<P>(depth, alloc, rest)?;
-            Ok((with_sign(alloc, sign.kind, part)?, rest))
+            Ok((with_sign(alloc, operator, part)?, rest))
         }
-        Parts::Arguments => expression::<P>(depth, alloc, tokens),
     }
 }
 
 // signs and the parts behind them, at most so many
 #[cycle(rows)]
 fn operands<P: Primaries>(
-    parts: Parts,
+    level: Level,
     most: usize,
     depth: usize,
     alloc: Global,
     tokens: &[Said],
 ) -> Result<(Vec<Operand>, &[Said]), Halt>
     ensures { Gives (λ x. (map operand_of x.0.items, x.1.now)) result
-        (operands_at_most parts most P.first P.reading (inner_read P.first P.reading depth) tokens.now) }
+        (operands_at_most level most P.first P.reading (inner_read P.first P.reading depth) tokens.now) }
 {
     let mut operands = Vec::new(alloc);
     let mut rest = tokens;
     for _ in 0..most {
-        if !parts.go_on(rest) {
+        if !begins(level.signs(), rest) {
             return Ok((operands, rest));
         }
-        let (sign, behind) = parts.sign(rest)?;
-        let (part, behind) = part::<P>(parts, depth, alloc, behind)?;
-        operands = one_more(operands, sign.kind, part)?;
+        let (sign, behind) = meaning(level.signs(), rest)?;
+        let (part, behind) = operand::<P>(level, depth, alloc, behind)?;
+        operands = one_more(operands, sign, part)?;
         rest = behind;
     }
     Ok((operands, rest))
@@ -135,13 +195,13 @@ fn compared<P: Primaries>(
     depth: usize,
     alloc: Global,
     tokens: &[Said],
-) -> Result<(Kind, Expression, &[Said]), Halt>
+) -> Result<(Sign, Expression, &[Said]), Halt>
     ensures { Gives (λ x. (compared_to x.0 (expr_of x.1), x.2.now)) result
         (readings.comparison_read P.first P.reading (inner_read P.first P.reading depth) tokens.now) }
 {
     let (sign, rest) = comparison_sign(tokens)?;
     let (right, rest) = row::<P>(Level::Sum, depth, alloc, rest)?;
-    Ok((sign.kind, right, rest))
+    Ok((sign, right, rest))
 }
 
 // whether NOT stands before IN, and the list behind it; on its own as well
@@ -199,8 +259,7 @@ pub fn call<P: Primaries>(
     if first_is(Kind::Word(Keyword::Bound), tokens) {
         return bound(tokens);
     }
-    let (name, rest) = call_name(tokens)?;
-    let function = name.kind;
+    let (function, rest) = function(tokens)?;
     let (arguments, rest) = arguments::<P>(function.arity(), depth, alloc, rest)?;
     Ok((
         Expression::Call {
@@ -257,12 +316,12 @@ fn list<P: Primaries>(
         (list_read arity P.first P.reading (inner_read P.first P.reading depth) tokens.now) }
 {
     let (first, rest) = expression::<P>(depth, alloc, tokens)?;
-    let (others, rest) = operands::<P>(
+    let (others, rest) = others::<P>(
         Parts::Arguments,
         most(arity, rest.len()),
         depth,
         alloc,
         rest,
     )?;
-    checked(alloc, arity, first, others, rest)
+    checked(arity, first, others, rest)
 }

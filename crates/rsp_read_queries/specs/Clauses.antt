@@ -1,10 +1,9 @@
 -- Words of the way: what readings of a SELECT's parts give.
-use Rattle.std.specs.Prelude.{ℕ, Bool, true, false, List, Option, is_some}
+use Rattle.std.specs.Prelude.{ℕ, Bool, true, false, List, [], Option, is_some, unwrap_or}
 use Rattle.rsp_phrases.specs.Readers.{Reader, second_read, first_read}
 use Rattle.rsp_written.specs.declared.said.Keyword.TheVariants as keyword
 use Rattle.rsp_written.specs.declared.said.Said.{Said}
 use Rattle.rsp_written.specs.declared.said.Symbol.TheVariants as symbol
-use Rattle.rsp_written.specs.Building.{keys_or_none}
 use Rattle.rsp_written.specs.Readings.{expression_read, aggregate_expression_read, sign_read, variable_read, word_read}
 use Rattle.rsp_written.specs.Trees.{Expr, Item, Projection}
 
@@ -19,6 +18,9 @@ name_end_read = first_read (second_read (word_read keyword.As) variable_read) (s
 
 abbrev pub clause_of : Option Said × Projection → Bool × Projection
 clause_of v = (is_some v.0, v.1)
+
+abbrev pub keys_or_none : Option (List Item) → List Item
+keys_or_none keys = unwrap_or keys []
 
 abbrev pub tail_of : Option (List Item) × Option Expr → List Item × Option Expr
 tail_of v = (keys_or_none v.0, v.1)

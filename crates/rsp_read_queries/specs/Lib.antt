@@ -4,3 +4,4 @@ pub mod Says
 pub mod Clauses
 pub mod Inside
 pub mod Names
+pub mod Asking

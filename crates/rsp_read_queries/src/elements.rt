@@ -2,7 +2,7 @@
 ghost use Rattle.std.specs.Prelude.{◌≡◌, ◌++◌, IfOk, is_some, map};
 ghost use Rattle.rsp_phrases.specs.Gathering.{gathered};
 ghost use Rattle.rsp_phrases.specs.Readers.{mapped_read, starts};
-ghost use Rattle.rsp_written.specs.Building.{run, triples_of};
+ghost use Rattle.rsp_written.specs.Building.{run};
 ghost use Rattle.rsp_written.specs.Gives.{Gives};
 ghost use Rattle.rsp_written.specs.Grammar.{kind_number, numbers};
 ghost use Rattle.rsp_written.specs.GroupMeanings.{element_of, graph_of};
@@ -71,7 +71,7 @@ pub(crate) fn maybe_dot(tokens: &[Said]) -> Result<(bool, &[Said]), Halt>
 // the elements, and behind them these triples
 fn with_subjects(before: Vec<Element>, subjects: Vec<Subject>) -> Result<Vec<Element>, AllocError>
     ensures { IfOk result (λ elements. map element_of elements.items
-        ≡ map element_of before.items ++ map triples_of (map subject_of subjects.items)) }
+        ≡ map element_of before.items ++ map readings.triples_of (map subject_of subjects.items)) }
 {
     let mut elements = before;
     for subject in subjects {

@@ -2,8 +2,7 @@
 ghost use Rattle.std.specs.Prelude.{◌≡◌, map};
 ghost use Rattle.rsp_phrases.specs.Gathering.{as_read, gathered, single};
 ghost use Rattle.rsp_phrases.specs.Readers.{mapped_read, starts};
-ghost use Rattle.rsp_read_queries.specs.Clauses.{clause_of, name_end_read, tail_of, wide_read};
-ghost use Rattle.rsp_written.specs.Building.{keys_or_none};
+ghost use Rattle.rsp_read_queries.specs.Clauses.{clause_of, keys_or_none, name_end_read, tail_of, wide_read};
 ghost use Rattle.rsp_written.specs.Gives.{Gives};
 ghost use Rattle.rsp_written.specs.Grammar.{kind_number, numbers};
 ghost use Rattle.rsp_written.specs.GroupMeanings.{item_of, maybe_expr, projection_of};

@@ -1,63 +1,46 @@
 // Reading policies.
-ghost use Rattle.std.specs.Prelude.{◌≡◌, map};
+ghost use Rattle.std.specs.Prelude.{◌≡◌};
 ghost use Rattle.rsp_phrases.specs.Gathering.{as_read, gathered, single};
-ghost use Rattle.rsp_phrases.specs.Readers.{second_read, starts};
+ghost use Rattle.rsp_phrases.specs.Readers.{starts};
 ghost use Rattle.rsp_written.specs.Gives.{Gives};
-ghost use Rattle.rsp_written.specs.Grammar.{kind_number, numbers, plain_strategies, profiles, ticks};
-ghost use Rattle.rsp_written.specs.GroupMeanings.{policy_of, strategy_of};
-ghost use Rattle.rsp_written.specs.Readings.{one_read, repeated_read, word_kinds, word_read};
+ghost use Rattle.rsp_written.specs.Grammar.{kind_number, numbers};
+ghost use Rattle.rsp_written.specs.Readings.{behind_read, repeated_read, word_kinds};
 ghost use Rattle.rsp_written.specs.GroupReadings as readings;
 ghost use Rattle.rsp_written.specs.declared.said.Keyword.TheVariants as keyword;
+ghost use Rattle.rsp_written.specs.declared.said.Kind.TheVariants as kind;
 
 use crate::windows::span;
-use rsp_written::{
-    Halt, Keyword, Kind, Policy, Said, Strategy, first_is, first_is_among, one, word,
-};
+use rsp_report::{PolicyWords, Strategy};
+use rsp_terms::Listed;
+use rsp_written::{Halt, Keyword, Kind, Said, first_is, first_is_among, word};
 use std::alloc::Global;
-
-fn begins_plain_strategy(tokens: &[Said]) -> bool
-    ensures { result ≡ starts kind_number (numbers plain_strategies) tokens.now }
-{
-    let close = Kind::Word(Keyword::Close);
-    let change = Kind::Word(Keyword::Change);
-    first_is_among(&[close, change, Kind::Word(Keyword::NonEmpty)], tokens)
-}
-
-fn plain_strategy(tokens: &[Said]) -> Result<(&Said, &[Said]), Halt>
-    ensures { Gives (λ x. (x.0.now, x.1.now)) result (one_read plain_strategies tokens.now) }
-{
-    let close = Kind::Word(Keyword::Close);
-    let change = Kind::Word(Keyword::Change);
-    one(&[close, change, Kind::Word(Keyword::NonEmpty)], tokens)
-}
 
 #[tactic(auto, unfolding(rsp_written::specs::GroupReadings::strategy_read))]
 fn strategy(tokens: &[Said]) -> Result<(Strategy, &[Said]), Halt>
-    ensures { Gives (λ x. (strategy_of x.0, x.1.now)) result (readings.strategy_read tokens.now) }
+    ensures { Gives (λ x. (x.0, x.1.now)) result (readings.strategy_read tokens.now) }
 {
-    if begins_plain_strategy(tokens) {
-        let (said, rest) = plain_strategy(tokens)?;
-        let strategy = Strategy {
-            kind: said.kind,
-            period: None,
-        };
-        return Ok((strategy, rest));
+    if first_is(Kind::Word(Keyword::Close), tokens) {
+        let (_, rest) = word(Keyword::Close, tokens)?;
+        Ok((Strategy::Close, rest))
+    } else if first_is(Kind::Word(Keyword::Change), tokens) {
+        let (_, rest) = word(Keyword::Change, tokens)?;
+        Ok((Strategy::Change, rest))
+    } else if first_is(Kind::Word(Keyword::NonEmpty), tokens) {
+        let (_, rest) = word(Keyword::NonEmpty, tokens)?;
+        Ok((Strategy::NonEmpty, rest))
+    } else {
+        let (_, rest) = word(Keyword::Every, tokens)?;
+        let (period, rest) = span(rest)?;
+        Ok((Strategy::Every(period), rest))
     }
-    let (_, rest) = word(Keyword::Every, tokens)?;
-    let (period, rest) = span(rest)?;
-    let strategy = Strategy {
-        kind: Kind::Word(Keyword::Every),
-        period: Some(period),
-    };
-    Ok((strategy, rest))
 }
 
 fn another_strategy(
     before: Vec<Strategy>,
     tokens: &[Said],
 ) -> Result<(Vec<Strategy>, &[Said]), Halt>
-    ensures { Gives (λ x. (map strategy_of x.0.items, x.1.now)) result
-        (gathered single (map strategy_of before.items) (second_read (word_read keyword.And) readings.strategy_read tokens.now)) }
+    ensures { Gives (λ x. (x.0.items, x.1.now)) result
+        (gathered single before.items (behind_read (kind.Word keyword.And) readings.strategy_read tokens.now)) }
 {
     let (_, rest) = word(Keyword::And, tokens)?;
     let (strategy, rest) = strategy(rest)?;
@@ -68,9 +51,9 @@ fn another_strategy(
 
 // AND and a strategy, as often as they stand here
 fn more_strategies(before: Vec<Strategy>, tokens: &[Said]) -> Result<(Vec<Strategy>, &[Said]), Halt>
-    ensures { Gives (λ x. (map strategy_of x.0.items, x.1.now)) result
-        (gathered as_read (map strategy_of before.items)
-        (repeated_read (word_kinds keyword.And) (second_read (word_read keyword.And) readings.strategy_read) tokens.now)) }
+    ensures { Gives (λ x. (x.0.items, x.1.now)) result
+        (gathered as_read before.items
+        (repeated_read (word_kinds keyword.And) (behind_read (kind.Word keyword.And) readings.strategy_read) tokens.now)) }
 {
     let mut strategies = before;
     let mut rest = tokens;
@@ -85,18 +68,23 @@ fn more_strategies(before: Vec<Strategy>, tokens: &[Said]) -> Result<(Vec<Strate
     Ok((strategies, rest))
 }
 
-fn tick(tokens: &[Said]) -> Result<(&Said, &[Said]), Halt>
-    ensures { Gives (λ x. (x.0.now, x.1.now)) result (one_read ticks tokens.now) }
+// whether the tick is TUPLE
+#[tactic(auto, unfolding(rsp_written::specs::GroupReadings::tick_read))]
+fn tick(tokens: &[Said]) -> Result<(bool, &[Said]), Halt>
+    ensures { Gives (λ x. (x.0, x.1.now)) result (readings.tick_read tokens.now) }
 {
-    one(
-        &[Kind::Word(Keyword::Time), Kind::Word(Keyword::Tuple)],
-        tokens,
-    )
+    if first_is(Kind::Word(Keyword::Time), tokens) {
+        let (_, rest) = word(Keyword::Time, tokens)?;
+        Ok((false, rest))
+    } else {
+        let (_, rest) = word(Keyword::Tuple, tokens)?;
+        Ok((true, rest))
+    }
 }
 
 #[tactic(auto, unfolding(rsp_written::specs::GroupReadings::reported_read))]
-fn reported(alloc: Global, tokens: &[Said]) -> Result<(Policy, &[Said]), Halt>
-    ensures { Gives (λ x. (policy_of x.0, x.1.now)) result (readings.reported_read tokens.now) }
+fn reported(alloc: Global, tokens: &[Said]) -> Result<(PolicyWords, &[Said]), Halt>
+    ensures { Gives (λ x. (x.0, x.1.now)) result (readings.reported_read tokens.now) }
 {
     let (_, rest) = word(Keyword::Report, tokens)?;
     let (first, rest) = strategy(rest)?;
@@ -104,34 +92,37 @@ fn reported(alloc: Global, tokens: &[Said]) -> Result<(Policy, &[Said]), Halt>
     strategies.push(first)?;
     let (strategies, rest) = more_strategies(strategies, rest)?;
     let (_, rest) = word(Keyword::Tick, rest)?;
-    let (tick, rest) = tick(rest)?;
-    let policy = Policy::Reporting {
-        strategies,
-        tick: tick.kind,
+    let (tuple, rest) = tick(rest)?;
+    let policy = PolicyWords::Listed {
+        strategies: Listed::from_vec(strategies),
+        tuple,
     };
     Ok((policy, rest))
 }
 
-fn profile(tokens: &[Said]) -> Result<(&Said, &[Said]), Halt>
-    ensures { Gives (λ x. (x.0.now, x.1.now)) result (one_read profiles tokens.now) }
+#[tactic(auto, unfolding(rsp_written::specs::GroupReadings::profile_read))]
+fn profile(tokens: &[Said]) -> Result<(PolicyWords, &[Said]), Halt>
+    ensures { Gives (λ x. (x.0, x.1.now)) result (readings.profile_read tokens.now) }
 {
-    one(
-        &[Kind::Word(Keyword::Csparql), Kind::Word(Keyword::Cqels)],
-        tokens,
-    )
+    if first_is(Kind::Word(Keyword::Csparql), tokens) {
+        let (_, rest) = word(Keyword::Csparql, tokens)?;
+        Ok((PolicyWords::Csparql, rest))
+    } else {
+        let (_, rest) = word(Keyword::Cqels, tokens)?;
+        Ok((PolicyWords::Cqels, rest))
+    }
 }
 
 /// A policy.
 #[tactic(auto, unfolding(rsp_written::specs::GroupReadings::policy_read))]
-pub(crate) fn policy(alloc: Global, tokens: &[Said]) -> Result<(Policy, &[Said]), Halt>
-    ensures { Gives (λ x. (policy_of x.0, x.1.now)) result (readings.policy_read tokens.now) }
+pub(crate) fn policy(alloc: Global, tokens: &[Said]) -> Result<(PolicyWords, &[Said]), Halt>
+    ensures { Gives (λ x. (x.0, x.1.now)) result (readings.policy_read tokens.now) }
 {
     if !first_is(Kind::Word(Keyword::Under), tokens) {
         return reported(alloc, tokens);
     }
     let (_, rest) = word(Keyword::Under, tokens)?;
-    let (said, rest) = profile(rest)?;
-    Ok((Policy::Profile(said.kind), rest))
+    profile(rest)
 }
 
 /// Whether a policy begins here.

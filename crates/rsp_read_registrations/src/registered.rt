@@ -1,57 +1,60 @@
 // Reading the head of a registration.
 ghost use Rattle.std.specs.Prelude.{◌≡◌};
-ghost use Rattle.std.specs.Option.{option_map};
 ghost use Rattle.rsp_phrases.specs.Readers.{mapped_read};
 ghost use Rattle.rsp_written.specs.Gives.{Gives};
-ghost use Rattle.rsp_written.specs.Grammar.{operators};
-ghost use Rattle.rsp_written.specs.GroupMeanings.{policy_of};
-ghost use Rattle.rsp_written.specs.Readings.{maybe_read, one_read};
+ghost use Rattle.rsp_written.specs.Readings.{maybe_read};
 ghost use Rattle.rsp_written.specs.GroupReadings as readings;
-ghost use Rattle.rsp_read_registrations.specs.Heads.{head_of};
+ghost use Rattle.rsp_read_registrations.specs.Heads.{head_of, policy_or_absent};
 
 use crate::policies::{begins_policy, policy};
+use rsp_report::{Operator, PolicyWords};
 use rsp_terms::Text;
-use rsp_written::{Halt, Keyword, Kind, Policy, Said, iri, one, word};
+use rsp_written::{Halt, Keyword, Kind, Said, first_is, iri, word};
 use std::alloc::Global;
 
 /// What stands before a SELECT.
 #[derive(Drop)]
 pub struct Registered {
-    /// The kind of the stream operator's word.
-    pub operator: Kind,
+    pub operator: Operator,
     /// The stream that the query writes to.
     pub output: Text,
-    pub policy: Option<Policy>,
+    pub policy: PolicyWords,
 }
 
-fn operator(tokens: &[Said]) -> Result<(&Said, &[Said]), Halt>
-    ensures { Gives (λ x. (x.0.now, x.1.now)) result (one_read operators tokens.now) }
+#[tactic(auto, unfolding(rsp_written::specs::GroupReadings::stream_operator_read))]
+fn operator(tokens: &[Said]) -> Result<(Operator, &[Said]), Halt>
+    ensures { Gives (λ x. (x.0, x.1.now)) result (readings.stream_operator_read tokens.now) }
 {
-    let rstream = Kind::Word(Keyword::Rstream);
-    let istream = Kind::Word(Keyword::Istream);
-    one(&[rstream, istream, Kind::Word(Keyword::Dstream)], tokens)
+    if first_is(Kind::Word(Keyword::Rstream), tokens) {
+        let (_, rest) = word(Keyword::Rstream, tokens)?;
+        Ok((Operator::Rstream, rest))
+    } else if first_is(Kind::Word(Keyword::Istream), tokens) {
+        let (_, rest) = word(Keyword::Istream, tokens)?;
+        Ok((Operator::Istream, rest))
+    } else {
+        let (_, rest) = word(Keyword::Dstream, tokens)?;
+        Ok((Operator::Dstream, rest))
+    }
 }
 
-fn maybe_policy(alloc: Global, tokens: &[Said]) -> Result<(Option<Policy>, &[Said]), Halt>
-    ensures { Gives (λ x. (option_map policy_of x.0, x.1.now)) result
-        (maybe_read readings.policy_first readings.policy_read tokens.now) }
+fn maybe_policy(alloc: Global, tokens: &[Said]) -> Result<(PolicyWords, &[Said]), Halt>
+    ensures { Gives (λ x. (x.0, x.1.now)) result
+        (mapped_read policy_or_absent (maybe_read readings.policy_first readings.policy_read) tokens.now) }
 {
     if !begins_policy(tokens) {
-        return Ok((None, tokens));
+        return Ok((PolicyWords::Absent, tokens));
     }
-    let (policy, rest) = policy(alloc, tokens)?;
-    Ok((Some(policy), rest))
+    policy(alloc, tokens)
 }
 
 /// REGISTER, up to AS.
 #[tactic(auto, unfolding(rsp_written::specs::GroupReadings::registered_read))]
 pub fn registered_as(alloc: Global, tokens: &[Said]) -> Result<(Registered, &[Said]), Halt>
-    ensures { Gives (λ x. ((x.0.operator, (x.0.output, option_map policy_of x.0.policy)), x.1.now)) result
+    ensures { Gives (λ x. ((x.0.operator, (x.0.output, x.0.policy)), x.1.now)) result
         (mapped_read head_of readings.registered_read tokens.now) }
 {
     let (_, rest) = word(Keyword::Register, tokens)?;
     let (operator, rest) = operator(rest)?;
-    let operator = operator.kind;
     let (output, rest) = iri(rest)?;
     let (policy, rest) = maybe_policy(alloc, rest)?;
     let (_, rest) = word(Keyword::As, rest)?;

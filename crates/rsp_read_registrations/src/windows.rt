@@ -3,6 +3,7 @@ ghost use Rattle.std.specs.Prelude.{◌≡◌, map};
 ghost use Rattle.rsp_phrases.specs.Gathering.{as_read, gathered, single};
 ghost use Rattle.rsp_phrases.specs.Readers.{both_read, second_read};
 ghost use Rattle.rsp_written.specs.Gives.{Gives};
+ghost use Rattle.rsp_written.specs.Grammar.{milliseconds};
 ghost use Rattle.rsp_written.specs.GroupMeanings.{window_of};
 ghost use Rattle.rsp_written.specs.Readings.{maybe_read, repeated_read, word_kinds, word_read};
 ghost use Rattle.rsp_written.specs.GroupReadings as readings;
@@ -13,17 +14,23 @@ use rsp_terms::Text;
 use rsp_written::{Halt, Keyword, Kind, Said, Symbol, Window, first_is, iri, one, sign, word};
 use std::alloc::Global;
 
-/// A span of time as it is written.
+fn milliseconds(text: &Text) -> u64
+    ensures { result ≡ milliseconds text.now }
+{
+    rsp_text::span(text.as_str().as_bytes()).unwrap_or(0)
+}
+
+/// The milliseconds of a span of time; 0 where there are too many.
 #[tactic(auto, unfolding(rsp_written::specs::GroupReadings::span_read))]
-pub(crate) fn span(tokens: &[Said]) -> Result<(Text, &[Said]), Halt>
+pub(crate) fn span(tokens: &[Said]) -> Result<(u64, &[Said]), Halt>
     ensures { Gives (λ x. (x.0, x.1.now)) result (readings.span_read tokens.now) }
 {
     let (said, rest) = one(&[Kind::Span], tokens)?;
-    Ok((said.text.share()?, rest))
+    Ok((milliseconds(&said.text), rest))
 }
 
 // maybe STEP and a span
-fn maybe_step(tokens: &[Said]) -> Result<(Option<Text>, &[Said]), Halt>
+fn maybe_step(tokens: &[Said]) -> Result<(Option<u64>, &[Said]), Halt>
     ensures { Gives (λ x. (x.0, x.1.now)) result
         (maybe_read (word_kinds keyword.Step) (second_read (word_read keyword.Step) readings.span_read) tokens.now) }
 {
@@ -51,8 +58,8 @@ fn maybe_start(tokens: &[Said]) -> Result<(Option<u64>, &[Said]), Halt>
 // what stands in the brackets of a window
 #[derive(Drop)]
 struct Extent {
-    range: Text,
-    slide: Option<Text>,
+    range: u64,
+    slide: Option<u64>,
     origin: Option<u64>,
 }
 

@@ -1,7 +1,7 @@
 -- What is there of many is what is there of each.
 use Rattle.std.proofs.Common.{◌≡◌, List, ◌∷◌, ◌++◌, refl, Option, None, Some}
 use Rattle.rsp_phrases.specs.Gathering.{Gathers}
-use Rattle.rsp_written.specs.Building.{present}
+use Rattle.rsp_written.specs.TripleReadings.{present}
 use Rattle.rsp_read_triples.specs.Within.{if_there}
 
 first_present : {A : Type 0} (x : Option A) (more : List (Option A)) → present (x ∷ more) ≡ if_there x ++ present more

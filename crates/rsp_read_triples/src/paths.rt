@@ -1,23 +1,24 @@
 // Reading property paths.
 ghost use Rattle.rsp_functions.specs.declared.function.Sign.TheVariants as operator;
-ghost use Rattle.std.specs.Prelude.{◌≡◌, IfOk, map, ◌∷◌};
+ghost use Rattle.std.specs.Prelude.{◌≡◌, IfOk, map, ◌∷◌, []};
 ghost use Rattle.rsp_phrases.specs.Gathering.{as_read, gathered, single};
-ghost use Rattle.rsp_phrases.specs.Readers.{second_read, starts};
+ghost use Rattle.rsp_phrases.specs.Readers.{starts};
 ghost use Rattle.rsp_read_triples.specs.Within.{path_within};
-ghost use Rattle.rsp_written.specs.Building.{choice_row, rdf_type, sequence_row};
+ghost use Rattle.rsp_written.specs.Building.{rdf_type};
 ghost use Rattle.rsp_written.specs.Gives.{Gives};
 ghost use Rattle.rsp_written.specs.Grammar.{kind_number, numbers};
 ghost use Rattle.rsp_written.specs.Meanings.{way_of, verb_of};
-ghost use Rattle.rsp_written.specs.Readings.{choice_read, in_parens_read, repeated_read, sign_kinds, sign_read};
+ghost use Rattle.rsp_written.specs.Readings.{behind_read, choice_read, in_parens_read, repeated_read, sign_kinds};
 ghost use Rattle.rsp_written.specs.Trees.{inverse, step};
 ghost use Rattle.rsp_written.specs.TripleReadings as readings;
+ghost use Rattle.rsp_written.specs.declared.said.Kind.TheVariants as kind;
 ghost use Rattle.rsp_written.specs.declared.said.Symbol.TheVariants as symbol;
 
 use rsp_functions::Sign;
 use rsp_terms::Text;
 use rsp_written::{
-    Halt, Keyword, Kind, Path, Said, Symbol, Verb, first_is, first_is_among, iri, sign, variable,
-    word,
+    Halt, Keyword, Kind, Path, Said, Symbol, Verb, first_is, first_is_among, iri, one, sign,
+    variable, word,
 };
 use std::alloc::{AllocError, Global};
 
@@ -55,7 +56,7 @@ fn inverse(alloc: Global, path: Path) -> Result<Path, AllocError>
 
 // paths with `/` between; one alone is itself
 fn sequence_of(first: Path, rest: Vec<Path>) -> Result<Path, AllocError>
-    ensures { IfOk result (λ path. way_of path ≡ sequence_row (way_of first, map way_of rest.items)) }
+    ensures { IfOk result (λ path. way_of path ≡ readings.sequence_row (way_of first, map way_of rest.items)) }
 {
     if rest.is_empty() {
         return Ok(first);
@@ -67,7 +68,7 @@ fn sequence_of(first: Path, rest: Vec<Path>) -> Result<Path, AllocError>
 
 // paths with `|` between; one alone is itself
 fn choice_of(first: Path, rest: Vec<Path>) -> Result<Path, AllocError>
-    ensures { IfOk result (λ path. way_of path ≡ choice_row (way_of first, map way_of rest.items)) }
+    ensures { IfOk result (λ path. way_of path ≡ readings.choice_row (way_of first, map way_of rest.items)) }
 {
     if rest.is_empty() {
         return Ok(first);
@@ -104,7 +105,7 @@ fn choice(depth: usize, alloc: Global, tokens: &[Said]) -> Result<(Path, &[Said]
 fn sequences(depth: usize, alloc: Global, tokens: &[Said]) -> Result<(Vec<Path>, &[Said]), Halt>
     ensures { Gives (λ x. (map way_of x.0.items, x.1.now)) result
         (repeated_read (sign_kinds symbol.Bar)
-        (second_read (sign_read symbol.Bar) (readings.sequence_read (path_within depth))) tokens.now) }
+        (behind_read (kind.Symbol symbol.Bar) (readings.sequence_read (path_within depth))) tokens.now) }
 {
     let mut paths = Vec::new(alloc);
     let mut rest = tokens;
@@ -128,7 +129,7 @@ fn another_sequence(
 ) -> Result<(Vec<Path>, &[Said]), Halt>
     ensures { Gives (λ x. (map way_of x.0.items, x.1.now)) result
         (gathered single (map way_of before.items)
-        (second_read (sign_read symbol.Bar) (readings.sequence_read (path_within depth)) tokens.now)) }
+        (behind_read (kind.Symbol symbol.Bar) (readings.sequence_read (path_within depth)) tokens.now)) }
 {
     let (_, rest) = sign(Symbol::Bar, tokens)?;
     let (path, rest) = sequence(depth, alloc, rest)?;
@@ -152,7 +153,7 @@ fn sequence(depth: usize, alloc: Global, tokens: &[Said]) -> Result<(Path, &[Sai
 fn parts(depth: usize, alloc: Global, tokens: &[Said]) -> Result<(Vec<Path>, &[Said]), Halt>
     ensures { Gives (λ x. (map way_of x.0.items, x.1.now)) result
         (repeated_read (kind.Sign operator.Divide ∷ [])
-        (second_read (one_read (kind.Sign operator.Divide ∷ [])) (readings.part_read (path_within depth))) tokens.now) }
+        (behind_read (kind.Sign operator.Divide) (readings.part_read (path_within depth))) tokens.now) }
 {
     let mut paths = Vec::new(alloc);
     let mut rest = tokens;
@@ -176,7 +177,7 @@ fn another_part(
 ) -> Result<(Vec<Path>, &[Said]), Halt>
     ensures { Gives (λ x. (map way_of x.0.items, x.1.now)) result
         (gathered single (map way_of before.items)
-        (second_read (one_read (kind.Sign operator.Divide ∷ [])) (readings.part_read (path_within depth)) tokens.now)) }
+        (behind_read (kind.Sign operator.Divide) (readings.part_read (path_within depth)) tokens.now)) }
 {
     let (_, rest) = one(&[Kind::Sign(Sign::Divide)], tokens)?;
     let (path, rest) = part(depth, alloc, rest)?;

@@ -3,7 +3,7 @@ ghost use Rattle.std.specs.Prelude.{◌≡◌, map};
 ghost use Rattle.rsp_phrases.specs.Gathering.{gathered, as_read, single};
 ghost use Rattle.rsp_phrases.specs.Readers.{second_read};
 ghost use Rattle.rsp_read_triples.specs.Within.{properties_within, behind_semicolon_read, if_there};
-ghost use Rattle.rsp_written.specs.Building.{present};
+ghost use Rattle.rsp_written.specs.TripleReadings.{present};
 ghost use Rattle.rsp_written.specs.Gives.{Gives};
 ghost use Rattle.rsp_written.specs.Meanings.{node_of, properties_of, property_of};
 ghost use Rattle.rsp_written.specs.Readings.{repeated_read, sign_kinds, sign_read};

@@ -8,7 +8,7 @@ use Rattle.rsp_written.specs.declared.said.Kind.TheVariants as kind
 use Rattle.rsp_written.specs.declared.said.Symbol.TheVariants as symbol
 use Rattle.rsp_lex.specs.declared.token.TokenKind.TheVariants as form
 use Rattle.rsp_said.specs.Tables.{word_kind, symbol_kind}
-use Rattle.rsp_said.specs.Saying.{says, says_iri, said_of, enclosed, inside_quotes, prefix_of, behind_colon}
+use Rattle.rsp_said.specs.Saying.{says, says_iri, said_of, enclosed, inside_quotes, says_prefixed}
 use Rattle.rsp_said.specs.Escapes.{unescaped}
 use Rattle.rsp_said.specs.declared.escapes.State.TheVariants.{Plain, Local}
 
@@ -100,10 +100,10 @@ tag : said_of form.Tag (codes "@en-GB") 4 ≡ says kind.Tag (codes "en-GB") 4
 unfolding said_of sign
 tag = refl
 
-prefix : prefix_of (codes "ex:a:b") ≡ codes "ex"
+prefix : (says_prefixed (codes "ex:a:b") 0).text ≡ codes "ex"
 prefix = refl
 
-local : behind_colon (codes "ex:a:b") ≡ codes "a:b"
+local : (says_prefixed (codes "ex:a:b") 0).local ≡ codes "a:b"
 local = refl
 
 absolute : says_iri (codes "<a:b>") 3 (Some (codes "a:b")) ≡ says kind.Iri (codes "a:b") 3

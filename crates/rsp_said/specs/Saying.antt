@@ -1,5 +1,5 @@
 -- Definitions: what the text of a token says. A text that isn't of its form can stand nowhere.
-use Rattle.std.specs.Prelude.{ℕ, Bool, ◌==◌, if◌then◌else◌, Option, None, Some, List, [], ◌∷◌}
+use Rattle.std.specs.Prelude.{ℕ, ◌==◌, if◌then◌else◌, Option, None, Some, List, [], ◌∷◌}
 use Rattle.std.specs.Option.{option_map, option_and_then, option_or}
 use Rattle.std.specs.List.{before_first, after_first}
 use Rattle.std.specs.Str.{byte}
@@ -36,15 +36,6 @@ inside_quotes text = option_or (quoted (byte "\"") text) (quoted (byte "'") text
 abbrev pub name_of_iri : List ℕ → Option (List ℕ)
 name_of_iri text = option_map (unescaped_text Plain) (enclosed (byte "<") (byte ">") text)
 
-abbrev pub is_colon : ℕ → Bool
-is_colon c = c == byte ":"
-
-abbrev pub prefix_of : List ℕ → List ℕ
-prefix_of text = before_first is_colon text
-
-abbrev pub behind_colon : List ℕ → List ℕ
-behind_colon text = after_first is_colon text
-
 abbrev pub label_of : List ℕ → Option (List ℕ)
 label_of text = option_and_then (sign (byte ":")) (sign (byte "_") text)
 
@@ -70,7 +61,9 @@ says_string text at inner = says_part kind.String text at (option_map (unescaped
 
 abbrev pub says_prefixed : List ℕ → ℕ → Said
 says_prefixed text at =
-    record { kind = kind.Prefixed; text = prefix_of text; local = unescaped_text Local (behind_colon text); at = at }
+    let is_colon = λ c. c == byte ":" in
+    let local = unescaped_text Local (after_first is_colon text) in
+    record { kind = kind.Prefixed; text = before_first is_colon text; local = local; at = at }
 
 unfoldable pub said_of : TokenKind → List ℕ → ℕ → Said
 said_of form.Iri text at = says_iri text at (name_of_iri text)

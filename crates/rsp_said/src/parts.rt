@@ -1,5 +1,7 @@
 // Parts of a token's text, by the signs that it begins and ends with.
-ghost use Rattle.std.specs.Prelude.{◌≡◌, ◌<◌, MatchOption, Some, None};
+ghost use Rattle.std.specs.Prelude.{◌≡◌, ◌<◌, ◌==◌, MatchOption, Some, None};
+ghost use Rattle.std.specs.List.{after_first, before_first};
+ghost use Rattle.std.specs.Str.{byte};
 ghost use Rattle.rsp_scan.specs.Enclosed.{sign};
 ghost use Rattle.rsp_said.specs.Saying as saying;
 
@@ -52,7 +54,8 @@ pub(crate) fn quoted(quote: char, text: &str) -> Option<&str>
 
 /// The prefix of a prefixed name, and what stands behind its `:`.
 pub(crate) fn prefix_and_local(text: &str) -> (&str, &str)
-    ensures { (result.0.now ≡ saying.prefix_of text.now) × (result.1.now ≡ saying.behind_colon text.now) }
+    ensures { (result.0.now ≡ before_first (λ c. c == byte ":") text.now)
+        × (result.1.now ≡ after_first (λ c. c == byte ":") text.now) }
 {
     match text.split_once(':') {
         None => (text, ""),

@@ -4,7 +4,6 @@ mod SoundExpressions
 mod SoundTriples
 mod SoundGroups
 mod Soundness
-mod Values
 mod Periods
 pub mod Causes
 mod LeftWords

@@ -1,13 +1,11 @@
 -- A numbered expression names variables that stand before its end alone, and so do its aggregates.
-use Rattle.rsp_functions.specs.declared.function.Sign.TheVariants as operator
 use Rattle.std.proofs.Common.{ℕ, ◌≤◌, ◌<◌, List, [], ◌∷◌, refl, arith}
 use Rattle.std.specs.List.{AllByRecursion}
 use Rattle.std.proofs.Math.Nat.{le_trans}
 use Rattle.rsp_expr.specs.Formulas.{Formula, Aggregation, formulas_in}
 use Rattle.rsp_functions.specs.declared.function.Sign.{Sign}
-use Rattle.rsp_written.specs.declared.said.Kind as token
-use Rattle.rsp_written.specs.declared.said.Kind.TheVariants as kind
-use Rattle.rsp_written.specs.declared.said.Symbol.TheVariants as symbol
+use Rattle.rsp_written.specs.declared.expression.UnaryOperator.{UnaryOperator}
+use Rattle.rsp_written.specs.declared.expression.UnaryOperator.TheVariants as operator
 use Rattle.rsp_written.specs.Trees.{Expr, variable, iri, constant, any_of, all_of, compared, member, sum, product, signed, bound, call, count_rows, aggregate, Exprs, no_expr, expr_then, Operands, no_operand, operand_then}
 use Rattle.rsp_numbering.specs.Naming.{Scope, Before, behind, named}
 use Rattle.rsp_numbering.specs.Naming as naming
@@ -53,11 +51,11 @@ mutual
 
 -- ---- formulas
 
-signed_below : (n : ℕ) (s : token.Kind) (part : Formula) → AreBelow n (formula_variables part)
+signed_below : (n : ℕ) (s : UnaryOperator) (part : Formula) → AreBelow n (formula_variables part)
     → AreBelow n (formula_variables (signed_formula s part))
-signed_below n (kind.Sign operator.Subtract) part below = below
-signed_below n (kind.Sign operator.Add) part below = below
-signed_below n _ part below = below
+signed_below n operator.Not part below = below
+signed_below n operator.Minus part below = below
+signed_below n operator.Plus part below = below
 
 from_left_below : (n : ℕ) (left : Formula) (others : List (Sign × Formula)) → AreBelow n (formula_variables left)
     → AllByRecursion (λ (x : Sign × Formula). AreBelow n (formula_variables x.1)) others

@@ -24,9 +24,9 @@ use Rattle.rsp_written.specs.declared.said.Kind.{Kind}
 use Rattle.rsp_written.specs.declared.said.Kind.TheVariants as kind
 use Rattle.rsp_written.specs.declared.said.Said.{Said}
 use Rattle.rsp_written.specs.Trees.{Expr, Operands, variable, iri, constant, bound, count_rows, sum, product}
-use Rattle.rsp_written.specs.Building.{with_operands, compared_to, one_of, related, with_sign, call_of, aggregate_of, flagged}
+use Rattle.rsp_written.specs.Building.{with_operands, compared_to, one_of, related, with_sign, call_of, aggregate_of}
 use Rattle.rsp_written.specs.Grammar.{Rule, kind_number, numbers, meaning, word, sign, expressions, another, bound_call, maybe_third, call_rule, primary, unary_operator, unary, row, product_rule, sum_rule, comparisons, membership, relation, and_rule, or_rule, expression, maybe_distinct, count_rule, folds, aggregate_rule, aggregate_expression, arguments, function_call}
-use Rattle.rsp_written.specs.Readings.{word_kinds, sign_kinds, suffix_first, another_read, items_read, expressions_read, bound_read, call_names, call_first, call_read, primary_read, simple_read, minus_kind, plus_kind, unary_signs, unary_operator_read, unary_read, row_read, product_signs, product_read, sum_signs, sum_read, comparison_read, membership_read, relation_first, relation_read, all_row, and_read, any_row, or_read, expression_read, maybe_distinct_read, count_read, aggregate_first, aggregate_read, aggregate_expression_read, arguments_read, function_read}
+use Rattle.rsp_written.specs.Readings.{word_kinds, sign_kinds, suffix_first, another_read, items_read, expressions_read, bound_read, call_names, call_first, call_read, primary_read, simple_read, minus_kind, plus_kind, unary_signs, unary_operator_read, unary_read, row_read, product_signs, product_read, sum_signs, sum_read, comparison_read, membership_read, relation_first, relation_read, all_row, and_read, any_row, or_read, expression_read, flagged, maybe_distinct_read, count_read, aggregate_first, aggregate_read, aggregate_expression_read, arguments_read, function_read}
 use Rattle.rsp_written.proofs.Simple.{G, good_one, good_meaning, good_says, good_second_of, good_both, good_behind, good_in_parens, good_separated, under_second, under_in_parens, under_separated, good_iri, good_variable, unsigned_first, good_unsigned_literal}
 
 -- ---- which kinds begin an expression, and by which it goes on

@@ -95,9 +95,6 @@ call_of v = call v.0 (exprs_in v.1)
 abbrev pub aggregate_of : fold.Kind → Bool × Expr → Expr
 aggregate_of kind v = aggregate kind v.0 v.1
 
-abbrev pub flagged : Option Said × Expr → Bool × Expr
-flagged v = (is_some v.0, v.1)
-
 -- ---- paths
 
 abbrev pub ways_in : List Way → Ways
@@ -136,12 +133,9 @@ abbrev pub groups_in : List (List Element) → Groups
 groups_in [] = no_group
 groups_in (g ∷ more) = group_then (elements_in g) (groups_in more)
 
-abbrev pub triples_of : Node × Properties → Element
-triples_of v = triples v.0 v.1
-
 -- a run of triples, or none
 abbrev pub run : Option (List (Node × Properties)) → List Element
-run found = map triples_of (unwrap_or found [])
+run found = map (λ v. triples v.0 v.1) (unwrap_or found [])
 
 -- a group that is a SELECT
 abbrev pub sub_select_of : (Option Said × Projection) × (Option Said × (List Element × (Option (List Item) × Option Expr)))

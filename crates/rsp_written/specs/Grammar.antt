@@ -45,7 +45,7 @@ use Rattle.rsp_written.specs.Trees.{computed, Operands, Projection, every_name, 
 use Rattle.rsp_written.specs.Trees.{Element, optional_group, minus_group, union_of, graph_group, window_group, filter, exists}
 use Rattle.rsp_written.specs.Trees.{bind, values, Window, Written}
 use Rattle.rsp_written.specs.Building.{string_term, number_term, signed_term, boolean_term, alone_or, exprs_in, with_operands}
-use Rattle.rsp_written.specs.Building.{Relation, compared_to, one_of, related, with_sign, call_of, aggregate_of, flagged}
+use Rattle.rsp_written.specs.Building.{Relation, compared_to, one_of, related, with_sign, call_of, aggregate_of}
 use Rattle.rsp_written.specs.Building.{ways_in, turned, rdf_type, property_list, elements_in, groups_in, run, sub_select_of}
 use Rattle.rsp_written.specs.Building.{made_of, Asked, shown_of, constructed_of, written_of}
 use Rattle.rsp_written.specs.declared.literals.Suffix.{Suffix}
@@ -231,7 +231,7 @@ expression = within_itself (or_rule never)
 -- Aggregate ::= 'COUNT' '(' ('*' | 'DISTINCT'? Expr) ')' | ('SUM' | 'AVG' | 'MIN' | 'MAX') '(' 'DISTINCT'? Expr ')'
 --                                                    [127] Aggregate (without COUNT(DISTINCT *), GROUP_CONCAT, SAMPLE)
 abbrev pub maybe_distinct : Rule (Bool × Expr)
-maybe_distinct = mapped flagged (both (optional (word keyword.Distinct)) expression)
+maybe_distinct = mapped (λ (v : Option Said × Expr). (is_some v.0, v.1)) (both (optional (word keyword.Distinct)) expression)
 
 abbrev pub count_rule : Rule Expr
 count_rule =
@@ -585,7 +585,7 @@ query_body = mapped written_of (both registered (either shown_rule constructed_r
 
 -- Prefix ::= 'PREFIX' Prefixed-with-empty-local Iri-token                                               [6] PrefixDecl
 abbrev pub prefix_of_kind : Kind → Said → Option (List ℕ)
-prefix_of_kind kind.Prefixed said = cond (bytes_eq said.local []) (Some said.text) None
+prefix_of_kind kind.Prefixed said = cond (length said.local == 0) (Some said.text) None
 prefix_of_kind _ said = None
 
 abbrev pub prefix : Rule (List ℕ × List ℕ)

@@ -22,7 +22,8 @@ use Rattle.rsp_written.specs.Trees as trees
 use Rattle.rsp_written.specs.Trees.{Expr, shown, computed, every_name, these, graph_variable, graph_iri, optional_group}
 use Rattle.rsp_written.specs.Trees.{minus_group, union_of, graph_group, window_group, filter, exists, bind, values, Selected}
 use Rattle.rsp_written.specs.Trees.{selected, sub_select, Written}
-use Rattle.rsp_written.specs.Building.{elements_in, groups_in, triples_of}
+use Rattle.rsp_written.specs.Building.{elements_in, groups_in}
+use Rattle.rsp_written.specs.GroupReadings.{triples_of}
 use Rattle.rsp_written.specs.Meanings.{expr_of, subject_of}
 
 -- ---- groups and selects

@@ -17,13 +17,16 @@ use Rattle.rsp_written.specs.declared.said.Kind.TheVariants as kind
 use Rattle.rsp_written.specs.declared.said.Said.{Said}
 use Rattle.rsp_written.specs.Trees.{Expr, Node, Properties, Item, shown, computed, Projection, every_name, these, Graph}
 use Rattle.rsp_written.specs.Trees.{graph_variable, graph_iri, Element, optional_group, minus_group, union_of, graph_group}
-use Rattle.rsp_written.specs.Trees.{window_group, filter, exists, bind, Window, Written}
+use Rattle.rsp_written.specs.Trees.{window_group, filter, exists, bind, triples, Window, Written}
 use Rattle.rsp_written.specs.Building.{elements_in, groups_in, run, sub_select_of, Asked, shown_of, constructed_of, written_of}
 use Rattle.rsp_written.specs.Grammar.{milliseconds, window_of, origin_of_kind, prefix_of_kind, resolved}
 use Rattle.rsp_written.specs.Readings.{one_read, word_read, sign_read, choice_read, maybe_read, repeated_read, says_read}
 use Rattle.rsp_written.specs.Readings.{separated_read, word_kinds, sign_kinds, in_parens_read, iri_read, variable_read}
 use Rattle.rsp_written.specs.Readings.{call_first, call_read, expression_read, aggregate_expression_read}
 use Rattle.rsp_written.specs.TripleReadings.{same_first, triples_read, block_read, template_read}
+
+abbrev pub triples_of : Node × Properties → Element
+triples_of v = triples v.0 v.1
 
 abbrev pub group_of_read : Reader Said (List Element) → Reader Said (List Element)
 group_of_read s = second_read (sign_read symbol.OpenBrace) s

@@ -25,7 +25,7 @@ use Rattle.rsp_written.specs.declared.said.Said.{Said}
 use Rattle.rsp_written.specs.Trees.{Expr, Operands, variable, iri, constant, any_of, all_of, sum, product, bound, count_rows}
 use Rattle.rsp_written.specs.Building.{string_term, number_type, number_term, signed_term, boolean_term, alone_or, exprs_in}
 use Rattle.rsp_written.specs.Building.{with_operands, Relation, compared_to, one_of, related, with_sign, call_of}
-use Rattle.rsp_written.specs.Building.{aggregate_of, flagged}
+use Rattle.rsp_written.specs.Building.{aggregate_of}
 use Rattle.rsp_written.specs.declared.literals.Suffix.{Suffix}
 use Rattle.rsp_written.specs.declared.literals.Suffix.TheVariants.{InLanguage, OfDatatype}
 use Rattle.rsp_written.specs.Grammar.{kind_number, numbers, has_number, text_of, number_kinds, maybe_third, comparisons, folds}
@@ -238,6 +238,9 @@ or_read ks x s = mapped_read any_row (separated_read (kind.Symbol symbol.Or) (an
 
 unfoldable pub expression_read : Reader Said Expr
 expression_read = within_itself_read (or_read [] never_read)
+
+abbrev pub flagged : Option Said × Expr → Bool × Expr
+flagged v = (is_some v.0, v.1)
 
 unfoldable pub maybe_distinct_read : Reader Said (Bool × Expr)
 maybe_distinct_read =

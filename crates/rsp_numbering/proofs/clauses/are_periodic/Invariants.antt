@@ -1,10 +1,8 @@
-use Rattle.std.proofs.Common.{◌≡◌, map, drop}
+use Rattle.std.proofs.Common.{◌≡◌, drop}
 use Rattle.std.specs.List.{list_all}
-use Rattle.rsp_written.specs.GroupMeanings as written
 use Rattle.rsp_numbering.specs.Limits.{is_periodic}
 use Rattle.rsp_numbering.proofs.clauses.are_periodic.Given as goal
 
 abbrev pub invariant-loop-strategy : goal.invariant-loop-strategy
 invariant-loop-strategy l =
-    list_all is_periodic (map written.strategy_of (drop l.strategy-index l.strategies))
-    ≡ list_all is_periodic (map written.strategy_of l.strategies)
+    list_all is_periodic (drop l.strategy-index l.strategies) ≡ list_all is_periodic l.strategies

@@ -8,4 +8,4 @@ pub unreachable-requires : goal.unreachable-requires
 unreachable-requires c =
     let within : limits.is_within (written.window_of c.args.window.now) ≡ true = search rules in
     true≢false (sym (c.in-None.ensures.some.1
-    (rw (c.slide_of-slide.ensures, c.milliseconds-width.ensures, c.unwrap_or.ensures) (shape c.args.words.now (written.window_of c.args.window.now) within))))
+    (rw (c.slide_of-slide.ensures, c.unwrap_or.ensures) (shape c.args.words.now (written.window_of c.args.window.now) within))))

@@ -1,6 +1,6 @@
 use Rattle.std.proofs.Common.{◌≡◌, ◌++◌, map}
 use Rattle.std.specs.Vec.Iter.{into_iter_items}
-use Rattle.rsp_written.specs.Building.{triples_of}
+use Rattle.rsp_written.specs.GroupReadings.{triples_of}
 use Rattle.rsp_written.specs.GroupMeanings.{element_of}
 use Rattle.rsp_written.specs.Meanings.{subject_of}
 use Rattle.rsp_read_queries.proofs.elements.with_subjects.Given as goal

@@ -4,7 +4,7 @@ use Rattle.rsp_phrases.specs.Gathering.{as_read, single}
 use Rattle.rsp_phrases.specs.Readers.{second_read, starts}
 use Rattle.rsp_phrases.proofs.Gathering.{each, more_at, none_at, end_at}
 use Rattle.rsp_written.specs.declared.said.Symbol.TheVariants as symbol
-use Rattle.rsp_written.specs.Building.{present}
+use Rattle.rsp_written.specs.TripleReadings.{present}
 use Rattle.rsp_written.specs.Grammar.{kind_number, numbers}
 use Rattle.rsp_written.specs.Readings.{sign_kinds, sign_read}
 use Rattle.rsp_written.specs.TripleReadings.{object_read}

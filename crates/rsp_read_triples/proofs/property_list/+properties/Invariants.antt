@@ -2,7 +2,7 @@ use Rattle.std.proofs.Common.{◌≡◌, ◌+◌, ◌-◌, ◌*◌, map}
 use Rattle.rsp_phrases.specs.Gathering.{gathered, as_read}
 use Rattle.rsp_phrases.specs.Readers.{second_read, at_most_read}
 use Rattle.rsp_written.specs.declared.said.Symbol.TheVariants as symbol
-use Rattle.rsp_written.specs.Building.{present}
+use Rattle.rsp_written.specs.TripleReadings.{present}
 use Rattle.rsp_written.specs.Grammar.{kind_number, numbers}
 use Rattle.rsp_written.specs.Meanings.{node_of, property_of}
 use Rattle.rsp_written.specs.Readings.{repeated_read, sign_kinds, sign_read}
