@@ -8,6 +8,7 @@
 mod path;
 mod query;
 mod select;
+mod template;
 
 pub use path::Path;
 pub use query::{Query, WindowClause};
@@ -15,3 +16,4 @@ pub use rsp_expr::{Aggregate, Expression, Function, Kind, Sign, Slot};
 pub use rsp_report::{Operator, PolicyWords, Strategy};
 pub use rsp_windows::Window;
 pub use select::{Element, Select, SelectItem};
+pub use template::{Made, Template};

@@ -1,4 +1,5 @@
 pub mod Copies
+pub mod EachOnce
 pub mod InOrder
 pub mod JsonData
 mod JsonRows

@@ -2,6 +2,7 @@
 use Rattle.std.proofs.Common.{◌≡◌, ℕ, zero, suc, Bool, true, false, cond, List, [], ◌∷◌, Option, Some, None, pos, length, filter, refl, sym, ap, ◌∙◌, arith}
 use Rattle.std.proofs.lemmas.Int.{ints}
 use Rattle.std.specs.Cmp.Lexicographic.{slice_cmp, texts_ties, bytes_decides}
+use Rattle.std.specs.Cmp.{IsTotalOrder}
 use Rattle.std.specs.List.Sorted.{ties}
 use Rattle.std.specs.Ordering.{is_lt, is_gt, is_eq, nat_cmp, ordering_then}
 use Rattle.std.specs.declared.cmp.Ordering.{Ordering}
@@ -14,10 +15,10 @@ use Rattle.rsp_multiset.proofs.Sums.{sum_z-filter, length-sum}
 use Rattle.rsp_terms.specs.declared.term.Term.{Term}
 use Rattle.rsp_terms.specs.declared.term.Term.TheVariants.{Iri, Blank, Literal, Tagged}
 use Rattle.rsp_terms.specs.Same.{term_eq, term_same}
-use Rattle.rsp_streams_out.proofs.InOrder.{is_gt-reverse, before, ranks, in_order_is}
+use Rattle.rsp_streams_out.proofs.InOrder.{is_gt-reverse, before, ranks, sorted_by_is}
 use Rattle.rsp_streams_out.proofs.Sorted.{put_all, same_from_ties, Rises-put_all, put_all-ties, tied_parts}
 use Rattle.rsp_streams_out.specs.RowOrder.{row_order_total}
-use Rattle.rsp_streams_out.specs.Rows.{cell_order, cell_parts, in_order, row_order}
+use Rattle.rsp_streams_out.specs.Rows.{cell_order, cell_parts, in_order, row_order, row_text, text_order}
 
 -- ---- rows that tie are one row
 
@@ -63,19 +64,29 @@ equal_cells cell other is =
     sym (of_its_parts cell)
     ∙ (ap cell_of (equal_lists (slice_cmp nat_cmp) equal_texts (cell_parts cell) (cell_parts other) is) ∙ of_its_parts other)
 
-pub equal_rows : (row other : Cells Term) → row_order row other ≡ Equal → row ≡ other
-equal_rows row other is = equal_lists cell_order equal_cells row other (second_equal _ _ is)
+pub equal_by_text : {A : Type 0} (text : A → List ℕ) (cells : A → Cells Term) → ((x y : A) → cells x ≡ cells y → x ≡ y)
+    → (x y : A) → text_order text cells x y ≡ Equal → x ≡ y
+equal_by_text text cells by_cells x y is = by_cells x y (equal_lists cell_order equal_cells (cells x) (cells y) (second_equal _ _ is))
 
 neither : (order : Ordering) → is_lt order ≡ false → is_gt order ≡ false → order ≡ Equal
 neither Less below above = cc
 neither Equal below above = refl
 neither Greater below above = cc
 
-tie_is : (row other : Cells Term) → ties before row other ≡ true → row ≡ other
+-- where neither stands before the other they are equal
+pub unordered : {A : Type 0} (order : A → A → Ordering) → IsTotalOrder order → (x y : A)
+    → before order x y ≡ false → before order y x ≡ false → order x y ≡ Equal
+unordered order total x y left right =
+    neither (order x y) left (ap is_gt (total.antisymm x y) ∙ is_gt-reverse (order y x) ∙ right)
+
+-- rows of one place in the order
+abbrev tie : Cells Term → Cells Term → Bool
+tie = ties (before row_order)
+
+tie_is : (row other : Cells Term) → tie row other ≡ true → row ≡ other
 tie_is row other h =
-    let parts = tied_parts before ranks row other h in
-    let above = ap is_gt (row_order_total.antisymm row other) ∙ is_gt-reverse (row_order other row) ∙ parts.1 in
-    equal_rows row other (neither (row_order row other) parts.0 above)
+    let parts = tied_parts (before row_order) (ranks row_order row_order_total) row other h in
+    equal_by_text row_text (λ row. row) (λ x y same. same) row other (unordered row_order row_order_total row other parts.0 parts.1)
 
 -- ---- so those of one value are as many copies of it
 
@@ -83,32 +94,34 @@ abbrev copies : Cells Term → ℕ → List (Cells Term)
 copies row zero = []
 copies row (suc n) = row ∷ copies row n
 
-ties_are_copies : (row : Cells Term) (rows : List (Cells Term)) → filter (ties before row) rows ≡ copies row (length (filter (ties before row) rows))
+ties_are_copies : (row : Cells Term) (rows : List (Cells Term)) → filter (tie row) rows ≡ copies row (length (filter (tie row) rows))
 ties_are_copies row [] = refl
-ties_are_copies row (other ∷ rows) = by (ties before row other) refl (ties_are_copies row rows)
+ties_are_copies row (other ∷ rows) = by (tie row other) refl (ties_are_copies row rows)
   where
-    by : (b : Bool) → ties before row other ≡ b → filter (ties before row) rows ≡ copies row (length (filter (ties before row) rows))
-        → cond b (other ∷ filter (ties before row) rows) (filter (ties before row) rows)
-        ≡ copies row (length (cond b (other ∷ filter (ties before row) rows) (filter (ties before row) rows)))
+    by : (b : Bool) → tie row other ≡ b → filter (tie row) rows ≡ copies row (length (filter (tie row) rows))
+        → cond b (other ∷ filter (tie row) rows) (filter (tie row) rows)
+        ≡ copies row (length (cond b (other ∷ filter (tie row) rows) (filter (tie row) rows)))
     by true h rest = λ i. sym (tie_is row other h) i ∷ rest i
     by false h rest = rest
 
 count_of : (row : Cells Term) (rows : List (Cells Term))
-    → pos (length (filter (ties before row) rows)) ≡ sum_z (λ other. only (ties before row other) (pos 1)) rows
-count_of row rows = sym (length-sum (filter (ties before row) rows)) ∙ sum_z-filter (λ _. pos 1) (ties before row) rows
+    → pos (length (filter (tie row) rows)) ≡ sum_z (λ other. only (tie row other) (pos 1)) rows
+count_of row rows = sym (length-sum (filter (tie row) rows)) ∙ sum_z-filter (λ _. pos 1) (tie row) rows
 
 module _ (rows other : List (Cells Term)) (alike : (q : Cells Term) → times (row_eq term_eq) other q ≡ times (row_eq term_eq) rows q) where
-  same_ties : (row : Cells Term) → filter (ties before row) other ≡ filter (ties before row) rows
+  same_ties : (row : Cells Term) → filter (tie row) other ≡ filter (tie row) rows
   same_ties row =
       let counts = count_of row other
-      ∙ sum-same (row_decides term_same) (λ it. only (ties before row it) (pos 1)) other rows alike
+      ∙ sum-same (row_decides term_same) (λ it. only (tie row it) (pos 1)) other rows alike
       ∙ sym (count_of row rows) in
       ties_are_copies row other ∙ ap (copies row) (omega (arith, ints, counts)) ∙ sym (ties_are_copies row rows)
 
   pub same_order : in_order other ≡ in_order rows
   same_order =
-      in_order_is other
-      ∙ same_from_ties before ranks (put_all before ranks other) (put_all before ranks rows)
-      (Rises-put_all before ranks other) (Rises-put_all before ranks rows)
-      (λ row. put_all-ties before ranks other row ∙ same_ties row ∙ sym (put_all-ties before ranks rows row))
-      ∙ sym (in_order_is rows)
+      let lt = before row_order in
+      let o = ranks row_order row_order_total in
+      sorted_by_is row_order row_order_total other
+      ∙ same_from_ties lt o (put_all lt o other) (put_all lt o rows)
+      (Rises-put_all lt o other) (Rises-put_all lt o rows)
+      (λ row. put_all-ties lt o other row ∙ same_ties row ∙ sym (put_all-ties lt o rows row))
+      ∙ sym (sorted_by_is row_order row_order_total rows)

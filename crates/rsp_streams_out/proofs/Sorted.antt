@@ -5,19 +5,19 @@ use Rattle.std.specs.Cmp.{IsStrictWeakOrder}
 use Rattle.std.specs.List.Sorted.{ties, IsSortedBy, IsStableBy}
 
 module _ {X : Type 0} (p : X → Bool) where
-  filter-kept : (y : X) (ys : List X) → p y ≡ true → filter p (y ∷ ys) ≡ y ∷ filter p ys
+  pub filter-kept : (y : X) (ys : List X) → p y ≡ true → filter p (y ∷ ys) ≡ y ∷ filter p ys
   filter-kept y ys h = cond-true _ _ _ h
 
-  filter-dropped : (y : X) (ys : List X) → p y ≡ false → filter p (y ∷ ys) ≡ filter p ys
+  pub filter-dropped : (y : X) (ys : List X) → p y ≡ false → filter p (y ∷ ys) ≡ filter p ys
   filter-dropped y ys h = cond-false _ _ _ h
 
 module _ {X : Type 0} (lt : X → X → Bool) (o : IsStrictWeakOrder lt) where
   -- each is at least x
-  abbrev AreAtLeast : X → List X → Type 0
+  abbrev pub AreAtLeast : X → List X → Type 0
   AreAtLeast x [] = Unit {0}
   AreAtLeast x (y ∷ ys) = (lt y x ≡ false) × AreAtLeast x ys
 
-  abbrev Rises : List X → Type 0
+  abbrev pub Rises : List X → Type 0
   Rises [] = Unit {0}
   Rises (y ∷ ys) = AreAtLeast y ys × Rises ys
 
@@ -28,7 +28,7 @@ module _ {X : Type 0} (lt : X → X → Bool) (o : IsStrictWeakOrder lt) where
   never_less : (x : X) → lt x x ≡ false
   never_less x = elim (cases_Bool (lt x x)) [ inl less ↦ o.one_way x x less | inr same ↦ same ]
 
-  Rises-from_sort : (ys : List X) → IsSortedBy lt ys → Rises ys
+  pub Rises-from_sort : (ys : List X) → IsSortedBy lt ys → Rises ys
   Rises-from_sort [] h = tt
   Rises-from_sort (y ∷ []) h = (tt, tt)
   Rises-from_sort (y ∷ z ∷ ys) h =
@@ -38,7 +38,7 @@ module _ {X : Type 0} (lt : X → X → Bool) (o : IsStrictWeakOrder lt) where
       let step : lt z y ≡ false = h zero y zero-le (omega arith) in
       ((step, AreAtLeast-below y z ys step rest.0), rest)
 
-  tied : (x y : X) → lt x y ≡ false → lt y x ≡ false → ties lt x y ≡ true
+  pub tied : (x y : X) → lt x y ≡ false → lt y x ≡ false → ties lt x y ≡ true
   tied x y p q = λ i. not (p i) && not (q i)
 
   pub tied_parts : (x y : X) → ties lt x y ≡ true → (lt x y ≡ false) × (lt y x ≡ false)

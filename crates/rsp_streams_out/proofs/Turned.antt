@@ -15,12 +15,12 @@ use Rattle.rsp_streams_out.proofs.Less.{less-times}
 
 -- a row that is put in is there once more, wherever it stands
 put_in-times : (row : Cells Term) (rows : List (Cells Term)) (q : Cells Term)
-    → times (row_eq term_eq) (put_in row rows) q ≡ times (row_eq term_eq) (row ∷ rows) q
+    → times (row_eq term_eq) (put_in row_order row rows) q ≡ times (row_eq term_eq) (row ∷ rows) q
 put_in-times row [] q = refl
 put_in-times row (first ∷ rows) q =
     let rest = put_in-times row rows q in
     elim (is_gt (row_order row first)) as (λ v.
-    times (row_eq term_eq) (cond v (first ∷ put_in row rows) (row ∷ first ∷ rows)) q ≡ times (row_eq term_eq) (row ∷ first ∷ rows) q) [
+    times (row_eq term_eq) (cond v (first ∷ put_in row_order row rows) (row ∷ first ∷ rows)) q ≡ times (row_eq term_eq) (row ∷ first ∷ rows) q) [
       | true ↦ omega (arith, ints, rest)
       | false ↦ refl
     ]

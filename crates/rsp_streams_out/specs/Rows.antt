@@ -30,17 +30,24 @@ cell_parts (Some (Tagged lexical language)) = (3 ∷ []) ∷ (lexical ∷ (langu
 abbrev pub cell_order : Option Term → Option Term → Ordering
 cell_order = on cell_parts (slice_cmp (slice_cmp nat_cmp))
 
--- the order of rows: by their texts, byte by byte; and rows of one text by their cells, from left to right. Equal for one row
--- alone
-abbrev pub row_order : Cells Term → Cells Term → Ordering
-row_order = then_cmp (on row_text (slice_cmp nat_cmp)) (slice_cmp cell_order)
+-- the order by a text, byte by byte; and of what has one text, by its cells from left to right
+abbrev pub text_order : {A : Type 0} → (A → List ℕ) → (A → Cells Term) → A → A → Ordering
+text_order text cells = then_cmp (on text (slice_cmp nat_cmp)) (on cells (slice_cmp cell_order))
 
--- a row before the first row that doesn't stand before it
-abbrev pub put_in : Cells Term → List (Cells Term) → List (Cells Term)
-put_in row [] = row ∷ []
-put_in row (first ∷ rows) = if is_gt (row_order row first) then first ∷ put_in row rows else row ∷ (first ∷ rows)
+-- x before the first that doesn't stand before it
+abbrev pub put_in : {A : Type 0} → (A → A → Ordering) → A → List A → List A
+put_in order x [] = x ∷ []
+put_in order x (first ∷ others) = if is_gt (order x first) then first ∷ put_in order x others else x ∷ (first ∷ others)
+
+-- a list in an order
+abbrev pub sorted_by : {A : Type 0} → (A → A → Ordering) → List A → List A
+sorted_by order [] = []
+sorted_by order (x ∷ xs) = put_in order x (sorted_by order xs)
+
+-- the order of rows: by their texts, and rows of one text by their cells. Equal for one row alone
+abbrev pub row_order : Cells Term → Cells Term → Ordering
+row_order = text_order row_text (λ row. row)
 
 -- the rows in this order: one list for each multiset
 abbrev pub in_order : List (Cells Term) → List (Cells Term)
-in_order [] = []
-in_order (row ∷ rows) = put_in row (in_order rows)
+in_order = sorted_by row_order

@@ -1,5 +1,5 @@
 // The order of cells, by which rows of one text stand.
-ghost use Rattle.std.specs.Prelude.{◌≡◌};
+ghost use Rattle.std.specs.Prelude.{◌≡◌, Some};
 ghost use Rattle.std.specs.Cmp.Lexicographic.{slice_cmp};
 ghost use Rattle.std.specs.Ordering.{nat_cmp, then_cmp};
 ghost use Rattle.rsp_streams_out.specs.Rows.{cell_order};
@@ -36,14 +36,20 @@ fn compare_cell(cell: &Option<Term>, other: &Option<Term>) -> Ordering
     ensures { result ≡ cell_order cell.now other.now }
 {
     match (cell, other) {
-        (Some(term), Some(partner)) => compare_parts(term, partner),
+        (Some(term), Some(partner)) => compare_terms(term, partner),
         (Some(_), None) => Ordering::Greater,
         (None, Some(_)) => Ordering::Less,
         (None, None) => Ordering::Equal,
     }
 }
 
-// by the kinds of two terms, and terms of one kind by their parts
+/// How two terms compare: by their kinds, and terms of one kind by their parts. Takes no memory.
+pub fn compare_terms(term: &Term, other: &Term) -> Ordering
+    ensures { result ≡ cell_order (Some term.now) (Some other.now) }
+{
+    compare_parts(term, other)
+}
+
 fn compare_parts(term: &Term, other: &Term) -> Ordering
     ensures { result ≡ term_order term.now other.now }
 {

@@ -1,106 +1,113 @@
-// Rows beside their texts.
-use crate::cells::compare_cells;
-use crate::row_text;
-use rsp_multiset::Row;
-use rsp_terms::Term;
-use std::alloc::{AllocError, Global};
+// Values beside their texts.
+use crate::Lined;
 use std::cmp::Ordering;
 use std::marker::Model;
 
-// A row beside its text, by which it compares; rows of one text compare by their cells. Contracts see the row.
+/// A value beside its text, by which it compares; values of one text compare by their cells. Contracts see the value.
 #[derive(Drop)]
-pub(crate) struct Keyed {
+pub struct Keyed<T: Lined> {
     text: Vec<u8>,
-    row: Row<Term>,
+    value: T,
 }
 
-impl Model for Keyed {
+impl<T: Lined> Model for Keyed<T> {
     ghost use Rattle.std.specs.Prelude.{◌≡◌};
-    ghost use Rattle.rsp_multiset.specs.Rows.{Cells};
-    ghost use Rattle.rsp_terms.specs.declared.term.Term.{Term};
-    ghost use Rattle.rsp_streams_out.specs.Rows.{row_text};
 
-    ghost Value = { Cells Term };
+    ghost Value = { T };
 
-    ghost view = { λ k. k.row };
+    ghost view = { λ k. k.value };
 
-    ghost invariant = { λ k. k.text.items ≡ row_text k.row };
+    ghost invariant = { λ k. k.text.items ≡ T.text k.value };
 }
 
-impl Keyed {
-    ghost use Rattle.std.specs.Prelude.{◌≡◌, IfOk};
-    ghost use Rattle.rsp_streams_out.specs.Rows.{row_text};
+impl<T: Lined> Keyed<T> {
+    ghost use Rattle.std.specs.Prelude.{◌≡◌};
 
-    pub(crate) fn new(alloc: Global, row: Row<Term>) -> Result<Keyed, AllocError>
-        ensures { IfOk result (λ keyed. keyed ≡ row) }
+    /// The value beside the text that it has. Takes no memory.
+    pub fn new(text: Vec<u8>, value: T) -> Keyed<T>
+        requires { text.items ≡ T.text value }
+        ensures { result ≡ value }
     {
-        let text = row_text(alloc, &row)?;
-        Ok(Keyed { text, row })
+        Keyed { text, value }
     }
 
-    // the row with its text
-    pub(crate) fn into_parts(self) -> (Row<Term>, Vec<u8>)
-        ensures row { result.0 ≡ self }
-        ensures text { result.1.items ≡ row_text self }
+    /// The text.
+    pub fn text(&self) -> &[u8]
+        ensures { result.now ≡ T.text self.now }
     {
-        let Keyed { text, row } = self;
-        (row, text)
+        self.text.as_slice()
+    }
+
+    /// The value.
+    pub fn value(&self) -> &T
+        ensures { result.now ≡ self.now }
+    {
+        &self.value
+    }
+
+    /// The value with its text. Takes no memory.
+    pub fn into_parts(self) -> (T, Vec<u8>)
+        ensures value { result.0 ≡ self }
+        ensures text { result.1.items ≡ T.text self }
+    {
+        let Keyed { text, value } = self;
+        (value, text)
     }
 }
 
-impl PartialEq for Keyed {
+impl<T: Lined> PartialEq for Keyed<T> {
     ghost use Rattle.std.specs.Ordering.{eq_by_cmp};
     ghost use Rattle.std.specs.Cmp.{eq_by_cmp_equiv, partial_equiv_from_equiv};
-    ghost use Rattle.rsp_streams_out.specs.Rows.{row_order};
-    ghost use Rattle.rsp_streams_out.specs.RowOrder.{row_order_total};
+    ghost use Rattle.rsp_streams_out.specs.Rows.{text_order};
+    ghost use Rattle.rsp_streams_out.specs.RowOrder.{text_order_total};
 
-    ghost eq = { eq_by_cmp row_order };
+    ghost eq = { eq_by_cmp (text_order T.text T.cells) };
 
-    ghost laws = { partial_equiv_from_equiv (eq_by_cmp_equiv row_order_total) };
+    ghost laws = { partial_equiv_from_equiv (eq_by_cmp_equiv (text_order_total T.text T.cells)) };
 
-    fn eq(&self, other: &Keyed) -> bool {
+    fn eq(&self, other: &Keyed<T>) -> bool {
         self.cmp(other) == Ordering::Equal
     }
 }
 
-impl Eq for Keyed {
+impl<T: Lined> Eq for Keyed<T> {
     ghost use Rattle.std.specs.Cmp.{eq_by_cmp_equiv};
-    ghost use Rattle.rsp_streams_out.specs.RowOrder.{row_order_total};
+    ghost use Rattle.rsp_streams_out.specs.RowOrder.{text_order_total};
 
-    ghost laws = { eq_by_cmp_equiv row_order_total };
+    ghost laws = { eq_by_cmp_equiv (text_order_total T.text T.cells) };
 }
 
-impl PartialOrd for Keyed {
+impl<T: Lined> PartialOrd for Keyed<T> {
     ghost use Rattle.std.specs.Prelude.{Some, refl};
     ghost use Rattle.std.specs.Cmp.{po};
-    ghost use Rattle.rsp_streams_out.specs.Rows.{row_order};
-    ghost use Rattle.rsp_streams_out.specs.RowOrder.{row_order_total};
+    ghost use Rattle.rsp_streams_out.specs.Rows.{text_order};
+    ghost use Rattle.rsp_streams_out.specs.RowOrder.{text_order_total};
 
-    ghost partial_cmp = { λ a b. Some (row_order a b) };
+    ghost partial_cmp = { λ a b. Some (text_order T.text T.cells a b) };
 
-    ghost laws = { po row_order_total (λ a b. refl) };
+    ghost laws = { po (text_order_total T.text T.cells) (λ a b. refl) };
 
-    fn partial_cmp(&self, other: &Keyed) -> Option<Ordering> {
+    fn partial_cmp(&self, other: &Keyed<T>) -> Option<Ordering> {
         Some(self.cmp(other))
     }
 }
 
-impl Ord for Keyed {
+impl<T: Lined> Ord for Keyed<T> {
     ghost use Rattle.std.specs.Prelude.{refl};
-    ghost use Rattle.rsp_streams_out.specs.Rows.{row_order};
-    ghost use Rattle.rsp_streams_out.specs.RowOrder.{row_order_total};
+    ghost use Rattle.rsp_streams_out.specs.Rows.{text_order};
+    ghost use Rattle.rsp_streams_out.specs.RowOrder.{text_order_total};
 
-    ghost cmp = { row_order };
+    ghost cmp = { text_order T.text T.cells };
 
-    ghost total = { row_order_total };
+    ghost total = { text_order_total T.text T.cells };
 
     ghost matches_partial_cmp = { λ _ _. refl };
 
     ghost matches_eq = { λ _ _. refl };
 
-    fn cmp(&self, other: &Keyed) -> Ordering {
+    fn cmp(&self, other: &Keyed<T>) -> Ordering {
         match self.text.as_slice().cmp(other.text.as_slice()) {
-            Ordering::Equal => compare_cells(self.row.cells(), other.row.cells()),
+            Ordering::Equal => self.value.compare_cells(&other.value),
             unequal => unequal,
         }
     }

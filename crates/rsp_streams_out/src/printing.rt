@@ -40,7 +40,7 @@ impl PrintedRows {
     }
 
     // the rows with the texts that stand beside them
-    pub(crate) fn of(alloc: Global, keyed: Vec<Keyed>) -> Result<PrintedRows, AllocError>
+    pub(crate) fn of(alloc: Global, keyed: Vec<Keyed<Row<Term>>>) -> Result<PrintedRows, AllocError>
         ensures { IfOk result (λ printed. printed ≡ keyed.items) }
     {
         let mut rows = Listed::new(alloc);

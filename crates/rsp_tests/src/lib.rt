@@ -20,6 +20,8 @@ mod faults;
 #[cfg(test)]
 mod files;
 #[cfg(test)]
+mod graphs;
+#[cfg(test)]
 mod middle;
 #[cfg(test)]
 mod modes;

@@ -1,0 +1,4 @@
+mod GraphRows
+pub mod JsonParts
+pub mod Members
+pub mod Orders

@@ -1,0 +1,5 @@
+use Rattle.rsp_graphs.proofs.Orders.{three_in_turn}
+use Rattle.rsp_graphs.proofs.line.compare_triples.Goals as goal
+
+pub returns : goal.returns
+returns c = ?
