@@ -169,7 +169,7 @@ select_counted c s =
     body_counted (measure c) (selected_of [] nothing s)
     ∙ within_counted c (within nothing (projection_of s) []) (behind_select nothing) s
 
-pub passed_is : (variables signs : ℕ) (s : Selected)
-    → passed_by_counts variables (body_of (selected_of [] nothing s)) signs ≡ passed_as_written variables s signs
-passed_is variables signs s =
+pub passed_is : (variables made signs : ℕ) (s : Selected)
+    → passed_by_counts variables made (body_of (selected_of [] nothing s)) signs ≡ passed_as_written variables made s signs
+passed_is variables made signs s =
     rw (select_counted count.Slashes s, select_counted count.Steps s, select_counted count.Elements s, select_counted count.Rows s) refl

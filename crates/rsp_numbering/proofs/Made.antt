@@ -6,7 +6,7 @@ use Rattle.rsp_numbering.specs.Naming.{nothing}
 use Rattle.rsp_numbering.specs.Numbered.{start}
 use Rattle.rsp_numbering.specs.Clauses.{made_of, query_of}
 use Rattle.rsp_numbering.specs.Counting.{variables_of}
-use Rattle.rsp_numbering.specs.Limits.{limit_of}
+use Rattle.rsp_numbering.specs.Limits.{limit_of, made_in}
 use Rattle.rsp_numbering.specs.Operators.{select_operators}
 use Rattle.rsp_numbering.specs.Results.{IsNumbered, IsNumberedBy, limit_by, query_by}
 use Rattle.rsp_numbering.specs.SelectionSteps.{behind_selected, selected_of}
@@ -25,7 +25,7 @@ pub query_of_is : (w : Written) → query_of w ≡ query_by w
 query_of_is w = rw (made_is w) refl
 
 pub limit_of_is : (w : Written) → limit_of w ≡ limit_by w
-limit_of_is w = rw (made_is w) (rw (passed_is (variables_of w.select) (select_operators w.select) w.select) refl)
+limit_of_is w = rw (made_is w) (rw (passed_is (variables_of w.select) (made_in w) (select_operators w.select) w.select) refl)
 
 numbered_is : (w : Written) (answer : Result Query LimitName) → IsNumberedBy w answer → IsNumbered w answer
 numbered_is w (Ok query) is = (limit_of_is w ∙ is.0, is.1 ∙ sym (query_of_is w))

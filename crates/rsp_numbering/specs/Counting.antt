@@ -111,10 +111,10 @@ abbrev pub variables_of : Selected → ℕ
 variables_of select = length (behind_selected [] nothing select).variables
 
 -- the first limit that a SELECT with so many variables and operators passes
-abbrev pub passed_as_written : ℕ → Selected → ℕ → Option LimitName
-passed_as_written variables select signs =
+abbrev pub passed_as_written : ℕ → ℕ → Selected → ℕ → Option LimitName
+passed_as_written variables made select signs =
     over most_variables (variables + select_count count.Slashes select) limit.Variables
-    (over most_patterns (select_count count.Steps select) limit.Patterns
+    (over most_patterns (made + select_count count.Steps select) limit.Patterns
     (over most_operators signs limit.Operators
     (over most_elements (select_count count.Elements select) limit.Elements
     (over most_value_rows (select_count count.Rows select) limit.Rows None))))

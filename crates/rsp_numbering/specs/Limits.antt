@@ -1,6 +1,7 @@
 -- Definitions: what is counted of a query as it is written, and the first limit that it passes.
 use Rattle.std.specs.Prelude.{ℕ, ◌+◌, Bool, true, ◌&&◌, cond, nat_lt, nat_le, List, Option, None, Some, length, unwrap_or}
 use Rattle.std.specs.List.{list_all}
+use Rattle.std.specs.Option.{option_map_or}
 use Rattle.rsp_spec.specs.Limits.{last_instant, most_windows, most_variables, most_patterns, most_operators, most_elements}
 use Rattle.rsp_spec.specs.Limits.{most_value_rows}
 use Rattle.rsp_query.specs.Paths.{Way, Ways}
@@ -18,7 +19,7 @@ use Rattle.rsp_numbering.specs.Clauses.{made_of}
 use Rattle.rsp_numbering.specs.declared.limit.LimitName.{LimitName}
 use Rattle.rsp_numbering.specs.declared.limit.LimitName.TheVariants as limit
 
--- ---- triple patterns, one for each step of a path; other elements; rows of VALUES
+-- ---- triple patterns, one for each step of a path and each triple of a template; other elements; rows of VALUES
 
 abbrev mutual
   pub steps : Way → ℕ
@@ -72,10 +73,14 @@ over most n name more = cond (nat_lt most n) (Some name) more
 abbrev pub body_of : Selection → Parts
 body_of (query.selection distinct star items body grouped keys having aggregates) = body
 
-abbrev pub passed_by_counts : ℕ → Parts → ℕ → Option LimitName
-passed_by_counts variables body signs =
+-- the triples of a template, where there is one
+abbrev pub made_in : Written → ℕ
+made_in w = option_map_or length w.template 0
+
+abbrev pub passed_by_counts : ℕ → ℕ → Parts → ℕ → Option LimitName
+passed_by_counts variables made body signs =
     over most_variables (variables + slashes_in body) limit.Variables
-    (over most_patterns (counted own_steps body) limit.Patterns
+    (over most_patterns (made + counted own_steps body) limit.Patterns
     (over most_operators signs limit.Operators
     (over most_elements (counted own_element body) limit.Elements
     (over most_value_rows (counted own_rows body) limit.Rows None))))
@@ -84,5 +89,5 @@ abbrev pub limit_of : Written → Option LimitName
 limit_of w =
     over most_windows (length w.windows) limit.Windows
     (cond (has_spans w)
-    (passed_by_counts (length (made_of w).1.before.variables) (body_of (made_of w).0) (made_of w).1.operators)
+    (passed_by_counts (length (made_of w).1.before.variables) (made_in w) (body_of (made_of w).0) (made_of w).1.operators)
     (Some limit.Span))

@@ -19,6 +19,7 @@ mod operators;
 mod paths;
 mod query;
 mod scopes;
+mod templates;
 mod triples;
 mod variable;
 

@@ -3,6 +3,7 @@ ghost use Rattle.std.specs.Prelude.{◌≡◌, [], IfOk, map};
 ghost use Rattle.rsp_query.specs.Meanings.{registered, selection_of};
 ghost use Rattle.rsp_written.specs.GroupMeanings as written;
 ghost use Rattle.rsp_numbering.specs.Counting as counting;
+ghost use Rattle.rsp_numbering.specs.Limits.{made_in};
 ghost use Rattle.rsp_numbering.specs.Naming.{nothing, variable_text};
 ghost use Rattle.rsp_numbering.specs.Results.{IsNumbered, IsNumberedBehind, IsNumberedBy, query_behind};
 ghost use Rattle.rsp_numbering.specs.SelectionSteps.{behind_selected, selected_of};
@@ -12,6 +13,7 @@ use crate::counts::{Count, in_select};
 use crate::groups::select;
 use crate::names::variables_of;
 use crate::operators::{of_select, plus};
+use crate::templates::maybe_template;
 use crate::{Before, LimitName};
 use rsp_query::{PolicyWords, Query, WindowClause};
 use rsp_spec::limits::{
@@ -56,8 +58,9 @@ fn query_behind_windows(
     ensures { IfOk result (IsNumberedBehind (written.written_of text.now) policy windows.items) }
 {
     let variables = variables_of(alloc, &text.select)?;
+    let made = made_in(text);
     let signs = of_select(&text.select)?;
-    match passed_by_counts(variables, &text.select, signs)? {
+    match passed_by_counts(variables, made, &text.select, signs)? {
         Some(name) => Ok(Err(name)),
         None => Ok(Ok(numbered(alloc, text, policy, windows)?)),
     }
@@ -72,11 +75,13 @@ fn numbered(
 ) -> Result<Query, AllocError>
     ensures { IfOk result (λ query. registered query ≡ query_behind (written.written_of text.now) policy windows.items) }
 {
+    let template = maybe_template(alloc, &text.template)?;
     let (output, select, variables) = named(alloc, text)?;
     Ok(Query {
         operator: text.operator,
         output,
         policy,
+        template,
         windows,
         select,
         variables,
@@ -109,19 +114,30 @@ fn selected(alloc: Global, text: &Select) -> Result<(rsp_query::Select, Vec<Text
     Ok((select, variables))
 }
 
+// the triples of the template, where there is one
+fn made_in(text: &Registration) -> usize
+    ensures { result ≡ made_in (written.written_of text.now) }
+{
+    match &text.template {
+        None => 0,
+        Some(template) => template.len(),
+    }
+}
+
 // counted on the tree as it is written, before anything is built
 fn passed_by_counts(
     variables: usize,
+    made: usize,
     select: &Select,
     signs: usize,
 ) -> Result<Option<LimitName>, AllocError>
-    ensures { IfOk result (λ name. name ≡ counting.passed_as_written variables (written.select_of select.now) signs) }
+    ensures { IfOk result (λ name. name ≡ counting.passed_as_written variables made (written.select_of select.now) signs) }
 {
     let slashes = in_select(Count::Slashes, select)?;
     if MOST_VARIABLES < plus(variables, slashes)? {
         return Ok(Some(LimitName::Variables));
     }
-    if MOST_PATTERNS < in_select(Count::Steps, select)? {
+    if MOST_PATTERNS < plus(made, in_select(Count::Steps, select)?)? {
         return Ok(Some(LimitName::Patterns));
     }
     if MOST_OPERATORS < signs {

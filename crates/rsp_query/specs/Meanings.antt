@@ -79,6 +79,7 @@ registered q = record {
   operator = q.operator;
   output = q.output;
   policy = q.policy;
+  template = q.template;
   windows = q.windows.items;
   selection = selection_of q.select;
   variables = q.variables.items;

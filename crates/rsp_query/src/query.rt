@@ -1,5 +1,5 @@
 // Queries.
-use crate::Select;
+use crate::{Select, Template};
 use rsp_report::{Operator, PolicyWords};
 use rsp_terms::Text;
 use rsp_windows::Window;
@@ -11,6 +11,8 @@ pub struct Query {
     /// The IRI of the output stream.
     pub output: Text,
     pub policy: PolicyWords,
+    /// What its rows are made into where it constructs: a variable there is the number of a cell of a shown row.
+    pub template: Option<Template>,
     pub windows: Vec<WindowClause>,
     pub select: Select,
     /// The name of each variable by its number, without `?`. What has no name in the text has one that no variable can

@@ -3,5 +3,4 @@ pub mod Says
 -- Words of the way
 pub mod Clauses
 pub mod Inside
-pub mod Names
 pub mod Asking

@@ -4,6 +4,7 @@ pub mod Building
 pub mod Grammar
 -- Words of the way
 pub mod Numbers
+pub mod Names
 pub mod Meanings
 pub mod GroupMeanings
 pub mod Gives

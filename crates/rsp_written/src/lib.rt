@@ -28,4 +28,4 @@ pub use reading::{
 pub use registration::{Registration, Window};
 pub use rsp_functions::Arity;
 pub use said::{Keyword, Kind, Said, Symbol};
-pub use template::{Made, Part};
+pub use template::{Made, Part, names_in};
