@@ -16,6 +16,7 @@ pub mod Following
 pub mod OrderedRows
 pub mod FirstPlace
 pub mod StillSet
+pub mod Constructing
 pub mod Costing
 pub mod FirstReport
 pub mod ReportSteps

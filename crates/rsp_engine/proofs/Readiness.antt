@@ -109,6 +109,7 @@ live_as facts p =
       operator = p.query.reading.operator;
       output = p.query.reading.output;
       policy = p.query.reading.policy;
+      template = p.query.reading.template;
       windows = p.query.reading.windows;
       query = p.translated;
       variables = p.query.reading.variables;

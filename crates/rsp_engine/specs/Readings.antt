@@ -22,6 +22,7 @@ reading_of q =
       operator = q.operator;
       output = q.output;
       policy = choice_of q.policy;
+      template = q.template;
       windows = map window_of q.windows;
       node = tree_of q;
       width = width_of q;

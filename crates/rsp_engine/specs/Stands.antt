@@ -10,6 +10,7 @@ use Rattle.rsp_terms.specs.Same.{fact_eq, term_eq}
 use Rattle.rsp_terms.specs.declared.term.Term.{Term}
 use Rattle.rsp_multiset.specs.Rows.{Cells, row_eq}
 use Rattle.rsp_multiset.specs.Weights.{IsSameMultiset, times}
+use Rattle.rsp_query.specs.declared.template.Made.{Made}
 use Rattle.rsp_report.specs.declared.chosen.Chosen.{Chosen}
 use Rattle.rsp_report.specs.declared.contents.Watched.{Watched}
 use Rattle.rsp_report.specs.declared.operator.Operator.{Operator}
@@ -41,6 +42,7 @@ pub record Live : Type 0 where
   pub operator : Operator
   pub output : List ℕ
   pub policy : Chosen
+  pub template : Option (List Made)
   pub windows : List StreamWindow
   pub query : Translated
   pub variables : List (List ℕ)
@@ -72,6 +74,7 @@ reading_in live =
       operator = live.operator;
       output = live.output;
       policy = live.policy;
+      template = live.template;
       windows = live.windows;
       node = node_of live.query.tree;
       width = live.query.width;

@@ -57,6 +57,7 @@ keywords =
     ∷ (codes "FALSE", kind.Word keyword.False)
     ∷ (codes "IN", kind.Word keyword.In)
     ∷ (codes "BOUND", kind.Word keyword.Bound)
+    ∷ (codes "CONSTRUCT", kind.Word keyword.Construct)
     ∷ (codes "COUNT", kind.Fold fold.Count)
     ∷ (codes "SUM", kind.Fold fold.Sum)
     ∷ (codes "AVG", kind.Fold fold.Avg)

@@ -6,7 +6,7 @@ ghost use Rattle.rsp_said.specs.Tables as tables;
 use rsp_functions::{Function, Kind as Fold, Sign};
 use rsp_written::{Keyword, Kind, Symbol};
 
-const KEYWORDS: [(&str, Kind); 78] = [
+const KEYWORDS: [(&str, Kind); 79] = [
     ("PREFIX", Kind::Word(Keyword::Prefix)),
     ("REGISTER", Kind::Word(Keyword::Register)),
     ("RSTREAM", Kind::Word(Keyword::Rstream)),
@@ -52,6 +52,7 @@ const KEYWORDS: [(&str, Kind); 78] = [
     ("FALSE", Kind::Word(Keyword::False)),
     ("IN", Kind::Word(Keyword::In)),
     ("BOUND", Kind::Word(Keyword::Bound)),
+    ("CONSTRUCT", Kind::Word(Keyword::Construct)),
     ("COUNT", Kind::Fold(Fold::Count)),
     ("SUM", Kind::Fold(Fold::Sum)),
     ("AVG", Kind::Fold(Fold::Avg)),
