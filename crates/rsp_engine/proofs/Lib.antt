@@ -44,3 +44,4 @@ pub mod Calming
 pub mod ReaderLists
 pub mod EndsRead
 pub mod ReadersBehind
+pub mod ReportInstants

@@ -228,9 +228,11 @@ pub record History (engine : State) : Type 0 where
   pub items : List Accepted
   pub fits : Fits engine items
 
+-- where the newest item may bring a moment on itself, it came at `next`, which is an instant
 pub record IsState (engine : State) : Type 0 where
   pub slack_high : engine.slack ≤ most_slack
   pub next_high : next_in engine ≤ last_instant + 1
+  pub newest : ForSome engine.arrived (λ stream. next_in engine ≤ last_instant)
   pub lives : All (IsLive (next_in engine) engine.slack engine.arrived engine.kept.accepted (cut_of engine)) engine.queries
   pub timed : All (λ (item : Item). item.time ≤ latest_in engine) engine.kept.items
   pub store : IsStore engine.stored

@@ -5,3 +5,4 @@ pub mod Triples
 pub mod Groups
 mod ReadingRows
 pub mod Own
+pub mod NamesOnce
