@@ -927,6 +927,8 @@ def numbered_tree(text, tokens):
 # ---- rows
 
 HEAD = "REGISTER RSTREAM <q:o> AS SELECT ?s FROM NAMED WINDOW <w:1> ON <s:a> [RANGE PT1S] WHERE { WINDOW <w:1> { ?s <p:v> ?o } "
+MADE_HEAD = "REGISTER RSTREAM <q:o> AS CONSTRUCT "
+MADE_TAIL = "FROM NAMED WINDOW <w:1> ON <s:a> [RANGE PT1S] WHERE { WINDOW <w:1> { ?s <p:v> ?o } }"
 ROWS = [
     ("ASK", ("LeftOut", 0, "ASK")),
     ("REGISTER RSTREAM <q:o> AS", ("Syntax", 25)),
@@ -951,6 +953,17 @@ ROWS = [
     ("PREFIX ex: <a:> " + HEAD + "?s ex:b ex:c\\.d }", None),
     ("PREFIX ex: <a> " + HEAD + "}", ("Syntax", 11)),
     ("PREFIX ex:x <a:> " + HEAD + "}", ("Syntax", 7)),
+    (MADE_HEAD + "{ ?s a <c:1> . } " + MADE_TAIL, None),
+    (MADE_HEAD + "{ } " + MADE_TAIL, None),
+    (MADE_HEAD + "{ ?s <p:v> -5 . ?s ?p 'x'@en . <a:1> ?p ?none } " + MADE_TAIL, None),
+    (MADE_HEAD + "{ ?s a <c:1> ; } " + MADE_TAIL, ("Syntax", 49)),
+    (MADE_HEAD + "{ _:b a <c:1> } " + MADE_TAIL, ("Syntax", 38)),
+    (MADE_HEAD + "{ 5 a <c:1> } " + MADE_TAIL, ("Syntax", 38)),
+    (MADE_HEAD + "{ ?s a <c:1> . . } " + MADE_TAIL, ("Syntax", 51)),
+    (MADE_HEAD + "{ ?s a <c:1> } " + MADE_TAIL + " GROUP BY ?s", ("Syntax", 136)),
+    (MADE_HEAD + "{ ?s a <c:1> } " + "WHERE { ?s a <c:1> }", ("Syntax", 51)),
+    (MADE_HEAD + "* " + MADE_TAIL, ("LeftOut", 36, "*")),
+    (MADE_HEAD + "WHERE " + "{ ?s a <c:1> }", ("Syntax", 36)),
     ("\u00e9", ("BadToken", 0)),
     ('"""a', ("BadToken", 2)),
 ]

@@ -4,7 +4,7 @@ use rsp_syntax::{LimitName, SyntaxFault, parse};
 use std::alloc::{AllocError, Global};
 use std::test::Fail;
 
-const TEXTS: [(&str, &str); 36] = [
+const TEXTS: [(&str, &str); 47] = [
     ("ASK", "LeftOut 0 ASK"),
     ("REGISTER RSTREAM <q:o> AS", "Syntax 25"),
     ("{{{{{{{{{{{{{{{{{{{{{{{{{{{{{{{{{", "Limit nesting"),
@@ -163,6 +163,59 @@ const TEXTS: [(&str, &str); 36] = [
         "REGISTER RSTREAM <q:o> AS SELECT ?s ?s FROM NAMED WINDOW <w:1> ON <s:a> [RANGE PT1S] \
          WHERE { WINDOW <w:1> { ?s <p:v> ?o } }",
         "query",
+    ),
+    (
+        "REGISTER RSTREAM <q:o> AS CONSTRUCT { ?s a <c:1> . } FROM NAMED WINDOW <w:1> ON <s:a> \
+         [RANGE PT1S] WHERE { WINDOW <w:1> { ?s <p:v> ?o } }",
+        "query",
+    ),
+    (
+        "REGISTER RSTREAM <q:o> AS CONSTRUCT { } FROM NAMED WINDOW <w:1> ON <s:a> [RANGE PT1S] \
+         WHERE { WINDOW <w:1> { ?s <p:v> ?o } }",
+        "query",
+    ),
+    (
+        "REGISTER RSTREAM <q:o> AS CONSTRUCT { ?s <p:v> -5 . ?s ?p 'x'@en . <a:1> ?p ?none } \
+         FROM NAMED WINDOW <w:1> ON <s:a> [RANGE PT1S] WHERE { WINDOW <w:1> { ?s <p:v> ?o } }",
+        "query",
+    ),
+    (
+        "REGISTER RSTREAM <q:o> AS CONSTRUCT { ?s a <c:1> ; } FROM NAMED WINDOW <w:1> ON <s:a> \
+         [RANGE PT1S] WHERE { WINDOW <w:1> { ?s <p:v> ?o } }",
+        "Syntax 49",
+    ),
+    (
+        "REGISTER RSTREAM <q:o> AS CONSTRUCT { _:b a <c:1> } FROM NAMED WINDOW <w:1> ON <s:a> \
+         [RANGE PT1S] WHERE { WINDOW <w:1> { ?s <p:v> ?o } }",
+        "Syntax 38",
+    ),
+    (
+        "REGISTER RSTREAM <q:o> AS CONSTRUCT { 5 a <c:1> } FROM NAMED WINDOW <w:1> ON <s:a> \
+         [RANGE PT1S] WHERE { WINDOW <w:1> { ?s <p:v> ?o } }",
+        "Syntax 38",
+    ),
+    (
+        "REGISTER RSTREAM <q:o> AS CONSTRUCT { ?s a <c:1> . . } FROM NAMED WINDOW <w:1> ON <s:a> \
+         [RANGE PT1S] WHERE { WINDOW <w:1> { ?s <p:v> ?o } }",
+        "Syntax 51",
+    ),
+    (
+        "REGISTER RSTREAM <q:o> AS CONSTRUCT { ?s a <c:1> } FROM NAMED WINDOW <w:1> ON <s:a> \
+         [RANGE PT1S] WHERE { WINDOW <w:1> { ?s <p:v> ?o } } GROUP BY ?s",
+        "Syntax 136",
+    ),
+    (
+        "REGISTER RSTREAM <q:o> AS CONSTRUCT { ?s a <c:1> } WHERE { ?s a <c:1> }",
+        "Syntax 51",
+    ),
+    (
+        "REGISTER RSTREAM <q:o> AS CONSTRUCT * FROM NAMED WINDOW <w:1> ON <s:a> [RANGE PT1S] \
+         WHERE { WINDOW <w:1> { ?s <p:v> ?o } }",
+        "LeftOut 36 *",
+    ),
+    (
+        "REGISTER RSTREAM <q:o> AS CONSTRUCT WHERE { ?s a <c:1> }",
+        "Syntax 36",
     ),
 ];
 
