@@ -115,7 +115,9 @@ def likeness(row, its, sign, rows):
     likes = (could_be, is_same, its.before[-1:] == sign.before[-1:], common(its.behind, sign.behind))
     if sign.number != "8" or sign.what in TELLING:
         return likes if is_same and fits_place(its, sign) else None
-    is_alone = sum(other.could == sign.could for _, other in rows) == 1 and not row.mistake.startswith("no line")
+    # behind a whole query anything may stand by mistake
+    is_alone = sum(other.could == sign.could for _, other in rows) == 1 and sign.could != frozenset(["end"])
+    is_alone = is_alone and not row.mistake.startswith("no line")
     return likes if could_be and (is_same or is_alone) else None
 
 
