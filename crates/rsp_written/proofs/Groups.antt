@@ -4,7 +4,7 @@ use Rattle.std.proofs.Common.{Bool, ◌≡◌, ℕ, ◌+◌, true, false, true�
 use Rattle.std.specs.List.{flat_map}
 use Rattle.rsp_report.specs.declared.operator.Operator.TheVariants as stream
 use Rattle.rsp_report.specs.declared.words.Strategy.{Strategy}
-use Rattle.rsp_report.specs.declared.words.Strategy.TheVariants as when
+use Rattle.rsp_report.specs.declared.words.Strategy.TheVariants as strategies
 use Rattle.rsp_report.specs.declared.words.PolicyWords.TheVariants as policies
 use Rattle.rsp_phrases.specs.Languages.{has, both, second_of, either, optional}
 use Rattle.rsp_phrases.specs.Readers.{Reader}
@@ -291,9 +291,9 @@ good_window =
 good_strategy : G strategy strategy_read strategy_first [] false true
 unfolding strategy_read
 good_strategy =
-    good_either (good_says (kind.Word keyword.Close) when.Close) (good_either (good_says (kind.Word keyword.Change) when.Change)
-    (good_either (good_says (kind.Word keyword.NonEmpty) when.NonEmpty)
-    (good_mapped when.Every (good_second_of (good_one (word_kinds keyword.Every)) good_span refl)) refl refl) refl refl) refl refl
+    good_either (good_says (kind.Word keyword.Close) strategies.Close) (good_either (good_says (kind.Word keyword.Change) strategies.Change)
+    (good_either (good_says (kind.Word keyword.NonEmpty) strategies.NonEmpty)
+    (good_mapped strategies.Every (good_second_of (good_one (word_kinds keyword.Every)) good_span refl)) refl refl) refl refl) refl refl
 
 good_profile : G profile profile_read (kind.Word keyword.Csparql ∷ kind.Word keyword.Cqels ∷ []) [] false true
 unfolding profile_read

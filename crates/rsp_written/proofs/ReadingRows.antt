@@ -7,7 +7,7 @@ use Rattle.std.proofs.Common.{◌≡◌, ℕ, false, true, List, [], ◌∷◌, 
 use Rattle.rsp_text.specs.Instants.{instant}
 use Rattle.rsp_text.specs.Spans.{span, clock, seconds}
 use Rattle.rsp_report.specs.declared.operator.Operator.TheVariants as stream
-use Rattle.rsp_report.specs.declared.words.Strategy.TheVariants as when
+use Rattle.rsp_report.specs.declared.words.Strategy.TheVariants as strategies
 use Rattle.rsp_report.specs.declared.words.PolicyWords.TheVariants as policies
 use Rattle.rsp_phrases.specs.Readers.{nested_read, at_most_read, follows_at_most_read, distinct_read}
 use Rattle.rsp_written.specs.declared.said.Keyword.{Keyword}
@@ -145,10 +145,10 @@ two_columns = refl
 -- ---- policies
 
 -- REPORT NONEMPTY AND EVERY PT1S TICK TUPLE
-strategies : reported_read (w keyword.Report ∷ w keyword.NonEmpty ∷ w keyword.And ∷ w keyword.Every ∷ said kind.Span (codes "PT1S") ∷ w keyword.Tick ∷ w keyword.Tuple ∷ [])
-    ≡ Ok (policies.Listed (when.NonEmpty ∷ when.Every 1000 ∷ []) true, [])
+policy_list : reported_read (w keyword.Report ∷ w keyword.NonEmpty ∷ w keyword.And ∷ w keyword.Every ∷ said kind.Span (codes "PT1S") ∷ w keyword.Tick ∷ w keyword.Tuple ∷ [])
+    ≡ Ok (policies.Listed (strategies.NonEmpty ∷ strategies.Every 1000 ∷ []) true, [])
 unfolding said w span_read strategy_read tick_read reported_read at_most_read span clock seconds
-strategies = refl
+policy_list = refl
 
 -- a tick that is neither
 no_tick : reported_read (w keyword.Report ∷ w keyword.Change ∷ w keyword.Tick ∷ w keyword.Cqels ∷ []) ≡ Err 1

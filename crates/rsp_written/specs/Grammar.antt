@@ -23,7 +23,7 @@ use Rattle.rsp_functions.specs.declared.aggregate.Kind.TheVariants as fold
 use Rattle.rsp_report.specs.declared.operator.Operator.{Operator}
 use Rattle.rsp_report.specs.declared.operator.Operator.TheVariants as stream
 use Rattle.rsp_report.specs.declared.words.Strategy.{Strategy}
-use Rattle.rsp_report.specs.declared.words.Strategy.TheVariants as when
+use Rattle.rsp_report.specs.declared.words.Strategy.TheVariants as strategies
 use Rattle.rsp_report.specs.declared.words.PolicyWords.{PolicyWords}
 use Rattle.rsp_report.specs.declared.words.PolicyWords.TheVariants as policies
 use Rattle.rsp_phrases.specs.Languages.{Language, has, among, token, mapped, tied, both, second_of, first_of_both, either}
@@ -534,8 +534,8 @@ window =
 -- Strategy ::= 'CLOSE' | 'CHANGE' | 'NONEMPTY' | 'EVERY' Span                                       (of this profile)
 abbrev pub strategy : Rule Strategy
 strategy =
-    either (says (kind.Word keyword.Close) when.Close) (either (says (kind.Word keyword.Change) when.Change)
-    (either (says (kind.Word keyword.NonEmpty) when.NonEmpty) (mapped when.Every (second_of (word keyword.Every) duration))))
+    either (says (kind.Word keyword.Close) strategies.Close) (either (says (kind.Word keyword.Change) strategies.Change)
+    (either (says (kind.Word keyword.NonEmpty) strategies.NonEmpty) (mapped strategies.Every (second_of (word keyword.Every) duration))))
 
 -- Policy ::= 'UNDER' ('CSPARQL' | 'CQELS') | 'REPORT' Strategy ('AND' Strategy)* 'TICK' ('TIME' | 'TUPLE')
 abbrev pub profile : Rule PolicyWords

@@ -5,7 +5,7 @@ use Rattle.std.specs.List.{flat_map}
 use Rattle.rsp_report.specs.declared.operator.Operator.{Operator}
 use Rattle.rsp_report.specs.declared.operator.Operator.TheVariants as stream
 use Rattle.rsp_report.specs.declared.words.Strategy.{Strategy}
-use Rattle.rsp_report.specs.declared.words.Strategy.TheVariants as when
+use Rattle.rsp_report.specs.declared.words.Strategy.TheVariants as strategies
 use Rattle.rsp_report.specs.declared.words.PolicyWords.{PolicyWords}
 use Rattle.rsp_report.specs.declared.words.PolicyWords.TheVariants as policies
 use Rattle.rsp_phrases.specs.Readers.{Reader, token_read, mapped_read, tied_read, both_read, second_read, first_read}
@@ -171,10 +171,10 @@ window_read =
 
 unfoldable pub strategy_read : Reader Said Strategy
 strategy_read =
-    choice_read (word_kinds keyword.Close) (says_read (kind.Word keyword.Close) when.Close)
-    (choice_read (word_kinds keyword.Change) (says_read (kind.Word keyword.Change) when.Change)
-    (choice_read (word_kinds keyword.NonEmpty) (says_read (kind.Word keyword.NonEmpty) when.NonEmpty)
-    (mapped_read when.Every (second_read (word_read keyword.Every) span_read))))
+    choice_read (word_kinds keyword.Close) (says_read (kind.Word keyword.Close) strategies.Close)
+    (choice_read (word_kinds keyword.Change) (says_read (kind.Word keyword.Change) strategies.Change)
+    (choice_read (word_kinds keyword.NonEmpty) (says_read (kind.Word keyword.NonEmpty) strategies.NonEmpty)
+    (mapped_read strategies.Every (second_read (word_read keyword.Every) span_read))))
 
 unfoldable pub profile_read : Reader Said PolicyWords
 profile_read =

@@ -7,7 +7,7 @@ ghost use Rattle.rsp_written.specs.Gives.{Gives};
 ghost use Rattle.rsp_written.specs.Grammar.{has_number, kind_number, numbers};
 ghost use Rattle.rsp_written.specs.Readings.{iri_read, meaning_read, one_read, sign_read, variable_read, word_read};
 ghost use Rattle.rsp_written.specs.declared.said.Kind as kinds;
-ghost use Rattle.rsp_written.specs.declared.said.Kind.TheVariants as kind;
+ghost use Rattle.rsp_written.specs.declared.said.Kind.TheVariants as variants;
 ghost use Rattle.rsp_written.specs.declared.reading.Halt.TheVariants.{OutOfMemory};
 
 use crate::{Keyword, Kind, Said, Symbol};
@@ -112,7 +112,7 @@ pub trait Spelled: Copy {
 }
 
 impl Spelled for Sign {
-    ghost spelling = { kind.Sign };
+    ghost spelling = { variants.Sign };
 
     fn kind(self) -> Kind {
         Kind::Sign(self)
@@ -120,7 +120,7 @@ impl Spelled for Sign {
 }
 
 impl Spelled for Function {
-    ghost spelling = { kind.Call };
+    ghost spelling = { variants.Call };
 
     fn kind(self) -> Kind {
         Kind::Call(self)
@@ -128,7 +128,7 @@ impl Spelled for Function {
 }
 
 impl Spelled for Fold {
-    ghost spelling = { kind.Fold };
+    ghost spelling = { variants.Fold };
 
     fn kind(self) -> Kind {
         Kind::Fold(self)
@@ -148,6 +148,7 @@ fn meant<M: Spelled>(values: &[M], number: u8) -> Option<M>
 }
 
 /// Whether the next token means one of these.
+#[tactic(auto, using(crate::proofs::Simple::found))]
 pub fn begins<M: Spelled>(values: &[M], tokens: &[Said]) -> bool
     ensures { result ≡ starts kind_number (numbers (map M.spelling values.now)) tokens.now }
 {
