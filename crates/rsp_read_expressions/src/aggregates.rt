@@ -12,9 +12,7 @@ use crate::nodes::aggregate_of;
 use crate::primaries::Primaries;
 use crate::rows;
 use rsp_functions::{Kind as Fold, Sign};
-use rsp_written::{
-    Expression, Halt, Keyword, Kind, Said, Symbol, first_is, first_is_among, one, sign, word,
-};
+use rsp_written::{Expression, Halt, Keyword, Kind, Said, Symbol, first_is, first_is_among, meaning, one, sign, word};
 use std::alloc::Global;
 
 /// What an aggregate is of.

@@ -14,10 +14,7 @@ ghost use Rattle.rsp_written.specs.declared.said.Keyword.TheVariants as keyword;
 use rsp_functions::Sign;
 use rsp_read_expressions::{aggregate_expression, aggregate_in_parens, expression, maybe_word};
 use rsp_terms::Text;
-use rsp_written::{
-    Expression, Halt, Item, Keyword, Kind, Projection, Said, Symbol, first_is, first_is_among,
-    sign, variable, word,
-};
+use rsp_written::{Expression, Halt, Item, Keyword, Kind, Projection, Said, Symbol, first_is, first_is_among, one, sign, variable, word};
 use std::alloc::Global;
 
 // an expression, by whether aggregates may stand in it
