@@ -5,6 +5,7 @@ use Rattle.rsp_functions.specs.declared.function.Sign.{Sign}
 use Rattle.rsp_functions.specs.declared.function.Sign.TheVariants as operator
 use Rattle.std.proofs.Common.{◌≡◌, ℕ, false, true, List, [], ◌∷◌, ◌++◌, refl, Some, None, Ok, Err, codes}
 use Rattle.rsp_text.specs.Instants.{instant}
+use Rattle.rsp_text.specs.Digits.{fraction}
 use Rattle.rsp_text.specs.Spans.{span, clock, seconds}
 use Rattle.rsp_report.specs.declared.operator.Operator.TheVariants as stream
 use Rattle.rsp_report.specs.declared.words.Strategy.TheVariants as strategies
@@ -119,7 +120,7 @@ unfolding said w s sign call_of x one i p y iri_read variable_read suffix_read s
 literal_subject = refl
 
 two_dots : group_read (s symbol.OpenBrace ∷ x ∷ p ∷ y ∷ s symbol.Dot ∷ s symbol.Dot ∷ s symbol.CloseBrace ∷ []) ≡ Err 2
-unfolding said w s sign call_of x one i p y iri_read variable_read suffix_read string_literal_read boolean_read signed_number_read literal_read unsigned_literal_read items_read expressions_read bound_read arguments_read function_read call_read simple_read primary_read unary_operator_read unary_read product_read sum_read comparison_read membership_read relation_read and_read or_read expression_read nested_read at_most_read follows_at_most_read distinct_read value_row_read way_name_read part_read sequence_read path_rule_read path_read verb_read subject_name_read node_name_read no_properties_read properties_end_read bracket_read object_read objects_read property_read properties_rule_read properties_read named_same_read blank_same_read described_same_read same_read triples_read value_read one_column_read columns_read value_rows_read many_columns_read block_read maybe_distinct_read count_read aggregate_read aggregate_expression_read instant span clock seconds optional_rule_read minus_rule_read union_rule_read graph_name_read graph_rule_read window_rule_read exists_rule_read filter_rule_read as_variable_read bind_rule_read values_rule_read other_read item_read items_of_read projection_read select_clause_read keys_read having_read tail_read maybe_where_read sub_select_read piece_read body_read group_rule_read group_read span_read origin_read window_size_read window_read strategy_read profile_read tick_read reported_read policy_read stream_operator_read registered_read windows_read where_group_read shown_read constructed_read asked_read query_body_read prefix_read query_read
+unfolding said w s sign call_of x one i p y iri_read variable_read suffix_read string_literal_read boolean_read signed_number_read literal_read unsigned_literal_read items_read expressions_read bound_read arguments_read function_read call_read simple_read primary_read unary_operator_read unary_read product_read sum_read comparison_read membership_read relation_read and_read or_read expression_read nested_read at_most_read follows_at_most_read distinct_read value_row_read way_name_read part_read sequence_read path_rule_read path_read verb_read subject_name_read node_name_read no_properties_read properties_end_read bracket_read object_read objects_read property_read properties_rule_read properties_read named_same_read blank_same_read described_same_read same_read triples_read value_read one_column_read columns_read value_rows_read many_columns_read block_read maybe_distinct_read count_read aggregate_read aggregate_expression_read instant span clock seconds fraction optional_rule_read minus_rule_read union_rule_read graph_name_read graph_rule_read window_rule_read exists_rule_read filter_rule_read as_variable_read bind_rule_read values_rule_read other_read item_read items_of_read projection_read select_clause_read keys_read having_read tail_read maybe_where_read sub_select_read piece_read body_read group_rule_read group_read span_read origin_read window_size_read window_read strategy_read profile_read tick_read reported_read policy_read stream_operator_read registered_read windows_read where_group_read shown_read constructed_read asked_read query_body_read prefix_read query_read
 two_dots = refl
 
 -- ---- VALUES
@@ -147,7 +148,7 @@ two_columns = refl
 -- REPORT NONEMPTY AND EVERY PT1S TICK TUPLE
 policy_list : reported_read (w keyword.Report ∷ w keyword.NonEmpty ∷ w keyword.And ∷ w keyword.Every ∷ said kind.Span (codes "PT1S") ∷ w keyword.Tick ∷ w keyword.Tuple ∷ [])
     ≡ Ok (policies.Listed (strategies.NonEmpty ∷ strategies.Every 1000 ∷ []) true, [])
-unfolding said w span_read strategy_read tick_read reported_read at_most_read span clock seconds
+unfolding said w span_read strategy_read tick_read reported_read at_most_read span clock seconds fraction
 policy_list = refl
 
 -- a tick that is neither
@@ -180,17 +181,17 @@ a_query : query_read (declaration ++ (head ++ (s symbol.OpenBrace ∷ s symbol.C
       },
       [],
     )
-unfolding said w s sign call_of x one i p y iri_read variable_read suffix_read string_literal_read boolean_read signed_number_read literal_read unsigned_literal_read items_read expressions_read bound_read arguments_read function_read call_read simple_read primary_read unary_operator_read unary_read product_read sum_read comparison_read membership_read relation_read and_read or_read expression_read nested_read at_most_read follows_at_most_read distinct_read value_row_read way_name_read part_read sequence_read path_rule_read path_read verb_read subject_name_read node_name_read no_properties_read properties_end_read bracket_read object_read objects_read property_read properties_rule_read properties_read named_same_read blank_same_read described_same_read same_read triples_read value_read one_column_read columns_read value_rows_read many_columns_read block_read maybe_distinct_read count_read aggregate_read aggregate_expression_read instant span clock seconds optional_rule_read minus_rule_read union_rule_read graph_name_read graph_rule_read window_rule_read exists_rule_read filter_rule_read as_variable_read bind_rule_read values_rule_read other_read item_read items_of_read projection_read select_clause_read keys_read having_read tail_read maybe_where_read sub_select_read piece_read body_read group_rule_read group_read span_read origin_read window_size_read window_read strategy_read profile_read tick_read reported_read policy_read stream_operator_read registered_read windows_read where_group_read shown_read constructed_read asked_read query_body_read prefix_read query_read q declaration head
+unfolding said w s sign call_of x one i p y iri_read variable_read suffix_read string_literal_read boolean_read signed_number_read literal_read unsigned_literal_read items_read expressions_read bound_read arguments_read function_read call_read simple_read primary_read unary_operator_read unary_read product_read sum_read comparison_read membership_read relation_read and_read or_read expression_read nested_read at_most_read follows_at_most_read distinct_read value_row_read way_name_read part_read sequence_read path_rule_read path_read verb_read subject_name_read node_name_read no_properties_read properties_end_read bracket_read object_read objects_read property_read properties_rule_read properties_read named_same_read blank_same_read described_same_read same_read triples_read value_read one_column_read columns_read value_rows_read many_columns_read block_read maybe_distinct_read count_read aggregate_read aggregate_expression_read instant span clock seconds fraction optional_rule_read minus_rule_read union_rule_read graph_name_read graph_rule_read window_rule_read exists_rule_read filter_rule_read as_variable_read bind_rule_read values_rule_read other_read item_read items_of_read projection_read select_clause_read keys_read having_read tail_read maybe_where_read sub_select_read piece_read body_read group_rule_read group_read span_read origin_read window_size_read window_read strategy_read profile_read tick_read reported_read policy_read stream_operator_read registered_read windows_read where_group_read shown_read constructed_read asked_read query_body_read prefix_read query_read q declaration head
 a_query = refl
 
 -- without its declaration the first prefixed name can't stand
 undeclared : query_read (head ++ (s symbol.OpenBrace ∷ s symbol.CloseBrace ∷ [])) ≡ Err 16
-unfolding said w s sign call_of x one i p y iri_read variable_read suffix_read string_literal_read boolean_read signed_number_read literal_read unsigned_literal_read items_read expressions_read bound_read arguments_read function_read call_read simple_read primary_read unary_operator_read unary_read product_read sum_read comparison_read membership_read relation_read and_read or_read expression_read nested_read at_most_read follows_at_most_read distinct_read value_row_read way_name_read part_read sequence_read path_rule_read path_read verb_read subject_name_read node_name_read no_properties_read properties_end_read bracket_read object_read objects_read property_read properties_rule_read properties_read named_same_read blank_same_read described_same_read same_read triples_read value_read one_column_read columns_read value_rows_read many_columns_read block_read maybe_distinct_read count_read aggregate_read aggregate_expression_read instant span clock seconds optional_rule_read minus_rule_read union_rule_read graph_name_read graph_rule_read window_rule_read exists_rule_read filter_rule_read as_variable_read bind_rule_read values_rule_read other_read item_read items_of_read projection_read select_clause_read keys_read having_read tail_read maybe_where_read sub_select_read piece_read body_read group_rule_read group_read span_read origin_read window_size_read window_read strategy_read profile_read tick_read reported_read policy_read stream_operator_read registered_read windows_read where_group_read shown_read constructed_read asked_read query_body_read prefix_read query_read q head
+unfolding said w s sign call_of x one i p y iri_read variable_read suffix_read string_literal_read boolean_read signed_number_read literal_read unsigned_literal_read items_read expressions_read bound_read arguments_read function_read call_read simple_read primary_read unary_operator_read unary_read product_read sum_read comparison_read membership_read relation_read and_read or_read expression_read nested_read at_most_read follows_at_most_read distinct_read value_row_read way_name_read part_read sequence_read path_rule_read path_read verb_read subject_name_read node_name_read no_properties_read properties_end_read bracket_read object_read objects_read property_read properties_rule_read properties_read named_same_read blank_same_read described_same_read same_read triples_read value_read one_column_read columns_read value_rows_read many_columns_read block_read maybe_distinct_read count_read aggregate_read aggregate_expression_read instant span clock seconds fraction optional_rule_read minus_rule_read union_rule_read graph_name_read graph_rule_read window_rule_read exists_rule_read filter_rule_read as_variable_read bind_rule_read values_rule_read other_read item_read items_of_read projection_read select_clause_read keys_read having_read tail_read maybe_where_read sub_select_read piece_read body_read group_rule_read group_read span_read origin_read window_size_read window_read strategy_read profile_read tick_read reported_read policy_read stream_operator_read registered_read windows_read where_group_read shown_read constructed_read asked_read query_body_read prefix_read query_read q head
 undeclared = refl
 
 -- an unfinished text stops at its end
 unfinished_query : query_read (declaration ++ (head ++ (s symbol.OpenBrace ∷ []))) ≡ Err 0
-unfolding said w s sign call_of x one i p y iri_read variable_read suffix_read string_literal_read boolean_read signed_number_read literal_read unsigned_literal_read items_read expressions_read bound_read arguments_read function_read call_read simple_read primary_read unary_operator_read unary_read product_read sum_read comparison_read membership_read relation_read and_read or_read expression_read nested_read at_most_read follows_at_most_read distinct_read value_row_read way_name_read part_read sequence_read path_rule_read path_read verb_read subject_name_read node_name_read no_properties_read properties_end_read bracket_read object_read objects_read property_read properties_rule_read properties_read named_same_read blank_same_read described_same_read same_read triples_read value_read one_column_read columns_read value_rows_read many_columns_read block_read maybe_distinct_read count_read aggregate_read aggregate_expression_read instant span clock seconds optional_rule_read minus_rule_read union_rule_read graph_name_read graph_rule_read window_rule_read exists_rule_read filter_rule_read as_variable_read bind_rule_read values_rule_read other_read item_read items_of_read projection_read select_clause_read keys_read having_read tail_read maybe_where_read sub_select_read piece_read body_read group_rule_read group_read span_read origin_read window_size_read window_read strategy_read profile_read tick_read reported_read policy_read stream_operator_read registered_read windows_read where_group_read shown_read constructed_read asked_read query_body_read prefix_read query_read q declaration head
+unfolding said w s sign call_of x one i p y iri_read variable_read suffix_read string_literal_read boolean_read signed_number_read literal_read unsigned_literal_read items_read expressions_read bound_read arguments_read function_read call_read simple_read primary_read unary_operator_read unary_read product_read sum_read comparison_read membership_read relation_read and_read or_read expression_read nested_read at_most_read follows_at_most_read distinct_read value_row_read way_name_read part_read sequence_read path_rule_read path_read verb_read subject_name_read node_name_read no_properties_read properties_end_read bracket_read object_read objects_read property_read properties_rule_read properties_read named_same_read blank_same_read described_same_read same_read triples_read value_read one_column_read columns_read value_rows_read many_columns_read block_read maybe_distinct_read count_read aggregate_read aggregate_expression_read instant span clock seconds fraction optional_rule_read minus_rule_read union_rule_read graph_name_read graph_rule_read window_rule_read exists_rule_read filter_rule_read as_variable_read bind_rule_read values_rule_read other_read item_read items_of_read projection_read select_clause_read keys_read having_read tail_read maybe_where_read sub_select_read piece_read body_read group_rule_read group_read span_read origin_read window_size_read window_read strategy_read profile_read tick_read reported_read policy_read stream_operator_read registered_read windows_read where_group_read shown_read constructed_read asked_read query_body_read prefix_read query_read q declaration head
 unfinished_query = refl
 
 -- ---- templates
@@ -207,9 +208,9 @@ unfolding said s template_read
 empty_template = refl
 
 -- { x a 1 . . }
-two_dots : template_read (s symbol.OpenBrace ∷ x ∷ w keyword.A ∷ one ∷ s symbol.Dot ∷ s symbol.Dot ∷ s symbol.CloseBrace ∷ []) ≡ Err 2
+two_dots_made : template_read (s symbol.OpenBrace ∷ x ∷ w keyword.A ∷ one ∷ s symbol.Dot ∷ s symbol.Dot ∷ s symbol.CloseBrace ∷ []) ≡ Err 2
 unfolding said w s x one iri_read variable_read suffix_read string_literal_read boolean_read signed_number_read literal_read made_name_read made_verb_read made_object_read made_read all_made_read template_read follows_at_most_read
-two_dots = refl
+two_dots_made = refl
 
 -- the names of { x p y . y x x }, each once
 names_once : names_in

@@ -18,7 +18,7 @@ use Rattle.rsp_written.specs.declared.said.Said.{Said}
 use Rattle.rsp_written.specs.Grammar.{Rule, kind_number, numbers, one, has_number, meaning, says, separated, sign, text_of, in_parens, iri_name, variable_name, suffix, string_literal, number_kinds, signed_number, boolean, literal, unsigned_literal}
 use Rattle.rsp_written.specs.Building.{string_term, number_term, signed_term}
 use Rattle.rsp_written.specs.declared.literals.Suffix.TheVariants.{InLanguage, OfDatatype}
-use Rattle.rsp_written.specs.Readings.{one_read, meaning_read, says_read, separated_read, in_parens_read, word_kinds, sign_kinds, iri_read, variable_read, suffix_first, suffix_read, string_literal_read, boolean_read, signed_first, signed_number_read, literal_read, unsigned_literal_read}
+use Rattle.rsp_written.specs.Readings.{one_read, meaning_read, says_read, separated_read, in_parens_read, sign_kinds, iri_read, variable_read, suffix_first, suffix_read, string_literal_read, boolean_read, signed_first, signed_number_read, literal_read, unsigned_literal_read}
 
 -- a rule and its reader, the kinds that may begin it and by which it may go on, whether it may be empty, and whether
 -- each of those kinds really begins it

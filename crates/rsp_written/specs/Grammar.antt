@@ -38,7 +38,7 @@ use Rattle.rsp_written.specs.declared.said.Kind.{Kind}
 use Rattle.rsp_written.specs.declared.said.Kind.TheVariants as kind
 use Rattle.rsp_written.specs.declared.said.Said.{Said}
 use Rattle.rsp_written.specs.Numbers.{number_of}
-use Rattle.rsp_written.specs.Trees.{Expr, variable, iri, constant, any_of, all_of, sum, product, bound, count_rows, aggregate}
+use Rattle.rsp_written.specs.Trees.{Expr, variable, iri, constant, any_of, all_of, sum, product, bound, count_rows}
 use Rattle.rsp_written.specs.Trees.{Way, step, sequence, choice, Verb, named, along, Node, variable_node, iri_node}
 use Rattle.rsp_written.specs.Trees.{constant_node, label_node, blank_node, described, Properties, no_property, Item, shown}
 use Rattle.rsp_written.specs.Trees.{computed, Operands, Projection, every_name, these, Graph, graph_variable, graph_iri}
@@ -79,7 +79,7 @@ has_number spelling number value = number_of (spelling value) == number
 
 -- a token that means one of these, of which each has a kind of its own; its value is what it means
 abbrev pub meaning : {A : Type 0} → (A → Kind) → List A → Rule A
-meaning spelling values = token (λ said. find (has_number spelling (kind_number said)) values)
+meaning spelling all = token (λ said. find (has_number spelling (kind_number said)) all)
 
 -- a token of this kind, and what it means here
 abbrev pub says : {A : Type 0} → Kind → A → Rule A

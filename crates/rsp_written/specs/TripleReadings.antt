@@ -18,7 +18,7 @@ use Rattle.rsp_written.specs.declared.template.Made.{Made}
 use Rattle.rsp_written.specs.declared.template.Part.{Part}
 use Rattle.rsp_written.specs.declared.template.Part.TheVariants as part
 use Rattle.rsp_written.specs.Grammar.{kind_number, numbers, name_if_variable}
-use Rattle.rsp_written.specs.Readings.{one_read, word_read, sign_read, choice_read, maybe_read, repeated_read, says_read}
+use Rattle.rsp_written.specs.Readings.{one_read, sign_read, choice_read, maybe_read, repeated_read, says_read}
 use Rattle.rsp_written.specs.Readings.{separated_read, word_kinds, sign_kinds, in_parens_read, iri_read, variable_read}
 use Rattle.rsp_written.specs.Readings.{signed_first, literal_read}
 
