@@ -37,7 +37,7 @@ impl Report {
     ghost use Rattle.std.specs.Option.{option_copied};
 
     /// What the rows are made into, where a graph is made of them.
-    pub fn construction(&self) -> Option<&Construction>
+    pub fn constructed_by(&self) -> Option<&Construction>
         ensures { option_copied result ≡ self.now.construction }
     {
         match &self.construction {

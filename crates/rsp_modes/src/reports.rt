@@ -49,7 +49,7 @@ fn of_rows(
 ) -> Result<Vec<u8>, AllocError>
     ensures { IfOk result (λ text. text.items ≡ rows_text form report.now rows.now report.now.construction) }
 {
-    match report.construction() {
+    match report.constructed_by() {
         None => listed(alloc, report, rows, form),
         Some(made) => constructed(alloc, report, made, rows.as_slice(), form),
     }

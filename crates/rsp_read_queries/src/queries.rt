@@ -104,7 +104,7 @@ fn select_of_names(
 }
 
 #[tactic(auto, unfolding(rsp_written::specs::GroupReadings::asked_read))]
-fn asked(alloc: Global, tokens: &[Said]) -> Result<(Asked, &[Said]), Halt>
+fn behind_as(alloc: Global, tokens: &[Said]) -> Result<(Asked, &[Said]), Halt>
     ensures { Gives (λ x. (asked_of x.0, x.1.now)) result (readings.asked_read tokens.now) }
 {
     if first_is(Kind::Word(Keyword::Select), tokens) {
@@ -120,7 +120,7 @@ fn registration(alloc: Global, tokens: &[Said]) -> Result<(Registration, &[Said]
     ensures { Gives (λ x. (written_of x.0, x.1.now)) result (readings.query_body_read tokens.now) }
 {
     let (registered, rest) = registered_as(alloc, tokens)?;
-    let (asked, rest) = asked(alloc, rest)?;
+    let (asked, rest) = behind_as(alloc, rest)?;
     let Registered {
         operator,
         output,
