@@ -9,7 +9,7 @@ use Rattle.rsp_written.specs.declared.said.Symbol.TheVariants as symbol
 use Rattle.rsp_lex.specs.declared.token.TokenKind.TheVariants as form
 use Rattle.rsp_said.specs.Tables.{word_kind, symbol_kind}
 use Rattle.rsp_said.specs.Saying.{says, says_iri, said_of, enclosed, inside_quotes, says_prefixed}
-use Rattle.rsp_said.specs.Escapes.{unescaped}
+use Rattle.rsp_said.specs.Escapes.{unescaped, unescaped_text}
 use Rattle.rsp_said.specs.declared.escapes.State.TheVariants.{Plain, Local}
 
 -- ---- words and symbols
@@ -103,7 +103,7 @@ tag = refl
 prefix : (says_prefixed (codes "ex:a:b") 0).text ≡ codes "ex"
 prefix = refl
 
-local : (says_prefixed (codes "ex:a:b") 0).local ≡ codes "a:b"
+local : (says_prefixed (codes "ex:a:b") 0).local ≡ unescaped_text Local (codes "a:b")
 local = refl
 
 absolute : says_iri (codes "<a:b>") 3 (Some (codes "a:b")) ≡ says kind.Iri (codes "a:b") 3

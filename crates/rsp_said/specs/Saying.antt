@@ -1,5 +1,5 @@
 -- Definitions: what the text of a token says. A text that isn't of its form can stand nowhere.
-use Rattle.std.specs.Prelude.{ℕ, ◌==◌, if◌then◌else◌, Option, None, Some, List, [], ◌∷◌}
+use Rattle.std.specs.Prelude.{ℕ, Bool, ◌==◌, if◌then◌else◌, Option, None, Some, List, [], ◌∷◌}
 use Rattle.std.specs.Option.{option_map, option_and_then, option_or}
 use Rattle.std.specs.List.{before_first, after_first}
 use Rattle.std.specs.Str.{byte}
@@ -61,7 +61,7 @@ says_string text at inner = says_part kind.String text at (option_map (unescaped
 
 abbrev pub says_prefixed : List ℕ → ℕ → Said
 says_prefixed text at =
-    let is_colon = λ c. c == byte ":" in
+    let is_colon : ℕ → Bool = λ c. c == byte ":" in
     let local = unescaped_text Local (after_first is_colon text) in
     record { kind = kind.Prefixed; text = before_first is_colon text; local = local; at = at }
 
