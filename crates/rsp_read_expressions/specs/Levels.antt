@@ -65,7 +65,8 @@ operand_part_read level.Product ks x s = unary_read ks x s
 
 abbrev pub level_read : Level → List ℕ → Reader Said Expr → Reader Said Expr → Reader Said Expr
 level_read at ks x s =
-    mapped_read (level_row at) (both_read (operand_part_read at ks x s) (operands_read (signs_of at) (operand_part_read at ks x s)))
+    mapped_read (level_row at)
+    (both_read (operand_part_read at ks x s) (operands_read (signs_of at) (operand_part_read at ks x s)))
 
 -- a sign and the part behind it
 abbrev pub operand_read : Level → List ℕ → Reader Said Expr → Reader Said Expr → Reader Said (Sign × Expr)

@@ -12,7 +12,9 @@ use crate::nodes::aggregate_of;
 use crate::primaries::Primaries;
 use crate::rows;
 use rsp_functions::{Kind as Fold, Sign};
-use rsp_written::{Expression, Halt, Keyword, Kind, Said, Symbol, first_is, first_is_among, meaning, one, sign, word};
+use rsp_written::{
+    Expression, Halt, Keyword, Kind, Said, Symbol, first_is, first_is_among, meaning, one, sign,
+};
 use std::alloc::Global;
 
 /// What an aggregate is of.
@@ -41,10 +43,7 @@ fn counted(alloc: Global, tokens: &[Said]) -> Result<(Expression, &[Said]), Halt
     } else {
         let (aggregated, rest) = argument(alloc, tokens)?;
         let Aggregated { distinct, argument } = aggregated;
-        Ok((
-            aggregate_of(alloc, Fold::Count, distinct, argument)?,
-            rest,
-        ))
+        Ok((aggregate_of(alloc, Fold::Count, distinct, argument)?, rest))
     }
 }
 

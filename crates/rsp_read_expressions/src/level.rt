@@ -1,10 +1,15 @@
 // Rows of parts.
-ghost use Rattle.std.specs.Prelude.{◌≡◌, ◌∷◌, IfOk, map};
-ghost use Rattle.rsp_read_expressions.specs.Levels.{chain_row, level_row, signs_of, symbol_of};
+ghost use Rattle.std.specs.Prelude.{◌≡◌, ◌∷◌, [], IfOk, map};
+ghost use Rattle.rsp_phrases.specs.Readers.{starts};
+ghost use Rattle.rsp_read_expressions.specs.Levels.{chain_row, level_row, mark_of, sign_marks, signs_of, symbol_of};
+ghost use Rattle.rsp_written.specs.Gives.{Gives};
+ghost use Rattle.rsp_written.specs.Grammar.{kind_number, numbers};
 ghost use Rattle.rsp_written.specs.Meanings.{expr_of, operand_of};
+ghost use Rattle.rsp_written.specs.Readings.{meaning_read, sign_read};
+ghost use Rattle.rsp_written.specs.declared.said.Kind.TheVariants as kind;
 
 use rsp_functions::Sign;
-use rsp_written::{Expression, Operand, Symbol};
+use rsp_written::{Expression, Halt, Kind, Operand, Said, Symbol, begins, first_is, meaning, sign};
 use std::alloc::{AllocError, Global};
 
 /// The rows with one symbol between their parts, that which binds less first. A comparison binds more than both.
@@ -34,8 +39,8 @@ pub(crate) enum Parts {
 }
 
 impl Parts {
-    /// The symbol between two parts.
-    pub(crate) fn symbol(self) -> Symbol
+    // the symbol between two parts
+    fn symbol(self) -> Symbol
         ensures { result ≡ symbol_of self }
     {
         match self {
@@ -44,17 +49,45 @@ impl Parts {
             Parts::Arguments => Symbol::Comma,
         }
     }
+
+    /// Whether the symbol between two parts is next.
+    pub(crate) fn go_on(self, tokens: &[Said]) -> bool
+        ensures { result ≡ starts kind_number (numbers (mark_of self ∷ [])) tokens.now }
+    {
+        first_is(Kind::Symbol(self.symbol()), tokens)
+    }
+
+    /// What stands behind the symbol between two parts.
+    pub(crate) fn sign<'a>(self, tokens: &'a [Said]) -> Result<(&'a Said, &'a [Said]), Halt>
+        ensures { Gives (λ x. (x.0.now, x.1.now)) result (sign_read (symbol_of self) tokens.now) }
+    {
+        sign(self.symbol(), tokens)
+    }
 }
 
 impl Level {
-    /// The signs that may stand between two parts.
-    pub(crate) fn signs(self) -> &'static [Sign]
+    // the signs that may stand between two parts
+    fn signs(self) -> &'static [Sign]
         ensures { result.now ≡ signs_of self }
     {
         match self {
             Level::Sum => &[Sign::Add, Sign::Subtract],
             Level::Product => &[Sign::Multiply, Sign::Divide],
         }
+    }
+
+    /// Whether a sign between two parts is next.
+    pub(crate) fn go_on(self, tokens: &[Said]) -> bool
+        ensures { result ≡ starts kind_number (numbers (sign_marks self)) tokens.now }
+    {
+        begins(self.signs(), tokens)
+    }
+
+    /// The sign between two parts.
+    pub(crate) fn sign<'a>(self, tokens: &'a [Said]) -> Result<(Sign, &'a [Said]), Halt>
+        ensures { Gives (λ x. (x.0, x.1.now)) result (meaning_read kind.Sign (signs_of self) tokens.now) }
+    {
+        meaning(self.signs(), tokens)
     }
 }
 

@@ -18,8 +18,7 @@ use crate::nodes::{checked, comparison, membership, most, one_more, pushed, with
 use crate::primaries::Primaries;
 use rsp_functions::Sign;
 use rsp_written::{
-    Arity, Expression, Halt, Keyword, Kind, Operand, Said, Symbol, begins, first_is, meaning, sign,
-    word,
+    Arity, Expression, Halt, Keyword, Kind, Operand, Said, Symbol, first_is, sign, word,
 };
 use std::alloc::Global;
 
@@ -89,10 +88,10 @@ fn others<P: Primaries>(
     let mut list = Vec::new(alloc);
     let mut rest = tokens;
     for _ in 0..most {
-        if !first_is(Kind::Symbol(parts.symbol()), rest) {
+        if !parts.go_on(rest) {
             return Ok((list, rest));
         }
-        let (_, behind) = sign(parts.symbol(), rest)?;
+        let (_, behind) = parts.sign(rest)?;
         let (part, behind) = part::<P>(parts, depth, alloc, behind)?;
         list = pushed(list, part)?;
         rest = behind;
@@ -155,10 +154,10 @@ fn operands<P: Primaries>(
     let mut operands = Vec::new(alloc);
     let mut rest = tokens;
     for _ in 0..most {
-        if !begins(level.signs(), rest) {
+        if !level.go_on(rest) {
             return Ok((operands, rest));
         }
-        let (sign, behind) = meaning(level.signs(), rest)?;
+        let (sign, behind) = level.sign(rest)?;
         let (part, behind) = operand::<P>(level, depth, alloc, behind)?;
         operands = one_more(operands, sign, part)?;
         rest = behind;

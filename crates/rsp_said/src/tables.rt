@@ -81,10 +81,7 @@ const KEYWORDS: [(&str, Kind); 79] = [
     ("STRBEFORE", Kind::Call(Function::StrBefore)),
     ("STRAFTER", Kind::Call(Function::StrAfter)),
     ("CONCAT", Kind::Call(Function::Concat)),
-    (
-        "LANGMATCHES",
-        Kind::Call(Function::LangMatches),
-    ),
+    ("LANGMATCHES", Kind::Call(Function::LangMatches)),
     ("ABS", Kind::Call(Function::Abs)),
     ("CEIL", Kind::Call(Function::Ceil)),
     ("FLOOR", Kind::Call(Function::Floor)),

@@ -23,7 +23,7 @@ use Rattle.rsp_functions.specs.declared.aggregate.Kind.TheVariants as fold
 use Rattle.rsp_report.specs.declared.operator.Operator.{Operator}
 use Rattle.rsp_report.specs.declared.operator.Operator.TheVariants as stream
 use Rattle.rsp_report.specs.declared.words.Strategy.{Strategy}
-use Rattle.rsp_report.specs.declared.words.Strategy.TheVariants as strategies
+use Rattle.rsp_report.specs.declared.words.Strategy.TheVariants as asked
 use Rattle.rsp_report.specs.declared.words.PolicyWords.{PolicyWords}
 use Rattle.rsp_report.specs.declared.words.PolicyWords.TheVariants as policies
 use Rattle.rsp_phrases.specs.Languages.{Language, has, among, token, mapped, tied, both, second_of, first_of_both, either}
@@ -245,7 +245,7 @@ folds = fold.Sum ∷ fold.Avg ∷ fold.Min ∷ fold.Max ∷ []
 abbrev pub aggregate_rule : Rule Expr
 aggregate_rule =
     either count_rule
-    (mapped (λ (v : aggregates.Kind × (Bool × Expr)). aggregate_of v.0 v.1) (both (meaning kind.Fold folds) (in_parens maybe_distinct)))
+    (mapped (λ (v : _ × _). aggregate_of v.0 v.1) (both (meaning kind.Fold folds) (in_parens maybe_distinct)))
 
 -- AggExpr ::= Expr in which Primary may also be an Aggregate
 abbrev pub aggregate_expression : Rule Expr
@@ -329,7 +329,8 @@ properties = within_itself properties_rule
 abbrev pub same : Rule (Node × Properties)
 same =
     either (mapped (λ (v : Node × Properties). v) (both subject properties))
-    (mapped (λ (v : Node × Option Properties). (v.0, unwrap_or v.1 no_property)) (both (bracketed properties) (optional properties)))
+    (mapped (λ (v : Node × Option Properties). (v.0, unwrap_or v.1 no_property))
+    (both (bracketed properties) (optional properties)))
 
 -- Triples ::= Same ('.' Triples?)?                                                                  [55] TriplesBlock
 abbrev pub triples_rule : Rule (List (Node × Properties))
@@ -534,8 +535,8 @@ window =
 -- Strategy ::= 'CLOSE' | 'CHANGE' | 'NONEMPTY' | 'EVERY' Span                                       (of this profile)
 abbrev pub strategy : Rule Strategy
 strategy =
-    either (says (kind.Word keyword.Close) strategies.Close) (either (says (kind.Word keyword.Change) strategies.Change)
-    (either (says (kind.Word keyword.NonEmpty) strategies.NonEmpty) (mapped strategies.Every (second_of (word keyword.Every) duration))))
+    either (says (kind.Word keyword.Close) asked.Close) (either (says (kind.Word keyword.Change) asked.Change)
+    (either (says (kind.Word keyword.NonEmpty) asked.NonEmpty) (mapped asked.Every (second_of (word keyword.Every) duration))))
 
 -- Policy ::= 'UNDER' ('CSPARQL' | 'CQELS') | 'REPORT' Strategy ('AND' Strategy)* 'TICK' ('TIME' | 'TUPLE')
 abbrev pub profile : Rule PolicyWords

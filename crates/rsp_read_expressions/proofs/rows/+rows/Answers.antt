@@ -10,11 +10,11 @@ use Rattle.rsp_read_expressions.proofs.OperandSteps.{operand_wrong, operand_righ
 use Rattle.rsp_read_expressions.proofs.Failing.{fails_of}
 use Rattle.rsp_read_expressions.proofs.rows.+rows.Goals as goal
 
-pub operands-returns-then-not-begins : goal.operands-returns-then-not-begins
-operands-returns-then-not-begins g t c =
-    let off : c.begins.result ≡ false = search rules in
+pub operands-returns-then-not-go_on : goal.operands-returns-then-not-go_on
+operands-returns-then-not-go_on g t c =
+    let off : c.go_on.result ≡ false = search rules in
     let next : c.args.most - c.loop.counter ≡ suc (c.args.most - (c.loop.counter + 1)) = omega arith in
-    sym c.loop.invariant ∙ none_at kind_number _ _ _ _ _ _ next (sym c.begins.ensures ∙ off)
+    sym c.loop.invariant ∙ none_at kind_number _ _ _ _ _ _ next (sym c.go_on.ensures ∙ off)
 
 pub operands-returns : goal.operands-returns
 operands-returns g t c =
@@ -23,31 +23,31 @@ operands-returns g t c =
 
 pub operands-loop-preserved : goal.operands-loop-preserved
 operands-loop-preserved g t c =
-    let on : c.begins.result ≡ true = search rules in
+    let on : c.go_on.result ≡ true = search rules in
     let next : c.args.most - c.loop.counter ≡ suc (c.args.most - (c.loop.counter + 1)) = omega arith in
     rw c.in_ok-operands.ensures
-    (sym (more_at kind_number _ _ _ _ _ _ _ _ next (sym c.begins.ensures ∙ on)
+    (sym (more_at kind_number _ _ _ _ _ _ _ _ next (sym c.go_on.ensures ∙ on)
     (operand_right c.args.level g.P.Primaries.first g.P.Primaries.reading
     (inner_read g.P.Primaries.first g.P.Primaries.reading c.args.depth) (map operand_of c.loop.operands.items) c.loop.rest.now
     _ _ c.in_ok-sign.ensures _ _ c.in_ok-part.ensures)) ∙ c.loop.invariant)
 
 pub operands-returns-in_err-part : goal.operands-returns-in_err-part
 operands-returns-in_err-part g t c =
-    let on : c.begins.result ≡ true = search rules in
+    let on : c.go_on.result ≡ true = search rules in
     let next : c.args.most - c.loop.counter ≡ suc (c.args.most - (c.loop.counter + 1)) = omega arith in
     let err : c.from_residual-in_err-part.result ≡ Err c.in_err-part.field-0.0 = search rules in
     rw err (fails_of _ _ _
     (λ left h. sym c.loop.invariant
-    ∙ wrong_at kind_number _ _ _ _ _ left _ next (sym c.begins.ensures ∙ on) (operand_wrong c.args.level g.P.Primaries.first g.P.Primaries.reading
+    ∙ wrong_at kind_number _ _ _ _ _ left _ next (sym c.go_on.ensures ∙ on) (operand_wrong c.args.level g.P.Primaries.first g.P.Primaries.reading
     (inner_read g.P.Primaries.first g.P.Primaries.reading c.args.depth) (map operand_of c.loop.operands.items) c.loop.rest.now
     _ _ c.in_ok-sign.ensures left h))
     c.in_err-part.ensures)
 
-pub others-returns-then-not-first_is : goal.others-returns-then-not-first_is
-others-returns-then-not-first_is g t c =
-    let off : c.first_is.result ≡ false = search rules in
+pub others-returns-then-not-go_on : goal.others-returns-then-not-go_on
+others-returns-then-not-go_on g t c =
+    let off : c.go_on.result ≡ false = search rules in
     let next : c.args.most - c.loop.counter ≡ suc (c.args.most - (c.loop.counter + 1)) = omega arith in
-    sym c.loop.invariant ∙ none_at kind_number _ _ _ _ _ _ next (sym c.first_is.ensures ∙ off)
+    sym c.loop.invariant ∙ none_at kind_number _ _ _ _ _ _ next (sym c.go_on.ensures ∙ off)
 
 pub others-returns : goal.others-returns
 others-returns g t c =
@@ -56,24 +56,24 @@ others-returns g t c =
 
 pub others-loop-preserved : goal.others-loop-preserved
 others-loop-preserved g t c =
-    let on : c.first_is.result ≡ true = search rules in
+    let on : c.go_on.result ≡ true = search rules in
     let next : c.args.most - c.loop.counter ≡ suc (c.args.most - (c.loop.counter + 1)) = omega arith in
     rw c.in_ok-list.ensures
-    (sym (more_at kind_number _ _ _ _ _ _ _ _ next (sym c.first_is.ensures ∙ on)
+    (sym (more_at kind_number _ _ _ _ _ _ _ _ next (sym c.go_on.ensures ∙ on)
     (part_right c.args.parts g.P.Primaries.first g.P.Primaries.reading
     (inner_read g.P.Primaries.first g.P.Primaries.reading c.args.depth) (map expr_of c.loop.list.items) c.loop.rest.now
-    _ _ c.in_ok-sign.ensures _ _ c.in_ok-part.ensures)) ∙ c.loop.invariant)
+    _ _ c.in_ok-behind.ensures _ _ c.in_ok-part.ensures)) ∙ c.loop.invariant)
 
 pub others-returns-in_err-part : goal.others-returns-in_err-part
 others-returns-in_err-part g t c =
-    let on : c.first_is.result ≡ true = search rules in
+    let on : c.go_on.result ≡ true = search rules in
     let next : c.args.most - c.loop.counter ≡ suc (c.args.most - (c.loop.counter + 1)) = omega arith in
     let err : c.from_residual-in_err-part.result ≡ Err c.in_err-part.field-0.0 = search rules in
     rw err (fails_of _ _ _
     (λ left h. sym c.loop.invariant
-    ∙ wrong_at kind_number _ _ _ _ _ left _ next (sym c.first_is.ensures ∙ on) (part_wrong c.args.parts g.P.Primaries.first g.P.Primaries.reading
+    ∙ wrong_at kind_number _ _ _ _ _ left _ next (sym c.go_on.ensures ∙ on) (part_wrong c.args.parts g.P.Primaries.first g.P.Primaries.reading
     (inner_read g.P.Primaries.first g.P.Primaries.reading c.args.depth) (map expr_of c.loop.list.items) c.loop.rest.now
-    _ _ c.in_ok-sign.ensures left h))
+    _ _ c.in_ok-behind.ensures left h))
     c.in_err-part.ensures)
 
 pub list-returns-in_err-others : goal.list-returns-in_err-others
