@@ -34,7 +34,8 @@ is_predicate _ = false
 -- the triple of these terms, where there are all three and they can be one
 abbrev pub triple_of : Option Term → Option Term → Option Term → Option Triple
 triple_of (Some subject) (Some predicate) (Some object) =
-    then_some (is_subject subject && is_predicate predicate) (record { subject = subject; predicate = predicate; object = object })
+    then_some (is_subject subject && is_predicate predicate)
+    (record { subject = subject; predicate = predicate; object = object })
 triple_of _ _ _ = None
 
 -- the instance of a triple of a template in a row: none where a variable of it is unbound or it would be no triple

@@ -1,5 +1,5 @@
 -- Words of the way: the lines of a graph as items of JSON, and that the terms of a triple tell it from others.
-use Rattle.std.specs.Prelude.{◌≡◌, Option, Some, None, List, [], ◌∷◌, map, unwrap_or}
+use Rattle.std.specs.Prelude.{◌≡◌, Some, List, [], ◌∷◌, map}
 use Rattle.std.proofs.Common.{ap}
 use Rattle.serde_json.specs.Data.{string, Items}
 use Rattle.serde_json.specs.View.{items_of}

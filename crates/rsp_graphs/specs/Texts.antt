@@ -1,5 +1,5 @@
--- Definitions: the text of a graph, as lines (RDF 1.1 N-Quads, section 2) and as a line of JSON. The members of the object stand in
--- the byte order of their keys.
+-- Definitions: the text of a graph, as lines (RDF 1.1 N-Quads, section 2) and as a line of JSON. The members of the object stand
+-- in the byte order of their keys.
 use Rattle.std.specs.Prelude.{ℕ, List, [], ◌∷◌, ◌++◌, length, map, codes}
 use Rattle.std.specs.Fmt.{decimal}
 use Rattle.std.specs.Str.{byte}

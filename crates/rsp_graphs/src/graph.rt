@@ -70,11 +70,7 @@ fn triples_of(alloc: Global, lines: Vec<Keyed<Line>>) -> Result<Listed<Triple>, 
 /// variables are bound and it is a triple: no literal is its subject, and an IRI its predicate. Each is there once, in the byte
 /// order of the lines that `write` of `rsp_nquads` gives, and triples of one line by their terms. A variable is the number of its
 /// cell; what a row has no cell for is unbound. Fails only where memory is refused.
-pub fn graph_of(
-    alloc: Global,
-    template: &[Made],
-    rows: &[Row<Term>],
-) -> Result<Graph, AllocError>
+pub fn graph_of(alloc: Global, template: &[Made], rows: &[Row<Term>]) -> Result<Graph, AllocError>
     ensures graph { IfOk result (λ graph. graph ≡ graph_of template.now rows.now) }
     ensures members { IfOk result (λ graph. (triple : Triple) → list_any (triple_eq triple) graph
         ≡ is_made template.now rows.now triple) }

@@ -47,7 +47,8 @@ fn push_instance(
     row: &Row<Term>,
     lines: &mut Vec<Keyed<Line>>,
 ) -> Result<(), AllocError>
-    ensures { OnOk result ((more : _) → lines.new.items ++ more ≡ lines.old.items ++ cons_option (instance_in row.now made.now) more) }
+    ensures { OnOk result ((more : _)
+        → lines.new.items ++ more ≡ lines.old.items ++ cons_option (instance_in row.now made.now) more) }
 {
     match instance(made, row)? {
         None => Ok(()),
@@ -88,11 +89,7 @@ fn term_at(row: &Row<Term>, variable: usize) -> Option<&Term>
     }
 }
 
-fn triple_of(
-    subject: &Term,
-    predicate: &Term,
-    object: &Term,
-) -> Result<Option<Triple>, AllocError>
+fn triple_of(subject: &Term, predicate: &Term, object: &Term) -> Result<Option<Triple>, AllocError>
     ensures { IfOk result (λ triple. triple ≡ triple_of (Some subject.now) (Some predicate.now) (Some object.now)) }
 {
     if is_subject(subject) && is_predicate(predicate) {

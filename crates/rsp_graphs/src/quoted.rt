@@ -62,9 +62,5 @@ fn digit(value: u8) -> u8
     requires { value < 16 }
     ensures { result ≡ digit_char value }
 {
-    if value < 10 {
-        b'0' + value
-    } else {
-        87 + value
-    }
+    if value < 10 { b'0' + value } else { 87 + value }
 }

@@ -1,5 +1,5 @@
 -- Of a list in order, what `dedup` leaves is each element once.
-use Rattle.std.proofs.Common.{◌≡◌, Bool, true, false, cond, not, List, [], ◌∷◌, filter, refl, sym, ap, subst, ◌∙◌, inl, inr, Decides, true≢false}
+use Rattle.std.proofs.Common.{◌≡◌, Bool, true, false, not, List, [], ◌∷◌, filter, refl, sym, ap, subst, ◌∙◌, inl, inr, Decides, true≢false}
 use Rattle.std.proofs.lemmas.Bool.{cond-true, cond-false, cases_Bool}
 use Rattle.std.specs.Cmp.{IsStrictWeakOrder, IsTotalOrder, Equal-is, tied_itself}
 use Rattle.std.specs.List.{dedup, dedup_from}

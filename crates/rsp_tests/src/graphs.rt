@@ -43,7 +43,11 @@ const GRAPH_CASES: [GraphCase; 17] = [
     (&[], &[&["a:1"], &["a:2"]], "# graph g 10000 0\n"),
     // blank nodes, and literals
     (JOINING, &[&["_:y", "_:x"]], "# graph g 10000 1\n_:b7xy <p:v> _:b7xx .\n"),
-    (JOINING, &[&["a:1", "\"a\tb"], &["a:1", "@chat"]], "# graph g 10000 2\n<a:1> <p:v> \"a\\tb\" .\n<a:1> <p:v> \"chat\"@fr .\n"),
+    (
+        JOINING,
+        &[&["a:1", "\"a\tb"], &["a:1", "@chat"]],
+        "# graph g 10000 2\n<a:1> <p:v> \"a\\tb\" .\n<a:1> <p:v> \"chat\"@fr .\n",
+    ),
     // by the bytes of lines: `/` stands before `>`
     (JOINING, &[&["a:1", "b:1"], &["a:1/2", "b:1"]], "# graph g 10000 2\n<a:1/2> <p:v> <b:1> .\n<a:1> <p:v> <b:1> .\n"),
     // two triples of one line

@@ -3,7 +3,7 @@ use Rattle.rsp_streams_out.proofs.SameOrder.{same_order}
 use Rattle.rsp_streams_out.specs.RowOrder.{row_order_total}
 use Rattle.rsp_streams_out.specs.Rows.{in_order, row_order}
 use Rattle.std.proofs.lemmas.Result.{IfOk-weaker}
-use Rattle.rsp_streams_out.proofs.InOrder.{sorted_by-from_sort, texts_sorted}
+use Rattle.rsp_streams_out.proofs.InOrder.{sorted_by-from_sort}
 use Rattle.rsp_streams_out.proofs.order.printed.Goals as goal
 
 pub returns-clause-value : goal.returns-clause-value
