@@ -8,3 +8,4 @@ pub mod MadeExpressions
 pub mod MadeTriples
 pub mod MadeSelections
 pub mod Made
+pub mod Placing
