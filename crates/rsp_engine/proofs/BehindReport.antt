@@ -270,6 +270,7 @@ module _ {A : Type 0} (node : A → Node) (width : A → ℕ) (facts : A → Lis
               state = record {
                 slack_high = subst (λ s. s ≤ most_slack) (sym slack) ready.state.slack_high;
                 next_high = rw next ready.state.next_high;
+                newest = rw (arrived, next) ready.state.newest;
                 lives =
                     subst (λ s. All (IsLive (next_in there) s new.arrived new.streams.accepted (cut_of there)) there.queries) (sym slack)
                     (subst (λ n. All (IsLive n e.slack new.arrived new.streams.accepted (cut_of there)) there.queries) (sym (ap (λ n. unwrap_or n 0) next))

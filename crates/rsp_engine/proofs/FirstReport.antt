@@ -30,7 +30,7 @@ use Rattle.rsp_engine.specs.Contents.{facts_over, watches}
 use Rattle.rsp_engine.specs.Left.{IsFirstLeft, left_from}
 use Rattle.rsp_engine.specs.Watching.{name_of}
 use Rattle.rsp_engine.specs.Moments.{Moment}
-use Rattle.rsp_engine.specs.Reports.{after_report, cells_at, facts, is_overfull, live_query, query_after_report, report_of, reported_at, rows_over, solutions, work_of_report}
+use Rattle.rsp_engine.specs.Reports.{after_report, cells_at, construction_of, facts, is_overfull, live_query, query_after_report, report_of, reported_at, rows_over, solutions, work_of_report}
 use Rattle.rsp_engine.specs.Steps.{moments_behind, next_step}
 use Rattle.rsp_engine.specs.Stands.{Behind, Follows, HaveSeen, IsState, Live, Precede, Saw, Stands, State, asked_in, asked_of, is_read, left_in, next_in, places_left, registration_of, registrations_in, test_in}
 use Rattle.rsp_engine.specs.Offers.{GivesOf}
@@ -222,6 +222,7 @@ module _ (old new : State) (report : Report) (world : World) (left : List Moment
           at = given.at i;
           variables = (given.variables ∙ ap (λ (r : Registration). r.reading.variables) (sym found.2)) i;
           outcome = outcome_is i;
+          construction = (given.construction ∙ ap (λ (r : Registration). construction_of r.reading) (sym found.2)) i;
         };
         stands = subst (λ (r : Registration). Stands new (after_report world r place.at) (moments_behind world r place.at rest)) (sym found.2)
             (stands_behind (is_overfull_outcome report.outcome) (sym full) given.told (λ rows. given.stood rows world.items follows contents) given.queries given.left);

@@ -16,6 +16,7 @@ pub mod Following
 pub mod OrderedRows
 pub mod FirstPlace
 pub mod StillSet
+pub mod Constructing
 pub mod Costing
 pub mod FirstReport
 pub mod ReportSteps
@@ -43,3 +44,4 @@ pub mod Calming
 pub mod ReaderLists
 pub mod EndsRead
 pub mod ReadersBehind
+pub mod ReportInstants

@@ -1,7 +1,7 @@
 -- An engine that is ready stays so: where time passes, an item is kept, a query becomes live, or one is cancelled.
 use Rattle.std.proofs.Common.{◌≡◌, ℕ, zero, suc, ◌+◌, ◌<◌, ◌≤◌, Bool, true, false, true≢false, ◌||◌, ◌&&◌, cond, not, nat_eq, nat_le, nat_lt, max, ◌-◌, List, [], ◌∷◌, ◌++◌, length, map, filter, remove, take, Option, None, Some, refl, sym, ◌∙◌, ap, subst, arith, unwrap_or, bytes_eq}
 use Rattle.std.specs.List.{All, IsDistinct, list_any}
-use Rattle.std.specs.Option.{is_some, option_map_or}
+use Rattle.std.specs.Option.{ForSome, is_some, option_map_or}
 use Rattle.std.proofs.lemmas.List.Elements.{All-append, All-cons, All-filter, All-map, All-weaker}
 use Rattle.std.proofs.lemmas.Bool.{lt-ltb}
 use Rattle.std.proofs.lemmas.Bool.Decides.{nat_tests}
@@ -109,6 +109,7 @@ live_as facts p =
       operator = p.query.reading.operator;
       output = p.query.reading.output;
       policy = p.query.reading.policy;
+      template = p.query.reading.template;
       windows = p.query.reading.windows;
       query = p.translated;
       variables = p.query.reading.variables;
@@ -205,10 +206,11 @@ names_alike olds news is = sym (map-map (λ (l : Live). l.name) unwatched news) 
 
 -- an engine that passed to an instant is as sound as it was
 pub state_passed : (old new : State) (more : List Accepted) (came : Option (List ℕ)) (to : ℕ) → IsState old → Passes old more came to new → to ≤ last_instant + 1 → cut_of old ≤ cut_of new
-    → old.kept.accepted ≤ new.kept.accepted → All (Watches to old.slack came) new.queries → All (λ (item : Item). item.time ≤ to + old.slack) new.kept.items → IsState new
-state_passed old new more came to state passes high low few now timed = record {
+    → ForSome came (λ stream. to ≤ last_instant) → old.kept.accepted ≤ new.kept.accepted → All (Watches to old.slack came) new.queries → All (λ (item : Item). item.time ≤ to + old.slack) new.kept.items → IsState new
+state_passed old new more came to state passes high low newest few now timed = record {
   slack_high = subst (λ s. s ≤ most_slack) (sym passes.slack) state.slack_high;
   next_high = rw passes.next high;
+  newest = rw (passes.arrived, passes.next) newest;
   lives = subst (λ s. All (IsLive (next_in new) s new.arrived new.kept.accepted (cut_of new)) new.queries) (sym passes.slack)
       (subst (λ n. All (IsLive n old.slack new.arrived new.kept.accepted (cut_of new)) new.queries) (sym (ap (λ n. unwrap_or n 0) passes.next))
       (subst (λ came. All (IsLive to old.slack came new.kept.accepted (cut_of new)) new.queries) (sym passes.arrived) (lives_on old.queries new.queries (next_in old) to old.slack old.arrived came old.kept.accepted new.kept.accepted (cut_of old) (cut_of new) passes.queries low few now state.lives)));
@@ -328,11 +330,11 @@ module _ {A : Type 0} (node : A → Node) (width : A → ℕ) (facts : A → Lis
       fits = fits_there;
     }
 
-    pub ready_passed : to ≤ last_instant + 1 → e.streams.accepted ≤ taken.accepted → All (λ (l : LiveQuery A). IsPrompt to came (asked l)) new.queries.items
+    pub ready_passed : to ≤ last_instant + 1 → ForSome came (λ stream. to ≤ last_instant) → e.streams.accepted ≤ taken.accepted → All (λ (l : LiveQuery A). IsPrompt to came (asked l)) new.queries.items
         → All (λ (l : LiveQuery A). All (IsUpTo (to + e.slack)) l.watched.items) new.queries.items
         → All (λ (item : Item). item.time ≤ to + e.slack) taken.items → length new.streams.items ≤ new.ends.cap → IsReady node width facts spent new
-    ready_passed high few prompt up_to timed room = record {
-      state = state_passed here there more came to ready.state passes high cut_later (rw kept few)
+    ready_passed high newest few prompt up_to timed room = record {
+      state = state_passed here there more came to ready.state passes high cut_later newest (rw kept few)
           (mapped (Watches to e.slack came) (live_of facts) new.queries.items (λ k d below. record { prompt = prompt k d below; up_to = up_to k d below }))
           (rw kept (All-filter _ (λ (item : Item). item.time ≤ to + e.slack) taken.items timed));
       answers = answers_kept node width facts spent e.queries.items new.queries.items parts ready.answers;
@@ -364,6 +366,7 @@ module _ {A : Type 0} (node : A → Node) (width : A → ℕ) (facts : A → Lis
         state = subst IsState (sym same) (record {
           slack_high = ready.state.slack_high;
           next_high = ready.state.next_high;
+          newest = ready.state.newest;
           lives = one_more (IsLive (next_in here) e.slack e.arrived e.streams.accepted (cut_of here)) here.queries (live_of facts query) ready.state.lives
               (record { prompt = prompt; up_to = up_to (next_in here + e.slack); instants = by_instants e.slack query.policy.tuple instants; watches = watches_are; reached = started; first = let start = begins.first in omega (arith, start) });
           timed = ready.state.timed;
@@ -386,6 +389,7 @@ module _ {A : Type 0} (node : A → Node) (width : A → ℕ) (facts : A → Lis
         state = record {
           slack_high = rw slack ready.state.slack_high;
           next_high = rw next ready.state.next_high;
+          newest = rw (arrived, next) ready.state.newest;
           lives = rw (lives, slack, next, arrived, accepted, first) (All-remove (IsLive (next_in here) e.slack e.arrived e.streams.accepted (cut_of here)) (map (live_of facts) e.queries.items) place ready.state.lives);
           timed = rw (slack, next) timed;
           store = rw stored ready.state.store;
@@ -405,6 +409,7 @@ ready_stored node width facts spent e ready new slack next queries streams ends 
   state = record {
     slack_high = rw slack ready.state.slack_high;
     next_high = rw next ready.state.next_high;
+    newest = rw (arrived, next) ready.state.newest;
     lives = rw (slack, next, queries, streams, arrived, first) ready.state.lives;
     timed = rw (slack, next, streams) ready.state.timed;
     store = store;
@@ -423,6 +428,7 @@ ready_new node width facts spent e small next queries streams stored arrived fir
   state = record {
     slack_high = small;
     next_high = rw next (omega arith);
+    newest = rw arrived (λ x is. cc);
     lives = rw queries (λ k d below. absurd (omega (arith, below)));
     timed = rw streams (none (λ (i : Item). i.time ≤ latest_in (state_of facts e)));
     store = rw stored store_new;

@@ -41,7 +41,7 @@ use Rattle.rsp_engine.specs.World.{World, Query, Reading, Registration}
 use Rattle.rsp_engine.specs.Readings.{reading_of}
 use Rattle.rsp_engine.specs.Accept.{accept, accept_text, is_live, new_query, starts_overfull}
 use Rattle.rsp_engine.specs.Moments.{Moment, moments}
-use Rattle.rsp_engine.specs.Reports.{facts, reports, work_of_reports, world_behind, is_overfull, after_report}
+use Rattle.rsp_engine.specs.Reports.{facts, reports, work_of_reports, world_behind, is_overfull, after_report, construction_of}
 use Rattle.rsp_engine.specs.Steps.{moments_behind}
 use Rattle.rsp_engine.specs.Kept.{held, kept_items}
 
@@ -90,6 +90,7 @@ subjects policy windows body =
       operator = Rstream;
       output = codes "o:a";
       policy = policy;
+      template = None;
       windows = windows;
       node = over (project (0 ∷ [])) body;
       width = 2;
@@ -127,7 +128,7 @@ at = at_of (codes "q")
 
 abbrev report_of : List ℕ → ℕ → List ℕ → Report
 report_of name t subjects =
-    record { query = name; at = t; variables = codes "s" ∷ []; outcome = Rows (map (λ n. Some (iri n) ∷ []) subjects) }
+    record { query = name; at = t; variables = codes "s" ∷ []; outcome = Rows (map (λ n. Some (iri n) ∷ []) subjects); construction = None }
 
 abbrev report : ℕ → List ℕ → Report
 report = report_of (codes "q")
@@ -528,7 +529,7 @@ module _ (reading : Reading) (full : is_overfull (between reading) (ending readi
 
   others_report_on : reports (between reading) (all_at 10)
       ≡ report_of (codes "p") 10 (1 ∷ 3 ∷ [])
-      ∷ record { query = codes "q"; at = 10; variables = reading.variables; outcome = Overfull }
+      ∷ record { query = codes "q"; at = 10; variables = reading.variables; outcome = Overfull; construction = construction_of reading }
       ∷ report_of (codes "r") 10 (1 ∷ 3 ∷ []) ∷ []
   others_report_on = rw full refl
 

@@ -1,5 +1,5 @@
 -- Words of the way: the engine's fields as its state, and what holds of them, for every kind of answer.
-use Rattle.std.specs.Prelude.{◌≡◌, ℕ, ◌<◌, ◌≤◌, Bool, false, Option, None, List, length, map, slice_index_or, unwrap_or}
+use Rattle.std.specs.Prelude.{◌≡◌, ℕ, ◌<◌, ◌≤◌, Bool, false, Option, None, Some, List, length, map, slice_index_or, unwrap_or}
 use Rattle.std.specs.List.{All}
 use Rattle.rsp_terms.specs.declared.statement.Fact.{Fact}
 use Rattle.rsp_algebra.specs.Changing.{IsSet}
@@ -8,7 +8,11 @@ use Rattle.rsp_algebra.specs.Meanings.{node_of}
 use Rattle.rsp_algebra.specs.declared.tree.Translated.{Translated}
 use Rattle.rsp_scope.specs.Moves.{Followed}
 use Rattle.rsp_engine.specs.declared.engine.Engine.TheInside.{Inside}
+use Rattle.rsp_query.specs.declared.template.Made.{Made}
 use Rattle.rsp_engine.specs.declared.live_query.LiveQuery.{LiveQuery}
+use Rattle.rsp_engine.specs.declared.live_query.Output.{Output}
+use Rattle.rsp_engine.specs.declared.live_query.Output.TheVariants as output
+use Rattle.rsp_engine.specs.declared.report.Construction.{Construction}
 use Rattle.rsp_engine.specs.declared.schedule.Pending.{Pending}
 use Rattle.rsp_engine.specs.Readers.{AreRead}
 use Rattle.rsp_engine.specs.Sought.{IsDueNext, look_of}
@@ -16,14 +20,28 @@ use Rattle.rsp_engine.specs.Watching.{Asked}
 use Rattle.rsp_engine.specs.World.{Registration}
 use Rattle.rsp_engine.specs.Stands.{State, Live, IsState}
 
+-- the output stream of a live query, the template of one that constructs, and both together
+abbrev pub output_of : Output → List ℕ
+output_of (output.Rows name) = name
+output_of (output.Graph construction) = construction.output
+
+abbrev pub template_of : Output → Option (List Made)
+template_of (output.Rows name) = None
+template_of (output.Graph construction) = Some construction.template
+
+abbrev pub made_by : Output → Option Construction
+made_by (output.Rows name) = None
+made_by (output.Graph construction) = Some construction
+
 -- a live query, by the facts for which an answer stands
 abbrev pub live_of : {A : Type 0} → (A → List Fact) → LiveQuery A → Live
 live_of facts live =
     record {
       name = live.name;
       operator = live.operator;
-      output = live.output;
+      output = output_of live.output;
       policy = live.policy;
+      template = template_of live.output;
       windows = live.windows;
       query = live.query.value;
       variables = live.variables;
@@ -42,8 +60,9 @@ fixed live =
       name = live.name;
       reading = record {
         operator = live.operator;
-        output = live.output;
+        output = output_of live.output;
         policy = live.policy;
+        template = template_of live.output;
         windows = live.windows;
         node = node_of live.query.value.tree;
         width = live.query.value.width;

@@ -1,5 +1,6 @@
 -- Definitions: what the engine's calls do, for every world and moments that the engine stands for.
-use Rattle.std.specs.Prelude.{◌≡◌, ◌<◌, true, false, Option, None, Some, Result, Ok, Err, IsOk, MatchResult, List, []}
+use Rattle.std.specs.Prelude.{◌≡◌, ◌<◌, ◌≤◌, true, false, Option, None, Some, Result, Ok, Err, IsOk, MatchResult, List, []}
+use Rattle.rsp_spec.specs.Limits.{last_instant}
 use Rattle.rsp_events.specs.declared.event.Event.{Event}
 use Rattle.rsp_events.specs.declared.event.Event.TheVariants.{Register, Cancel, Tick}
 use Rattle.rsp_engine.specs.declared.refused.Refused.{Refused}
@@ -73,6 +74,7 @@ pub record GivesFirst (old : State) (report : Report) (new : State) : Type 0 whe
   pub was_ready : old.broken ≡ false
   pub ready : new.broken ≡ false
   pub was_busy : is_idle old ≡ false
+  pub instant : report.at ≤ last_instant
   pub nearer : places_left new < places_left old
   pub gives : (world : World) (left : List Moment) → Stands old world left → GivesOf world left report new
 

@@ -34,7 +34,7 @@ use Rattle.rsp_engine.specs.Inside.{Answers, fixed, live_of}
 use Rattle.rsp_engine.specs.Keeping.{IsUnmoved}
 use Rattle.rsp_engine.specs.Left.{IsFirstLeft}
 use Rattle.rsp_engine.specs.Readings.{reading_of}
-use Rattle.rsp_engine.specs.Reports.{rows_over}
+use Rattle.rsp_engine.specs.Reports.{construction_of, rows_over}
 use Rattle.rsp_engine.specs.Stands.{Fits, Follows, Precede, State, Live, asked_in, is_read, next_in, reading_in, registration_of, test_in}
 use Rattle.rsp_engine.specs.Watching.{IsPolicy, Tells, name_of, reports_by}
 use Rattle.rsp_engine.specs.World.{Reading}
@@ -166,6 +166,7 @@ pub record ReportsFirst (old : State) (report : Report) (new : State) : Type 0 w
   pub query : report.query ≡ live.name
   pub at : report.at ≡ place.at
   pub variables : report.variables ≡ live.variables
+  pub construction : report.construction ≡ construction_of (reading_in live)
   pub outcome : (items : List Accepted) → Follows items old.stored old.log live
       → HasContents items old.kept place.at (watches live.first live.windows)
       → IsOutcomeOver report.outcome live (facts_at items old.stored live place.at)

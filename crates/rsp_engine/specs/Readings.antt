@@ -1,5 +1,5 @@
 -- Definitions: what a query's text says, where it has no fault.
-use Rattle.std.specs.Prelude.{ℕ, List, map}
+use Rattle.std.specs.Prelude.{ℕ, List, None, map}
 use Rattle.rsp_report.specs.Policies.{choice_of}
 use Rattle.rsp_query.specs.declared.query.WindowClause.{WindowClause}
 use Rattle.rsp_query.specs.Queries.{Registered}
@@ -22,6 +22,7 @@ reading_of q =
       operator = q.operator;
       output = q.output;
       policy = choice_of q.policy;
+      template = None;
       windows = map window_of q.windows;
       node = tree_of q;
       width = width_of q;

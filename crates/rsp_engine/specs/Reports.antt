@@ -1,5 +1,5 @@
 -- Definitions: what is reported at a moment (RSP-QL), and working off the moments of an event.
-use Rattle.std.specs.Prelude.{◌≡◌, ℕ, ◌+◌, Bool, if◌then◌else◌, Option, None, Some, List, [], ◌∷◌, ◌++◌, map}
+use Rattle.std.specs.Prelude.{◌≡◌, ℕ, ◌+◌, Bool, if◌then◌else◌, Option, None, Some, option_map, List, [], ◌∷◌, ◌++◌, map}
 use Rattle.std.specs.List.{find}
 use Rattle.std.specs.Option.{option_map_or}
 use Rattle.rsp_terms.specs.declared.term.Term.{Term}
@@ -10,6 +10,8 @@ use Rattle.rsp_algebra.specs.Solutions.{eval}
 use Rattle.rsp_algebra.specs.Overfull.{overfull}
 use Rattle.rsp_algebra.specs.Work.{work}
 use Rattle.rsp_streams_out.specs.Streams.{reported}
+use Rattle.rsp_query.specs.declared.template.Made.{Made}
+use Rattle.rsp_engine.specs.declared.report.Construction.{Construction}
 use Rattle.rsp_engine.specs.declared.report.Report.{Report}
 use Rattle.rsp_engine.specs.declared.report.Outcome.{Outcome}
 use Rattle.rsp_engine.specs.declared.report.Outcome.TheVariants as outcome
@@ -36,6 +38,11 @@ solutions world query t = rows_over query.reading (facts world query t)
 abbrev pub is_overfull : World → Registration → ℕ → Bool
 is_overfull world query t = overfull query.reading.width query.reading.node (facts world query t)
 
+-- what the reported rows are made into, and for which stream, where the query constructs
+abbrev pub construction_of : Reading → Option Construction
+construction_of reading =
+    option_map (λ (template : List Made). record { output = reading.output; template = template }) reading.template
+
 -- the query's report at t: that it is overfull, or what its stream operator gives of the preceding rows and those of now, in the
 -- byte order of their texts, and rows of one text by their cells
 abbrev pub report_of : World → Query → ℕ → Report
@@ -50,6 +57,7 @@ report_of world query t =
           else
           outcome.Rows
           (reported query.registration.reading.operator query.preceding (solutions world query.registration t));
+      construction = construction_of query.registration.reading;
     }
 
 -- the live query of a name

@@ -10,6 +10,7 @@ use Rattle.rsp_terms.specs.Same.{fact_eq, term_eq}
 use Rattle.rsp_terms.specs.declared.term.Term.{Term}
 use Rattle.rsp_multiset.specs.Rows.{Cells, row_eq}
 use Rattle.rsp_multiset.specs.Weights.{IsSameMultiset, times}
+use Rattle.rsp_query.specs.declared.template.Made.{Made}
 use Rattle.rsp_report.specs.declared.chosen.Chosen.{Chosen}
 use Rattle.rsp_report.specs.declared.contents.Watched.{Watched}
 use Rattle.rsp_report.specs.declared.operator.Operator.{Operator}
@@ -41,6 +42,7 @@ pub record Live : Type 0 where
   pub operator : Operator
   pub output : List ℕ
   pub policy : Chosen
+  pub template : Option (List Made)
   pub windows : List StreamWindow
   pub query : Translated
   pub variables : List (List ℕ)
@@ -72,6 +74,7 @@ reading_in live =
       operator = live.operator;
       output = live.output;
       policy = live.policy;
+      template = live.template;
       windows = live.windows;
       node = node_of live.query.tree;
       width = live.query.width;
@@ -225,9 +228,11 @@ pub record History (engine : State) : Type 0 where
   pub items : List Accepted
   pub fits : Fits engine items
 
+-- where the newest item may bring a moment on itself, it came at `next`, which is an instant
 pub record IsState (engine : State) : Type 0 where
   pub slack_high : engine.slack ≤ most_slack
   pub next_high : next_in engine ≤ last_instant + 1
+  pub newest : ForSome engine.arrived (λ stream. next_in engine ≤ last_instant)
   pub lives : All (IsLive (next_in engine) engine.slack engine.arrived engine.kept.accepted (cut_of engine)) engine.queries
   pub timed : All (λ (item : Item). item.time ≤ latest_in engine) engine.kept.items
   pub store : IsStore engine.stored

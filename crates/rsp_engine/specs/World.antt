@@ -7,16 +7,18 @@ use Rattle.rsp_terms.specs.declared.statement.Fact.{Fact}
 use Rattle.rsp_multiset.specs.Rows.{Cells}
 use Rattle.rsp_report.specs.declared.chosen.Chosen.{Chosen}
 use Rattle.rsp_report.specs.declared.operator.Operator.{Operator}
+use Rattle.rsp_query.specs.declared.template.Made.{Made}
 use Rattle.rsp_algebra.specs.Nodes.{Node}
 use Rattle.rsp_scope.specs.Contents.{Accepted}
 use Rattle.rsp_engine.specs.declared.live_query.StreamWindow.{StreamWindow}
 
--- what a query's text says: its stream operator and output stream, when it reports, over which windows, its tree over rows of
--- this width, the places that it shows and the names of their variables
+-- what a query's text says: its stream operator and output stream, when it reports, what its rows are made into where it
+-- constructs, over which windows, its tree over rows of this width, the places that it shows and the names of their variables
 pub record Reading : Type 0 where
   pub operator : Operator
   pub output : List ℕ
   pub policy : Chosen
+  pub template : Option (List Made)
   pub windows : List StreamWindow
   pub node : Node
   pub width : ℕ

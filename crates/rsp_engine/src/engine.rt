@@ -75,7 +75,7 @@ impl<A: Answer> Model for Engine<A> {
 
 impl<A: Answer> Engine<A> {
     ghost use Rattle.std.specs.Prelude.{◌≡◌, ℕ, ◌<◌, ◌↔◌, ◌≤◌, ◌+◌, ◌++◌, ◌∷◌, List, [], true, false, None};
-    ghost use Rattle.std.specs.Prelude.{IsTrue, MatchOption, Ok, OnOk, OnErr, Some, IfErr, IfOk, length, slice_get};
+    ghost use Rattle.std.specs.Prelude.{IsTrue, MatchOption, Ok, OnOk, OnErr, Some, IfErr, IfOk, IfSome, length, slice_get};
     ghost use Rattle.std.specs.List.{All, list_any};
     ghost use Rattle.std.specs.Option.{is_some, option_map_or};
     ghost use Rattle.rsp_spec.specs.Limits.{last_instant, most_slack};
@@ -142,9 +142,11 @@ impl<A: Answer> Engine<A> {
         self.slack
     }
 
-    /// The first instant that isn't complete, in ms since 1970. None until an item or a tick was accepted.
+    /// The first instant that isn't complete, in ms since 1970, at most one past the last instant. None until an item or a tick was
+    /// accepted.
     pub fn next(&self) -> Option<u64>
-        ensures { result ≡ self.now.next }
+        ensures value { result ≡ self.now.next }
+        ensures instant { self.now.broken ≡ false → IfSome result (λ next. next ≤ last_instant + 1) }
     {
         self.next
     }

@@ -1,14 +1,17 @@
 // Live queries.
-ghost use Rattle.std.specs.Prelude.{◌≡◌, bytes_eq};
+ghost use Rattle.std.specs.Prelude.{◌≡◌, IfOk, bytes_eq};
 ghost use Rattle.std.specs.List.{list_any};
+ghost use Rattle.rsp_engine.specs.Inside.{made_by};
 ghost use Rattle.rsp_engine.specs.Watching.{asks_contents};
 
+use crate::Construction;
 use rsp_algebra::Translated;
 use rsp_query::Operator;
 use rsp_report::{Chosen, Watched};
-use rsp_scope::{Contents, Reader};
+use rsp_scope::{Contents, Reader, Shared};
 use rsp_terms::{Fact, Listed, Text};
 use rsp_windows::Window;
+use std::alloc::AllocError;
 
 /// A window over a stream, by its IRI.
 #[derive(Drop)]
@@ -17,14 +20,22 @@ pub(crate) struct StreamWindow {
     pub shape: Window,
 }
 
+/// What becomes of the rows that a query reports.
+#[derive(Drop)]
+pub(crate) enum Output {
+    /// They are rows; its output stream has this IRI.
+    Rows(Text),
+    /// A graph is made of them.
+    Graph(Shared<Construction>),
+}
+
 /// A query that is live. It sees the items from number `first` on, counted from 0 in the order of acceptance. Its answer
 /// stands for the facts of its last report that its tree reads.
 #[derive(Drop)]
 pub struct LiveQuery<A> {
     pub name: Text,
     pub operator: Operator,
-    /// The IRI of its output stream.
-    pub output: Text,
+    pub output: Output,
     pub policy: Chosen,
     pub windows: Listed<StreamWindow>,
     pub query: Box<Translated>,
@@ -74,4 +85,14 @@ pub(crate) fn asks_contents(policy: &Chosen) -> bool
     ensures { result ≡ asks_contents policy.now }
 {
     policy.tuple || policy.change || policy.nonempty
+}
+
+/// What a graph is made by, where one is made; it is shared.
+pub(crate) fn construction_of(output: &Output) -> Result<Option<Shared<Construction>>, AllocError>
+    ensures { IfOk result (λ construction. construction ≡ made_by output.now) }
+{
+    match output {
+        Output::Rows(_) => Ok(None),
+        Output::Graph(construction) => Ok(Some(construction.share()?)),
+    }
 }

@@ -1,5 +1,5 @@
 // Queries that become live.
-ghost use Rattle.std.specs.Prelude.{◌≡◌, [], IfOk, IfSome, false, map};
+ghost use Rattle.std.specs.Prelude.{◌≡◌, [], IfOk, IfSome, None, false, map};
 ghost use Rattle.std.specs.List.{All};
 ghost use Rattle.rsp_query.specs.Meanings.{registered};
 ghost use Rattle.rsp_algebra.specs.Meanings.{node_of};
@@ -7,19 +7,21 @@ ghost use Rattle.rsp_shapes.specs.Visible.{name_of};
 ghost use Rattle.rsp_engine.specs.Accept.{new_query};
 ghost use Rattle.rsp_engine.specs.Due.{watched_window};
 ghost use Rattle.rsp_engine.specs.Inside.{Answers, IsSought, fixed};
+ghost use Rattle.rsp_engine.specs.Inside as inside;
 ghost use Rattle.rsp_engine.specs.Contents.{watches};
 ghost use Rattle.rsp_engine.specs.Keeping.{IsUnmoved, watches_followed};
 ghost use Rattle.rsp_engine.specs.Watching.{IsPolicy};
 ghost use Rattle.rsp_engine.specs.Passing.{IsAsked, IsBegun};
 ghost use Rattle.rsp_engine.specs.Readings as readings;
 
-use crate::live_query::{LiveQuery, StreamWindow};
+use crate::live_query::{LiveQuery, Output, StreamWindow};
 use crate::schedule::due_from;
 use crate::texts::Asked;
+use crate::Construction;
 use rsp_algebra::Answer;
-use rsp_query::WindowClause;
+use rsp_query::{Made, Query, Template, WindowClause};
 use rsp_report::Watched;
-use rsp_scope::Contents;
+use rsp_scope::{Contents, Shared};
 use rsp_terms::{Listed, Text};
 use std::alloc::{AllocError, Global};
 
@@ -103,6 +105,46 @@ fn unmoved(alloc: Global, clauses: &[WindowClause], first: u64) -> Result<Vec<Co
     Ok(contents)
 }
 
+fn made(made: &Made) -> Result<Made, AllocError>
+    ensures { IfOk result (λ other. other ≡ made.now) }
+{
+    let subject = made.subject.share()?;
+    let predicate = made.predicate.share()?;
+    let object = made.object.share()?;
+    Ok(Made {
+        subject,
+        predicate,
+        object,
+    })
+}
+
+fn template_of(alloc: Global, template: &[Made]) -> Result<Template, AllocError>
+    ensures { IfOk result (λ those. those ≡ template.now) }
+{
+    let mut those = Listed::new(alloc);
+    for one in template {
+        those.push(made(one)?)?;
+    }
+    Ok(those)
+}
+
+// what becomes of the rows of a query
+fn output_of(alloc: Global, query: &Query) -> Result<Output, AllocError>
+    ensures output { IfOk result (λ output. inside.output_of output ≡ query.now.output) }
+    ensures template { IfOk result (λ output. inside.template_of output ≡ None) }
+{
+    let output = query.output.share()?;
+    let none: Option<Template> = None;
+    match &none {
+        None => Ok(Output::Rows(output)),
+        Some(template) => {
+            let template = template_of(alloc, template.as_slice())?;
+            let construction = Construction { output, template };
+            Ok(Output::Graph(Shared::new(alloc, construction)?))
+        }
+    }
+}
+
 /// The live query of a query without fault, over no facts; None exactly where it has too many rows over none. It sees the items
 /// from number `first` on, and is looked at from the instant `from` on, in ms since 1970. Fails only where memory is refused.
 pub(crate) fn begun<A: Answer>(
@@ -159,6 +201,7 @@ fn live_query<A: Answer>(
         policy,
     } = asked;
     let variables = names_of(alloc, &query.variables, made.shown.as_slice())?;
+    let output = output_of(alloc, &query)?;
     let windows = stream_windows(alloc, &query.windows)?;
     let watched = unwatched(alloc, &query.windows)?;
     let due = due_from(&policy, watched.as_slice(), from);
@@ -166,7 +209,7 @@ fn live_query<A: Answer>(
     Ok(LiveQuery {
         name,
         operator: query.operator,
-        output: query.output.share()?,
+        output,
         policy,
         windows,
         query: made,

@@ -1,4 +1,6 @@
 // Reports.
+use rsp_query::Template;
+use rsp_scope::Shared;
 use rsp_streams_out::PrintedRows;
 use rsp_terms::{Listed, Text};
 
@@ -11,6 +13,14 @@ pub enum Outcome {
     Overfull,
 }
 
+/// What a query that constructs makes of the rows that it reports, and for which stream.
+#[derive(Drop)]
+pub struct Construction {
+    /// The IRI of the output stream.
+    pub output: Text,
+    pub template: Template,
+}
+
 /// A report of a query at an instant, in ms since 1970.
 #[derive(Drop)]
 pub struct Report {
@@ -18,4 +28,21 @@ pub struct Report {
     pub at: u64,
     pub variables: Listed<Text>,
     pub outcome: Outcome,
+    /// What the rows are made into, where a graph is made of them. The reports of a query share it.
+    pub construction: Option<Shared<Construction>>,
+}
+
+impl Report {
+    ghost use Rattle.std.specs.Prelude.{◌≡◌};
+    ghost use Rattle.std.specs.Option.{option_copied};
+
+    /// What the rows are made into, where a graph is made of them.
+    pub fn constructed_by(&self) -> Option<&Construction>
+        ensures { option_copied result ≡ self.now.construction }
+    {
+        match &self.construction {
+            None => None,
+            Some(construction) => Some(construction.get()),
+        }
+    }
 }

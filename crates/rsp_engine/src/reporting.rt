@@ -15,13 +15,14 @@ ghost use Rattle.rsp_scope.specs.Moves.{Followed, HasSeen, IsReached};
 ghost use Rattle.rsp_streams_out.specs.Rows.{in_order};
 ghost use Rattle.rsp_streams_out.specs.Streams.{reported};
 ghost use Rattle.rsp_engine.specs.Contents.{watches};
-ghost use Rattle.rsp_engine.specs.Inside.{Answers, IsSought, live_of};
+ghost use Rattle.rsp_engine.specs.Inside.{Answers, IsSought, live_of, made_by};
 ghost use Rattle.rsp_engine.specs.Keeping.{watches_followed};
 ghost use Rattle.rsp_engine.specs.Passing.{CostsReport, HasContents, IsFollowed, IsReported};
 ghost use Rattle.rsp_engine.specs.Reports.{cells_at};
 ghost use Rattle.rsp_engine.specs.Stands.{Behind, IsStore, facts_followed, is_read, unseen};
 ghost use Rattle.rsp_engine.specs.Watching.{IsPolicy};
 
+use crate::live_query::construction_of;
 use crate::rows::{changed_rows, shown_rows};
 use crate::schedule::look;
 use crate::{LiveQuery, Outcome, Report};
@@ -58,6 +59,7 @@ pub(crate) fn report_at<A: Answer, L: Ledger>(
     ensures query { IfOk result (λ report. report.query ≡ live.old.name) }
     ensures at { IfOk result (λ report. report.at ≡ at) }
     ensures variables { IfOk result (λ report. report.variables ≡ live.old.variables) }
+    ensures construction { IfOk result (λ report. report.construction ≡ made_by live.old.output) }
     ensures reported { IfOk result (λ report. IsReported A.node A.width A.facts A.spent
         streams.now stored.now log.now at live.old live.new report.outcome) }
     ensures sought { OnOk result (IsSought (at + 1) live.new) }
@@ -65,6 +67,7 @@ pub(crate) fn report_at<A: Answer, L: Ledger>(
 {
     let query = live.name.share()?;
     let variables = shared(alloc, live.variables.as_slice())?;
+    let construction = construction_of(&live.output)?;
     let outcome = outcome_at(alloc, live, streams, stored, log, at, steps)?;
     look(live, at + 1);
     Ok(Report {
@@ -72,6 +75,7 @@ pub(crate) fn report_at<A: Answer, L: Ledger>(
         at,
         variables,
         outcome,
+        construction,
     })
 }
 

@@ -1,35 +1,17 @@
--- The text of a report, and of a refusal.
+-- What an event says, and the line of a refusal.
 use Rattle.std.proofs.Common.{◌≡◌, ℕ, suc, true, false, Option, Some, None, List, [], ◌∷◌, ◌++◌, length, map, refl, subst, sym, ◌∙◌, ap}
 use Rattle.std.specs.Option.{is_some, option_map}
-use Rattle.rsp_multiset.specs.Rows.{Cells}
-use Rattle.rsp_terms.specs.declared.term.Term.{Term}
-use Rattle.rsp_streams_out.specs.Json.{report_json}
-use Rattle.rsp_streams_out.specs.Reports.{report_text}
-use Rattle.rsp_engine.specs.declared.report.Report.{Report}
-use Rattle.rsp_engine.specs.declared.report.Outcome.TheVariants.{Rows}
 use Rattle.rsp_events.specs.declared.event.Event.{Event}
 use Rattle.rsp_engine.specs.declared.refused.Refused.{Refused}
 use Rattle.rsp_engine.specs.Stands.{State}
 use Rattle.rsp_engine.specs.Offers.{Refuses, RefusesAs}
-use Rattle.rsp_words.specs.declared.form.Form.{Form}
-use Rattle.rsp_words.specs.declared.form.Form.TheVariants.{Table, Json}
 use Rattle.rsp_modes.specs.declared.refusals.Place.{Place}
-use Rattle.rsp_modes.specs.Output.{outcome_text, text_of_report}
 use Rattle.std.specs.Fmt.{decimal}
 use Rattle.std.specs.Prelude.{codes}
 use Rattle.rsp_modes.specs.Reasons.{details, event_reason, kind}
 use Rattle.rsp_modes.specs.Refusals.{Reason, place_text, refusal_line}
 use Rattle.rsp_modes.specs.Stops.{IsLineOf}
 use Rattle.rsp_modes.proofs.Naming.{refuses_as}
-
--- ---- the text that is written of a report's rows is the report's
-
-pub table_told : (form : Form) (report : Report) (rows : List (Cells Term)) (text : List ℕ) → form ≡ Table → report.outcome ≡ Rows rows → text ≡ report_text report.query report.at report.variables rows → text ≡ text_of_report form report
-table_told form report rows text is outcome told = told ∙ sym (λ i. outcome_text (is i) report.query report.at report.variables (outcome i))
-
-pub json_told : (form : Form) (report : Report) (rows : List (Cells Term)) (name : List ℕ) (variables : List (List ℕ)) (given : List (Cells Term)) (text : List ℕ) → form ≡ Json → report.outcome ≡ Rows rows → name ≡ report.query → variables ≡ report.variables → given ≡ rows → text ≡ report_json name report.at variables given → text ≡ text_of_report form report
-json_told form report rows name variables given text is outcome query shown same told =
-    told ∙ (λ i. report_json (query i) report.at (shown i) (same i)) ∙ sym (λ i. outcome_text (is i) report.query report.at report.variables (outcome i))
 
 -- ---- what an event says
 

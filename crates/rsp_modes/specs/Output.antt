@@ -1,5 +1,5 @@
 -- Definitions: what is said of what comes, from a world on, and the text of it; and of a log.
-use Rattle.std.specs.Prelude.{ℕ, ◌+◌, Bool, true, false, Result, Ok, Err, List, [], ◌∷◌, ◌++◌, map, codes}
+use Rattle.std.specs.Prelude.{ℕ, ◌+◌, Bool, true, false, Option, None, Some, Result, Ok, Err, List, [], ◌∷◌, ◌++◌, map, codes}
 use Rattle.std.specs.Fmt.{decimal}
 use Rattle.std.specs.List.{flat_map}
 use Rattle.rsp_events.specs.declared.event.Event.{Event}
@@ -7,8 +7,13 @@ use Rattle.rsp_events.specs.declared.event.Block.{Block}
 use Rattle.rsp_events.specs.declared.event.Content.{Content}
 use Rattle.rsp_events.specs.declared.event.Content.TheVariants as content
 use Rattle.rsp_events.specs.Blocks.{blocks, whole_blocks}
+use Rattle.rsp_terms.specs.declared.term.Term.{Term}
+use Rattle.rsp_multiset.specs.Rows.{Cells}
+use Rattle.rsp_graphs.specs.Graphs.{graph_of}
+use Rattle.rsp_graphs.specs.Texts.{graph_json, graph_text}
 use Rattle.rsp_streams_out.specs.Json.{report_json}
 use Rattle.rsp_streams_out.specs.Reports.{overfull_text, report_text}
+use Rattle.rsp_engine.specs.declared.report.Construction.{Construction}
 use Rattle.rsp_engine.specs.declared.report.Report.{Report}
 use Rattle.rsp_engine.specs.declared.report.Outcome.{Outcome}
 use Rattle.rsp_engine.specs.declared.report.Outcome.TheVariants.{Rows, Overfull}
@@ -34,14 +39,20 @@ pub data Saying : Type 0 where
   no_fault : Saying
   a_summary : ℕ → ℕ → ℕ → Saying
 
--- the rows as a table, or as one line of JSON; an overfull report has one form
-abbrev pub outcome_text : Form → List ℕ → ℕ → List (List ℕ) → Outcome → List ℕ
-outcome_text form name at variables Overfull = overfull_text name at
-outcome_text Table name at variables (Rows rows) = report_text name at variables rows
-outcome_text Json name at variables (Rows rows) = report_json name at variables rows
+-- the rows as a table, or as one line of JSON; where the query constructs, the graph of the rows in either form
+abbrev pub rows_text : Form → Report → List (Cells Term) → Option Construction → List ℕ
+rows_text Table report rows None = report_text report.query report.at report.variables rows
+rows_text Json report rows None = report_json report.query report.at report.variables rows
+rows_text Table report rows (Some made) = graph_text report.query report.at (graph_of made.template rows)
+rows_text Json report rows (Some made) = graph_json report.query report.at (graph_of made.template rows)
+
+-- an overfull report has one form
+abbrev pub outcome_text : Form → Report → Outcome → List ℕ
+outcome_text form report Overfull = overfull_text report.query report.at
+outcome_text form report (Rows rows) = rows_text form report rows report.construction
 
 abbrev pub text_of_report : Form → Report → List ℕ
-text_of_report form report = outcome_text form report.query report.at report.variables report.outcome
+text_of_report form report = outcome_text form report report.outcome
 
 -- and so has all that is no report
 abbrev pub text_of_saying : Form → Saying → List ℕ

@@ -103,7 +103,7 @@ invariant_of-self g c = λ broken.
     let timed = timed_taken c.self.inside.streams c.args.arrival.stream c.args.arrival.time (unwrap_or c.self.inside.next 0 + c.self.inside.slack) (c.next_after-to.result + c.self.inside.slack) c.args.arrival.graph c.args.arrival.end
     (omega (arith, low)) reaches sound.state.timed in (
       ready_passed _ _ _ _ _ sound idle (record c.self.inside { next = Some c.next_after-to.result; queries = c.first_moment-self-inside.new.queries; readers = c.take.new.readers; streams = c.drop_before.new.self; ends = c.take.new.ends; arrived = c.came_over-arrived.result; first = c.first_moment-self-inside.result }) (accepted_of c.args.arrival ∷ []) c.came_over-arrived.result c.next_after-to.result took low (high_of c.self.inside.next c.next_after-to.result) refl refl refl refl refl broken (parts_dated mids news same ∙ (ap (map parts_of) whole ∙ parts)) first kept takes tells
-          (let high = c.requires.instant in omega (arith, high, to, later)) (taken_more c.self.inside.streams c.args.arrival.stream c.args.arrival.time c.args.arrival.graph c.args.arrival.end) prompt up_to timed (rw c.drop_before.ensures (room_kept _ c.take.new.streams.items c.take.new.ends.cap c.in-Ok.ensures.room)),
+          (let high = c.requires.instant in omega (arith, high, to, later)) (λ stream is. let high = c.requires.instant in omega (arith, high, to, later)) (taken_more c.self.inside.streams c.args.arrival.stream c.args.arrival.time c.args.arrival.graph c.args.arrival.end) prompt up_to timed (rw c.drop_before.ensures (room_kept _ c.take.new.streams.items c.take.new.ends.cap c.in-Ok.ensures.room)),
       (
         read_dated mids news same c.take.new.readers (subst (λ qs. AreRead c.take.new.readers qs) (sym whole) c.in-Ok.ensures.read),
         c.first_moment-self-inside.ensures.sought,

@@ -2,6 +2,7 @@ use Rattle.std.proofs.Common.{◌≡◌, ◌∙◌, Some, false, true≢false, r
 use Rattle.rsp_engine.specs.Stands.{IsState, is_idle}
 use Rattle.rsp_engine.proofs.Costing.{costs_next}
 use Rattle.rsp_engine.proofs.FirstReport.{first_given, first_nearer}
+use Rattle.rsp_engine.proofs.ReportInstants.{report_instant}
 use Rattle.rsp_engine.proofs.engine.Engine.next_report.Goals as goal
 
 pub returns-in-Ok-clause-report : goal.returns-in-Ok-clause-report
@@ -15,6 +16,7 @@ returns-in-Ok-clause-report g c =
       was_ready = ready;
       ready = given.broken ∙ ready;
       was_busy = rw (ready, given.first) refl;
+      instant = report_instant old _ _ state given;
       nearer = first_nearer old _ _ given;
       gives = λ world left stands. first_given old _ _ world left state given stands;
     }

@@ -50,7 +50,7 @@ invariant_of-self g c = λ broken.
     (all_up_to g.A.Answer.facts olds _ c.self.inside.slack (c.args.to + c.self.inside.slack) _ _ _ (omega (arith, later)) sound.state.lives) in
     let timed = All-weaker (λ (item : Item). item.time ≤ unwrap_or c.self.inside.next 0 + c.self.inside.slack) (λ (item : Item). item.time ≤ c.args.to + c.self.inside.slack) (λ item early. omega (arith, early, later)) c.self.inside.streams.items sound.state.timed in (
       ready_passed _ _ _ _ _ sound idle (record c.self.inside { next = Some c.args.to; queries = c.first_moment-self-inside.new.queries; streams = c.drop_before.new.self; arrived = None; first = c.first_moment-self-inside.result }) [] None c.args.to c.self.inside.streams later (high_of c.self.inside.next c.args.to) refl refl refl refl refl broken (parts_dated olds news same) first kept takes tells
-          c.requires.instant (omega arith) (all_dated olds news same (λ l. IsPrompt c.args.to None (asked l)) prompt) up_to timed (rw kept (room_kept _ c.self.inside.streams.items c.self.inside.ends.cap sound.room)),
+          c.requires.instant (λ stream is. cc) (omega arith) (all_dated olds news same (λ l. IsPrompt c.args.to None (asked l)) prompt) up_to timed (rw kept (room_kept _ c.self.inside.streams.items c.self.inside.ends.cap sound.room)),
       (
         read_dated olds news same c.self.inside.readers (c.self.invariant (rw (← c.self.view_is) at c.requires.ready)).1.0,
         c.first_moment-self-inside.ensures.sought,

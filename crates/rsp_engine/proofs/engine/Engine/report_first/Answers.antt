@@ -3,6 +3,7 @@ use Rattle.std.proofs.lemmas.List.{length-set}
 use Rattle.rsp_engine.specs.Inside.{IsReady, live_of, state_of}
 use Rattle.rsp_engine.specs.Passing.{is_overfull_outcome}
 use Rattle.rsp_engine.proofs.Cancelling.{timed_below}
+use Rattle.rsp_engine.proofs.Constructing.{made_is}
 use Rattle.rsp_engine.proofs.Costing.{costs_first}
 use Rattle.rsp_engine.proofs.Named.{get_index, get_map}
 use Rattle.rsp_engine.proofs.BehindReport.{answers, fits_behind, followed, high, left_there, listed, place_is, prompt_behind, reached, ready_behind, sought_behind, states_behind, store, watches_are, watching, within}
@@ -175,6 +176,7 @@ returns-in-Ok-clause-ok g c =
       query = c.in-Ok.ensures.query;
       at = c.in-Ok.ensures.at;
       variables = c.in-Ok.ensures.variables;
+      construction = c.in-Ok.ensures.construction ∙ made_is live.output;
       outcome = reported.outcome;
       same = reported.same;
       watched = reported.watched;
